@@ -1,6 +1,6 @@
-;;; dape.el --- Steps through examples/execution.text by llbm  -*- lexical-binding: t; -*-
+;;; dape.el --- Steps through examples/tour.text by llbm  -*- lexical-binding: t; -*-
 
-;; Load this file, visit examples/execution.text, and do `M-x dape RET llbm RET'.
+;; Load this file, visit examples/tour.text, and do `M-x dape RET llbm RET'.
 
 (require 'dape)
 
@@ -13,8 +13,8 @@
      command-cwd ,root
      :type "llbm"
      :request "launch"
-     :text ,(expand-file-name "examples/execution.text" root)
-     :sources (:source ,(expand-file-name "examples/source.tree" root))
+     :text ,(expand-file-name "examples/tour.text" root)
+     :sources (:source ,(expand-file-name "examples/tour.tree" root))
      :workers 2
      :stopOnEntry t
      :stopAtEnd t)))

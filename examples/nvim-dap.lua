@@ -1,4 +1,4 @@
--- Steps through examples/execution.text by llbm: `:luafile examples/nvim-dap.lua`, then `:edit examples/execution.text`
+-- Steps through examples/tour.text by llbm: `:luafile examples/nvim-dap.lua`, then `:edit examples/tour.text`
 -- and `:lua require("dap").continue()`.
 
 local dap = require("dap")
@@ -14,9 +14,9 @@ dap.configurations.text = {
   {
     type = "llbm",
     request = "launch",
-    name = "llbm: examples/execution.text",
-    text = root .. "/examples/execution.text",
-    sources = { source = root .. "/examples/source.tree" },
+    name = "llbm: examples/tour.text",
+    text = root .. "/examples/tour.text",
+    sources = { source = root .. "/examples/tour.tree" },
     workers = 2,
     stopOnEntry = true,
     stopAtEnd = true,

@@ -1,6 +1,7 @@
 """What docs/FAULTS.md says of a line of the program, `fault ..` or `failed ..`, and what a definition says besides.
 
-The page's tables are taken as they stand: that of all faults, those of names after a number, and that of failures.
+The page's tables are taken as they stand: that of all faults, those of names after a number, those of lines for a
+number, and that of failures.
 """
 
 import pathlib
@@ -50,6 +51,13 @@ class Name(NamedTuple):
     arguments: tuple[str, ...]
     sentence: str
     advice: str
+
+
+class Line(NamedTuple):
+    """A row of a table of lines that can be written instead."""
+
+    line: str
+    sentence: str
 
 
 class Failure(NamedTuple):
@@ -108,6 +116,7 @@ class Page:
     def __init__(self, text: str) -> None:
         self.causes: dict[int, list[Cause]] = {}
         self.names: dict[int, dict[str, Name]] = {}
+        self.lines: dict[int, list[Line]] = {}
         self.failures: list[Failure] = []
         for head, rows in tables_in(text):
             self.take(head[0], rows)
@@ -117,7 +126,11 @@ class Page:
     def take(self, head: str, rows: list[list[str]]) -> None:
         """A table is taken by the first cell of its head; one with another head is passed over."""
         after = re.fullmatch(r"Name after ([0-9]+)", head)
-        if after:
+        instead = re.fullmatch(r"Line for ([0-9]+)", head)
+        if instead:
+            lines = [(bare(line).replace(r"\|", "|"), sentence) for line, sentence in rows]
+            self.lines[int(instead[1])] = [Line(*line) for line in lines]
+        elif after:
             for words, *rest in rows:
                 name, *arguments = words_of(words)
                 self.names.setdefault(int(after[1]), {})[name] = Name(tuple(arguments), *rest)
@@ -182,6 +195,7 @@ class Reader:
         prefix = f"{number} ({', '.join(given)})" if given else f"{number}"
         texts = [f"{prefix}: {first.sentence} {first.advice}"]
         texts += [f"or {number}: {other.sentence} {other.advice}" for other in others]
+        texts += [f"{line.line}: {line.sentence}" for line in self.page.lines.get(number, [])]
         return texts + inside
 
     def arguments(self, number: int, arguments: tuple[str, ...]) -> tuple[list[str], list[str]]:

@@ -15,14 +15,14 @@ from tests.base import ROOT, TOOLS, run
 EXAMPLES = ROOT / "examples"
 RECORD = re.compile(r"([0-9]+) (?:claim|step|settle|cancel) .*")
 
-# the lines of examples/execution.text where the entries of the vertices are, and one of the entry that is the terminal
+# the lines of examples/tour.text where the entries of the vertices are, and one of the entry that is the terminal
 ENTRIES = [(1, 5), (6, 17), (18, 50)]
 TERMINAL = 51
 
 
 def stored_record():
     """The record of the stored session, by its numbers: a line that was taken back is followed by its like."""
-    lines = (EXAMPLES / "session.answers").read_text().splitlines()
+    lines = (EXAMPLES / "tour.answers").read_text().splitlines()
     found = {int(line.split(" ")[0]): line for line in lines if RECORD.fullmatch(line)}
     return [found[number] for number in range(1, len(found) + 1)]
 
@@ -35,7 +35,7 @@ class WithRun(WithAdapter):
             raise unittest.SkipTest("the program is needed, which --llbm PROGRAM names")
         super().setUp()
         self.execution = {
-            "definition": str(EXAMPLES / "execution.definition"), "sources": {"source": str(EXAMPLES / "source.tree")},
+            "definition": str(EXAMPLES / "tour.definition"), "sources": {"source": str(EXAMPLES / "tour.tree")},
         }
 
     def llbm(self, *words, given=b""):
@@ -140,14 +140,14 @@ class WholeRuns(WithRun):
             self.assertEqual([*client.lines(), "end"], answers)
 
     def test_a_directory_is_a_source(self):
-        self.passes(run("directory-of-tree", self.at / "source", text=(EXAMPLES / "source.tree").read_bytes()))
+        self.passes(run("directory-of-tree", self.at / "source", text=(EXAMPLES / "tour.tree").read_bytes()))
         client = self.entered({**self.execution, "sources": {"source": str(self.at / "source")}})
         self.goes(client, "next")
         self.assertEqual(client.ask("evaluate", expression="0.0:text/tail")["result"], "text of 6 bytes:\nworld\n")
 
     @unittest.skipUnless((TOOLS / "tree-of-tar").exists(), "tools/tree-of-tar is needed")
     def test_a_tar_is_a_source(self):
-        self.passes(run("directory-of-tree", self.at / "source", text=(EXAMPLES / "source.tree").read_bytes()))
+        self.passes(run("directory-of-tree", self.at / "source", text=(EXAMPLES / "tour.tree").read_bytes()))
         for name, form in [("packed.tar", "w"), ("packed", "w:gz")]:
             place = str(self.at / name)
             with tarfile.open(place, form) as archive:
@@ -236,7 +236,7 @@ class Breakpoints(WithRun):
 
     def test_every_line_is_its_entry(self):
         client = self.entered()
-        last = len((EXAMPLES / "execution.text").read_text().splitlines())
+        last = len((EXAMPLES / "tour.text").read_text().splitlines())
         answers = self.breaks(client, *range(1, last + 2))
         for vertex, (begin, end) in enumerate(ENTRIES):
             self.assertTrue(all(one["verified"] for one in answers[begin - 1 : end]), vertex)
@@ -295,7 +295,7 @@ class Breakpoints(WithRun):
         self.assertEqual((frame["line"], frame["endLine"], frame["column"]), (1, 5, 1))
         self.assertEqual(client.ask("loadedSources")["sources"], [frame["source"]])
         text = client.ask("source", source=frame["source"], sourceReference=1)["content"]
-        given = (EXAMPLES / "execution.definition").read_bytes()
+        given = (EXAMPLES / "tour.definition").read_bytes()
         self.assertEqual(text.encode(), self.llbm("dis", given=given))
         self.assertEqual(client.refused("source", sourceReference=2), "sourceReference 2 is not known")
 
@@ -313,7 +313,7 @@ class Breakpoints(WithRun):
 
     def test_a_text_of_another_definition(self):
         client = self.opened()
-        text = str(EXAMPLES / "execution.text")
+        text = str(EXAMPLES / "tour.text")
         told = client.refused("launch", llbm=base.llbm, **{**self.execution, "text": self.example("copy")["text"]})
         self.assertIn("is not the text of", told)
         client.ask("launch", llbm=base.llbm, **{**self.execution, "text": text})

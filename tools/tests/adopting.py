@@ -343,7 +343,7 @@ class Changed(Folder):
         words = ["--all", "--rules", EXAMPLES / "foreign.rules", EXAMPLES / "foreign.llb", "-o", place]
         self.assertEqual(run("adopt", *words).returncode, 0)
         self.passes(run("lint", place))
-        trees = [f"alpine={EXAMPLES / 'failure' / 'empty.tree'}", f"context={EXAMPLES / 'source.tree'}"]
+        trees = [f"alpine={EXAMPLES / 'failure' / 'empty.tree'}", f"context={EXAMPLES / 'tour.tree'}"]
         with open(place, "rb") as data:
             done = subprocess.run([base.llbm, "run", *trees], stdin=data, capture_output=True, timeout=60)
         text = [b"d 0755 0 0 /", b"d 0755 0 0 /etc", b"f 0644 0 0 6769740a /etc/packages", b"d 0755 0 0 /srv"]

@@ -31,10 +31,10 @@ llbm: str | None = None
 
 
 def command(tool, *words, before=()):
-    """The command of a run of a tool, which is counted."""
+    """The command of a run of a tool, which is counted. The packages of the machine are out of its reach."""
     global runs
     runs += 1
-    return [sys.executable, *before, TOOLS / tool, *words]
+    return [sys.executable, "-S", *before, TOOLS / tool, *words]
 
 
 def run(tool, *words, text=b"", before=(), **settings):

@@ -85,8 +85,8 @@ class Made(unittest.TestCase):
             self.assertIsNone(tree_fault(fuzz_made.tree(random.Random(seed))))
 
     def test_equal_seeds_make_equal_changes(self):
-        data = (EXAMPLES / "execution.definition").read_bytes()
-        text = (EXAMPLES / "execution.text").read_bytes()
+        data = (EXAMPLES / "tour.definition").read_bytes()
+        text = (EXAMPLES / "tour.text").read_bytes()
         changes = set()
         for seed in range(50):
             one, other = random.Random(seed), random.Random(seed)

@@ -56,6 +56,7 @@ class Gate(WithPrograms):
             words = gate.argparse.Namespace(llbm=given, after=given is not None, fuzz=7, seed="3")
             commands = [command for command in gate.parts(words)]
             self.assertEqual(["rt", "ci"] in commands, given is None)
+            self.assertIn(gate.tool("refuse"), commands)
             self.assertEqual([command[-1] for command in commands if command[0].endswith("check")], programs)
             self.assertEqual(commands[-1][2:], ["7", "--llbm", programs[0], "--seed", "3"])
 

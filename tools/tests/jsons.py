@@ -165,7 +165,7 @@ class JsonOfRecord(Converted):
         self.refused(1, "the line is not UTF-8", "fault 171 135 \udcff")
 
     def test_the_example(self):
-        lines = (ROOT / "examples" / "session.answers").read_text().splitlines()
+        lines = (ROOT / "examples" / "tour.answers").read_text().splitlines()
         told = json.loads(self.convert(*lines).stdout)
         self.assertEqual(len(told), len(lines))
         self.assertEqual(sum("reply" in one for one in told), sum(" -> " in line for line in lines))

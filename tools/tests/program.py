@@ -3,13 +3,24 @@
 import json
 import os
 import pathlib
+import re
+import resource
 import subprocess
 import unittest
 
+import faults
 from tests import base
 from tests.base import ROOT, Folder, run
 
 EXAMPLES = ROOT / "examples"
+DEEPEST = 65_535
+STACK = 256 << 10
+
+
+def narrow():
+    """This process has a small stack from now on: no room for four bytes a vertex of the deepest graph."""
+    _, hard = resource.getrlimit(resource.RLIMIT_STACK)
+    resource.setrlimit(resource.RLIMIT_STACK, (STACK, hard))
 
 
 class WithProgram(Folder):
@@ -21,13 +32,13 @@ class WithProgram(Folder):
         super().setUp()
         self.at = pathlib.Path(os.fsdecode(self.folder))
 
-    def llbm(self, *words, given):
+    def llbm(self, *words, given, **settings):
         """A run of the program on this input."""
-        return subprocess.run([base.llbm, *words], input=given, capture_output=True, timeout=120)
+        return subprocess.run([base.llbm, *words], input=given, capture_output=True, timeout=120, **settings)
 
-    def output(self, *words, given):
+    def output(self, *words, given, **settings):
         """What the program prints, where it ends well."""
-        done = self.llbm(*words, given=given)
+        done = self.llbm(*words, given=given, **settings)
         self.assertEqual((done.returncode, done.stderr), (0, b""), words)
         return done.stdout
 
@@ -64,8 +75,8 @@ class WithProgram(Folder):
         self.assertEqual(self.text_of("out"), text)
 
     def test_the_example_is_built(self):
-        tree = EXAMPLES / "source.tree"
-        given = (EXAMPLES / "execution.definition").read_bytes()
+        tree = EXAMPLES / "tour.tree"
+        given = (EXAMPLES / "tour.definition").read_bytes()
         self.passes(run("directory-of-tree", self.at / "source", text=tree.read_bytes()))
         text = self.output("run", f"source={tree}", given=given)
         for workers in ["--workers=1", "--workers=4"]:
@@ -189,9 +200,56 @@ class WithProgram(Folder):
             self.assertEqual([one["number"] for one in events], list(range(1, len(events) + 1)))
             self.assertEqual(told[-1], {"kind": "fault", "fault": 173, "line": 7})
 
+    def test_each_line_for_183_is_taken(self):
+        place = EXAMPLES / "first-run.definition"
+        settled = {"N": "2", "FILE": str(place), "NAME=FILE ...": f"a={EXAMPLES / 'tour.tree'}"}
+        for line in [row.line for row in faults.read_page().lines[183]]:
+            name, *words = re.findall(r"NAME=FILE \.\.\.|[^ \[\]]+", line)
+            self.assertEqual(name, "llbm")
+            for first in words[0].split("|"):
+                given = [settled.get(word, word) for word in [first, *words[1:]]]
+                text = (EXAMPLES / "first-run.text").read_bytes() if first == "asm" else place.read_bytes()
+                done = self.llbm(*given, given=b"" if first == "step" else text)
+                if given[-1] in ("--help", "--version"):
+                    self.assertRegex(done.stderr, b"^fault 183\n.*llbm")
+                else:
+                    self.assertEqual((done.returncode, done.stderr), (0, b""), given)
+
+    def test_each_line_for_173_is_taken(self):
+        lines = [re.sub("[VWI]", "0", row.line) for row in faults.read_page().lines[173]]
+        self.assertEqual((len(set(lines)), lines[-1]), (14, "quit"))
+        answers = self.output("step", EXAMPLES / "first-run.definition", given="\n".join(lines).encode())
+        self.assertNotIn(b"fault 173", answers)
+
     def test_a_text_that_is_too_long(self):
         self.make(b"a", b"")
         os.truncate(self.place(b"in", b"a"), 1 << 25)
         done = self.build(base.ending(base.source("local://src")), f"src={self.at / 'in'}")
         self.assertEqual(done.returncode, 2)
         self.assertRegex(done.stderr, rb"\nthe text has [0-9,]+ bytes: .*\n(.*\n)*fault 185\n  185: ")
+
+    def narrow_lines(self, *words, given):
+        """The lines that the program prints with a small stack, where it ends well."""
+        return self.output(*words, given=given, preexec_fn=narrow).decode().splitlines()
+
+    def test_the_deepest_graph_needs_no_deep_stack(self):
+        given = run("bigdef", "chain", str(DEEPEST)).stdout
+        last = DEEPEST - 1
+        inputs = ["-", *(f"{number}.0" for number in range(last))]
+        shown = [f"{number} file steps 1 outputs 1 inputs {on}" for number, on in enumerate(inputs)]
+        self.assertTrue(self.narrow_lines("show", given=given) == [*shown, f"result {last}.0"])
+        paths = ["/", "/d", *(f"/e{number}" for number in range(7))]
+        for words in [["run"], ["run", "--workers", "2"]]:
+            self.assertEqual(self.narrow_lines(*words, given=given), [f"d 0755 0 0 {path}" for path in paths])
+        text = self.output("dis", given=given, preexec_fn=narrow)
+        self.assertTrue(self.output("asm", given=text, preexec_fn=narrow) == given)
+
+    def test_the_deepest_graph_is_walked_to_its_end_and_back(self):
+        given = run("bigdef", "chain", str(DEEPEST)).stdout
+        events = 3 * DEEPEST
+        commands = b"go\n" + b"back\n" * (events + 1)
+        lines = self.narrow_lines("step", self.file(b"definition", given), "--workers=1", given=commands)
+        parts = ["claim 0 {} -> file 1", "step 0 -> acted 0", "settle 0 -> {} done"]
+        gone = [f"{number + 1} {parts[number % 3].format(number // 3)}" for number in range(events)]
+        back = [f"back {number}" for number in reversed(range(events))]
+        self.assertTrue(lines == [*gone, "end", *back, "fault 172"])

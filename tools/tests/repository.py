@@ -18,6 +18,7 @@ ERROR = re.compile(r'#\[error\("(.*)"\)\]')
 HEAD = re.compile(r"pub (enum|struct) (\w+)")
 VARIANT = re.compile(r"(\w+)(\(.*\))?,")
 WRITTEN = re.compile(r'(\w+)::(\w+)\b[^\n=]* => write!\(f, "(.*?)"')
+KIT = re.compile(r"rattle-kit-\w+ logic [0-9a-f]{16}")
 NUMBERED = re.compile(r"([0-9]+)(?: [A-Za-z]+)*: (.*)")
 
 
@@ -140,6 +141,18 @@ class Page(unittest.TestCase):
         for row in self.page.failures:
             words = "failed {v} " + forms[row.name]
             self.assertEqual(re.sub(r"\{\w+\}", "", words), re.sub(r"\b[A-Z]\b", "", row.line))
+
+
+class Kit(unittest.TestCase):
+    """The kit that proved the program."""
+
+    def test_the_kit_is_named_alike(self):
+        places = [CRATES / "llb_commands" / "src" / "pages.rt", TOOLS / "tries", ROOT / "README.md"]
+        named = [KIT.findall(place.read_text("utf-8")) for place in places]
+        self.assertTrue(all(named))
+        if shutil.which("rt"):
+            named.append([subprocess.run(["rt", "version"], capture_output=True, text=True).stdout.strip()])
+        self.assertEqual({name for names in named for name in names}, {named[-1][0]})
 
 
 @unittest.skipUnless(shutil.which("git"), "there is no git")

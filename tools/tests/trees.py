@@ -324,7 +324,7 @@ class DirectoryOfTree(Folder):
         """The most memory that is taken for a text, in KiB."""
         with open(text, "rb") as given:
             done = subprocess.run(
-                [sys.executable, "-c", PEAK, TOOLS, *command("directory-of-tree", self.place(name))[1:]],
+                [sys.executable, "-c", PEAK, TOOLS, *command("directory-of-tree", self.place(name))[2:]],
                 stdin=given, stderr=subprocess.PIPE, timeout=120,
             )
         self.assertEqual(done.returncode, 0, done.stderr)

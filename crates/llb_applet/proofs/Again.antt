@@ -25,7 +25,7 @@ both false b e = absurd (false≢true e)
 
 -- ---- the calls of a text
 
--- no bad byte: each is a byte of words
+-- if a word has no bad byte, words may have each of its bytes
 all_bytes : (word : List ℕ) → position (λ b. not (is_word_byte b)) word ≡ None → list_all is_word_byte word ≡ true
 all_bytes word none = counted word (closed (nat_lt (position_or_len (λ b. not (is_word_byte b)) word) (length word)) _ none)
   where
@@ -57,7 +57,7 @@ all_push (c ∷ cs) w call word =
     let rest = all_push cs w halves.1 word in
     (λ i. halves.0 i && rest i)
 
--- a call is before the end
+-- a call has begun before the end
 begun : (called : Bool) (end : ℕ) → cond {A = Option ℕ} called None (Some end) ≡ None → called ≡ true
 begun true end none = refl
 begun false end none = absurd cc
@@ -94,7 +94,7 @@ calls_are end (w ∷ ws) join call words plain none =
 
 -- ---- the text of the calls
 
--- there is a first
+-- a list has a first element
 abbrev HasFirst : {A : Type 0} → List A → Type 0
 HasFirst [] = ⊥
 HasFirst (x ∷ xs) = Unit {0}

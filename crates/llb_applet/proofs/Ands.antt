@@ -19,11 +19,11 @@ both false b e = absurd (false≢true e)
 and_joins : (w : List ℕ) → is_and w ≡ true → join_of w ≡ Some And
 and_joins w is = ap join_of ((bytes_decides w (codes "&&")).0 is)
 
--- where every separator is `&&`, a separator is
+-- if every separator is `&&`, a word that is a separator is `&&`
 is_the_and : (w : List ℕ) (next : Join) → (not (is_separator w) || is_and w) ≡ true → join_of w ≡ Some next → is_and w ≡ true
 is_the_and w next only is = sym (ap (λ (o : Option Join). not (is_some o) || is_and w) is) ∙ only
 
--- and another word is not
+-- and another word is not `&&`
 is_no_and : (w : List ℕ) → join_of w ≡ None → is_and w ≡ false
 is_no_and w is = by_test (is_and w) refl
   where

@@ -1,4 +1,4 @@
--- Gathering the words of calls from a text, part by part: what a part changes of what becomes of the calls.
+-- Gathers the words of calls from a text, part by part: how a part changes the final result.
 use Rattle.std.proofs.Common.{◌≡◌, ℕ, ◌+◌, ◌==◌, Bool, true, false, cond, ◌||◌, List, [], ◌∷◌, ◌++◌, length, map, filter, not, Result, Ok}
 use Rattle.std.proofs.Common.{Err, Option, Some, None, is_some, is_ok, refl, sym, ap, ◌∙◌, append_assoc, ne_eqb, arith}
 use Rattle.std.specs.List.{flat_map}
@@ -49,7 +49,7 @@ pub separates : (o : Option Join) → is_some o ≡ true → (next : Join) × (o
 separates (Some next) is = (next, refl)
 separates None is = absurd (false≢true is)
 
--- another word is none of them
+-- another word is no separator
 pub separates_not : (o : Option Join) → is_some o ≡ false → o ≡ None
 separates_not (Some next) is = absurd (false≢true (sym is))
 separates_not None is = refl
@@ -61,7 +61,7 @@ at_separator join next call part rest is =
     ap (λ ws. calls_from (ws ++ rest) join call) (some_separator part next is)
     ∙ ap (λ o. at_word join call part o (λ j c. calls_from rest j c)) is
 
--- another word is one of it
+-- another word is added to the call
 pub at_other : (join : Join) (call : List (List ℕ)) (part : List ℕ) (rest : List (List ℕ)) → join_of part ≡ None → (length part == 0) ≡ false
     → calls_from (some_word part ++ rest) join call ≡ calls_from rest join (call ++ part ∷ [])
 at_other join call part rest is some =
@@ -91,7 +91,7 @@ verdict_more : (c : Joined) (r : Result (List Joined) ScriptFault) → verdict (
 verdict_more c (Ok cs) = refl
 verdict_more c (Err e) = refl
 
--- how the call at hand follows those before it makes no difference to what is wrong
+-- the join of the call at hand makes no difference to the first fault
 any_join : (join other : Join) (words : List (List ℕ)) (number : ℕ) (call : List (List ℕ))
     → verdict (commands_of number (calls_from words join call)) ≡ verdict (commands_of number (calls_from words other call))
 any_join join other words number call = on_words words call
@@ -126,7 +126,7 @@ module _ (number : ℕ) (call : List (List ℕ)) (part : List ℕ) (rest : List 
       ∙ verdict_on _ (command_of number call) _ right (λ c. verdict_more (joined Then c) _)
       ∙ any_join next Then rest (number + 1) []
 
-  -- and one that is wrong is what is wrong with them all
+  -- and the fault of one that is wrong is the first fault of them all
   stopped_at : (e : ScriptFault) → Refuses e (verdict (command_of number call)) → Refuses e (judged number call (some_word part ++ rest))
   stopped_at e refuses = record {
     known = λ k. ended ∙ verdict_stops _ (command_of number call) e (refuses.known k);
@@ -149,14 +149,14 @@ judged_last number call = single (command_of number call)
     single (Ok c) = refl
     single (Err e) = refl
 
--- ---- what becomes of them
+-- ---- the final result
 
 behind_one : (commands : List Joined) (c : Joined) (r : Result (List Joined) ScriptFault)
     → behind commands (r >>= λ more. Ok (c ∷ more)) ≡ behind (commands ++ c ∷ []) r
 behind_one commands c (Ok more) = ap Ok (sym (append_assoc commands (c ∷ []) more))
 behind_one commands c (Err e) = refl
 
--- before there is any command, what becomes of the calls is what becomes of the rest alone
+-- before there is any command, the result is that of the rest alone
 pub behind_none : (r : Result (List Joined) ScriptFault) → behind [] r ≡ r
 behind_none (Ok more) = refl
 behind_none (Err e) = refl
@@ -181,7 +181,7 @@ module _ (old : Reading) (part : List ℕ) (next : Join) (is : join_of part ≡ 
       >>= λ c. commands_of (length old.commands.items + 1) (calls_from rest next []) >>= λ cs. Ok (joined old.join c ∷ cs))
   ahead_at = ap (λ calls. behind old.commands.items (commands_of (length old.commands.items) calls)) (at_separator old.join next old.words.items part rest is)
 
-  -- a separator makes the call at hand into a command, and says how the next call follows
+  -- a separator makes the call at hand into a command, and gives the join of the next call
   pub reads_on : (commands : List Joined) (words : List (List ℕ)) → with_call old ≡ Ok commands → words ≡ []
       → ahead old (some_word part ++ rest) ≡ behind commands (commands_of (length commands) (calls_from rest next words))
   reads_on commands words gives none =
@@ -190,7 +190,7 @@ module _ (old : Reading) (part : List ℕ) (next : Join) (is : join_of part ≡ 
       (command_of (length old.commands.items) old.words.items) commands gives
       ∙ ap (λ call. behind commands (commands_of (length commands) (calls_from rest next call))) (sym none)
 
-  -- or the call at hand is none
+  -- or the call at hand makes no command, and its fault is the result
   pub reads_stop : (e : ScriptFault) → with_call old ≡ Err e → ahead old (some_word part ++ rest) ≡ Err e
   reads_stop e gives =
       ahead_at
@@ -210,17 +210,17 @@ or_right : (a b : Bool) → b ≡ true → (a || b) ≡ true
 or_right true b is = refl
 or_right false b is = is
 
--- a refusal of what is wrong is one of the text, and its *out of memory* comes last
+-- a refusal with `Memory` comes only where the rule has no refusal, or one that holds a text
 pub refuses_last : (e : ScriptFault) (rule : Result (Unit {0}) ScriptFault) → Refuses e rule → is_memory e ≡ true → (is_ok rule || names_word rule) ≡ true
 refuses_last e rule refuses m = or_right (is_ok rule) (names_word rule) (refuses.last m)
 
 module _ (number : ℕ) (call : List (List ℕ)) (rule : Result (Unit {0}) ScriptFault) (is : judged number call [] ≡ rule) where
-  -- where no word is left, the answer about the last call is what the rule gives
+  -- where no word is left, the judgement of the last call is what the rule gives
   pub gives_last : (r : Result (Unit {0}) ScriptFault) → JudgesCall r number call → Gives (λ _. tt) r rule
   gives_last (Ok _) judges = sym is ∙ judged_last number call ∙ judges
   gives_last (Err e) judges = λ known. sym is ∙ judged_last number call ∙ judges.known known
 
-  -- and out of memory comes last there too
+  -- and `Memory` comes last there too
   pub memory_last : (r : Result (Unit {0}) ScriptFault) → JudgesCall r number call → MemoryLast r rule
   memory_last (Ok _) judges = tt
   memory_last (Err e) judges = λ m. or_right (is_ok rule) (names_word rule) (ap names_word (sym is ∙ judged_last number call) ∙ judges.last m)

@@ -3,3 +3,4 @@ pub mod Gathering
 pub mod Exchanged
 pub mod Again
 pub mod Ands
+pub mod Chains

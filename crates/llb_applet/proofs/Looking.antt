@@ -1,4 +1,4 @@
--- Looking a text through part by part: what its bytes are counted by, and where its first bad place is.
+-- Checks a text part by part: how its bytes are counted, and where its first bad place is.
 use Rattle.std.proofs.Common.{◌≡◌, ℕ, suc, ◌+◌, ◌<◌, ◌==◌, Bool, true, false, not, cond, if◌then◌else◌, List, [], ◌∷◌, length, drop, get_or}
 use Rattle.std.proofs.Common.{filter, Some, None, option_map, refl, sym, ap, ◌∙◌, add-one, drop-cons, ne_eqb, arith}
 use Rattle.std.specs.List.{slice_split, onto_first, position}
@@ -19,7 +19,7 @@ spread-onto : (b : ℕ) (parts : List (List ℕ)) (n : ℕ) → spread parts ≡
 spread-onto b [] n e = absurd (omega arith)
 spread-onto b (part ∷ parts) n e = omega arith
 
--- a text and one byte more
+-- the parts of a text, counted so, have one byte more than the text
 pub spread-split : (p : ℕ → Bool) (text : List ℕ) → spread (slice_split p text) ≡ length text + 1
 spread-split p [] = omega arith
 spread-split p (b ∷ text) = first (p b) (slice_split p text) (spread-split p text)
@@ -41,11 +41,11 @@ at_part end called at (b ∷ bs) parts =
     (λ i. bad_place end called (cond (not (some i)) (record { place = at; bytes = b ∷ bs } ∷ rest) rest))
     ∙ ap (λ q. option_or (option_map (λ k. at + k) (bad_in called (b ∷ bs))) (bad_place end (cond q called (not (is_separator (b ∷ bs)))) rest)) (sym some)
 
--- a word that is no separator
+-- the first bad byte of a word that is no separator
 pub bad_in-word : (called : Bool) (word : List ℕ) → is_separator word ≡ false → bad_in called word ≡ position (λ b. not (is_word_byte b)) word
 bad_in-word called word is = ap (λ b. if b then (if called then None else Some 0) else position (λ b. not (is_word_byte b)) word) is
 
--- the bad place at hand stands
+-- a bad place in the part at hand is the first
 pub bad_here :
     (end : ℕ) (called : Bool) (at : ℕ) (part : List ℕ) (parts : List (List ℕ)) (bad : ℕ)
     → bad_in called part ≡ Some bad

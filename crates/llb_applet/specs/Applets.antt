@@ -1,10 +1,10 @@
--- The applets and their names.
+-- The applets, and their names.
 use Rattle.std.specs.Prelude.{ℕ, nat_eq, Bool, List, [], ◌∷◌, Option, find, codes}
 use Rattle.std.specs.Cmp.Lexicographic.{pointwise}
 use Rattle.llb_applet.specs.declared.applet.Applet.{Applet}
 use Rattle.llb_applet.specs.declared.applet.Applet.TheVariants.{True, False, Mkdir, Rm, Write, Append, Cp, Concat, Chmod, Test, Listing, Envfile, Sha256}
 
--- a word is this one
+-- whether a word has these bytes
 abbrev pub spells : List ℕ → List ℕ → Bool
 spells this word = pointwise nat_eq word this
 
@@ -26,6 +26,6 @@ name_of Sha256 = codes "sha256"
 abbrev pub applets : List Applet
 applets = True ∷ False ∷ Mkdir ∷ Rm ∷ Write ∷ Append ∷ Cp ∷ Concat ∷ Chmod ∷ Test ∷ Listing ∷ Envfile ∷ Sha256 ∷ []
 
--- the applet of that name
+-- the applet of this name
 abbrev pub applet_of : List ℕ → Option Applet
 applet_of word = find (λ a. spells (name_of a) word) applets

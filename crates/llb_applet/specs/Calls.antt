@@ -1,4 +1,4 @@
--- Which words make which command: an applet's name, and words in one of the applet's forms.
+-- Which words make which command: an applet's name, then words in one of the applet's forms.
 use Rattle.std.specs.Prelude.{◌≡◌, ℕ, true, false, if◌then◌else◌, List, [], ◌∷◌, length, drop, Option, Some, None, option_map}
 use Rattle.std.specs.Prelude.{option_and_then, Result, Err, codes, slice_index_or}
 use Rattle.std.specs.Option.{ok_or, option_or}
@@ -16,13 +16,13 @@ use Rattle.llb_tree.specs.Modes.{mode_of}
 abbrev Word : Type 0
 Word = List ℕ
 
--- the word of a list of one
+-- the word of a list of one word
 abbrev pub alone : List Word → Option Word
 alone [] = None
 alone (a ∷ []) = Some a
 alone (a ∷ b ∷ ws) = None
 
--- the words of a list of two
+-- the words of a list of two words
 abbrev pub pair : List Word → Option (Word × Word)
 pair [] = None
 pair (a ∷ []) = None
@@ -39,7 +39,7 @@ one_word ws f = option_map f (alone ws)
 abbrev pub two_words : List Word → (Word → Word → Option Command) → Option Command
 two_words ws f = option_and_then (λ p. f p.0 p.1) (pair ws)
 
--- what the options of `test` ask
+-- the kind that an option of `test` asks for
 abbrev pub kind_of : Word → Option Kind
 kind_of word =
     if spells (codes "-e") word then Some Something
@@ -52,7 +52,7 @@ concat_of [] = None
 concat_of (out ∷ []) = None
 concat_of (out ∷ a ∷ ws) = Some (command.Concat out (a ∷ ws))
 
--- the command of an applet and the words after its name, where they are one of its forms
+-- the command of an applet and the words after its name, if they are one of its forms
 abbrev pub form : Applet → List Word → Option Command
 form True ws = no_words ws command.True
 form False ws = no_words ws command.False
@@ -69,16 +69,16 @@ form Listing ws = two_words ws (λ path out. Some (command.Listing path out))
 form Envfile ws = one_word ws (λ out. command.Envfile out)
 form Sha256 ws = two_words ws (λ path out. Some (command.Sha256 path out))
 
--- a list has that many words, and this one first, where it has any
+-- a list has `count` words, and `word` is the first, or empty if there is none
 pub record IsFront (words : List Word) (count : ℕ) (word : Word) : Type 0 where
   pub counted : count ≡ length words
   pub first : word ≡ slice_index_or words 0 []
 
--- the command of an applet that a word may name
+-- the command of a call, given the applet that its first word names, if any
 abbrev pub command_by : ℕ → List Word → Option Applet → Result Command ScriptFault
 command_by number call None = Err (NoApplet (slice_index_or call 0 []))
 command_by number call (Some applet) = ok_or (form applet (drop 1 call)) (Usage number)
 
--- the command of a call, which has a number: its first word is an applet's name, and the others are one of its forms
+-- the command of the call of a number: its first word is an applet's name, and the others are one of its forms
 abbrev pub command_of : ℕ → List Word → Result Command ScriptFault
 command_of number call = command_by number call (applet_of (slice_index_or call 0 []))

@@ -1,4 +1,4 @@
--- How the changes of a view answer: whether they are done, and what they leave.
+-- What the changes of a view return: whether they are done, and what they leave.
 use Rattle.std.specs.Prelude.{◌≡◌, ℕ, Bool, true, false, Option, Some, None, Result, Ok, Err}
 use Rattle.llb_tree.specs.declared.fault.TreeFault.{TreeFault}
 use Rattle.llb_tree.specs.declared.fault.TreeFault.TheVariants as tree
@@ -7,7 +7,7 @@ use Rattle.llb_mount.specs.View.{mount_at, with_tree_of}
 use Rattle.llb_applet.specs.declared.fault.Memory.{Memory}
 use Rattle.llb_applet.specs.Spots.{Mounts}
 
--- a mount's tree is taken out, where the mount is not read-only, and an empty one is in its place
+-- a mount's tree is taken out and an empty one is in its place, if the mount is not read-only
 abbrev pub PutsAside : Result (Option TreeMap) Memory → Mounts → ℕ → Mounts → Type 0
 PutsAside (Ok (Some t)) old mount new = ((mount_at old mount).readonly ≡ false) × (t ≡ (mount_at old mount).tree) × (new ≡ with_tree_of old mount empty_tree)
 PutsAside (Ok None) old mount new = ((mount_at old mount).readonly ≡ true) × (new ≡ old)
@@ -24,7 +24,7 @@ settled (Err tree.Conflict) = Ok false
 settled (Err tree.Root) = Ok false
 settled (Err tree.BadName) = Ok false
 
--- it is done, and leaves what is meant; or it is refused, as is meant, or lacks memory, and nothing has changed
+-- a change is done and leaves the outcome's view; or it is refused, as there is no outcome, or lacks memory, and the view has not changed
 abbrev pub Does : Result Bool Memory → Option Mounts → Mounts → Mounts → Type 0
 Does (Ok true) outcome old new = outcome ≡ Some new
 Does (Ok false) outcome old new = (outcome ≡ None) × (new ≡ old)

@@ -1,5 +1,5 @@
--- What a command leaves of a view, by cases on the applet: the view after it, with status 0, or nothing, and then the status is 1 and the
--- view stays as it was.
+-- What a command leaves of a view, by cases on the applet: the view after it, and the status is 0; or nothing, and then the status is 1
+-- and the view stays as it was.
 use Rattle.std.specs.Prelude.{ℕ, Bool, true, false, if◌then◌else◌, List, [], ◌∷◌, ◌++◌, length, ◌-◌, slice_get, Option, Some, None, is_some}
 use Rattle.std.specs.Prelude.{option_map, option_and_then, unwrap_or, codes}
 use Rattle.std.specs.List.{flat_map}
@@ -25,7 +25,7 @@ o >>= f = option_and_then f o
 abbrev pub path_by : Setting → List ℕ → Option (List (List ℕ))
 path_by setting word = result_ok (path_from setting.cwd word)
 
--- what a word means
+-- the spot that a word means
 abbrev pub spot_by : Setting → Mounts → List ℕ → Option Spot
 spot_by setting view word = path_by setting word >>= spot_of view
 
@@ -33,7 +33,7 @@ spot_by setting view word = path_by setting word >>= spot_of view
 abbrev pub new_meta : MetaValue
 new_meta = record { mode = 420; uid = 0; gid = 0 }
 
--- the mode and owner of what is there, or those of a new file
+-- the mode and owner of the entry that is there, or those of a new file
 abbrev pub meta_there : Option Entry → MetaValue
 meta_there (Some e) = tree.meta_in e
 meta_there None = new_meta
@@ -42,14 +42,14 @@ meta_there None = new_meta
 abbrev pub file_by : Setting → Mounts → List ℕ → Option (MetaValue × List ℕ)
 file_by setting view word = spot_by setting view word >>= λ spot. file_in (entry_at view spot)
 
--- writing: the content is put in the file that is there, whose mode and owner stay, or in a new one
+-- a write puts the content into the file that is there, whose mode and owner stay, or into a new one
 abbrev pub written : Mounts → Spot → List ℕ → Option Mounts
 written view spot content = with_file view spot (meta_there (entry_at view spot)) content
 
 abbrev pub writes : Setting → Mounts → List ℕ → List ℕ → Option Mounts
 writes setting view word content = spot_by setting view word >>= λ spot. written view spot content
 
--- words with a line end
+-- a word with a line end
 abbrev pub line : List ℕ → List ℕ
 line word = word ++ 10 ∷ []
 
@@ -61,13 +61,13 @@ appended view spot word = written view spot (unwrap_or (option_map (λ f. f.1) (
 abbrev pub last_name : List (List ℕ) → Option (List ℕ)
 last_name path = slice_get path (length path - 1)
 
--- where a copy goes: to the path, or into the directory there under the last name of the source
+-- where a copy goes: to the path or, if a directory is there, into it under the last name of the source
 abbrev pub target_of : Mounts → List (List ℕ) → List (List ℕ) → Option Spot
 target_of view source path =
     spot_of view path >>= λ spot.
     if is_dir (entry_at view spot) then (last_name source >>= λ name. result_ok (below path name) >>= spot_of view) else Some spot
 
--- a file, with its mode and owner
+-- the view after a file is copied with its mode and owner
 abbrev pub copied : Setting → Mounts → List ℕ → List ℕ → Option Mounts
 copied setting view from to =
     path_by setting from >>= λ source.
@@ -82,19 +82,19 @@ abbrev pub joined : Setting → Mounts → List (List ℕ) → Option (List ℕ)
 joined setting view [] = Some []
 joined setting view (word ∷ words) = file_by setting view word >>= λ file. joined setting view words >>= λ more. Some (file.1 ++ more)
 
--- another mode for what is there, whose owner stays
+-- the entry that is there gets another mode; its owner stays
 abbrev pub with_mode : Mounts → Spot → ℕ → Option Entry → Option Mounts
 with_mode view spot mode None = None
 with_mode view spot mode (Some (tree.Dir m)) = with_dir view spot (record m { mode = mode })
 with_mode view spot mode (Some (tree.File m content)) = with_file view spot (record m { mode = mode }) content
 
--- whether what is there is of the kind
+-- whether the entry that is there is of the kind
 abbrev pub is_kind : Kind → Option Entry → Bool
 is_kind Something e = is_some e
 is_kind File e = is_some (file_in e)
 is_kind Dir e = is_dir e
 
--- a name in a directory, with `/` after where it is a directory's, and a line end
+-- the line of a name in a directory: the name, `/` if it is a directory's, and a line end
 abbrev pub line_of : TreeMap → List (List ℕ) → List ℕ → List ℕ
 line_of t p name = name ++ (if is_dir (finite.get t (p ++ name ∷ [])) then codes "/" else []) ++ 10 ∷ []
 
@@ -108,7 +108,7 @@ listing_by setting view word =
     result_ok (list (tree_at view spot) spot.place) >>= λ names.
     Some (listed (tree_at view spot) spot.place names)
 
--- the view that a command leaves with status 0, where it does
+-- the view that a command leaves if its status is 0
 abbrev pub run : Setting → Mounts → Command → Option Mounts
 run setting view command.True = Some view
 run setting view command.False = None

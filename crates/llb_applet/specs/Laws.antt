@@ -1,5 +1,5 @@
--- What holds of a text with no bad place: what its calls are, and that they are read again from the text that they make; and what the calls
--- are where every separator is `&&`.
+-- What holds for a text with no bad place: what its calls are, and that they are read again from the text that they make; and what the
+-- calls are if every separator is `&&`.
 use Rattle.std.specs.Prelude.{◌≡◌, ℕ, ◌==◌, Bool, true, false, ◌&&◌, ◌||◌, not, IsTrue, List, [], ◌∷◌, ◌++◌, length, map, codes}
 use Rattle.std.specs.List.{list_all, join_with_byte, slice_split}
 use Rattle.llb_applet.specs.declared.join.Join.{Join}
@@ -8,15 +8,15 @@ use Rattle.llb_applet.specs.Applets.{spells}
 use Rattle.llb_applet.specs.Words.{words_of, is_separator, Call, is_word_byte, calls_of}
 use Rattle.llb_applet.specs.Scripts.{commands_in}
 
--- a word has a byte, and only bytes of words
+-- a word has a byte, and only bytes that words may have
 abbrev pub is_plain_word : List ℕ → Bool
 is_plain_word word = not (length word == 0) && list_all is_word_byte word
 
--- a call has a word, and only such
+-- a call has a word, and only plain ones
 abbrev pub is_call : Call → Bool
 is_call call = not (length call.words == 0) && list_all is_plain_word call.words
 
--- the separator before a call that follows so
+-- the separator before a call with this join
 abbrev pub separator : Join → List ℕ
 separator Then = codes ";"
 separator And = codes "&&"
@@ -32,11 +32,11 @@ abbrev pub with_separators : List Call → List (List ℕ)
 with_separators [] = []
 with_separators (call ∷ calls) = call.words ++ after_separators calls
 
--- and with a space between the words
+-- the text of calls: their words and separators with a space between each two
 abbrev pub text_of : List Call → List ℕ
 text_of calls = join_with_byte 32 (with_separators calls)
 
--- a text is calls with a separator between each two, and the text of its calls reads the same
+-- a text is a list of calls with a separator between each two, and the text of its calls reads the same
 pub record IsShellText (text : List ℕ) : Type 0 where
   pub calls : IsTrue (list_all is_call (calls_of text))
   pub again : commands_in (text_of (calls_of text)) ≡ commands_in text
@@ -49,7 +49,7 @@ is_and word = spells (codes "&&") word
 abbrev pub texts_of : List ℕ → List (List ℕ)
 texts_of text = map (λ w. w.bytes) (words_of text)
 
--- none of these words is another separator than `&&`
+-- none of these words is a separator other than `&&`
 abbrev pub only_ands : List (List ℕ) → Bool
 only_ands words = list_all (λ w. not (is_separator w) || is_and w) words
 
@@ -63,7 +63,7 @@ follows_success And = true
 follows_success Then = false
 follows_success Or = false
 
--- the first call follows nothing, and each other one is joined by And
+-- the first call always runs, and each other one is joined by And
 abbrev pub joined_by_ands : List Call → Bool
 joined_by_ands [] = true
 joined_by_ands (call ∷ calls) = follows_all call.join && list_all (λ (c : Call). follows_success c.join) calls

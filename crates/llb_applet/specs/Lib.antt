@@ -1,5 +1,5 @@
--- Read first Scripts (the script that arguments are) with Words, Applets and Calls (what its text says), then Commands (what a command leaves of a view)
--- with Spots (what a path means there), Faults (how calls answer) and Laws. Reading and Changes are the parts of the code's own way.
+-- Read Scripts first (the script that arguments are) with Words, Applets and Calls (what its text says), then Commands (what a command leaves of a view)
+-- with Spots (what a path means there), Faults (what calls return) and Laws. Reading and Changes follow the steps of the code.
 pub mod Faults
 pub mod Words
 pub mod Applets

@@ -1,4 +1,4 @@
--- Calls while they are read from a text, part by part: what is known of the call at hand, and what the words that are left make of it.
+-- Calls while they are read from a text, part by part: what is known of the call at hand, and what the rest of the words makes of it.
 use Rattle.std.specs.Prelude.{◌≡◌, ℕ, ◌==◌, true, false, if◌then◌else◌, List, [], ◌∷◌, ◌++◌, length, Result, Ok, Err, slice_index_or}
 use Rattle.llb_wire.specs.Answer.{◌>>=◌}
 use Rattle.llb_applet.specs.declared.fault.ScriptFault.{ScriptFault}
@@ -11,54 +11,54 @@ use Rattle.llb_applet.specs.Words.{calls_from}
 use Rattle.llb_applet.specs.Calls.{command_of}
 use Rattle.llb_applet.specs.Scripts.{joined, commands_of}
 
--- the word that is between two spaces, where there is one
+-- the word that is between two spaces, if there is one
 abbrev pub some_word : List ℕ → List (List ℕ)
 some_word part = if length part == 0 then [] else part ∷ []
 
--- commands, with these first
+-- a result's commands with these before them
 abbrev pub behind : List Joined → Result (List Joined) ScriptFault → Result (List Joined) ScriptFault
 behind commands rest = rest >>= λ more. Ok (commands ++ more)
 
--- what becomes of calls that are read, where these words are left
+-- the commands, or the fault, of calls that are being read, when these words are left
 abbrev pub ahead : Reading → List (List ℕ) → Result (List Joined) ScriptFault
 ahead reading words = behind reading.commands.items (commands_of (length reading.commands.items) (calls_from words reading.join reading.words.items))
 
--- the commands with that of the call at hand after them
+-- the commands that were read, with that of the call at hand after them
 abbrev pub with_call : Reading → Result (List Joined) ScriptFault
 with_call reading = command_of (length reading.commands.items) reading.words.items >>= λ c. Ok (reading.commands.items ++ joined reading.join c ∷ [])
 
--- a step changes nothing of what becomes of it, or its refusal is that, or it lacked memory
+-- a step does not change the final result, or it fails with the fault of that result, or with `Memory`
 abbrev pub Reads : Result (Unit {0}) ScriptFault → Result (List Joined) ScriptFault → Result (List Joined) ScriptFault → Type 0
 Reads (Ok _) before after = before ≡ after
 Reads (Err e) before after = is_memory e ≡ false → before ≡ Err e
 
--- the fault alone
+-- the fault of a result, without its value
 abbrev pub verdict : {A : Type 0} → Result A ScriptFault → Result (Unit {0}) ScriptFault
 verdict (Ok x) = Ok tt
 verdict (Err e) = Err e
 
--- a call begins so: how many words it has, and the first two
+-- what is known of a call: how many words it has, and the first two
 pub record IsBegun (call : List (List ℕ)) (begun : Begun) : Type 0 where
   pub counted : begun.count ≡ length call
   pub named : begun.name.now ≡ slice_index_or call 0 []
   pub option : begun.first.now ≡ slice_index_or call 1 []
 
--- what is wrong with a call of this number that begins so, and with those after it, however the call follows those before it
+-- the first fault of a call of this number and of those after it, when these words are left; the call's join makes no difference
 abbrev pub judged : ℕ → List (List ℕ) → List (List ℕ) → Result (Unit {0}) ScriptFault
 judged number call words = verdict (commands_of number (calls_from words Then call))
 
--- a refusal is that of the rule, or it lacked memory for the text of a fault
+-- a refusal is the rule's, or it is `Memory` and the rule's fault holds a text
 pub record Refuses (e : ScriptFault) (rule : Result (Unit {0}) ScriptFault) : Type 0 where
   pub known : is_memory e ≡ false → rule ≡ Err e
   pub last : is_memory e ≡ true → names_word rule ≡ true
 
--- a step changes nothing of what is wrong, or its refusal is that
+-- a step does not change the first fault, or it fails with that fault, or with `Memory`
 abbrev pub Judges : Result (Unit {0}) ScriptFault → List ℕ → List (List ℕ) → Begun → Begun → Type 0
 Judges (Ok _) part call old new = (next : List (List ℕ)) × IsBegun next new
     × ((rest : List (List ℕ)) → judged old.number call (some_word part ++ rest) ≡ judged new.number next rest)
 Judges (Err e) part call old new = (rest : List (List ℕ)) → Refuses e (judged old.number call (some_word part ++ rest))
 
--- the call at hand is judged
+-- the call at hand is judged: it is right, or the refusal is its fault or `Memory`
 abbrev pub JudgesCall : Result (Unit {0}) ScriptFault → ℕ → List (List ℕ) → Type 0
 JudgesCall (Ok _) number call = verdict (command_of number call) ≡ Ok tt
 JudgesCall (Err e) number call = Refuses e (verdict (command_of number call))

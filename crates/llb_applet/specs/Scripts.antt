@@ -1,4 +1,4 @@
--- The script that arguments are: the text after `/bin/sh -c`, or else one call.
+-- The script that arguments are: that of the text after `/bin/sh -c`, or else one call.
 use Rattle.std.specs.Prelude.{ℕ, ◌+◌, ◌==◌, Bool, ◌&&◌, if◌then◌else◌, List, [], ◌∷◌, length, slice_index_or, Option, Some, None, Result, Ok, Err, codes}
 use Rattle.llb_wire.specs.Answer.{◌>>=◌}
 use Rattle.llb_applet.specs.declared.fault.ScriptFault.{ScriptFault}
@@ -10,17 +10,17 @@ use Rattle.llb_applet.specs.Applets.{spells}
 use Rattle.llb_applet.specs.Words.{Call, first_call, bad_place_of, calls_of}
 use Rattle.llb_applet.specs.Calls.{command_of}
 
--- a command that follows so
+-- a command with its join
 abbrev pub joined : Join → Command → Joined
 joined join command = record { join = join; command = command }
 
--- the commands of calls, which are numbered from here on, or the fault of the first that is none
+-- the commands of calls, which are numbered from `number` on, or the fault of the first that makes no command
 abbrev pub commands_of : ℕ → List Call → Result (List Joined) ScriptFault
 commands_of number [] = Ok []
 commands_of number (call ∷ calls) =
     command_of number call.words >>= λ c. commands_of (number + 1) calls >>= λ cs. Ok (joined call.join c ∷ cs)
 
--- the commands of a text that has a bad place or none
+-- the commands of a text, or 73 if it has a bad place
 abbrev pub commands_unless : Option ℕ → List ℕ → Result (List Joined) ScriptFault
 commands_unless (Some place) text = Err (ShellSyntax place)
 commands_unless None text = commands_of 0 (calls_of text)
@@ -29,10 +29,10 @@ commands_unless None text = commands_of 0 (calls_of text)
 abbrev pub commands_in : List ℕ → Result (List Joined) ScriptFault
 commands_in text = commands_unless (bad_place_of text) text
 
--- arguments are `/bin/sh`, `-c` and one text
+-- whether arguments are `/bin/sh`, `-c` and one text
 abbrev pub is_shell : List (List ℕ) → Bool
 is_shell args = (length args == 3) && spells (codes "/bin/sh") (slice_index_or args 0 []) && spells (codes "-c") (slice_index_or args 1 [])
 
--- the script of arguments: that text, or else they are one call
+-- the script of arguments: that of the text, or else of the one call that they are
 abbrev pub script_of : List (List ℕ) → Result (List Joined) ScriptFault
 script_of args = if is_shell args then commands_in (slice_index_or args 2 []) else commands_of 0 (first_call args ∷ [])

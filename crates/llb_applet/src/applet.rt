@@ -1,4 +1,4 @@
-//! The applets by their names.
+//! The applets, and their names.
 
 ghost use Rattle.std.specs.Prelude.{◌≡◌, option_map};
 ghost use Rattle.std.specs.List.{find};
@@ -39,7 +39,7 @@ const APPLETS: [Applet; 13] = [
 ];
 
 impl Applet {
-    /// The name by which a call asks for the applet.
+    /// Returns the name by which a call asks for the applet.
     fn name(self) -> &'static [u8]
         ensures { result.now ≡ name_of self }
     {
@@ -60,7 +60,7 @@ impl Applet {
         }
     }
 
-    /// The applet of that name.
+    /// Returns the applet of this name; `None` if there is none.
     pub fn find(word: &str) -> Option<Applet>
         ensures { result ≡ applet_of word.now }
     {
@@ -73,7 +73,7 @@ impl Applet {
     }
 }
 
-/// Whether a word is this one.
+/// Returns whether a word has these bytes.
 pub fn is_word(word: &str, this: &[u8]) -> bool
     ensures { result ≡ spells this.now word.now }
 {

@@ -1,4 +1,4 @@
-//! Judging the calls of a text without memory: of a call it is enough to know how many words it has, and the first two.
+//! Judges the calls of a text without memory: for a call it is enough to know how many words it has, and the first two.
 
 ghost use Rattle.std.specs.Prelude.{◌≡◌, ◌+◌, ◌≤◌, ◌<◌, ◌^◌, ◌++◌, ◌∷◌, [], List, ℕ};
 ghost use Rattle.llb_applet.specs.Faults.{Gives, MemoryLast};
@@ -13,7 +13,7 @@ use crate::words::is_separator;
 use llb_wire::Text;
 use std::alloc::Global;
 
-/// How a call begins: its number, how many words it has, and the first two.
+/// A call as far as it is read: its number, how many words it has, and the first two.
 #[derive(Drop)]
 pub struct Begun<'a> {
     pub number: usize,
@@ -23,7 +23,7 @@ pub struct Begun<'a> {
 }
 
 impl<'a> Begun<'a> {
-    /// What is wrong with the call, where it has no more words; 74 `Memory` only in place of 71 `NoApplet`.
+    /// Checks the call, if it has no more words. Fails with 71 `NoApplet` or 72 `Usage`, and with 74 `Memory` only in place of 71.
     pub fn judge(&self, alloc: Global) -> Result<(), ScriptFault>
         ensures { (call : List (List ℕ)) → IsBegun call self.now → JudgesCall result self.now.number call }
     {
@@ -41,7 +41,7 @@ impl<'a> Begun<'a> {
         }
     }
 
-    // Takes what is between two spaces: a separator ends the call, another word is one of it, and no bytes are none.
+    // Takes what is between two spaces: a separator ends the call, another word is added to it, and an empty part is no word.
     fn take(&mut self, alloc: Global, part: &'a str) -> Result<(), ScriptFault>
         requires { self.old.number + self.old.count < 2 ^ 63 }
         ensures judges { (call : List (List ℕ)) → IsBegun call self.old → Judges result part.now call self.old self.new }
@@ -62,7 +62,7 @@ impl<'a> Begun<'a> {
         Ok(())
     }
 
-    // One word more.
+    // Adds a word to the call.
     fn push(&mut self, word: &'a str)
         requires { self.old.count < 2 ^ 63 }
         ensures begun { (call : List (List ℕ)) → IsBegun call self.old → IsBegun (call ++ word.now ∷ []) self.new }
@@ -79,7 +79,8 @@ impl<'a> Begun<'a> {
     }
 }
 
-/// What is wrong with the calls of a text; 74 `Memory` only in place of 71 `NoApplet`.
+/// Checks the calls of a text. Fails with 71 `NoApplet` or 72 `Usage` of the first call that makes no command, and with 74 `Memory` only in
+/// place of 71.
 pub fn judge_text(alloc: Global, text: &str) -> Result<(), ScriptFault>
     ensures gives { Gives (λ _. tt) result (verdict (commands_of 0 (calls_of text.now))) }
     ensures last { MemoryLast result (verdict (commands_of 0 (calls_of text.now))) }

@@ -1,20 +1,20 @@
-//! The changes of a view at a spot. A change puts the mount's tree aside, changes it and puts it back; one that is refused,
+//! The changes of a view at a spot. A change takes the mount's tree out, changes it and puts it back; one that is refused,
 //! or lacks memory, leaves the view as it was.
 
-ghost use Rattle.std.specs.Prelude.{◌≡◌, ◌+◌, ◌<◌, ◌≤◌, length, OnErr};
+ghost use Rattle.std.specs.Prelude.{◌≡◌, ◌+◌, ◌<◌, ◌≤◌, [], false, length, Ok, IfOk, OnErr};
 ghost use Rattle.std.specs.FinMap as finite;
 ghost use Rattle.llb_tree.specs.Tree as tree;
-ghost use Rattle.llb_tree.specs.Tree.{Gives};
-ghost use Rattle.llb_applet.specs.Spots.{IsSpot, tree_at, with_change, with_file, with_dir, without_spot, with_new_dir, with_dirs, dirs_below};
+ghost use Rattle.llb_tree.specs.Tree.{Gives, empty_tree, is_dir};
+ghost use Rattle.llb_applet.specs.Spots.{IsSpot, tree_at, with_change, with_file, with_dir, without_spot, with_new_dir, with_dirs, dirs_below, put_then_below};
 ghost use Rattle.llb_applet.specs.Changes.{PutsAside, Does, settled};
 
 use crate::fault::Memory;
 use crate::spot::Spot;
 use llb_mount::View;
 use llb_tree::{Bytes, Meta, Name, Path, Tree, TreeFault};
-use std::alloc::Global;
+use std::alloc::{AllocError, Global};
 
-// Takes a mount's tree out of the view, with an empty one in its place; nothing where the mount is read-only.
+// Takes a mount's tree out of the view and leaves an empty one in its place; returns `None` if the mount is read-only.
 fn put_aside(alloc: Global, view: &mut View, mount: u32) -> Result<Option<Tree>, Memory>
     requires { mount < length view.old }
     ensures { PutsAside result view.old mount view.new }
@@ -26,7 +26,7 @@ fn put_aside(alloc: Global, view: &mut View, mount: u32) -> Result<Option<Tree>,
     Ok(Some(view.swap_tree(mount, empty)))
 }
 
-// Whether a change is done.
+// Returns whether a change is done; a fault of the tree's other than want of memory is a refusal.
 fn settled(change: Result<(), TreeFault>) -> Result<bool, Memory>
     ensures { result ≡ settled change }
 {
@@ -42,7 +42,7 @@ fn settled(change: Result<(), TreeFault>) -> Result<bool, Memory>
     }
 }
 
-/// Puts a file; at a dest only in the place of one that is there.
+/// Puts a file at a spot; at a dest it only replaces an entry that is there.
 pub fn put_file(
     alloc: Global,
     view: &mut View,
@@ -61,7 +61,7 @@ pub fn put_file(
     put_there(alloc, view, spot, meta, content)
 }
 
-// Puts a file where one may stand.
+// Puts a file at a spot, also at a dest.
 fn put_there(
     alloc: Global,
     view: &mut View,
@@ -82,7 +82,7 @@ fn put_there(
     }
 }
 
-/// Gives a directory that is there another mode and owner, or makes one below its parent.
+/// Gives the directory at a spot another mode and owner, or makes one in its parent.
 pub fn put_dir(alloc: Global, view: &mut View, spot: &Spot, meta: Meta) -> Result<bool, Memory>
     requires { spot.now.mount < length view.old }
     ensures { Does result (with_dir view.old spot.now meta) view.old view.new }
@@ -97,7 +97,7 @@ pub fn put_dir(alloc: Global, view: &mut View, spot: &Spot, meta: Meta) -> Resul
     }
 }
 
-/// Takes away what is at or below the spot; a dest stays.
+/// Removes what is at and below a spot; refuses a dest.
 pub fn remove(alloc: Global, view: &mut View, spot: &Spot) -> Result<bool, Memory>
     requires { spot.now.mount < length view.old }
     ensures { Does result (without_spot view.old spot.now) view.old view.new }
@@ -115,7 +115,7 @@ pub fn remove(alloc: Global, view: &mut View, spot: &Spot) -> Result<bool, Memor
     }
 }
 
-/// Makes a directory where nothing stands, below the dest.
+/// Makes a directory at a spot below the dest; refuses if there is an entry.
 pub fn make_dir(alloc: Global, view: &mut View, spot: &Spot) -> Result<bool, Memory>
     requires { spot.now.mount < length view.old }
     ensures { Does result (with_new_dir view.old spot.now) view.old view.new }
@@ -129,7 +129,7 @@ pub fn make_dir(alloc: Global, view: &mut View, spot: &Spot) -> Result<bool, Mem
     put_dir(alloc, view, spot, Meta::new_dir())
 }
 
-/// Makes a directory and its missing parents below the dest, where it is not there.
+/// Makes a directory and its missing parents below the dest, if it is not there.
 pub fn make_dirs(alloc: Global, view: &mut View, spot: &Spot) -> Result<bool, Memory>
     requires { IsSpot view.old spot.now }
     ensures { Does result (with_dirs view.old spot.now) view.old view.new }
@@ -145,26 +145,61 @@ pub fn make_dirs(alloc: Global, view: &mut View, spot: &Spot) -> Result<bool, Me
     match put_aside(alloc, view, spot.mount)? {
         None => Ok(false),
         Some(mut tree) => {
-            let change = dirs_below(&mut tree, &selector, names);
+            let change = dirs_below(alloc, &mut tree, &selector, names);
             let _aside = view.swap_tree(spot.mount, tree);
             settled(change)
         }
     }
 }
 
-// Makes a directory for each of the names, one below the other, where none is there. After a refusal the tree is unchanged.
-fn dirs_below(tree: &mut Tree, at: &Path, names: &[Name]) -> Result<(), TreeFault>
+// Makes a directory for each of the names, one below the other, where there is none. After a refusal the tree is unchanged.
+fn dirs_below(alloc: Global, tree: &mut Tree, at: &Path, names: &[Name]) -> Result<(), TreeFault>
     requires { length at.now + length names.now ≤ 128 }
     ensures gives { Gives (λ _. tree.new) result (dirs_below tree.old at.now names.now) }
     ensures err { OnErr result (tree.new ≡ tree.old) }
 {
-    let mut made = tree.copy()?;
-    make_below(&mut made, at, names)?;
-    *tree = made;
-    Ok(())
+    match names.split_first() {
+        None => Ok(()),
+        Some((name, more)) => {
+            let mut next = at.copy()?;
+            next.push(name.copy()?)?;
+            if tree.is_dir(&next) {
+                return dirs_below(alloc, tree, &next, more);
+            }
+            put_dirs(alloc, tree, &next, more)
+        }
+    }
 }
 
-// The same, where a refusal may leave some of the directories.
+// Makes a directory where there is none, and below it one for each of the names, in one edit. After a refusal the tree is unchanged.
+fn put_dirs(alloc: Global, tree: &mut Tree, path: &Path, names: &[Name]) -> Result<(), TreeFault>
+    requires short { length path.now + length names.now ≤ 128 }
+    requires missing { is_dir (finite.get tree.old path.now) ≡ false }
+    ensures gives { Gives (λ _. tree.new) result (put_then_below tree.old path.now names.now) }
+    ensures err { OnErr result (tree.new ≡ tree.old) }
+{
+    if names.is_empty() || tree.get(path).is_some() {
+        return tree.put_dir(path, Meta::new_dir());
+    }
+    let made = chain(alloc, names)?;
+    tree.graft(path, &made)
+}
+
+// Makes a tree of directories alone, one for each of the names, one below the other.
+fn chain(alloc: Global, names: &[Name]) -> Result<Tree, AllocError>
+    requires { length names.now ≤ 128 }
+    ensures { IfOk result (λ t. dirs_below empty_tree [] names.now ≡ Ok t) }
+{
+    let Ok(mut made) = Tree::empty(alloc) else {
+        return Err(AllocError);
+    };
+    match make_below(&mut made, &Path::root(alloc), names) {
+        Err(_) => Err(AllocError),
+        Ok(()) => Ok(made),
+    }
+}
+
+// Makes a directory for each of the names, as `dirs_below` does, but a refusal may leave some of them.
 fn make_below(tree: &mut Tree, at: &Path, names: &[Name]) -> Result<(), TreeFault>
     requires { length at.now + length names.now ≤ 128 }
     ensures { Gives (λ _. tree.new) result (dirs_below tree.old at.now names.now) }

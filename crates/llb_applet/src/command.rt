@@ -1,4 +1,4 @@
-//! Commands: a call whose applet is known and whose words are one of its forms. What runs a command needs to look at no form again.
+//! Commands: calls whose applets are known and whose words are one of the applet's forms. Whoever runs a command checks no form again.
 
 ghost use Rattle.std.specs.Prelude.{◌≡◌, List, ℕ, is_some, Ok};
 ghost use Rattle.llb_applet.specs.declared.applet.Applet.TheVariants.{Mkdir, Concat, Chmod, Test};
@@ -23,7 +23,7 @@ pub enum Kind {
     Dir,
 }
 
-/// A call of an applet with its words. Paths are words as yet: they are read when the command runs.
+/// A call of an applet with its words. Paths are still words: they are read when the command runs.
 pub enum Command {
     /// `true`.
     True,
@@ -53,7 +53,7 @@ pub enum Command {
     Sha256 { path: Text, out: Text },
 }
 
-// Written out, so that what owns one drops it by this one function.
+// It is written out so that whatever owns one drops it by this one function.
 impl Drop for Command {
     fn drop(self) {
         match self {
@@ -77,7 +77,7 @@ impl Drop for Command {
     }
 }
 
-// Copies of two texts.
+// Returns copies of two texts.
 fn both(first: &Text, second: &Text) -> Result<(Text, Text), ScriptFault>
     ensures { Gives (λ p. p) result (Ok (first.now, second.now)) }
 {
@@ -86,7 +86,7 @@ fn both(first: &Text, second: &Text) -> Result<(Text, Text), ScriptFault>
 }
 
 impl Command {
-    /// An equal second owner; 74 `Memory`.
+    /// Returns an equal second owner. Fails with 74 `Memory` alone.
     pub fn copy(&self) -> Result<Command, ScriptFault>
         ensures { Gives (λ c. c) result (Ok self.now) }
     {
@@ -188,7 +188,7 @@ impl Same for Command {
     }
 }
 
-/// The kind that an option of `test` asks for.
+/// Returns the kind that an option of `test` asks for; `None` if it is no option.
 fn kind_of(word: &str) -> Option<Kind>
     ensures { result ≡ kind_of word.now }
 {
@@ -204,7 +204,7 @@ fn kind_of(word: &str) -> Option<Kind>
     None
 }
 
-// The word of a list of one.
+// Returns the word of a list of one word.
 fn alone(words: Vec<Text>) -> Option<Text>
     ensures { result ≡ alone words.items }
 {
@@ -215,7 +215,7 @@ fn alone(words: Vec<Text>) -> Option<Text>
     Some(words.remove(0))
 }
 
-// The words of a list of two.
+// Returns the words of a list of two words.
 fn pair(words: Vec<Text>) -> Option<(Text, Text)>
     ensures { result ≡ pair words.items }
 {
@@ -227,7 +227,7 @@ fn pair(words: Vec<Text>) -> Option<(Text, Text)>
     Some((first, words.remove(0)))
 }
 
-// `mkdir` with these words after it.
+// Returns the command `mkdir` with these words after it.
 fn mkdir_of(words: Vec<Text>) -> Option<Command>
     ensures { result ≡ form Mkdir words.items }
 {
@@ -248,7 +248,7 @@ fn mkdir_of(words: Vec<Text>) -> Option<Command>
     })
 }
 
-// `concat` with these words after it.
+// Returns the command `concat` with these words after it.
 fn concat_of(words: Vec<Text>) -> Option<Command>
     ensures { result ≡ form Concat words.items }
 {
@@ -263,7 +263,7 @@ fn concat_of(words: Vec<Text>) -> Option<Command>
     })
 }
 
-// `chmod` with these words after it.
+// Returns the command `chmod` with these words after it.
 fn chmod_of(words: Vec<Text>) -> Option<Command>
     ensures { result ≡ form Chmod words.items }
 {
@@ -272,7 +272,7 @@ fn chmod_of(words: Vec<Text>) -> Option<Command>
     Some(Command::Chmod { mode, path })
 }
 
-// `test` with these words after it.
+// Returns the command `test` with these words after it.
 fn test_of(words: Vec<Text>) -> Option<Command>
     ensures { result ≡ form Test words.items }
 {
@@ -281,7 +281,7 @@ fn test_of(words: Vec<Text>) -> Option<Command>
     Some(Command::Test { kind, path })
 }
 
-// The command of an applet and the words after its name.
+// Returns the command of an applet and the words after its name; `None` if they are none of its forms.
 fn form(applet: Applet, words: Vec<Text>) -> Option<Command>
     ensures { result ≡ form applet words.items }
 {
@@ -323,8 +323,8 @@ fn form(applet: Applet, words: Vec<Text>) -> Option<Command>
     }
 }
 
-/// The command of a call, which has a number: 71 `NoApplet` where its first word is no applet's name, 72 `Usage` where the
-/// others are none of its forms; 74 `Memory`.
+/// Makes the command of the call of this number. Fails with 71 `NoApplet` where its first word is no applet's name, with 72 `Usage` where
+/// the others are none of its forms, with 74 `Memory`.
 pub fn command_of(alloc: Global, number: usize, words: Vec<Text>) -> Result<Command, ScriptFault>
     ensures { Gives (λ c. c) result (command_of number words.items) }
 {
@@ -342,7 +342,7 @@ pub fn command_of(alloc: Global, number: usize, words: Vec<Text>) -> Result<Comm
     }
 }
 
-/// Whether that many words after an applet's name, with this one first, are one of the applet's forms.
+/// Returns whether `count` words after an applet's name, of which `first` is the first, are one of the applet's forms.
 pub fn is_form(applet: Applet, count: usize, first: &str) -> bool
     ensures { (words : List (List ℕ)) → IsFront words count first.now → result ≡ is_some (form applet words) }
 {

@@ -7,24 +7,24 @@ use crate::command::Command;
 use crate::fault::ScriptFault;
 use llb_wire::Same;
 
-/// When a command runs: the separator before it says so. The last status is that of the last command that ran.
+/// When a command runs, by the separator before it. The last status is that of the last command that ran.
 #[derive(Clone, Copy)]
 pub enum Join {
-    /// The first of a script, and one after `;`: it always runs.
+    /// The first command of a script, or one after `;`: it always runs.
     Then,
-    /// After `&&`: it runs where the last status is 0.
+    /// After `&&`: it runs if the last status is 0.
     And,
-    /// After `||`: it runs where the last status is not 0.
+    /// After `||`: it runs if the last status is not 0.
     Or,
 }
 
-/// A command of a script.
+/// A command of a script, and when it runs.
 pub struct Joined {
     pub join: Join,
     pub command: Command,
 }
 
-// Written out, so that what owns one drops it by this one function.
+// It is written out so that whatever owns one drops it by this one function.
 impl Drop for Joined {
     fn drop(self) {
         let Joined {
@@ -35,7 +35,7 @@ impl Drop for Joined {
 }
 
 impl Joined {
-    /// An equal second owner; 74 `Memory`.
+    /// Returns an equal second owner. Fails with 74 `Memory` alone.
     pub fn copy(&self) -> Result<Joined, ScriptFault>
         ensures { Gives (λ c. c) result (Ok self.now) }
     {

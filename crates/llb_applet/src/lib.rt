@@ -1,5 +1,5 @@
 //! Scripts of applets: a text is read as calls of small commands, and a command is a function on the trees of a view.
-//! Here are the reading of a script, which refuses what no command would run, and the running of one command.
+//! This crate reads a script, which it refuses if a call of it could not run, and runs one command.
 //! Nothing here knows a process, a shell beyond `;`, `&&` and `||`, or an operation.
 #![tactic(auto)]
 

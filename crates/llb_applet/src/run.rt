@@ -1,5 +1,5 @@
-//! Running a command on a view. A command that is done leaves the view with one mount's tree changed in place, or as it was;
-//! one that is not, or that lacks memory, leaves it as it was.
+//! Runs a command on a view. A command that is done leaves the view with one mount's tree changed in place, or as it was;
+//! one that is not done, or that lacks memory, leaves it as it was.
 
 ghost use Rattle.std.specs.Prelude.{◌≡◌, ◌≢◌, IfOk, IfSome, OnOk, OnErr, option_and_then};
 ghost use Rattle.llb_applet.specs.declared.command.Command.TheVariants as command;
@@ -39,7 +39,7 @@ fn mkdir(
     }
 }
 
-// Takes away what is at or below a path.
+// Removes what is at and below a path.
 fn rm(alloc: Global, path: &Text, setting: &Setting, view: &mut View) -> Result<bool, Memory>
     ensures { Does result (run setting.now view.old (command.Rm path.now)) view.old view.new }
 {
@@ -49,7 +49,7 @@ fn rm(alloc: Global, path: &Text, setting: &Setting, view: &mut View) -> Result<
     }
 }
 
-// Writes a content.
+// Writes a file with this content at a path.
 fn write(
     alloc: Global,
     path: &Text,
@@ -65,7 +65,7 @@ fn write(
     }
 }
 
-// Writes a content at a spot.
+// Writes a file with this content at a spot.
 fn write_at(alloc: Global, view: &mut View, spot: &Spot, content: Bytes) -> Result<bool, Memory>
     requires { IsSpot view.old spot.now }
     ensures { Does result (written view.old spot.now content) view.old view.new }
@@ -74,7 +74,7 @@ fn write_at(alloc: Global, view: &mut View, spot: &Spot, content: Bytes) -> Resu
     put_file(alloc, view, spot, meta, content)
 }
 
-// Writes what may be there.
+// Writes a file with this content at a path, if there is a content.
 fn write_some(
     alloc: Global,
     path: &Text,
@@ -90,7 +90,7 @@ fn write_some(
     }
 }
 
-// Writes the content that is there, and one line more.
+// Appends a line to the file at a path.
 fn append(
     alloc: Global,
     path: &Text,
@@ -139,7 +139,7 @@ fn cp(
     put_file(alloc, view, &target, meta, content)
 }
 
-// Where a copy of a file goes.
+// Returns the spot to which a file is copied: the path's, or in the directory there under the last name of the source.
 fn target_of(view: &View, source: &Path, path: Path) -> Result<Option<Spot>, Memory>
     ensures means { IfOk result (λ s. s ≡ target_of view.now source.now path) }
     ensures spot { IfOk result (λ s. IfSome s (λ spot. IsSpot view.now spot)) }
@@ -161,7 +161,7 @@ fn target_of(view: &View, source: &Path, path: Path) -> Result<Option<Spot>, Mem
     }
 }
 
-// Gives what is there another mode.
+// Gives the entry at a path another mode.
 fn chmod(
     alloc: Global,
     mode: Mode,
@@ -177,7 +177,7 @@ fn chmod(
     }
 }
 
-// Gives what is at a spot another mode.
+// Gives the entry at a spot another mode.
 fn chmod_at(alloc: Global, view: &mut View, spot: &Spot, mode: Mode) -> Result<bool, Memory>
     requires { IsSpot view.old spot.now }
     ensures { Does result (with_mode view.old spot.now mode (entry_at view.old spot.now)) view.old view.new }
@@ -196,14 +196,14 @@ fn chmod_at(alloc: Global, view: &mut View, spot: &Spot, mode: Mode) -> Result<b
     put_file(alloc, view, spot, meta, content)
 }
 
-// The same owner with another mode.
+// Returns the same owner with another mode.
 fn with_bits(meta: &Meta, mode: Mode) -> Meta
     ensures { result ≡ record meta.now { mode = mode } }
 {
     Meta::new(mode.bits(), meta.uid(), meta.gid()).unwrap()
 }
 
-// Whether what is there is of the kind.
+// Returns whether the entry at a path is of the kind.
 fn test(
     alloc: Global,
     kind: Kind,
@@ -219,7 +219,7 @@ fn test(
     }
 }
 
-// Whether what is at a spot is of the kind.
+// Returns whether the entry at a spot is of the kind.
 fn is_kind(view: &View, spot: &Spot, kind: Kind) -> bool
     requires { IsSpot view.now spot.now }
     ensures { result ≡ is_kind kind (entry_at view.now spot.now) }
@@ -231,7 +231,7 @@ fn is_kind(view: &View, spot: &Spot, kind: Kind) -> bool
     }
 }
 
-// Whether a command is done.
+// Runs a command, and returns whether it is done.
 fn done(
     alloc: Global,
     command: &Command,
@@ -272,10 +272,10 @@ fn done(
     }
 }
 
-/// Runs a command on a view. The status is 0 where it is done; it is 1, and the view as it was, where a path is none, something
+/// Runs a command on a view. Returns status 0 if it is done; returns 1, and leaves the view as it was, if a path is invalid, something
 /// is not there or is of the wrong sort, or the change would be below a read-only mount. Paths are read from the setting's cwd
-/// and looked up by `View::route`, below the mount's selector. 75 `Memory`, and then the view is as it was. A command changes one
-/// mount's tree in place, and copies no tree.
+/// and looked up by `View::route`, below the mount's selector. Fails with 75 `Memory` alone; then the view is as it was. A command changes
+/// one mount's tree in place, and copies no tree.
 pub fn run_command(
     alloc: Global,
     command: &Command,

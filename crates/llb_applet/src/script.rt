@@ -1,4 +1,4 @@
-//! Scripts. A text is looked through without memory first, so that a refusal is told apart from out of memory, and then its
+//! Scripts. A text is first checked without memory, so that a refusal is not mistaken for want of memory, and then its
 //! calls are made into commands.
 
 ghost use Rattle.std.specs.Prelude.{◌≡◌, ◌+◌, ◌<◌, ◌++◌, ◌∷◌, [], List, ℕ, length, OnOk, IsTrue, slice_index_or, Ok};
@@ -17,13 +17,15 @@ use llb_wire::{Same, Text, all_same};
 use std::alloc::Global;
 use std::marker::Model;
 use std::mem;
+use std::sync::Arc;
 
-/// A script: commands in the order in which they run, each with how it follows those before it. Contracts see the list of them.
+/// A script: commands in the order in which they run, each with its join. Copies of a script share the commands. Contracts
+/// see the list of them.
 pub struct Script {
-    commands: Vec<Joined>,
+    commands: Arc<Vec<Joined>>,
 }
 
-// Written out, so that the crates above drop one by this one function.
+// It is written out so that the crates above drop one by this one function.
 impl Drop for Script {
     fn drop(self) {
         let Script { commands: _ } = self;
@@ -32,30 +34,27 @@ impl Drop for Script {
 
 impl Model for Script {
     ghost use Rattle.std.specs.Prelude.{List};
+    ghost use Rattle.std.specs.Arc.{arc_value};
     ghost use Rattle.llb_applet.specs.declared.join.Joined.{Joined};
 
     ghost Value = { List Joined };
 
-    ghost view = { λ s. s.commands.items };
+    ghost view = { λ s. (arc_value s.commands).items };
 }
 
 impl Script {
-    /// The commands in their order.
+    /// Returns the commands in their order.
     pub fn commands(&self) -> &[Joined]
         ensures { result.now ≡ self.now }
     {
         self.commands.as_slice()
     }
 
-    /// An equal second owner; 74 `Memory`.
+    /// Returns an equal second owner, which shares the commands. Fails with 74 `Memory` alone.
     pub fn copy(&self) -> Result<Script, ScriptFault>
         ensures { Gives (λ s. s) result (Ok self.now) }
     {
-        let alloc = *self.commands.allocator();
-        let mut commands = Vec::new(alloc);
-        for command in &self.commands {
-            commands.push(command.copy()?)?;
-        }
+        let commands = Arc::try_clone(&self.commands)?;
         Ok(Script { commands })
     }
 }
@@ -66,7 +65,7 @@ impl Same for Script {
     }
 }
 
-// Calls while they are read: the commands that are whole, how the call at hand follows them, and its words.
+// Calls while they are read: the commands of the calls that are whole, the join of the call at hand, and its words.
 #[derive(Drop)]
 pub struct Reading {
     commands: Vec<Joined>,
@@ -77,7 +76,7 @@ pub struct Reading {
 impl Reading {
     ghost use Rattle.llb_applet.specs.Reading.{some_word, ahead, with_call, Reads};
 
-    // Takes what is between two spaces: a separator ends the call at hand, another word is one of it, and no bytes are none.
+    // Takes what is between two spaces: a separator ends the call at hand, another word is added to it, and an empty part is no word.
     fn take(&mut self, alloc: Global, part: &str) -> Result<(), ScriptFault>
         ensures { (rest : List (List ℕ)) → Reads result (ahead self.old (some_word part.now ++ rest)) (ahead self.new rest) }
     {
@@ -109,7 +108,7 @@ impl Reading {
     }
 }
 
-// The commands of a text.
+// Makes the commands of a text.
 fn read_text(alloc: Global, text: &str) -> Result<Vec<Joined>, ScriptFault>
     ensures { Gives (λ c. c.items) result (commands_of 0 (calls_of text.now)) }
 {
@@ -125,7 +124,7 @@ fn read_text(alloc: Global, text: &str) -> Result<Vec<Joined>, ScriptFault>
     Ok(reading.commands)
 }
 
-// The script of a text.
+// Reads the commands of a text, or fails with its first fault.
 fn read_shell(alloc: Global, text: &str) -> Result<Vec<Joined>, ScriptFault>
     ensures gives { Gives (λ c. c.items) result (commands_in text.now) }
     ensures last { MemoryLast result (commands_in text.now) }
@@ -137,7 +136,7 @@ fn read_shell(alloc: Global, text: &str) -> Result<Vec<Joined>, ScriptFault>
     read_text(alloc, text)
 }
 
-// The script of one call.
+// Reads arguments as one call.
 fn read_call(alloc: Global, args: &[Text]) -> Result<Vec<Joined>, ScriptFault>
     requires { 0 < length args.now }
     ensures gives { Gives (λ c. c.items) result (commands_of 0 (first_call args.now ∷ [])) }
@@ -160,7 +159,7 @@ fn read_call(alloc: Global, args: &[Text]) -> Result<Vec<Joined>, ScriptFault>
     Ok(commands)
 }
 
-// Whether arguments are `/bin/sh`, `-c` and one text.
+// Returns whether arguments are `/bin/sh`, `-c` and one text.
 fn is_shell(args: &[Text]) -> bool
     ensures value { result ≡ is_shell args.now }
     ensures three { IsTrue result → length args.now ≡ 3 }
@@ -171,7 +170,7 @@ fn is_shell(args: &[Text]) -> bool
     is_word(args[0].as_str(), b"/bin/sh") && is_word(args[1].as_str(), b"-c")
 }
 
-// The second of some texts, empty where there is none.
+// Returns the second of these texts, or an empty one if there is none.
 fn second(args: &[Text]) -> &str
     ensures { result.now ≡ slice_index_or args.now 1 [] }
 {
@@ -181,21 +180,22 @@ fn second(args: &[Text]) -> &str
     args[1].as_str()
 }
 
-/// The script that arguments are: `/bin/sh`, `-c` and one text, or else one call, an applet's name and its words. In a text
+/// Reads arguments as a script: `/bin/sh`, `-c` and one text, or else one call, an applet's name and its words. In a text
 /// words are between spaces, and a separator, a word `;`, `&&` or `||`, is between two calls; another word has only ASCII letters
-/// and digits, `_ - . / , : + @ % =` and characters past ASCII. 73 `ShellSyntax` at the first bad place of the text: a byte that no
-/// word may have, a separator with no call before it, or the text's end where the last call is missing. Then for each call in order
-/// 71 `NoApplet` where its first word is no applet's name, and 72 `Usage` where the others are none of the applet's forms.
-/// 74 `Memory`, where there is no other fault, or in place of 71 where there is no memory for its text.
+/// and digits, `_ - . / , : + @ % =` and characters past ASCII. Fails with 73 `ShellSyntax` at the first bad place of the text: a byte
+/// that no word may have, a separator with no call before it, or the text's end where the last call is missing. Otherwise fails, for
+/// the first such call, with 71 `NoApplet` where its first word is no applet's name, or with 72 `Usage` where the others are none of the
+/// applet's forms. Fails with 74 `Memory` where there is no other fault, or in place of 71 if there is no memory for its text.
 pub fn read_script(alloc: Global, args: &[Text]) -> Result<Script, ScriptFault>
     requires { 0 < length args.now }
     ensures gives { Gives (λ s. s) result (script_of args.now) }
     ensures last { MemoryLast result (script_of args.now) }
 {
-    if !is_shell(args) {
-        let commands = read_call(alloc, args)?;
-        return Ok(Script { commands });
-    }
-    let commands = read_shell(alloc, args[2].as_str())?;
+    let commands = if is_shell(args) {
+        read_shell(alloc, args[2].as_str())?
+    } else {
+        read_call(alloc, args)?
+    };
+    let commands = Arc::new(alloc, commands)?;
     Ok(Script { commands })
 }

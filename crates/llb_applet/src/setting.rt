@@ -7,13 +7,13 @@ use crate::texts::copies;
 use llb_tree::Path;
 use llb_wire::{Many, Same, Text};
 
-/// Where commands run: paths are read from `cwd`, and `env` is what `envfile` writes.
+/// Where commands run: paths are read from `cwd`, and `envfile` writes `env`.
 pub struct Setting {
     pub cwd: Path,
     pub env: Many<Text>,
 }
 
-// Written out, so that what owns one drops it by this one function.
+// It is written out so that whatever owns one drops it by this one function.
 impl Drop for Setting {
     fn drop(self) {
         let Setting { cwd: _, env: _ } = self;
@@ -21,7 +21,7 @@ impl Drop for Setting {
 }
 
 impl Setting {
-    /// An equal second owner; 75 `Memory`.
+    /// Returns an equal second owner. Fails with 75 `Memory` alone.
     pub fn copy(&self) -> Result<Setting, Memory>
         ensures { IfOk result (λ s. s ≡ self.now) }
     {

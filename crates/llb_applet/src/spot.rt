@@ -1,4 +1,4 @@
-//! What a path means on a view: a mount, and a place in its tree. A path that is none, or whose place has more names than
+//! What a path means on a view: a mount, and a place in its tree. A word that is no path, or whose place has more names than
 //! a path can have, means nothing.
 
 ghost use Rattle.std.specs.Prelude.{◌≡◌, ◌<◌, ◌++◌, length, IfOk, IfSome, option_map, is_some};
@@ -14,14 +14,14 @@ use llb_tree::{Bytes, Entry, Meta, Name, Path, TreeFault};
 use llb_wire::Text;
 use std::alloc::Global;
 
-/// A place in a mount's tree; that many names of it are the mount's selector.
+/// A place in a mount's tree; its first `base` names are the mount's selector.
 pub struct Spot {
     pub mount: u32,
     pub base: usize,
     pub place: Path,
 }
 
-// Written out, so that what owns one drops it by this one function.
+// It is written out so that whatever owns one drops it by this one function.
 impl Drop for Spot {
     fn drop(self) {
         let Spot {
@@ -32,7 +32,7 @@ impl Drop for Spot {
     }
 }
 
-/// The path that a word is, read from the cwd.
+/// Reads a word as a path, from the cwd; `None` if it is none. Fails with 75 `Memory` alone.
 pub fn path_by(alloc: Global, setting: &Setting, word: &Text) -> Result<Option<Path>, Memory>
     ensures { IfOk result (λ p. p ≡ path_by setting.now word.now) }
 {
@@ -43,7 +43,7 @@ pub fn path_by(alloc: Global, setting: &Setting, word: &Text) -> Result<Option<P
     }
 }
 
-/// What a path means.
+/// Returns the spot that a path means; `None` if its place has more names than a path can have. Fails with 75 `Memory` alone.
 pub fn spot_of(view: &View, path: &Path) -> Result<Option<Spot>, Memory>
     ensures means { IfOk result (λ s. s ≡ spot_of view.now path.now) }
     ensures spot { IfOk result (λ s. IfSome s (λ spot. IsSpot view.now spot)) }
@@ -59,7 +59,7 @@ pub fn spot_of(view: &View, path: &Path) -> Result<Option<Spot>, Memory>
     Ok(Some(Spot { mount, base, place }))
 }
 
-// A path with more names after it.
+// Returns a path with more names after it.
 fn extended(path: &Path, names: &[Name]) -> Result<Path, Memory>
     ensures { IfOk result (λ p. p ≡ path.now ++ names.now) }
 {
@@ -70,7 +70,7 @@ fn extended(path: &Path, names: &[Name]) -> Result<Path, Memory>
     Ok(longer)
 }
 
-/// The mode and owner of an entry.
+/// Returns the mode and owner of an entry.
 pub fn meta_in(entry: &Entry<'_>) -> Meta
     ensures { result ≡ meta_in (seen entry.now) }
 {
@@ -80,14 +80,14 @@ pub fn meta_in(entry: &Entry<'_>) -> Meta
     }
 }
 
-// The mode and owner of a new file.
+// Returns the mode and owner of a new file, 0644 0:0.
 fn new_meta() -> Meta
     ensures { result ≡ new_meta }
 {
     Meta::new(0o644, 0, 0).unwrap()
 }
 
-/// What a word means.
+/// Returns the spot that a word means; `None` if it means nothing. Fails with 75 `Memory` alone.
 pub fn spot_by(
     alloc: Global,
     setting: &Setting,
@@ -104,7 +104,7 @@ pub fn spot_by(
 }
 
 impl Spot {
-    /// What stands there.
+    /// Returns the entry at the spot.
     pub fn entry<'v>(&self, view: &'v View) -> Option<Entry<'v>>
         requires { self.now.mount < length view.now }
         ensures { option_map seen result ≡ entry_at view.now self.now }
@@ -112,7 +112,7 @@ impl Spot {
         view.tree_of(self.mount).get(&self.place)
     }
 
-    /// Whether something stands there.
+    /// Returns whether there is an entry at the spot.
     pub fn is_there(&self, view: &View) -> bool
         requires { self.now.mount < length view.now }
         ensures { result ≡ is_some (entry_at view.now self.now) }
@@ -120,7 +120,7 @@ impl Spot {
         self.entry(view).is_some()
     }
 
-    /// Whether a directory stands there.
+    /// Returns whether there is a directory at the spot.
     pub fn is_dir(&self, view: &View) -> bool
         requires { self.now.mount < length view.now }
         ensures { result ≡ is_dir (entry_at view.now self.now) }
@@ -128,7 +128,7 @@ impl Spot {
         view.tree_of(self.mount).is_dir(&self.place)
     }
 
-    /// The content of the file that stands there.
+    /// Returns the content of the file at the spot; `None` if there is no file.
     pub fn content<'v>(&self, view: &'v View) -> Option<&'v Bytes>
         requires { self.now.mount < length view.now }
         ensures { option_map (λ b. b.now) result ≡ option_map (λ f. f.1) (file_in (entry_at view.now self.now)) }
@@ -140,7 +140,7 @@ impl Spot {
         }
     }
 
-    /// The mode and owner of what stands there, or those of a new file, 0644 0:0.
+    /// Returns the mode and owner of the entry at the spot, or those of a new file, 0644 0:0.
     pub fn meta(&self, view: &View) -> Meta
         requires { self.now.mount < length view.now }
         ensures { result ≡ meta_there (entry_at view.now self.now) }
@@ -151,7 +151,7 @@ impl Spot {
         }
     }
 
-    /// Whether this is where a mount is.
+    /// Returns whether the spot is the dest of a mount.
     pub fn is_dest(&self) -> bool
         ensures { result ≡ is_dest self.now }
     {

@@ -1,4 +1,4 @@
-//! Looking a script's text through without memory: where it is no script.
+//! Checks a script's text without memory: where it has its first bad place.
 
 ghost use Rattle.std.specs.Prelude.{◌≡◌, ◌+◌, ◌<◌, length, IfSome};
 ghost use Rattle.llb_applet.specs.Words.{join_of, is_separator, is_word_byte, bad_in, called_after, bad_place_of};
@@ -6,7 +6,7 @@ ghost use Rattle.llb_applet.specs.Words.{join_of, is_separator, is_word_byte, ba
 use crate::applet::is_word;
 use crate::join::Join;
 
-// Whether words may have this byte.
+// Returns whether words may have this byte.
 fn is_word_byte(byte: u8) -> bool
     ensures { result ≡ is_word_byte byte }
 {
@@ -17,7 +17,7 @@ fn is_word_byte(byte: u8) -> bool
         || byte >= 128
 }
 
-/// How the call after a separator follows those before it; a word of a call is no separator.
+/// Returns the join of the call after a separator; `None` for another word.
 pub fn join_of(word: &str) -> Option<Join>
     ensures { result ≡ join_of word.now }
 {
@@ -33,14 +33,14 @@ pub fn join_of(word: &str) -> Option<Join>
     None
 }
 
-/// Whether a word is a separator.
+/// Returns whether a word is a separator.
 pub fn is_separator(word: &str) -> bool
     ensures { result ≡ is_separator word.now }
 {
     join_of(word).is_some()
 }
 
-// Where a word has its first bad byte, where a word of a call stands right before it or not.
+// Returns the place of a word's first bad byte; `called` says whether a word of a call stands right before the word.
 fn bad_in(called: bool, word: &str) -> Option<usize>
     ensures value { result ≡ bad_in called word.now }
     ensures inside { IfSome result (λ k. k < length word.now) }
@@ -51,7 +51,7 @@ fn bad_in(called: bool, word: &str) -> Option<usize>
     word.as_bytes().iter().position(|byte| !is_word_byte(*byte))
 }
 
-// Whether a word of a call stands right before what follows a part.
+// Returns whether a word of a call stands right before what follows a part.
 fn called_after(called: bool, part: &str) -> bool
     ensures { result ≡ called_after called part.now }
 {
@@ -61,7 +61,7 @@ fn called_after(called: bool, part: &str) -> bool
     !is_separator(part)
 }
 
-/// The first place at which a text is not calls of words with a separator between each two.
+/// Returns the first place at which a text is not a list of calls with a separator between each two, in bytes from 0.
 pub fn bad_place(text: &str) -> Option<usize>
     ensures { result ≡ bad_place_of text.now }
 {

@@ -129,7 +129,7 @@ module _ (labels : List (List ℕ)) where
 -- ---- the items fit
 
 module _ (labels : List (List ℕ)) (small : length labels < 2 ^ 64) where
-  -- a line with a record, where the record and what stands after it have room
+  -- a line with a record, where the record and what follows it have room
   single_fits : (hand : Hand) (line : List ℕ) (next : Here) (b more : List ℕ) → line_in labels hand.here line ≡ Ok (item next (Record b))
       → HasRoom hand (length (b ++ more)) → item_at labels hand line ≡ Ok (item next (Record b))
   single_fits hand line next b more is room =

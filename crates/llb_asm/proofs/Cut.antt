@@ -14,7 +14,7 @@ use Rattle.llb_asm.specs.Values.{BeginsSolid, EndsSolid, IsSolid}
 use Rattle.llb_asm.proofs.Blanks.{front_blank, front_kept, end_kept}
 use Rattle.llb_asm.proofs.KeptLines.{pieces, kept_of}
 
--- what stands on a line as it is: solid text that does not begin with `#`
+-- the content of a line as it is: solid text that does not begin with `#`
 pub record IsContent (t : List ℕ) : Type 0 where
   pub solid : IsSolid t
   pub other : solid.begins.byte ≢ 35

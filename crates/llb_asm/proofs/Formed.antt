@@ -48,7 +48,7 @@ other_bytes entry op is other (op', is', same) =
 not_read : (entry : List ℕ) (f : OpFault) → op_of entry ≡ Err f → ¬ IsStructured entry
 not_read entry f is (op, read, same) = no_op op f (sym read ∙ is)
 
--- the canonical bytes of what is read of an entry tell whether it is so written
+-- the canonical bytes of what is read of an entry decide whether it is so written
 pub structured_by : (entry bytes : List ℕ) (b : Bool) → Some bytes ≡ canonical_of (op_of entry) → b ≡ bytes_eq bytes entry
     → (b ≡ true → IsStructured entry) × (IsStructured entry → b ≡ true)
 structured_by entry bytes b = go (op_of entry) refl
@@ -121,7 +121,7 @@ next_in (x ∷ xs) (suc k) d all less =
     let later : drop (suc k + 1) (x ∷ xs) ≡ drop (k + 1) xs = ap (λ n. drop n (x ∷ xs)) (add-one (suc k)) ∙ sym (ap (λ n. drop n xs) (add-one k)) in
     record { form = y.form; has = y.has; is = y.is ∙ ap (λ l. (get_or (map (λ x. x.0) xs) k d, y.form) ∷ l) (sym later) }
 
--- of entries in their forms, the one at a place has the form that stands there
+-- in entries with their forms, the one at a place has the form at that place
 pub next_form : (entries : List (List ℕ)) (xs : List Formed) (k : ℕ) (entry : List ℕ) → AreFormed entries xs → k < length entries
     → entry ≡ get_or entries k entry → Next xs k entry
 next_form entries xs k entry are less is =
@@ -136,7 +136,7 @@ module _ (text done : List ℕ) (labels : List (List ℕ)) (xs : List Formed) (k
       split ∙ ap (λ l. done ++ text_of_lines (plain_lines labels l)) next.is
       ∙ ap (λ l. done ++ l) (flat_map-append line_text (entry_lines labels entry next.form) (plain_lines (labels ++ digest_text entry ∷ []) (drop (k + 1) xs)))
 
--- what is out where an entry is not
+-- what is written where an entry is not
 pub stops_inside : (a b c : Option (List ℕ)) (failed : Bool) (text done line rest : List ℕ) → Appends a b done → text ≡ done ++ (line ++ rest) → (f : AsmFault)
     → Prints b c failed line (Err f) → (r : Result (Unit {0}) AsmFault) → IsErrAnd r (λ e. e ≡ f) → Prints a c failed text r
 stops_inside a b c failed text done line rest before split f stopped (Ok u) same = absurd same

@@ -25,7 +25,7 @@ use Rattle.llb_ops.specs.Writing.{set_number, set_bytes}
 use Rattle.llb_asm.specs.declared.print.Front.{Front}
 use Rattle.llb_asm.specs.Printing.{Finds, found}
 
--- ---- a record that stands at the start is found there
+-- ---- a record that is at the start is found there
 
 some_bytes : (bytes : List ℕ) (n : ℕ) → Spells bytes n → 0 < length bytes
 some_bytes [] n h = absurd h
@@ -45,14 +45,14 @@ next_is r rest h = go (0 == length (r.text ++ rest)) refl
     go false e = rw (record_read r rest h) refl
     go true e = absurd (let some = some_text r h in let count = length-append r.text rest in grind arith)
 
--- what is found where a record stands
+-- what is found where a record is
 pub record Holds (front : Front) (r : Record) (rest : List ℕ) : Type 0 where
   pub number : front.number ≡ r.number
   pub value : front.value ≡ r.value
   pub payload : front.payload.now ≡ r.payload
   pub after : front.after.now ≡ rest
 
--- what is found where a record stands at the start has its number, value and payload, and the bytes after it are left
+-- what is found where a record is at the start has its number, value and payload, and the bytes after it are left
 pub front_holds : (bytes : List ℕ) (front : Front) (r : Record) (rest : List ℕ) → Finds bytes (Some front) → IsRecord r → bytes ≡ r.text ++ rest
     → Holds front r rest
 front_holds bytes front r rest (f, next, number, value, payload, after) h split =
@@ -66,7 +66,7 @@ front_holds bytes front r rest (f, next, number, value, payload, after) h split 
           ∙ drop_at r.text rest (placed 0 r).«end» (let c : length r.text ≡ 0 + length r.text = omega arith in c);
     }
 
--- where nothing is found at the start, no record stands there
+-- where nothing is found at the start, no record is there
 pub front_there : (bytes : List ℕ) (r : Record) (rest : List ℕ) → Finds bytes None → IsRecord r → bytes ≡ r.text ++ rest → ⊥
 front_there bytes r rest none h split = none (placed 0 r) (ap (λ x. next_field x 0) split ∙ next_is r rest h)
 

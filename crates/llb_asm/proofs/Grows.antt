@@ -34,7 +34,7 @@ within_below earlier j k le is =
     (le-leb j entry_limit (omega arith))
     (le-leb (length (definition_bytes earlier) + record_length 1 j) definition_limit (omega (arith, small, record_grows 1 j k le)))
 
--- ---- room for that many bytes more
+-- ---- room for more bytes
 
 abbrev pub HasRoom : Hand → ℕ → Type 0
 HasRoom hand size = (k : ℕ) → k ≤ length hand.bytes + size → hand.room k ≡ true

@@ -14,7 +14,7 @@ no_bytes : length (definition_bytes []) ≡ 0
 unfolding each_field
 no_bytes = refl
 
--- of no entries no digests are kept, and no bytes are counted
+-- for no entries no digests are kept, and no bytes are counted
 pub kept_none : (es ls : List (List ℕ)) → es ≡ [] → ls ≡ [] → IsKept es ls 0
 kept_none es ls e l = rw (e, l) (record { digests = refl; bytes = sym no_bytes; small = omega arith })
 

@@ -80,12 +80,12 @@ pub finish_open : (last : ℕ) (earlier : List (List ℕ)) (o : Option Open) →
 finish_open last earlier None e = absurd cc
 finish_open last earlier (Some s) e = refl
 
--- where no op is open after the last line, the text stands for the entries so far
+-- where no op is open after the last line, the text is read as the entries so far
 pub finish_whole : (last : ℕ) (earlier : List (List ℕ)) (o : Option Open) → is_some o ≡ false → finish last earlier (option_map seen o) ≡ Ok earlier
 finish_whole last earlier None e = refl
 finish_whole last earlier (Some s) e = absurd cc
 
--- where the reading is refused at a line, the fault of that line is the right answer
+-- where the reading is refused at a line, the fault of that line is the right result
 pub gives_fault : (n : ℕ) (e : Refusal) (r : Result (List (List ℕ)) (ℕ × Refusal)) → r ≡ Err (n, e) → Gives (Err (fault_at n e)) r
 gives_fault n (Breaks rule) r same = same
 gives_fault n UnknownLabel r same = same

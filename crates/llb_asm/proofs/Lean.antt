@@ -10,7 +10,7 @@ use Rattle.llb_ops.specs.Writing.{set_number, set_bytes}
 use Rattle.llb_ops.specs.Fields.{Fields, extra, number, bytes, message, bytes_of, may_follow, AreFields, without_empty}
 use Rattle.llb_asm.proofs.Records.{bytes_spelled}
 
--- ---- what may stand after a later field may stand after an earlier one
+-- ---- what may follow a later field may follow an earlier one
 
 -- a later field is reached
 reached : (last n : ℕ) (repeated : Bool) → (nat_lt last n || (repeated && (last == n))) ≡ true → (last < n) ⊎ ((last ≡ n) × (repeated ≡ true))
@@ -28,7 +28,7 @@ earlier_reaches last later n repeated le (inr (same, is)) = elim (cases_lt last 
   | inr ge ↦ or_right (nat_lt last n) (repeated && (last == n)) (and_from repeated (last == n) is (eq-eqb last n (omega arith)))
 ]
 
--- fewer members stand earlier
+-- fewer members are set earlier
 fewer : (member set more : Bool) → not (member && (set || more)) ≡ true → not (member && set) ≡ true
 fewer false set more e = refl
 fewer true true more e = e

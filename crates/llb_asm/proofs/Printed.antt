@@ -314,7 +314,7 @@ module _ (labels : List (List ℕ)) (depth : ℕ) where
   numeric_text Bytes row v p text later is h = absurd is
   numeric_text (Message m) row v p text later is h = absurd is
 
-  -- once its line is written, a number has moved from the text that is to come to the text that is out
+  -- once its line is written, a number has moved from the text that is to come to the text that is written
   pub number_arm : (row : Row) (v : ℕ) (p written written' text later : List ℕ) → IsNumeric row.1.kind
       → written' ≡ written ++ line_text (item_line depth row.0 (number_text row.1.kind v)) → HeadText row.1.kind row v p text later
       → written' ++ later ≡ written ++ text

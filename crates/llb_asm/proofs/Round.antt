@@ -28,7 +28,7 @@ label_back k small = numbers.label_back k small
 
 -- ---- strings
 
--- the two digits of a byte, and whether they stand for it in a string
+-- the two digits of a byte, and whether a string reads them as that byte
 abbrev high : ℕ → ℕ
 high b = get_or lower_digits (b / 16) 0
 

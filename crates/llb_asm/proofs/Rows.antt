@@ -81,7 +81,7 @@ module _ (m : MessageName) (row : Row) (known : by_number row.1.number (rows_of 
   row_good : is_name row ≡ true
   row_good = found_of (λ r. is_name r ≡ true) (λ r. r.1.number == row.1.number) (rows_of m) row (passes_all is_name (rows_of m) (names_good m)) known
 
-  -- its name can stand as the first word of a line
+  -- its name is a word, as the first of a line is
   pub name_is_word : is_word row.0 ≡ true
   name_is_word = (and_parts (is_word row.0) (not (is_text row.0 (codes "extra"))) row_good).0
 

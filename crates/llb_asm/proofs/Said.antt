@@ -120,11 +120,11 @@ left_in true true r e = refl
 left_in true false r e = absurd cc
 left_in false may r e = refl
 
--- a number that is not 0, or may stand as 0, adds its record and is not left out
+-- a number that is not 0, or may be written as 0, adds its record and is not left out
 pub number_left_in : (row : Row) (v : ℕ) → not (v == 0) || may_be_empty row.1 ≡ true → number_record row.1 v ≡ Record (set_number row.1.number v)
 number_left_in row v e = ap (λ b. Record b) (left_in (v == 0) (may_be_empty row.1) (set_number row.1.number v) e)
 
--- bytes that are not empty, or may stand empty, add their record and are not left out
+-- bytes that are not empty, or may be written empty, add their record and are not left out
 pub bytes_left_in : (row : Row) (held : List ℕ) → not (length held == 0) || may_be_empty row.1 ≡ true
     → bytes_record row.1 held ≡ Record (set_bytes row.1.number held)
 bytes_left_in row held e = ap (λ b. Record b) (left_in (length held == 0) (may_be_empty row.1) (set_bytes row.1.number held) e)

@@ -1,4 +1,4 @@
--- What is written for a value stands on one line as it is.
+-- What is written for a value fits on one line as it is.
 use Rattle.std.proofs.Common.{◌≡◌, ℕ, ◌+◌, ◌-◌, ◌/◌, ◌%◌, ◌^◌, ◌<◌, ◌≤◌, ◌⊎◌, nat_lt, nat_le, ◌==◌, ◌&&◌, Bool, true, inl, inr, List}
 use Rattle.std.proofs.Common.{[], ◌∷◌, ◌++◌, length, get_or, refl, sym, ap, subst, arith}
 use Rattle.std.specs.Prelude.{codes}
@@ -138,7 +138,7 @@ digit_tests k lt = agree_below_at (λ k. is_solid_ascii (digit k)) (λ _. true) 
 digit_solid : (k : ℕ) → k < 16 → 33 ≤ digit k
 digit_solid k lt = leb-true 33 (digit k) (and_parts (nat_le 33 (digit k)) (nat_lt (digit k) 128) (digit_tests k lt)).0
 
--- a digit of the table, and what stands where there is none
+-- a digit of the table, and 0, which is read past its end
 digit_ascii : (k : ℕ) → digit k < 128
 digit_ascii k = elim (cases_lt k 16) [
   | inl below ↦ ltb-true (digit k) 128 (and_parts (nat_le 33 (digit k)) (nat_lt (digit k) 128) (digit_tests k below)).1
@@ -194,7 +194,7 @@ escaped_ascii b lt = escaped_by IsAscii b
     (IsAscii-cons 120 (encode_lower (b ∷ [])) (omega arith) (IsAscii-encode_with lower_digits (b ∷ []) digit_ascii)))
     (λ quote slash above. IsAscii-cons b [] lt IsAscii-nil)
 
--- bytes of characters that are not ASCII stand as they are
+-- bytes of characters that are not ASCII stay as they are
 escaped_high : (b : ℕ) → 128 ≤ b → escaped b ≡ b ∷ []
 escaped_high b le = escaped_by (λ t. t ≡ b ∷ []) b
     (λ is. absurd (elim is [ inl quote ↦ omega arith | inr slash ↦ omega arith ]))
@@ -249,6 +249,6 @@ string_solid s is = record {
   utf8 = is_utf8-from_IsUtf8 (34 ∷ (flat_map escaped s ++ 34 ∷ [])) (string_utf8 s (IsUtf8-from_is_utf8 s is));
 }
 
--- each text that is written for a value stands on one line as it is
+-- each text that is written for a value fits on one line as it is
 pub values_are_solid : ValuesAreSolid
 values_are_solid = record { number_solid = number_solid; string_solid = string_solid; bytes_solid = bytes_solid; label_solid = label_solid }

@@ -1,4 +1,4 @@
--- What is written of entries stands on its lines as it is.
+-- What is written of entries is on its lines as it is.
 use Rattle.std.proofs.Common.{◌≡◌, ◌≢◌, ℕ, ◌+◌, ◌^◌, ◌<◌, ◌≤◌, nat_lt, nat_le, ◌==◌, ◌&&◌, Bool, true, false, List, [], ◌∷◌, ◌++◌, length, Option, Some, None}
 use Rattle.std.proofs.Common.{refl, sym, ap, subst, ◌∙◌, append_assoc, length-append, true≢false, arith}
 use Rattle.std.specs.Prelude.{codes, map, position}

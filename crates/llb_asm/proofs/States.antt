@@ -1,4 +1,4 @@
--- Where reading stands after some items and after some entries, and what each line does there.
+-- The state of the reading after some items and after some entries, and what each line does there.
 use Rattle.std.specs.Prelude.{position, nat_eq}
 use Rattle.std.specs.Str.{is_utf8}
 use Rattle.std.proofs.Common.{◌≡◌, ◌≢◌, refl, sym, ap, subst, ◌∙◌, ℕ, Bool, true, false, if◌then◌else◌, List, [], ◌∷◌, ◌++◌, append_assoc, append-nil}
@@ -40,7 +40,7 @@ state_in_op t = state_after at_front.here [] [] t
 abbrev pub FitsAt : List (List ℕ) → Seen → Items → Type 0
 FitsAt earlier s t = Fits (labels_of earlier) (hand_of (is_within earlier) s) t
 
--- where the next line stands after whole items
+-- the place of the next line after whole items
 abbrev pub here_after : Here → Items → Here
 here_after h done = h
 here_after h (single line next bytes rest) = here_after next rest

@@ -11,7 +11,7 @@ use Rattle.llb_wire.specs.Hexadecimal.{is_lower}
 use Rattle.llb_asm.specs.Values.{Escape, closed, backslash, first, digit_of, after_it, where_so, string_from, string_in, string_text, escaped}
 use Rattle.llb_asm.specs.Values.{escape_of, Continues, Leads}
 
--- ---- a text and what stands after its prefix
+-- ---- a text and what follows its prefix
 
 abbrev rest_of : ℕ → List ℕ → List ℕ
 rest_of n text = take (length text - n) (drop n text)
@@ -170,7 +170,7 @@ no_quote (b ∷ text) other = sym (ap (λ t. cond t (string_from closed text) No
 
 -- ---- what is written
 
--- with one byte more written as it is escaped, the first i + 1 bytes of a string are out
+-- with one byte more written as it is escaped, the first i + 1 bytes of a string are written
 pub string_more : (old now after s : List ℕ) (i : ℕ) → now ≡ old ++ (34 ∷ flat_map escaped (take i s)) → i < length s → after ≡ now ++ escaped (get_or s i 0)
     → after ≡ old ++ (34 ∷ flat_map escaped (take (i + 1) s))
 string_more old now after s i is inside more =
@@ -180,7 +180,7 @@ string_more old now after s i is inside more =
     ap (λ l. flat_map escaped l) (take_more s i 0 inside) ∙ flat_map-append escaped (take i s) (b ∷ []) ∙ ap (λ t. front ++ t) (append-nil (escaped b)) in
     more ∙ ap (λ t. t ++ escaped b) is ∙ append_assoc old (34 ∷ front) (escaped b) ∙ ap (λ t. old ++ (34 ∷ t)) (sym whole)
 
--- with all bytes of a string out, a quote more makes its whole text
+-- with all bytes of a string written, a quote more makes its whole text
 pub string_done : (old now after s : List ℕ) (i : ℕ) → now ≡ old ++ (34 ∷ flat_map escaped (take i s)) → length s ≤ i → after ≡ now ++ 34 ∷ []
     → after ≡ old ++ string_text s
 unfolding string_text

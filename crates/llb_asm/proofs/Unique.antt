@@ -1,4 +1,4 @@
--- A text has one answer at most: what stands for entries, or is refused, is read so.
+-- A text has one result at most: entries, or a refusal, are what it is read as.
 use Rattle.std.proofs.Common.{◌≡◌, refl, sym, ap, ◌∙◌, ℕ, List, [], ◌∷◌, ◌++◌, map, Result, Ok, Err, append_assoc, append-nil, inl, inr}
 use Rattle.llb_wire.specs.Answer.{◌>>=◌, bind_ok}
 use Rattle.llb_ops.specs.Writing.{set_bytes}
@@ -70,7 +70,7 @@ module _ (earlier : List (List ℕ)) where
       steps_item (state h b w) line (item next (Opens number sub)) (lines_of inner ++ more) is
       ∙ steps_items (inside sub) [] (frame next number b ∷ w) inner within more
 
--- the lines of entries lead to where reading stands after them
+-- the lines of entries lead to the state of the reading after them
 steps_entries : (earlier : List (List ℕ)) (t : Entries) → AreEntries earlier t → (more : List (List ℕ))
     → steps (between earlier) (text_of t ++ more) ≡ steps (progress_after earlier t) more
 steps_entries earlier none are more = refl
@@ -162,7 +162,7 @@ read_fault lines n e (inr (x, is)) =
     ∙ ap (λ k. Err (k, Breaks Unclosed)) (ap (λ l. last_of 0 l) x.split ∙ last_end 0 n x.line x.before)
     ∙ ap (λ r. Err (n, r)) (sym is)
 
--- ---- one answer
+-- ---- one result
 
 abbrev refused_at : ℕ × Refusal → Result (List (List ℕ)) (ℕ × Refusal)
 refused_at x = Err x

@@ -90,7 +90,7 @@ module _ (lines : List Line) where
         | inr x ↦ inr (record { before = x.front; line = x.line; split = x.split; parts = t; are = are; text = text; not_closed = not }, refl)
       ])
 
-  -- after lines that are entries, the answer to the rest is the reading's
+  -- after lines that are entries, the result for the rest is the reading's
   abbrev WalksOn : List Line → Type 0
   WalksOn rest =
       (before : List Line) (n : ℕ) (t : Entries) → AreEntries [] t → lines ≡ before ++ rest → map (λ l. l.1) before ≡ text_of t → EndsAt before n
@@ -139,7 +139,7 @@ all_lines lines = walk lines lines [] 0 none tt refl refl (inl refl)
 read_so : (lines : List Line) (r : Result (List (List ℕ)) (ℕ × Refusal)) → run_from 0 (between []) lines ≡ r → Says lines r
 read_so lines r e = subst (λ (x : Result (List (List ℕ)) (ℕ × Refusal)). Says lines x) e (all_lines lines)
 
--- an answer that the lines give, read one after another, is what the text is assembled to
+-- the result of the lines, read one after another, is what the text is assembled to
 pub answers : (text : List ℕ) (r : Result (List (List ℕ)) AsmFault) → Gives r (run_from 0 (between []) (kept text)) → Assembles text r
 answers text (Ok entries) e = read_so (kept text) (Ok entries) e
 answers text (Err (fault.Line n rule)) e = read_so (kept text) (Err (n, Breaks rule)) e

@@ -70,7 +70,7 @@ spelled_record f text = or_else (Breaks BadValue) (option_map (bytes_record f) (
 abbrev pub opening_in : NamedField → MessageName → List ℕ → Result Held Refusal
 opening_in f m text = if is_text text (codes "{") then Ok (Opens f.number m) else Err (Breaks BadValue)
 
--- what the value of a field is spelled as
+-- what the value of a field holds, by its spelling
 abbrev pub held_by : List (List ℕ) → Row → FieldKind → List ℕ → Result Held Refusal
 held_by labels row (kind.Message m) text = opening_in row.1 m text
 held_by labels row kind.String text = string_record labels row text
@@ -84,13 +84,13 @@ held_by labels row kind.Bool text = or_else (Breaks BadValue) (option_map (numbe
 unfoldable pub held_in : List (List ℕ) → Row → List ℕ → Result Held Refusal
 held_in labels row text = held_by labels row row.1.kind text
 
--- ---- where a line stands: the message, its last field, whether a member of its oneof is set, and how often the last field stood
+-- ---- the place of a line: the message, its last field, whether a member of its oneof is set, and how often the last field occurred
 
--- at the start of a message
+-- the place at the start of a message
 abbrev pub inside : MessageName → Here
 inside m = record { message = m; last = 0; set = false; count = 0; ended = false }
 
--- after one more field
+-- the place after one more field
 abbrev pub behind : Here → NamedField → Here
 behind here f = record {
   message = here.message;
@@ -100,7 +100,7 @@ behind here f = record {
   ended = false;
 }
 
--- after the extra bytes, where nothing more may stand
+-- the place after the extra bytes, where no more lines of the message may follow
 abbrev pub at_end : Here → Here
 at_end here = record { message = here.message; last = here.last; set = here.set; count = here.count; ended = true }
 

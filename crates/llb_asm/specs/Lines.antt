@@ -7,7 +7,7 @@ use Rattle.std.specs.Str.{is_utf8}
 abbrev pub is_blank : ℕ → Bool
 is_blank b = (b == 32) || (b == 9) || (b == 13)
 
--- a line without those at its start, at its end, and at both
+-- a line without the blanks at its start, at its end, and at both
 abbrev pub without_front : List ℕ → List ℕ
 without_front [] = []
 without_front (b ∷ line) = if is_blank b then without_front line else b ∷ line

@@ -16,7 +16,7 @@ use Rattle.llb_asm.specs.Values.{is_text, number_text, string_text, label_text}
 
 -- ---- values
 
--- the least entry with that text of its digest
+-- the least entry whose digest has this text
 abbrev pub label_for : List (List ℕ) → List ℕ → Option ℕ
 label_for labels digest = position (is_text digest) labels
 
@@ -38,7 +38,7 @@ held_text kind.Enum labels name held = []
 held_text kind.Bool labels name held = []
 held_text (kind.Message m) labels name held = []
 
--- ---- lines, each with how deep it stands
+-- ---- lines, each with its depth
 
 abbrev pub PlainLine : Type 0
 PlainLine = ℕ × List ℕ
@@ -71,7 +71,7 @@ field_lines labels depth (message row inner rest) =
 abbrev pub IsStructured : List ℕ → Type 0
 IsStructured entry = (op : Op) × (op_of entry ≡ Ok op) × (op_bytes op ≡ entry)
 
--- as an op by the fields of its canonical bytes, or as its bytes
+-- how an entry is written: as an op by the fields of its canonical bytes, or as its bytes
 pub data Form : Type 0 where
   structured : (op : Op) → HasFields op → Form
   raw : Form
@@ -97,7 +97,7 @@ pub record AreFormed (entries : List (List ℕ)) (xs : List Formed) : Type 0 whe
   pub same : map (λ x. x.0) xs ≡ entries
   pub forms : HaveForms xs
 
--- each after the labels of those before it
+-- the lines of entries, each after the labels of those before it
 abbrev pub plain_lines : List (List ℕ) → List Formed → List PlainLine
 plain_lines labels [] = []
 plain_lines labels (x ∷ xs) = entry_lines labels x.0 x.1 ++ plain_lines (labels ++ digest_text x.0 ∷ []) xs
@@ -115,7 +115,7 @@ plain_text xs = text_of_lines (plain_lines [] xs)
 
 -- ---- the law
 
--- the text of the entries of a definition stands for these entries
+-- the text of the entries of a definition is read as these entries
 abbrev pub ReadsBack : List (List ℕ) → Type 0
 ReadsBack entries =
     definition_of (definition_bytes entries) ≡ Ok entries → (xs : List Formed) → AreFormed entries xs

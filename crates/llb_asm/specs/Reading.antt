@@ -1,4 +1,4 @@
--- Which lines are the items of a message and the entries of a definition, what they stand for, and which line is the first that is
+-- Which lines are the items of a message and the entries of a definition, what they are read as, and which line is the first that is
 -- refused. Nothing here knows how lines are read.
 use Rattle.std.specs.Prelude.{◌≡◌, ◌≢◌, ◌≤◌, ℕ, ◌+◌, ◌&&◌, ◌⊎◌, nat_lt, nat_le, Bool, if◌then◌else◌, List, [], ◌∷◌, ◌++◌, length, map, codes, Option}
 use Rattle.std.specs.Prelude.{Some, None, Result, Ok, Err}
@@ -41,7 +41,7 @@ is_within earlier size = nat_le size entry_limit && nat_le (length (definition_b
 
 -- ---- the message at hand
 
--- where the next line stands in it, its bytes so far, and whether the entry is within the limits where it has that many, all messages closed
+-- the place of the next line in it, its bytes so far, and whether the entry is within the limits where it has n bytes, all messages closed
 pub record Hand : Type 0 where
   pub here : Here
   pub bytes : List ℕ
@@ -59,7 +59,7 @@ item_at labels hand line = do
   _ ← guard (Breaks OverLimit) (hand.room (length hand.bytes + added i.held))
   Ok i
 
--- after some more bytes, and in a message
+-- the message at hand after some more bytes, and a message in it
 abbrev pub beyond : Hand → Here → List ℕ → Hand
 beyond hand next bytes = record { here = next; bytes = hand.bytes ++ bytes; room = hand.room }
 
@@ -68,7 +68,7 @@ within hand number sub = record { here = inside sub; bytes = []; room = λ size.
 
 -- ---- the items of a message
 
--- with the lines that spell them: each a line with its record, or a message between an opening line and a closing one. The last one
+-- Items with the lines that spell them: each is a line with its record, or a message between an opening line and a closing one. The last one
 -- may be a message that is not closed yet.
 pub data Items : Type 0 where
   done : Items
@@ -143,7 +143,7 @@ abbrev pub canonical_of : Result Op OpFault → Option (List ℕ)
 canonical_of (Err f) = None
 canonical_of (Ok op) = Some (op_bytes op)
 
--- within the limits
+-- the canonical bytes, within the limits
 abbrev pub canonical_in : List (List ℕ) → Option (List ℕ) → Result (List ℕ) Refusal
 canonical_in earlier None = Err (Breaks OverLimit)
 canonical_in earlier (Some entry) = if is_within earlier (length entry) then Ok entry else Err (Breaks OverLimit)
@@ -199,7 +199,7 @@ AreEntries earlier (op line items entry rest) =
     × (entry_in earlier (records_of items) ≡ Ok entry) × AreEntries (earlier ++ entry ∷ []) rest
 AreEntries earlier (open_op line items) = (begun_in earlier line ≡ Ok Structured) × Fits (labels_of earlier) (outermost earlier) items
 
--- the lines stand for these entries
+-- the lines are read as these entries
 pub record StandsFor (lines : List Line) (entries : List (List ℕ)) : Type 0 where
   pub parts : Entries
   pub are : AreEntries [] parts
@@ -222,7 +222,7 @@ IsRefused earlier (raw l bytes rest) line e = IsRefused (earlier ++ bytes ∷ []
 IsRefused earlier (op l items entry rest) line e = IsRefused (earlier ++ entry ∷ []) rest line e
 IsRefused earlier (open_op l items) line e = IsRefusedIn earlier items line e
 
--- the lines before it are those of entries, and it is refused
+-- line n is refused with e, and the lines before it are those of entries
 pub record StopsAt (lines : List Line) (n : ℕ) (e : Refusal) : Type 0 where
   pub before : List Line
   pub line : List ℕ
@@ -257,7 +257,7 @@ Assembles text (Err fault.Write) = ⊥
 abbrev pub at_line : ℕ → Refusal → ℕ × Refusal
 at_line n e = (n, e)
 
--- a text stands for one list of entries at most, or it has one first fault, and never both
+-- a text is read as one list of entries at most, or it has one first fault, and never both
 pub record HasOneAnswer (text : List ℕ) : Type 0 where
   pub entries : (a b : List (List ℕ)) → StandsFor (kept text) a → StandsFor (kept text) b → a ≡ b
   pub apart : (a : List (List ℕ)) (n : ℕ) (e : Refusal) → StandsFor (kept text) a → ¬ FaultAt (kept text) n e

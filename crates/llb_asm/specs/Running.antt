@@ -37,7 +37,7 @@ seen s = record { here = s.here; bytes = s.bytes; below = reverse s.below }
 abbrev pub at_front : Seen
 at_front = record { here = inside named.Op; bytes = []; below = [] }
 
--- whether the entry has room for that many bytes of the message at hand
+-- whether the entry has room for the message at hand where that has `size` bytes
 abbrev pub room_in : (ℕ → Bool) → List Frame → ℕ → Bool
 room_in room [] size = room size
 room_in room (f ∷ below) size = room_in room below (length f.bytes + record_length f.number size)
@@ -45,7 +45,7 @@ room_in room (f ∷ below) size = room_in room below (length f.bytes + record_le
 abbrev pub hand_of : (ℕ → Bool) → Seen → Hand
 hand_of room s = record { here = s.here; bytes = s.bytes; room = room_in room s.below }
 
--- an item more
+-- the open op with an item more
 abbrev pub with_held : Seen → Here → Held → Seen
 with_held s next (Record bytes) = record { here = next; bytes = s.bytes ++ bytes; below = s.below }
 with_held s next (Opens number sub) = record { here = inside sub; bytes = []; below = record { here = next; number = number; bytes = s.bytes } ∷ s.below }
@@ -110,7 +110,7 @@ step_on earlier (Some s) line = step_in earlier s line
 abbrev pub step_of : Progress → List ℕ → Result Progress Refusal
 step_of p line = step_on p.earlier p.current line
 
--- after the last line, of that number
+-- the result after the last line, of that number
 abbrev pub finish : ℕ → List (List ℕ) → Option Seen → Result (List (List ℕ)) (ℕ × Refusal)
 finish n earlier None = Ok earlier
 finish n earlier (Some s) = Err (n, Breaks Unclosed)
@@ -123,7 +123,7 @@ unfoldable pub run_from : ℕ → Progress → List Line → Result (List (List 
 run_from last p [] = finish last p.earlier p.current
 run_from last p (l ∷ lines) = next l.0 (λ q. run_from l.0 q lines) (step_of p l.1)
 
--- out of memory aside, that is what is answered
+-- the result of a call is the expected one, or its fault is the one for refused memory
 abbrev pub Gives : Result (List (List ℕ)) AsmFault → Result (List (List ℕ)) (ℕ × Refusal) → Type 0
 Gives (Ok entries) r = r ≡ Ok entries
 Gives (Err (fault.Line n rule)) r = r ≡ Err (n, Breaks rule)
@@ -131,7 +131,7 @@ Gives (Err (fault.UnknownLabel n)) r = r ≡ Err (n, UnknownLabel)
 Gives (Err fault.Memory) r = Unit {0}
 Gives (Err fault.Write) r = ⊥
 
--- the answer with the entries that are reached
+-- the result with the entries that are reached
 abbrev pub reached : List (List ℕ) → Result (Unit {0}) AsmFault → Result (List (List ℕ)) AsmFault
 reached entries (Ok u) = Ok entries
 reached entries (Err f) = Err f

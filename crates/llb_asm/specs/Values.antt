@@ -1,4 +1,4 @@
--- How the value of a field is spelled: what a text stands for, and the one text that is written for a value.
+-- How the value of a field is spelled: what a text is read as, and the one text that is written for a value.
 use Rattle.std.specs.Prelude.{◌≡◌, ◌≢◌, ◌<◌, ◌≤◌, ℕ, ◌-◌, ◌+◌, ◌*◌, ◌^◌, ◌==◌, ◌&&◌, ◌||◌, not, nat_lt, nat_le, nat_eq, if◌then◌else◌, Bool, true}
 use Rattle.std.specs.Prelude.{false, List, [], ◌∷◌, ◌++◌, length, codes, Option, Some, None, option_map}
 use Rattle.std.specs.List.{list_all, flat_map}
@@ -17,7 +17,7 @@ use Rattle.llb_ops.specs.declared.table.FieldKind.TheVariants.{Int64, Int32, Uin
 abbrev pub is_text : List ℕ → List ℕ → Bool
 is_text a b = pointwise nat_eq a b
 
--- what a value is where it passes a test
+-- a value where a test passes, else nothing
 abbrev pub where_so : {A : Type 0} → Bool → A → Option A
 where_so true x = Some x
 where_so false x = None
@@ -31,11 +31,11 @@ then_in (Some x) f = f x
 abbrev pub is_digit : ℕ → Bool
 is_digit b = nat_le 48 b && nat_le b 57
 
--- the number that decimal digits are, at least one of them
+-- the number of a text of decimal digits, at least one
 unfoldable pub magnitude : List ℕ → Option ℕ
 magnitude text = where_so (not (length text == 0) && list_all is_digit text) (digits_value 10 text)
 
--- as a 64-bit number holds it: the greatest one for all that are greater
+-- a number as a 64-bit number holds it: 2^64 - 1 for all numbers above it
 abbrev pub capped : ℕ → ℕ
 capped n = if nat_lt n (2 ^ 64) then n else 2 ^ 64 - 1
 
@@ -45,7 +45,7 @@ below limit n = where_so (nat_lt n limit) n
 abbrev pub negated : ℕ → ℕ → Option ℕ
 negated limit n = where_so (nat_lt 0 n && nat_le n limit) (2 ^ 64 - n)
 
--- of numbers from minus the limit up to below the limit
+-- the number of a text, from minus the limit up to below the limit
 unfoldable pub signed_in : ℕ → List ℕ → Option ℕ
 signed_in limit [] = None
 signed_in limit (b ∷ text) = if b == 45 then then_in (magnitude text) (negated limit) else then_in (magnitude (b ∷ text)) (below limit)
@@ -81,7 +81,7 @@ number_text (Message m) v = []
 
 -- ---- strings, between quotes
 
--- what stands before: nothing that is open, a backslash, `\x`, or that and a digit of this value
+-- what was read before: nothing that is open, a backslash, `\x`, or that and a digit of this value
 pub data Escape : Type 0 where
   closed : Escape
   backslash : Escape
@@ -108,14 +108,14 @@ string_from backslash (b ∷ text) =
 string_from first (b ∷ text) = if is_lower b && nat_lt (digit_of b) 8 then string_from (second (digit_of b)) text else None
 string_from (second d) (b ∷ text) = if is_lower b then after_it (16 * d + digit_of b) (string_from closed text) else None
 
--- what a digit is, and two of them
+-- the value of a digit, and of two digits
 abbrev pub lower_digit : ℕ → Option ℕ
 lower_digit b = where_so (is_lower b) (digit_of b)
 
 abbrev pub escape_of : ℕ → ℕ → Option ℕ
 escape_of a b = where_so (is_lower a && is_lower b && nat_lt (digit_of a) 8) (16 * digit_of a + digit_of b)
 
--- after what stands before, a text goes on to the byte that is spelled there and the text after it, or it spells no string
+-- after what was read before, a text goes on to the byte that is spelled there and the text after it, or it spells no string
 abbrev pub Continues : Escape → List ℕ → Option (ℕ × Bor (List ℕ)) → Type 0
 Continues e text None = string_from e text ≡ None
 Continues e text (Some x) = (string_from e text ≡ after_it x.0 (string_from closed x.1.now)) × (length x.1.now < length text)
@@ -163,16 +163,16 @@ pub record ValuesAreReadBack : Type 0 where
   pub label_back : (k : ℕ) → k < 2 ^ 64 → label_in (label_text k) ≡ Some k
   pub string_no_label : (s : List ℕ) → label_in (string_text s) ≡ None
 
--- ---- what is written stands on one line
+-- ---- what is written fits on one line
 
--- a byte that is no blank stands at the start
+-- the text starts with a byte that is no blank
 pub record BeginsSolid (t : List ℕ) : Type 0 where
   pub byte : ℕ
   pub behind : List ℕ
   pub is : t ≡ byte ∷ behind
   pub above : 33 ≤ byte
 
--- and at the end
+-- the text ends with a byte that is no blank
 pub record EndsSolid (t : List ℕ) : Type 0 where
   pub before : List ℕ
   pub byte : ℕ
@@ -186,7 +186,7 @@ pub record IsSolid (t : List ℕ) : Type 0 where
   pub plain : list_all (λ b. nat_le 32 b) t ≡ true
   pub utf8 : is_utf8 t ≡ true
 
--- each text that is written for a value is so
+-- each text that is written for a value is solid
 pub record ValuesAreSolid : Type 0 where
   pub number_solid : (kind : FieldKind) (v : ℕ) → IsNumberOf kind v → IsSolid (number_text kind v)
   pub string_solid : (s : List ℕ) → is_utf8 s ≡ true → IsSolid (string_text s)

@@ -16,7 +16,7 @@ use llb_wire::Memory;
 use std::alloc::Global;
 
 impl Refusal {
-    /// The fault of the line of that number.
+    /// Returns the fault of the line of that number.
     fn at(self, line: u64) -> AsmFault
         ensures { result ≡ fault_at line self }
     {
@@ -28,7 +28,7 @@ impl Refusal {
 }
 
 #[tactic(auto, using(crate::proofs::Room::begun_room))]
-/// A line between entries: the op that it opens, if any.
+/// Reads a line between entries, and returns the op that it opens, if any.
 fn begin(
     alloc: Global,
     earlier: &mut Earlier,
@@ -47,7 +47,7 @@ fn begin(
 }
 
 #[tactic(auto, using(crate::proofs::Room::entry_room))]
-/// The closing line of the message at hand: the op that is still open, if any.
+/// Reads the closing line of the message at hand, and returns the op that is still open, if any.
 fn close(
     alloc: Global,
     earlier: &mut Earlier,
@@ -67,7 +67,7 @@ fn close(
     }
 }
 
-/// A line in an op: the op that is open after it, if any.
+/// Reads a line in an op, and returns the op that is open after it, if any.
 fn go_on(
     alloc: Global,
     earlier: &mut Earlier,
@@ -85,7 +85,7 @@ fn go_on(
     }
 }
 
-/// A line: the op that is open after it, if any.
+/// Reads a line, and returns the op that is open after it, if any.
 fn step(
     alloc: Global,
     earlier: &mut Earlier,
@@ -100,7 +100,7 @@ fn step(
     }
 }
 
-/// The entries that the lines of a text lead to, after those that are there.
+/// Adds the entries that the lines of a text lead to, after those that are there.
 #[tactic(auto, unfolding(crate::specs::Running::run_from))]
 fn read_lines(alloc: Global, earlier: &mut Earlier, text: &[u8]) -> Result<(), AsmFault>
     ensures { Gives (reached earlier.new result) (run_from 0 (between earlier.old) (kept text.now)) }
@@ -125,7 +125,7 @@ fn read_lines(alloc: Global, earlier: &mut Earlier, text: &[u8]) -> Result<(), A
     Ok(())
 }
 
-/// The entries that the lines of a text lead to, one after another.
+/// Returns the entries that the lines of a text lead to, one after another.
 fn run_lines(alloc: Global, text: &[u8]) -> Result<Entries, AsmFault>
     ensures { Gives result (run_from 0 (between []) (kept text.now)) }
 {
@@ -134,13 +134,13 @@ fn run_lines(alloc: Global, text: &[u8]) -> Result<Entries, AsmFault>
     Ok(Entries::new(earlier.into_entries()))
 }
 
-/// The entries that a text stands for.
+/// Returns the entries that a text is read as.
 ///
-/// One item stands on a line; spaces, tabs and carriage returns at its ends, empty lines and lines that begin with `#` are dropped.
-/// An entry is `raw HEX`, or `op {`, items and `}`; docs/FORMATS.md has the grammar. The entry of an op is its canonical bytes. The
-/// first faulty line is answered, with the first of its faults in this order: `Line` (161) with `Syntax`, `UnknownField`, `Order` or
+/// There is one item on a line; spaces, tabs and carriage returns at its ends, empty lines and lines that begin with `#` are dropped.
+/// An entry is `raw HEX`, or `op {`, items and `}`; docs/FORMATS.md has the grammar. The entry of an op is its canonical bytes. The call
+/// fails at the first faulty line, with the first of its faults in this order: `Line` (161) with `Syntax`, `UnknownField`, `Order` or
 /// `BadValue`, `UnknownLabel` (162), `Line` with `OverLimit`; and, after all of these, `Line` with `Unclosed` and the last line that is
-/// not dropped. `Memory` (163) where memory is refused.
+/// not dropped. Fails with `Memory` (163) where memory is refused.
 pub fn assemble(alloc: Global, text: &[u8]) -> Result<Entries, AsmFault>
     ensures { Assembles text.now result }
 {

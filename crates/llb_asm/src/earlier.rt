@@ -12,7 +12,7 @@ use std::alloc::Global;
 use std::marker::Model;
 
 #[tactic(auto, using(crate::proofs::Lengths::length_last, crate::proofs::Lengths::length_small, crate::proofs::Lengths::length_positive))]
-/// How many bytes the shortest spelling of a number has, of at most one more than the count.
+/// Returns the length of the shortest spelling of a number, in at most `more` + 1 bytes.
 fn shortest_length(value: u64, more: u32) -> usize
     requires { more ≤ 9 }
     ensures same { result ≡ length (shortest more value) }
@@ -24,7 +24,7 @@ fn shortest_length(value: u64, more: u32) -> usize
     1 + shortest_length(value / 0x80, more - 1)
 }
 
-/// How long a record with a payload of that length is.
+/// Returns how long a record with a payload of that length is.
 pub(crate) fn record_length(number: u32, size: usize) -> usize
     requires { size ≤ entry_limit }
     ensures same { result ≡ record_length number size }
@@ -75,21 +75,21 @@ impl Earlier {
         }
     }
 
-    /// The texts of the entries' digests.
+    /// Returns the texts of the entries' digests.
     pub(crate) fn labels(&self) -> &[Text]
         ensures { result.now ≡ labels_of self.now }
     {
         self.labels.as_slice()
     }
 
-    /// Whether there are as many entries as a definition may have.
+    /// Returns whether there are as many entries as a definition may have.
     pub(crate) fn is_full(&self) -> bool
         ensures { result ≡ not (nat_lt (length self.now) entries_limit) }
     {
         self.entries.len() >= ENTRIES_LIMIT
     }
 
-    /// Whether an entry of that length is within the limits of a definition.
+    /// Returns whether an entry of that length is within the limits of a definition.
     pub(crate) fn has_room(&self, size: usize) -> bool
         ensures { result ≡ is_within self.now size }
     {
@@ -110,7 +110,7 @@ impl Earlier {
         Ok(())
     }
 
-    /// Gives the entries back.
+    /// Returns the entries.
     pub(crate) fn into_entries(self) -> Vec<Bytes>
         ensures { result.items ≡ self }
     {

@@ -21,7 +21,7 @@ pub enum Begun {
     Structured,
 }
 
-/// How a line begins an entry, whatever the limits.
+/// Returns how a line begins an entry, whatever the limits.
 fn begun_by(alloc: Global, line: &[u8]) -> Result<Result<Begun, Refusal>, Memory>
     ensures { IfOk result (λ r. r ≡ begun_by line.now (parted line.now)) }
 {
@@ -40,7 +40,7 @@ fn begun_by(alloc: Global, line: &[u8]) -> Result<Result<Begun, Refusal>, Memory
     }
 }
 
-/// How a line begins an entry, or why it is refused there.
+/// Returns how a line begins an entry, or why it is refused there.
 #[tactic(auto, unfolding(crate::specs::Reading::begun_in))]
 pub(crate) fn begun_in(
     alloc: Global,
@@ -64,7 +64,7 @@ pub(crate) fn begun_in(
     }
 }
 
-/// The canonical bytes of the op that some bytes are read as, where they are read as one.
+/// Returns the canonical bytes of the op that some bytes are read as, where they are read as one.
 pub(crate) fn canonical(alloc: Global, bytes: &[u8]) -> Result<Option<Bytes>, Memory>
     ensures { IfOk result (λ o. o ≡ canonical_of (op_of bytes.now)) }
 {
@@ -75,7 +75,7 @@ pub(crate) fn canonical(alloc: Global, bytes: &[u8]) -> Result<Option<Bytes>, Me
     }
 }
 
-/// The canonical bytes of an op.
+/// Returns the canonical bytes of an op.
 fn written(alloc: Global, op: Op) -> Result<Option<Bytes>, Memory>
     ensures { IfOk result (λ o. o ≡ Some (op_bytes op)) }
 {
@@ -85,7 +85,7 @@ fn written(alloc: Global, op: Op) -> Result<Option<Bytes>, Memory>
     }
 }
 
-/// The canonical bytes of the op that the records are; refused where they are past the limits.
+/// Returns the canonical bytes of the op that the records are; refused where they are past the limits.
 #[tactic(auto, unfolding(crate::specs::Reading::entry_in))]
 pub(crate) fn entry_in(
     alloc: Global,

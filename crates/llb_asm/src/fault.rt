@@ -1,4 +1,4 @@
-//! Why a text is not assembled, or entries are not written. A fault prints what stands after the word `fault` in a refusal: its
+//! Why a text is not assembled, or entries are not written. A fault prints what comes after the word `fault` in a refusal: its
 //! number, and then its arguments.
 
 ghost use Rattle.std.specs.Prelude.{Some};
@@ -10,11 +10,11 @@ use std::{error, fmt};
 /// The rule that a line breaks.
 #[derive(Clone, Copy, Debug, PartialEq, Eq)]
 pub enum Rule {
-    /// The line is not UTF-8, or no item can be told in it.
+    /// The line is not UTF-8, or no item can be recognized in it.
     Syntax,
     /// The message at hand has no field of that name.
     UnknownField,
-    /// The field may not stand after the one before it.
+    /// The field may not follow the one before it.
     Order,
     /// The field has no value that is spelled so.
     BadValue,

@@ -1,17 +1,18 @@
-//! The labels of the entries before: the texts of their digests, found through an index.
+//! The labels of the entries before: the texts of their digests, found through an index in their order, whose cost no choice of entries
+//! makes worse.
 
 ghost use Rattle.std.specs.Prelude.{◌≡◌, ◌++◌, ◌∷◌, [], IfOk, OnOk, OnErr};
 ghost use Rattle.llb_wire.specs.Digest.{digest_text};
 ghost use Rattle.llb_asm.specs.Labels.{IsIndex};
 ghost use Rattle.llb_asm.specs.Plain.{label_for};
 
-use indexmap::IndexMap;
 use llb_wire::{Memory, Text, text_of_digest};
 use sha2::{Digest, Sha256};
 use std::alloc::Global;
+use std::collections::BTreeMap;
 use std::marker::Model;
 
-/// The text of an entry's digest.
+/// Returns the text of an entry's digest.
 pub(crate) fn digest_of(alloc: Global, entry: &[u8]) -> Result<Text, Memory>
     ensures { IfOk result (λ text. text ≡ digest_text entry.now) }
 {
@@ -19,7 +20,7 @@ pub(crate) fn digest_of(alloc: Global, entry: &[u8]) -> Result<Text, Memory>
 }
 
 /// Puts a text after those that an index finds, where it isn't one of them.
-fn learn(first: &mut IndexMap<String, u64>, texts: &[Text], text: &Text) -> Result<(), Memory>
+fn learn(first: &mut BTreeMap<String, u64>, texts: &[Text], text: &Text) -> Result<(), Memory>
     requires { IsIndex texts.now first.old }
     ensures learnt { OnOk result (IsIndex (texts.now ++ text.now ∷ []) first.new) }
     ensures kept { OnErr result (IsIndex texts.now first.new) }
@@ -34,7 +35,7 @@ fn learn(first: &mut IndexMap<String, u64>, texts: &[Text], text: &Text) -> Resu
 pub struct Labels {
     texts: Vec<Text>,
     /// The first entry with each text.
-    first: IndexMap<String, u64>,
+    first: BTreeMap<String, u64>,
 }
 
 // Written out, so that what owns one drops it by this one function.
@@ -56,17 +57,17 @@ impl Model for Labels {
 }
 
 impl Labels {
-    /// No labels.
+    /// Makes an index without labels.
     pub(crate) fn new(alloc: Global) -> Labels
         ensures { result ≡ [] }
     {
         Labels {
             texts: Vec::new(alloc),
-            first: IndexMap::new(alloc),
+            first: BTreeMap::new(alloc),
         }
     }
 
-    /// The least entry with that text of its digest.
+    /// Returns the least entry whose digest has this text.
     pub(crate) fn label_for(&self, digest: &str) -> Option<u64>
         ensures { result ≡ label_for self.now digest.now }
     {

@@ -1,18 +1,18 @@
-//! What holds of texts and entries, whatever they are.
+//! Laws of texts and entries, whatever they are.
 
 ghost use Rattle.llb_asm.specs.Reading.{HasOneAnswer};
 ghost use Rattle.llb_asm.specs.Plain.{ReadsBack};
 
 use llb_ops::Entries;
 
-/// A text stands for one list of entries at most, or it has one first fault, and never both.
+/// A law: a text is read as one list of entries at most, or it has one first fault, and never both.
 pub fn one_answer(text: &[u8])
     ensures { HasOneAnswer text.now }
 {
     let _ = text;
 }
 
-/// What is written of the entries of a definition stands for these entries.
+/// A law: what is written of the entries of a definition is read as these entries.
 pub fn reads_back(entries: &Entries)
     ensures { ReadsBack entries.now }
 {

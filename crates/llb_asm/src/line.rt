@@ -25,7 +25,7 @@ pub enum Refusal {
     UnknownLabel,
 }
 
-/// Where a line stands.
+/// The place of a line.
 #[derive(Clone, Copy)]
 pub struct Here {
     pub message: MessageName,
@@ -33,9 +33,9 @@ pub struct Here {
     pub last: u32,
     /// Whether a member of the message's oneof is set.
     pub set: bool,
-    /// How often the last field stood.
+    /// How often the last field occurred.
     pub count: usize,
-    /// Whether the extra bytes stood.
+    /// Whether the extra bytes were there.
     pub ended: bool,
 }
 
@@ -46,14 +46,14 @@ pub enum Held {
     Opens(u32, MessageName),
 }
 
-/// What a line adds, and where the line after it stands in the same message.
+/// What a line adds, and the place of the line after it in the same message.
 #[derive(Drop)]
 pub struct Item {
     pub next: Here,
     pub held: Held,
 }
 
-/// At the start of a message.
+/// Returns the place at the start of a message.
 pub(crate) fn inside(message: MessageName) -> Here
     ensures { result ≡ inside message }
 {
@@ -67,7 +67,7 @@ pub(crate) fn inside(message: MessageName) -> Here
 }
 
 impl Here {
-    /// After one more field, which has room.
+    /// Returns the place after one more field, which has room.
     fn behind(self, field: NamedField) -> Here
         requires { has_room self field ≡ true }
         ensures { result ≡ behind self field }
@@ -86,7 +86,7 @@ impl Here {
         }
     }
 
-    /// After the extra bytes.
+    /// Returns the place after the extra bytes.
     fn at_end(self) -> Here
         ensures { result ≡ at_end self }
     {
@@ -99,7 +99,7 @@ impl Here {
         }
     }
 
-    /// Numbers ascend, a repeated field may stand again, one member of a oneof stands, and nothing after the extra bytes.
+    /// Returns whether a field may follow: numbers ascend, a repeated field may recur, at most one member of a oneof is set, and the extra bytes are last.
     fn is_followed_by(self, field: NamedField) -> bool
         ensures { result ≡ follows self field }
     {
@@ -116,14 +116,14 @@ impl Here {
     }
 }
 
-/// Where the first space is.
+/// Returns where the first space is.
 fn space(line: &[u8]) -> Option<usize>
     ensures { result ≡ position (λ b. nat_eq b 32) line.now }
 {
     line.iter().position(|b| *b == b' ')
 }
 
-/// The name and the value of an item, which has one space between them.
+/// Returns the name and the value of an item, which has one space between them.
 #[tactic(auto, unfolding(crate::specs::Line::parted))]
 pub(crate) fn parted(line: &[u8]) -> Option<(&[u8], &[u8])>
     ensures { option_map (λ p. (p.0.now, p.1.now)) result ≡ parted line.now }
@@ -139,14 +139,14 @@ pub(crate) fn parted(line: &[u8]) -> Option<(&[u8], &[u8])>
     Some((name, value))
 }
 
-/// A value that is 0 or empty is written: it says that the field is there.
+/// Returns whether a value that is 0 or empty is written: it says that the field is there.
 fn may_be_empty(field: NamedField) -> bool
     ensures { result ≡ may_be_empty field }
 {
     field.member || field.repeated || field.of_entry
 }
 
-/// A value that is 0 or empty is left out where it may not be so.
+/// Returns whether a value is left out: one that is 0 or empty where it may not be so.
 fn is_left_out(field: NamedField, is_default: bool) -> bool
     ensures { result ≡ is_default && not (may_be_empty field) }
 {
@@ -165,7 +165,7 @@ fn number_record(alloc: Global, field: NamedField, value: u64) -> Result<Held, M
     Ok(Held::Record(Bytes::new(out)))
 }
 
-/// A record with a length, at the end of some bytes.
+/// Writes a record with a length, at the end of some bytes.
 #[tactic(auto, using(crate::proofs::Records::bytes_spelled))]
 pub(crate) fn put_bytes(out: &mut Vec<u8>, number: u32, bytes: &[u8]) -> Result<(), Memory>
     ensures { OnOk result (out.new.items ≡ out.old.items ++ set_bytes number bytes.now) }
@@ -186,7 +186,7 @@ fn bytes_record(alloc: Global, field: NamedField, bytes: &[u8]) -> Result<Held, 
     Ok(Held::Record(Bytes::new(out)))
 }
 
-/// The record of a digest that a label gives.
+/// Returns the record of a digest that a label names.
 fn label_record(
     alloc: Global,
     labels: &[Text],
@@ -242,7 +242,7 @@ fn opening_in(field: NamedField, message: MessageName, text: &[u8]) -> Result<He
     Err(Refusal::Breaks(Rule::BadValue))
 }
 
-/// What the value of a field is spelled as.
+/// Reads the value of a field from its spelling.
 #[tactic(auto, unfolding(crate::specs::Line::held_in))]
 fn held_in(
     alloc: Global,
@@ -263,7 +263,7 @@ fn held_in(
     }
 }
 
-/// What the line of the extra bytes adds.
+/// Returns what the line of the extra bytes adds.
 fn extra_in(alloc: Global, here: Here, text: &[u8]) -> Result<Result<Item, Refusal>, Memory>
     ensures { IfOk result (λ r. r ≡ extra_in here text.now) }
 {
@@ -279,7 +279,7 @@ fn extra_in(alloc: Global, here: Here, text: &[u8]) -> Result<Result<Item, Refus
     }
 }
 
-/// What the line of a field adds.
+/// Returns what the line of a field adds.
 fn field_in(
     alloc: Global,
     labels: &[Text],
@@ -309,7 +309,7 @@ fn field_in(
     }
 }
 
-/// What a line adds to the message at hand, or why it is refused. The labels are the texts of the digests of the entries before.
+/// Returns what a line adds to the message at hand, or why it is refused. The labels are the texts of the digests of the entries before.
 #[tactic(auto, unfolding(crate::specs::Line::line_in))]
 pub(crate) fn line_in(
     alloc: Global,

@@ -6,7 +6,7 @@ ghost use Rattle.llb_asm.specs.Lines.{is_blank, without_front, without_end, stri
 
 use std::str::from_utf8;
 
-/// Whether bytes are UTF-8.
+/// Returns whether bytes are UTF-8.
 #[tactic(auto, using(crate::proofs::Utf8::utf8_true, crate::proofs::Utf8::utf8_false))]
 pub(crate) fn is_text(bytes: &[u8]) -> bool
     ensures { result ≡ is_utf8 bytes.now }
@@ -52,7 +52,7 @@ fn without_end(line: &[u8]) -> &[u8]
     rest
 }
 
-/// A line without the spaces, tabs and carriage returns at its ends.
+/// Returns a line without the spaces, tabs and carriage returns at its ends.
 #[tactic(auto, unfolding(crate::specs::Lines::stripped))]
 pub(crate) fn stripped(line: &[u8]) -> &[u8]
     ensures { result.now ≡ stripped line.now }
@@ -60,7 +60,7 @@ pub(crate) fn stripped(line: &[u8]) -> &[u8]
     without_end(without_front(line))
 }
 
-/// Whether a line is empty, or a comment. A comment that is not UTF-8 is none.
+/// Returns whether a line is empty, or a comment. A comment that is not UTF-8 is none.
 pub(crate) fn is_dropped(line: &[u8]) -> bool
     ensures { result ≡ is_dropped line.now }
 {

@@ -11,7 +11,7 @@ use llb_ops::{ENTRY_LIMIT, MessageName};
 use llb_wire::{Bytes, Many, Memory};
 use std::alloc::Global;
 
-/// A message that another one in it is open of: where its next line stands, its bytes so far, and the number of the field that is open.
+/// A message with another one in it that is open: the place of its next line, its bytes so far, and the number of the field that is open.
 #[derive(Drop)]
 pub struct Frame {
     pub here: Here,
@@ -35,7 +35,7 @@ pub enum Closed {
 }
 
 #[tactic(auto, using(crate::proofs::Lengths::no_room, crate::proofs::Lengths::turned_below))]
-/// Whether the entry is within the limits where the message at hand has that many bytes, all messages closed.
+/// Returns whether the entry is within the limits where the message at hand has `size` bytes, all messages closed.
 fn has_room(earlier: &Earlier, below: &[Frame], size: usize) -> bool
     ensures { result ≡ room_in (is_within earlier.now) (reverse below.now) size }
 {
@@ -51,7 +51,7 @@ fn has_room(earlier: &Earlier, below: &[Frame], size: usize) -> bool
     }
 }
 
-/// How many bytes a line adds.
+/// Returns how many bytes a line adds.
 fn added(held: &Held) -> usize
     ensures same { result ≡ added held.now }
     ensures small { result < 2 ^ 63 }
@@ -63,7 +63,7 @@ fn added(held: &Held) -> usize
 }
 
 impl Open {
-    /// An op at its start.
+    /// Returns an op at its start.
     pub(crate) fn new(alloc: Global) -> Open
         ensures { seen result ≡ at_front }
     {
@@ -74,7 +74,7 @@ impl Open {
         }
     }
 
-    /// What a line adds, within the limits, or why it is refused.
+    /// Returns what a line adds, within the limits, or why it is refused.
     pub(crate) fn item_at(
         &self,
         alloc: Global,
@@ -95,7 +95,7 @@ impl Open {
         }
     }
 
-    /// With an item more.
+    /// Returns the op with an item more.
     pub(crate) fn with_item(self, alloc: Global, item: Item) -> Result<Open, Memory>
         ensures { IfOk result (λ s. seen s ≡ with_item (seen self) item) }
     {
@@ -131,7 +131,7 @@ impl Open {
         }
     }
 
-    /// With the message at hand closed.
+    /// Closes the message at hand.
     pub(crate) fn close(self) -> Result<Closed, Memory>
         ensures { IfOk result (λ c. ended c ≡ closing_of (seen self)) }
     {

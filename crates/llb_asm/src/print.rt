@@ -319,7 +319,7 @@ fn entries_have_forms(entries: &[Bytes])
 /// Writes the text of entries to a sink, one entry at a time: an entry that is the canonical bytes of an op as that op, field by field, else
 /// `raw` and its bytes.
 ///
-/// 163 where memory is refused, 164 where the sink failed: a prefix of the text is out then.
+/// Fails with 163 where memory is refused, and with 164 where the sink failed: a prefix of the text is written then.
 pub fn disassemble<W: Sink>(alloc: Global, entries: &Entries, out: &mut W) -> Result<(), AsmFault>
     ensures prints { (xs : List Formed) → AreFormed entries.now xs → Prints (W.taken out.old) (W.taken out.new) (W.failed out.new) (plain_text xs) result }
     ensures some { (xs : List Formed) × AreFormed entries.now xs }

@@ -14,7 +14,7 @@ use llb_wire::{Bytes, Memory, is_hex, read_hex};
 use std::alloc::Global;
 use std::str::from_utf8;
 
-/// The number that decimal digits are, the greatest of 64 bits for all that are greater than it; `None` of other texts, and of none.
+/// Reads a decimal number; all above 2^64 - 1 are read as 2^64 - 1. Returns `None` for other texts, an empty one among them.
 #[tactic(auto, unfolding(crate::specs::Values::magnitude))]
 pub fn magnitude(text: &[u8]) -> Option<u64>
     ensures { result ≡ option_map capped (magnitude text.now) }
@@ -34,7 +34,7 @@ pub fn magnitude(text: &[u8]) -> Option<u64>
     Some(number)
 }
 
-/// The number from minus the limit up to below the limit that a text is, in two's complement.
+/// Reads a number from minus the limit up to below the limit, in two's complement.
 #[tactic(auto, unfolding(crate::specs::Values::signed_in))]
 fn signed_in(limit: u64, text: &[u8]) -> Option<u64>
     requires { limit ≤ 2 ^ 63 }
@@ -74,7 +74,7 @@ fn flag_in(text: &[u8]) -> Option<u64>
     None
 }
 
-/// The number of a field of the kind that a text is, as its varint has it. Negative numbers are in two's complement.
+/// Reads a number of a field of the kind, as its varint has it. Negative numbers are in two's complement.
 pub(crate) fn number_in(kind: FieldKind, text: &[u8]) -> Option<u64>
     ensures { result ≡ number_in kind text.now }
 {
@@ -87,7 +87,7 @@ pub(crate) fn number_in(kind: FieldKind, text: &[u8]) -> Option<u64>
     }
 }
 
-/// What a lower-case hexadecimal digit is.
+/// Returns the value of a lower-case hexadecimal digit.
 fn digit_of(byte: u8) -> Option<u8>
     ensures { result ≡ lower_digit byte }
 {
@@ -98,7 +98,7 @@ fn digit_of(byte: u8) -> Option<u8>
     }
 }
 
-/// What two lower-case hexadecimal digits are, where that is at most 7f.
+/// Returns the value of two lower-case hexadecimal digits, where that is at most 7f.
 fn escape_of(high: u8, low: u8) -> Option<u8>
     ensures { result ≡ escape_of high low }
 {
@@ -110,7 +110,7 @@ fn escape_of(high: u8, low: u8) -> Option<u8>
     }
 }
 
-/// The byte, up to 7f, that the two digits are that a text begins with, and the text after them.
+/// Reads the byte, up to 7f, of the two digits that a text begins with, and returns it with the text after them.
 fn two_digits(text: &[u8]) -> Option<(u8, &[u8])>
     ensures { Continues first text.now result }
 {
@@ -120,7 +120,7 @@ fn two_digits(text: &[u8]) -> Option<(u8, &[u8])>
     }
 }
 
-/// The byte that is spelled by a backslash and what a text begins with, and the text after that.
+/// Reads the byte that is spelled by a backslash and what a text begins with, and returns it with the text after that.
 fn behind_backslash(text: &[u8]) -> Option<(u8, &[u8])>
     ensures { Continues backslash text.now result }
 {
@@ -131,7 +131,7 @@ fn behind_backslash(text: &[u8]) -> Option<(u8, &[u8])>
     }
 }
 
-/// The byte that a text begins with, as it is spelled in a string, and the text after it. A quote spells no byte.
+/// Reads the byte that a text begins with, as it is spelled in a string, and returns it with the text after it. A quote spells no byte.
 fn next_byte(text: &[u8]) -> Option<(u8, &[u8])>
     ensures { Leads text.now result }
 {
@@ -142,7 +142,7 @@ fn next_byte(text: &[u8]) -> Option<(u8, &[u8])>
     }
 }
 
-/// The string whose spelling goes on so, up to a quote at the end.
+/// Reads the rest of a string's spelling, up to a quote at the end.
 fn string_behind(alloc: Global, text: &[u8]) -> Result<Option<Bytes>, Memory>
     ensures { IfOk result (λ o. o ≡ string_from closed text.now) }
 {
@@ -158,7 +158,7 @@ fn string_behind(alloc: Global, text: &[u8]) -> Result<Option<Bytes>, Memory>
     Ok(None)
 }
 
-/// The string that a text between quotes is: `\"`, `\\`, and `\x` with two lower-case digits up to 7f stand for one byte.
+/// Reads the string that a text between quotes is: `\"`, `\\`, and `\x` with two lower-case digits up to 7f are one byte.
 pub(crate) fn string_in(alloc: Global, text: &[u8]) -> Result<Option<Bytes>, Memory>
     ensures { IfOk result (λ o. o ≡ string_in text.now) }
 {
@@ -168,7 +168,7 @@ pub(crate) fn string_in(alloc: Global, text: &[u8]) -> Result<Option<Bytes>, Mem
     }
 }
 
-/// The bytes that lower-case hexadecimal digits are, and none of `-`.
+/// Reads the bytes that lower-case hexadecimal digits spell, and none of `-`.
 #[tactic(auto, unfolding(crate::specs::Values::bytes_spelled))]
 pub(crate) fn bytes_spelled(alloc: Global, text: &[u8]) -> Result<Option<Bytes>, Memory>
     ensures { IfOk result (λ o. o ≡ bytes_spelled text.now) }
@@ -185,7 +185,7 @@ pub(crate) fn bytes_spelled(alloc: Global, text: &[u8]) -> Result<Option<Bytes>,
     }
 }
 
-/// The number of an entry that a label is, the greatest one for all that are greater than it.
+/// Reads the number of an entry from a label; all above 2^64 - 1 are read as 2^64 - 1.
 #[tactic(auto, unfolding(crate::specs::Values::label_in))]
 pub(crate) fn label_in(text: &[u8]) -> Option<u64>
     ensures { result ≡ option_map capped (label_in text.now) }
@@ -298,7 +298,7 @@ pub(crate) fn push_label(alloc: Global, out: &mut Vec<u8>, entry: u64) -> Result
     push_decimal(alloc, out, entry)
 }
 
-/// What is written for a value is read as the value, and stands on one line as it is.
+/// A law: what is written for a value is read as the value, and fits on one line as it is.
 pub(crate) fn values_are_read_back()
     ensures read_back { ValuesAreReadBack }
     ensures solid { ValuesAreSolid }

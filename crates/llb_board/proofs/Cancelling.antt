@@ -1,4 +1,4 @@
--- A cancel: what the board does is what the table gives, and its type keeps what it keeps.
+-- A cancel: the board does what the table gives, and keeps its invariant.
 use Rattle.std.proofs.Common.{◌≡◌, ℕ, ◌<◌, ◌≤◌, List, [], ◌∷◌, ◌++◌, length, map, Option, Some, refl, sym, ap, ◌∙◌, arith, get_or}
 use Rattle.std.specs.Prelude.{Bool, Ok, slice_get, slice_set}
 use Rattle.std.proofs.lemmas.Option.{slice_get_within}
@@ -32,7 +32,7 @@ module _ (b : Build) (first : List Row) (ss : List Stand) (ds : List Desk) (c : 
     (w v n : ℕ) (l : Option ℕ)
     (kept : Keeps b first (data_of ss ds c stop_marks) es space) (given : given_up_at (slice_get (map at_of ds) w) ≡ Ok (v, n))
     (leased : slice_get (map leased_by ds) w ≡ Some l) where
-  -- the data after it
+  -- the data after the cancel
   abbrev pub after : Data
   after = settled (data_of ss ds c stop_marks) w v stand.Waiting (given_back c l).out stop_marks
 
@@ -49,7 +49,7 @@ module _ (b : Build) (first : List Row) (ss : List Stand) (ds : List Desk) (c : 
       ap (slice_get (map status_of ss)) (sym can.vertex)
       ∙ (consistent (seen_as b first (data_of ss ds c stop_marks) es) kept.replays).working w can.x can.there
 
-  -- the vertex has a stand to be written
+  -- the vertex has a state that can be replaced
   pub low : v < length ss
   low = omega (arith, slice_get_within (map status_of ss) v (Running w) running, length_map status_of ss)
 
@@ -88,7 +88,7 @@ module _ (b : Build) (first : List Row) (ss : List Stand) (ds : List Desk) (c : 
   pub rows_stay : c.rows ≡ rows_after c.rows (state_as after) w
   rows_stay = settle_rows (data_of ss ds c stop_marks) w v stand.Waiting (given_back c l).out stop_marks (Runs can.x) can.there
 
-  -- the board keeps after the cancel what its type keeps
+  -- the board keeps its invariant after the cancel
   pub keeps : Keeps b first after (es ++ Cancel w ∷ []) (cancelled v space)
   keeps =
       kept_after b first (data_of ss ds c stop_marks) after es space (Cancel w) (Cancelled v n) kept

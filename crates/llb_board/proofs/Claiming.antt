@@ -1,4 +1,4 @@
--- A claim that is granted: what the board does is what the table gives, and its type keeps what it keeps.
+-- A claim that is granted: the board does what the table gives, and keeps its invariant.
 use Rattle.std.proofs.Common.{◌≡◌, ◌≢◌, ℕ, ◌<◌, List, [], ◌∷◌, ◌++◌, length, map, Option, Some, refl, sym, subst, ◌∙◌, arith}
 use Rattle.std.specs.Prelude.{Bool, Ok, AllPairs}
 use Rattle.std.proofs.lemmas.Option.{slice_get_within}
@@ -76,7 +76,7 @@ module _ (b : Build) (first : List Row) (ss : List Stand) (ds : List Desk) (c : 
     pub low_v : v < length ss
     pub low_w : w < length ds
 
-  -- where the needs are admitted and leased, the claim is granted, and the board keeps what its type keeps
+  -- if the needs are admitted and leased, the claim is granted, and the board keeps its invariant
   pub did : (l : Option ℕ) (own : own.Execution) (new : CachesValue) (ns : List Need)
       → unless_shut (needs_of x) (shut_key c.out (needs_of x)) ≡ Ok ns → execution_of own ≡ g.execution
       → lease_if c g.needs ≡ Ok (l, new) → supplies_of own ≡ supplies_for (Some x) → Did l own g.reply new

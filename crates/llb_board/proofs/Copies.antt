@@ -1,4 +1,4 @@
--- A second board on which the same has happened: its type keeps the same.
+-- A second board on which the same has happened: it has the invariant, too.
 use Rattle.std.proofs.Common.{◌≡◌, ℕ, ◌+◌, List, map, length, sym, ap, subst, ◌∙◌}
 use Rattle.std.specs.Prelude.{Bool}
 use Rattle.llb_cache.specs.Caches.{CachesValue, Row}
@@ -31,7 +31,7 @@ pub record Parts : Type 0 where
 abbrev pub seen_in : Parts → Seen
 seen_in p = seen p.build p.first p.stands p.desks p.caches.rows p.events
 
--- the same, as far as it is seen
+-- the parts are the same, as far as contracts see them
 pub record AreSame (p q : Parts) : Type 0 where
   pub build : q.build ≡ p.build
   pub first : q.first ≡ p.first
@@ -56,7 +56,7 @@ seen_same p q same =
       events = same.events i;
     }
 
--- what a board's type keeps it keeps of a second board with the same parts and the same room
+-- a second board with the same parts and the same room has the board's invariant
 pub tracked_same : (p q : Parts) (space more : Space) (n : ℕ) → AreSame p q → more ≡ space
     → IsTracked (seen_in p) p.desks p.caches.out p.marks p.links space n
     → IsTracked (seen_in q) q.desks q.caches.out q.marks q.links more n

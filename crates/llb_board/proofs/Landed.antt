@@ -99,7 +99,7 @@ settles_if : (b : Build) (s : State) (w : ℕ) (x : Execution) → slice_get s.w
 unfolding settled_if
 settles_if b s w x at fin = ap (λ o. is_ok (settled b s w o)) at ∙ ap (λ f. is_ok (settled_if b s w x f)) fin
 
--- ---- what the board's type keeps after the steps
+-- ---- the board's invariant after the steps
 
 module _ (b : Build) (first : List Row) (d : Data) (es : List Event) (space : Space) (w : ℕ) (l : Option ℕ) (own : running.Execution) (o : OutcomeValue)
     (kept : Keeps b first d es space)
@@ -186,7 +186,7 @@ module _ (b : Build) (first : List Row) (d : Data) (es : List Event) (space : Sp
   quiet : (v : ℕ) → cancels_in v steps.0 ≡ 0
   quiet = steps_no_cancel b w o.count (state_as d) (state_as later) steps.0 steps.1
 
-  -- the board's type keeps what it keeps
+  -- the board keeps its invariant
   pub keeps : Keeps b first later (es ++ steps_by w o.count) space
   keeps =
       let some = kept.some in
@@ -313,7 +313,7 @@ has_desk b first d es w job can = by_desk (slice_get d.desks w) refl (sym (slice
       run = subst (λ (x : Execution). IsRunOf b (store_of d.rows) w x job) (sym (inside_at is)) can.own;
     }
 
--- what a worker has done and what is left to it can be counted together
+-- the micro-steps that are done and those that are left can be counted together
 pub few_steps : (b : Build) (first : List Row) (d : Data) (es : List Event) (w : ℕ) (o : OutcomeValue) (l : Option ℕ) (x : running.Execution)
     → CanLand (seen_as b first d es) w o.job → IsOutcome o.job o.count o.left → slice_get d.desks w ≡ Some (desk.Runs l x)
     → x.done + o.count < 2 ^ 32
@@ -333,7 +333,7 @@ few_steps b first d es w o l x can is at =
 inside_ok : {A E : Type 0} {x y : A} → ◌≡◌ {A = Result A E} (Ok x) (Ok y) → x ≡ y
 inside_ok e = cc
 
--- a settle after the steps
+-- a settle after the steps completes the landing
 pub settles : (b n m : Seen) (w : ℕ) (o : OutcomeValue) (reply : Reply) → CanLand b w o.job → IsThrough b w o.count n → settle_of n w ≡ Ok (m, reply)
     → Lands b w o m reply
 settles b n m w o reply can through is = by_grant (settle_grant n.build n.state w) refl is
@@ -366,7 +366,7 @@ settles b n m w o reply can through is = by_grant (settle_grant n.build n.state 
               ∙ (λ i. record b { state = (same i).0.state; rows = (same i).0.rows; events = append_assoc b.events (steps_by w o.count) (Settle w ∷ []) i });
         }
 
--- it is not refused
+-- the settle after the steps is not refused
 pub not_refused : (b n : Seen) (w count : ℕ) (e : SettleFault) → IsThrough b w count n → settle_of n w ≡ Err e → ⊥
 not_refused b n w count e through is = by_grant (settle_grant n.build n.state w) through.finished is
   where
@@ -374,7 +374,7 @@ not_refused b n w count e through is = by_grant (settle_grant n.build n.state w)
     by_grant (Ok a) ok is = cc
     by_grant (Err cause) ok is = cc
 
--- the block of an outcome
+-- the steps and what the settle returns are the landing of the outcome
 pub lands : (b n m : Seen) (w : ℕ) (o : OutcomeValue) (r : Result Settled SettleFault) (other : Settled) → CanLand b w o.job → IsThrough b w o.count n
     → GivesSettle (λ s. (m, settle_reply s)) r (settle_of n w) → Lands b w o m (settle_reply (result_unwrap_or r other))
 lands b n m w o (Ok s) other can through gives = settles b n m w o (settle_reply s) can through gives

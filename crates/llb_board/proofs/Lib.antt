@@ -9,3 +9,4 @@ pub mod Undone
 pub mod Undos
 pub mod Copies
 pub mod Landed
+pub mod Begun

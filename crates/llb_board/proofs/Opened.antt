@@ -25,7 +25,7 @@ use Rattle.llb_state.specs.declared.stand.Desk.TheVariants.{Idle}
 use Rattle.llb_state.proofs.Returned.{none_leased}
 use Rattle.llb_state.proofs.Marked.{unmarked}
 
--- what a function makes of n equal items are n equal results
+-- a function maps n equal items to n equal results
 pub map_replicate : {A B : Type 0} (f : A → B) (n : ℕ) (x : A) → map f (replicate n x) ≡ replicate n (f x)
 map_replicate f zero x = refl
 map_replicate f (suc n) x = ap (λ l. f x ∷ l) (map_replicate f n x)
@@ -56,7 +56,7 @@ both true true is = (refl, refl)
 both true false is = absurd (cc)
 both false b is = absurd (cc)
 
--- there may be 1 to 64 workers
+-- an allowed number of workers is at least 1
 pub some_work : (n : ℕ) → may_work n ≡ true → 0 < n
 some_work n is = let some : 1 ≤ n = leb-true 1 n (both (nat_le 1 n) (nat_le n 64) is).0 in omega arith
 
@@ -78,7 +78,7 @@ pub record IsFresh (b : Build) (workers : ℕ) (ss : List Stand) (ds : List Desk
   pub room : space.room ≡ most_events b []
   pub cancels : space.cancels ≡ replicate (length b.graph.vertices) 0
 
--- a board that was just opened keeps what its type asks for, where no lease is out and the number of workers is allowed
+-- a board that was just opened has its type's invariant, if no lease is out and the number of workers is allowed
 pub kept_open : (b : Build) (first : List Row) (workers : ℕ) (space : Space) (ss : List Stand) (ds : List Desk) (rows : List Row) (out : Leases)
     (es : List Event)
     (stop_marks : List Bool)

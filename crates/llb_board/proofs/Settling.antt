@@ -1,4 +1,4 @@
--- A settle that is granted: what the board does is what the table gives, and its type keeps what it keeps.
+-- A settle that is granted: the board does what the table gives, and keeps its invariant.
 use Rattle.std.proofs.Common.{◌≡◌, ℕ, ◌<◌, List, [], ◌∷◌, ◌++◌, length, map, Option, Some, refl, arith}
 use Rattle.std.specs.Prelude.{Bool, Ok, slice_get, slice_set}
 use Rattle.std.proofs.lemmas.Option.{slice_get_within}
@@ -28,7 +28,7 @@ module _ (b : Build) (first : List Row) (ss : List Stand) (ds : List Desk) (c : 
     (w v : ℕ) (l : Option ℕ) (s : Stand)
     (kept : Keeps b first (data_of ss ds c stop_marks) es space) (left : left_at b (slice_get (map at_of ds) w) ≡ Ok (v, status_of s))
     (leased : slice_get (map leased_by ds) w ≡ Some l) where
-  -- the data after it, with these marks
+  -- the data after the settle, with these marks
   abbrev pub after : List Bool → Data
   after marks = settled (data_of ss ds c stop_marks) w v s (given_back c l).out marks
 
@@ -44,7 +44,7 @@ module _ (b : Build) (first : List Row) (ss : List Stand) (ds : List Desk) (c : 
   pub running : slice_get (map status_of ss) v ≡ Some (Running w)
   running = leaves_running (seen_as b first (data_of ss ds c stop_marks) es) w v (status_of s) kept.replays ends
 
-  -- the vertex has a stand to be written
+  -- the vertex has a state that can be replaced
   pub low : v < length ss
   low = omega (arith, slice_get_within (map status_of ss) v (Running w) running, length_map status_of ss)
 
@@ -62,7 +62,7 @@ module _ (b : Build) (first : List Row) (ss : List Stand) (ds : List Desk) (c : 
   pub rows_stay : (marks : List Bool) → c.rows ≡ rows_after c.rows (state_as (after marks)) w
   rows_stay marks = settle_rows (data_of ss ds c stop_marks) w v s (given_back c l).out marks (Runs ends.x) ends.there
 
-  -- with the marks of what is stopped now, the board keeps after the settle what its type keeps
+  -- with the marks of what is stopped now, the board keeps its invariant after the settle
   pub keeps : (marks : List Bool) → marks ≡ stopped b (map status_of (slice_set ss v s)) → Keeps b first (after marks) (es ++ Settle w ∷ []) space
   keeps marks are =
       kept_after b first (data_of ss ds c stop_marks) (after marks) es space (Settle w) (settle_reply v ends.ending) kept

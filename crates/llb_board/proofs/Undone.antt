@@ -1,4 +1,4 @@
--- An event taken back, over the board's data: what its type keeps.
+-- An event is taken back, over the board's data: the board keeps its invariant.
 use Rattle.std.proofs.Common.{◌≡◌, ℕ, zero, suc, ◌-◌, ◌<◌, ◌≤◌, Bool, true, false, ◌||◌, ◌&&◌, List, [], ◌∷◌, ◌++◌, map, length, Option}
 use Rattle.std.proofs.Common.{Some, None, unwrap_or, inr, refl, sym, ap, subst, ◌∙◌, arith, length-append}
 use Rattle.std.specs.Prelude.{slice_get, slice_set, nat_lt}
@@ -67,7 +67,7 @@ kept_mark next before (x ∷ xs) k low =
     first_part (z ∷ ys) y zero low = refl
     first_part (z ∷ ys) y (suc k) low = first_part ys y k (omega (arith, low))
 
--- the marks below a number hang on the failures below it
+-- the marks below a number depend on the failures below it
 marks_below : (S T : List Status) (n : ℕ) → ((j : ℕ) → j < n → is_failed (ending_at S j) ≡ is_failed (ending_at T j))
     → (before : List Bool) (vs : List Vertex) (k : ℕ) → k < n
     → slice_get (by_number (next_stopped S) before vs) k ≡ slice_get (by_number (next_stopped T) before vs) k
@@ -88,7 +88,7 @@ marks_below S T n same before (v ∷ vs) k low =
         let past = ltb-false (length before) n is in
         kept_mark (next_stopped S) before (v ∷ vs) k (omega (arith, past, low)) ∙ sym (kept_mark (next_stopped T) before (v ∷ vs) k (omega (arith, past, low)))
 
--- what is over below a vertex stays so where it stands otherwise
+-- what is over below a vertex stays over if the vertex gets another state
 pub over_below : (b : Build) (S : List Status) (v : ℕ) (new : Status) (n r : ℕ) → r ≤ n → r ≤ v → AreOver b S n → AreOver b (slice_set S v new) r
 over_below b S v new n r fits below over k low =
     let other : (j : ℕ) → j < v → slice_get (slice_set S v new) j ≡ slice_get S j = λ j less. get_set_other S v new j (λ e. absurd (omega (arith, less, e))) in
@@ -121,7 +121,7 @@ store_by : (o : Option Before) (rows : List Row) → store_of (rows_before o row
 store_by (Some c) rows = refl
 store_by None rows = refl
 
--- data that is what an undo leaves is seen as the board that the undo tells
+-- data that is what an undo leaves is seen as the board that `undone` gives
 pub undone_is : (b : Build) (first : List Row) (d d' : Data) (es : List Event) (u : Displaced) → Leaves b d d' u → seen_as b first d' (front es)
     ≡ undone u (seen_as b first d es)
 undone_is b first d d' es u leaves =
@@ -172,7 +172,7 @@ ends_with b first d es space u kept can =
       roomy = subst (λ qs. IsRoomy b (state_as d) qs space.room) same kept.room;
     }
 
--- what a board's type keeps it keeps of data that is what an undo leaves, where the room and the counts are what they were
+-- data that is what an undo leaves has the board's invariant, if the room and the counts are what they were
 pub undo_keeps : (b : Build) (first : List Row) (d d' : Data) (es : List Event) (space old : Space) (u : Displaced) → Keeps b first d es space
     → (ends : EndsWith b first d es space u) → SpaceBefore b ends.replies (event_before u.back) space old
     → Leaves b d d' u → Keeps b first d' (front es) old
@@ -222,7 +222,7 @@ place_for out workers ls leased = record { count = leased.count; idle = λ w at.
     by_lease w at (Some None) is = is
     by_lease w at (Some (Some l)) is = let r = leased.runs w l is in absurd (apart r.0 (sym r.1 ∙ at))
 
--- where caches are put back their leases fit, and else those that are there
+-- if caches are put back, their leases fit; otherwise those that are there do
 abbrev pub LeasedSo : Option Before → List At → Leases → List (Option ℕ) → Type 0
 LeasedSo (Some c) workers out ls = AreLeased c.caches.out workers c.leases
 LeasedSo None workers out ls = AreLeased out workers ls
@@ -270,7 +270,7 @@ desk_at (desk.Runs l y ∷ ds) zero x at = (l, y, refl, runs_inside at)
     runs_inside e = cc
 desk_at (d ∷ ds) (suc w) x at = desk_at ds w x at
 
--- a claim
+-- the worker whose claim is taken back runs something
 pub runs_there : (n : Seen) (w v : ℕ) → Replays n → IsBegun n w v → (x : Execution) × (slice_get n.state.workers w ≡ Some (Runs x))
 runs_there n w v here begun = let r = (consistent n here).running v w begun.runs in (r.0, r.1)
 
@@ -285,7 +285,7 @@ pub unclaimed_marks : (b : Build) (ss : List Stand) (w v : ℕ) (marks : List Bo
 unclaimed_marks b ss w v marks are runs =
     are ∙ sym (ap (stopped b) (map_set status_of ss v stand.Waiting) ∙ marks_stay b.graph.vertices (map status_of ss) v (Running w) Waiting runs refl refl)
 
--- a micro-step
+-- the state of a worker before a micro-step, by its desk
 unstepped_at : (mark : Mark) (d : Desk) → at_of (desk_before mark (Some d)) ≡ step_before mark (Some (at_of d))
 unstepped_at mark desk.Idle = refl
 unstepped_at mark (desk.Runs l x) = refl
@@ -337,7 +337,7 @@ unstep_leaves b first ss ds c es space w mark marks kept x at mounts =
       unstepped_workers ds w mark (desk.Runs l y) there,
     )
 
--- a settle
+-- the workers after a settle or a cancel is taken back
 pub resumed_workers : (ds : List Desk) (e : End) (w : ℕ) (l : Option ℕ) (x : own.Execution) → map at_of (slice_set ds w (desk.Runs l x))
     ≡ workers_before (Resume e w (left_in x)) (map at_of ds)
 resumed_workers ds e w l x = map_set at_of ds w (desk.Runs l x)
@@ -374,12 +374,12 @@ resumed_marks b ss w v had false old new are at is anew same =
     ∙ sym (ap (stopped b) (map_set status_of ss v (stand.Running w))
     ∙ marks_stay b.graph.vertices (map status_of ss) v (status_of had) (Running w) (get_map status_of ss v had at) (sym is) refl)
 
--- facts that hang on a test
+-- a fact that holds if a test passes, for a test that has passed
 pub on_true : (b : Bool) (P : Type 0) → OnTrue b P → b ≡ true → P
 on_true true P h is = h
 on_true false P h is = absurd cc
 
--- what is promised where a test fails, of a test that has failed
+-- a fact that holds if a test fails, for a test that has failed
 pub on_false : (b : Bool) (P : Type 0) → OnFalse b P → b ≡ false → P
 on_false true P h is = absurd cc
 on_false false P h is = h

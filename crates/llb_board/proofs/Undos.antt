@@ -1,4 +1,4 @@
--- A claim, a micro-step, a settle and a cancel taken back: what the board does is what is told, and its type keeps what it keeps.
+-- A claim, a micro-step, a settle and a cancel are taken back: the board does what the definitions say, and keeps its invariant.
 use Rattle.std.proofs.Common.{◌≡◌, ℕ, ◌+◌, ◌<◌, ◌≤◌, List, [], ◌∷◌, ◌++◌, map, length, Option, Some, None, refl, sym, ap, subst, ◌∙◌, arith}
 use Rattle.std.specs.Prelude.{Bool, true, false, slice_get, slice_set}
 use Rattle.std.specs.Option.{ForSome}
@@ -74,7 +74,7 @@ module _ (b : Build) (first : List Row) (ss : List Stand) (ds : List Desk) (c : 
   pub ends : (u : Displaced) → CanUndo u board → EndsWith b first (data_of ss ds c stop_marks) es space u
   ends u can = ends_with b first (data_of ss ds c stop_marks) es space u kept can
 
-  -- what the type keeps, from what is left of the data
+  -- the invariant, from what is left of the data
   pub tracked : (d' : Data) (l : Linked) (u : Displaced) (r : ℕ) (old : Space) (can : CanUndo u board)
       → SpaceBefore b (ends u can).replies (event_before u.back) space old → Leaves b (data_of ss ds c stop_marks) d' u
       → AreOver b (map status_of d'.stands) r
@@ -85,7 +85,7 @@ module _ (b : Build) (first : List Row) (ss : List Stand) (ds : List Desk) (c : 
     linked = linked;
   }
 
-  -- what stands at a vertex is written
+  -- the state of a vertex is replaced
   pub over_written : (v : ℕ) (s : Stand) (n r : ℕ) → r ≤ n → r ≤ v → AreOver b (map status_of ss) n → AreOver b (map status_of (slice_set ss v s)) r
   over_written v s n r fits below over =
       subst (λ S. AreOver b S r) (sym (map_set status_of ss v s)) (over_below b (map status_of ss) v (status_of s) n r fits below over)
@@ -118,7 +118,7 @@ module _ (b : Build) (first : List Row) (ss : List Stand) (ds : List Desk) (c : 
         let r = runs_there board w v kept.replays can.stands in
         omega (arith, slice_get_within (map at_of ds) w (Runs r.0) r.1, length_map at_of ds)
 
-    -- and the vertex has a stand
+    -- and the vertex has a state
     pub low_v : v < length ss
     low_v =
         let runs = can.stands.runs in
@@ -222,7 +222,7 @@ module _ (b : Build) (first : List Row) (ss : List Stand) (ds : List Desk) (c : 
         let idle = can.stands.idle in
         omega (arith, slice_get_within (map at_of ds) w Idle idle, length_map at_of ds)
 
-    -- the vertex that is resumed has a stand
+    -- the vertex that is resumed has a state
     pub low_vertex : x.vertex < length ss
     low_vertex =
         let low = resumed_there (record { back = Resume e w (left_in x); caches = caches_in o }) board e w (left_in x) refl can.replays can.stands.idle in

@@ -1,4 +1,4 @@
--- An event that is granted, and the board before it: what undoes the event leads back there, and can be done.
+-- An event that is granted, and the board before it: the event's undo leads back there, and can be done.
 use Rattle.std.proofs.Common.{◌≡◌, ℕ, ◌+◌, ◌-◌, Bool, true, false, ◌||◌, List, [], ◌∷◌, ◌++◌, map, length, Option, Some, None, is_some, refl, sym, ap}
 use Rattle.std.proofs.Common.{subst, ◌∙◌, arith}
 use Rattle.std.specs.Prelude.{Result, Ok, Err, slice_get, slice_set, nat_le, not, ◌==◌, if◌then◌else◌}
@@ -42,7 +42,7 @@ use Rattle.llb_state.proofs.Kept.{made_enough}
 use Rattle.llb_state.proofs.Lists.{get_map, set_back, front_again}
 use Rattle.llb_state.proofs.Sound.{consistent}
 
--- ---- what a walk answers
+-- ---- what `walk` returns
 
 told_inside : {x y : Seen × replied.Reply} → ◌≡◌ {A = Result (Seen × replied.Reply) WalkFault} (Ok x) (Ok y) → x ≡ y
 told_inside e = cc
@@ -67,7 +67,7 @@ granted b n (Cancel w) r is = told_of b n (Cancel w) cancel_fault walk.Cancel _ 
 
 -- ---- back to the board before
 
--- part by part
+-- the parts of the state are those before the event
 record LeadsBack (u : Displaced) (b : Seen) (e : Event) (s : State) : Type 0 where
   statuses : statuses_before u.back s.statuses ≡ b.state.statuses
   workers : workers_before u.back s.workers ≡ b.state.workers
@@ -176,7 +176,7 @@ steps_by : (b : Build) (s : State) (w : ℕ) (a : Answer) (x : Execution) → sl
 steps_by b s w a x runs c =
     subst (StepsBy b s w a) (runs_inside (sym c.there ∙ runs)) (record { step = c.step; next = c.next; gives = c.gives })
 
--- what goes on has not faulted
+-- an execution with a next micro-step has not faulted
 clean_by : (fault : Option VertexFault) (past : Bool) (o : Option MicroStep) (m : MicroStep) → (if (is_some fault || past) then None else o) ≡ Some m
     → fault ≡ None
 clean_by None past o m e = refl
@@ -232,7 +232,7 @@ step_back b w a u here grants marks =
 
 -- ---- of a settle or a cancel
 
--- the worker leaves the vertex, which stands otherwise
+-- the worker leaves the vertex, which has another state then
 record LeavesBy (s : State) (w : ℕ) (a : Answer) (x : Execution) : Type 0 where
   status : Status
   gives : a.0 ≡ after_end s w x.vertex status
@@ -290,7 +290,7 @@ walk_back b n e r u here is marks =
     let g = granted b n e r is in
     ap (undone u) g.is ∙ (undoes b e g.answer u here g.grants marks).back
 
--- and it can be undone: the board before replays its record, and worker and vertex stand as the event left them
+-- and it can be undone: the board before replays its record, and worker and vertex are as the event left them
 pub walk_can : (b n : Seen) (e : Event) (r : replied.Reply) (u : Displaced) → Replays b → walk_of b e ≡ Ok (n, r) → Marks b e u → CanUndo u n
 walk_can b n e r u here is marks =
     let g = granted b n e r is in
@@ -358,7 +358,7 @@ none_of : {A : Type 0} (xs : List A) → length xs ≡ 0 → xs ≡ []
 none_of [] e = refl
 none_of (x ∷ xs) e = absurd (omega (arith, e))
 
--- a list that is not asked about has nothing
+-- a list that is not asked about is empty
 pub unasked : {A : Type 0} (xs : List A) (n : ℕ) (empty : Bool) → n ≡ length xs → empty ≡ (n == 0) → not empty ≡ false → xs ≡ []
 unasked xs n true len is asked = let zero_is = eqb-true n 0 (sym is) in none_of xs (omega (arith, len, zero_is))
 unasked xs n false len is asked = absurd cc

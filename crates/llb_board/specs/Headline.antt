@@ -15,11 +15,11 @@ pub record HasPlace (b : Seen) (w : ℕ) (p : Place) : Type 0 where
   pub runs : slice_get b.state.workers w ≡ Some (Runs execution)
   pub has : Has execution.places p
 
--- two running workers with one locked key are one worker
+-- two running workers with the same locked key are the same worker
 abbrev pub LockedOnce : Seen → Type 0
 LockedOnce b = (w u : ℕ) (p q : Place) → HasPlace b w p → HasPlace b u q → p.key ≡ q.key → p.key.mode ≡ Locked → w ≡ u
 
--- two running workers with one instance of a locked or a private key are one worker
+-- two running workers with the same instance of a locked or a private key are the same worker
 abbrev pub HeldOnce : Seen → Type 0
 HeldOnce b = (w u : ℕ) (p : Place) → HasPlace b w p → HasPlace b u p → IsExclusive p.key.mode → w ≡ u
 
@@ -29,7 +29,7 @@ OthersLeave b = (w : ℕ) (p : Place) → HasPlace b w p → IsExclusive p.key.m
     → table b.build b.state e ≡ Some (t, r)
     → content t.store p ≡ content b.state.store p
 
--- and would have the same reply, and the same effect elsewhere, whatever tree it were
+-- an event of another worker would have the same reply, and the same effect elsewhere, whatever tree such an instance had
 abbrev pub OthersIgnore : Seen → Type 0
 OthersIgnore b = (w : ℕ) (p : Place) → HasPlace b w p → IsExclusive p.key.mode → (e : Event) (tree : TreeMap) → worker_of e ≢ w
     → table b.build (with_content p tree b.state) e ≡ option_map (with_content_after p tree) (table b.build b.state e)

@@ -1,5 +1,6 @@
 -- What a landing returns: the block of the worker's remaining micro-steps and its settle, or the first cause of its refusal.
 use Rattle.std.specs.Prelude.{◌≡◌, ℕ, Bool, true, false, List, [], ◌∷◌, ◌++◌, Option, Some, None, slice_get, is_ok}
+use Rattle.llb_model.specs.Caches.{Place}
 use Rattle.llb_model.specs.State.{Execution, At, Idle, Runs}
 use Rattle.llb_model.specs.Table.{Job, Reply, settle_grant}
 use Rattle.llb_model.specs.Run.{run}
@@ -11,7 +12,7 @@ use Rattle.llb_board.specs.declared.fault.LandFault.TheVariants as fault
 use Rattle.llb_board.specs.declared.landing.LandCause.{LandCause}
 use Rattle.llb_board.specs.declared.landing.LandCause.TheVariants as cause
 
--- ---- whose outcome lands
+-- ---- which outcomes land
 
 -- what a worker runs has an instance of a shared cache
 abbrev pub runs_shared : Option At → Bool
@@ -19,13 +20,19 @@ runs_shared (Some (Runs x)) = has_shared x
 runs_shared (Some Idle) = false
 runs_shared None = false
 
+-- the instances of caches that a worker has
+abbrev pub places_had : Option At → List Place
+places_had (Some (Runs x)) = x.places
+places_had (Some Idle) = []
+places_had None = []
+
 pub record CanLand (b : Seen) (w : ℕ) (job : Job) : Type 0 where
   pub x : Execution
   pub runs : slice_get b.state.workers w ≡ Some (Runs x)
   pub alone : has_shared x ≡ false
   pub own : IsRunOf b.build b.state.store w x job
 
--- the worker runs a vertex, and none of its caches is shared
+-- the worker runs a vertex, none of its caches is shared, and the job is not what it runs
 pub record RunsAlone (b : Seen) (w : ℕ) (job : Job) : Type 0 where
   pub x : Execution
   pub runs : slice_get b.state.workers w ≡ Some (Runs x)
@@ -37,14 +44,14 @@ pub record RunsShared (b : Seen) (w : ℕ) : Type 0 where
   pub runs : slice_get b.state.workers w ≡ Some (Runs x)
   pub shared : has_shared x ≡ true
 
--- the first cause for which a job's outcome is refused
+-- a cause is the first for which a job's outcome is refused
 abbrev pub StandsInWay : Seen → ℕ → Job → LandCause → Type 0
 StandsInWay b w job cause.NoWorker = slice_get b.state.workers w ≡ None
 StandsInWay b w job cause.NotRunning = slice_get b.state.workers w ≡ Some Idle
 StandsInWay b w job cause.HasShared = RunsShared b w
 StandsInWay b w job cause.Stranger = RunsAlone b w job
 
--- the outcome comes back in the fault
+-- the fault for a cause, which holds the outcome
 abbrev pub land_fault : LandCause → OutcomeValue → LandFault
 land_fault cause.NoWorker o = fault.NoWorker o
 land_fault cause.NotRunning o = fault.NotRunning o
@@ -58,14 +65,14 @@ pub record IsRefused (b : Seen) (w : ℕ) (o : OutcomeValue) (e : LandFault) : T
 
 -- ---- what a landing does
 
--- the steps of a worker that an outcome counts
+-- a worker's steps, as many as an outcome counts, are done and recorded
 pub record Steps (b : Seen) (w : ℕ) (count : ℕ) (new : Seen) : Type 0 where
   pub replies : List Reply
   pub runs : run b.build b.state (steps_by w count) ≡ Some (new.state, replies)
   pub rows : kept_along b.build b.state b.rows (steps_by w count) ≡ Some (new.state, new.rows)
   pub recorded : new ≡ record b { state = new.state; rows = new.rows; events = b.events ++ steps_by w count }
 
--- the block of these steps and the settle, whose reply is the last
+-- the block of these steps and the settle is done and recorded; the settle's reply is the last
 pub record Lands (b : Seen) (w : ℕ) (o : OutcomeValue) (new : Seen) (reply : Reply) : Type 0 where
   pub can : CanLand b w o.job
   pub replies : List Reply

@@ -1,8 +1,10 @@
--- Read first Headline (the promise of the whole machine over a board; llb_state's Board says what a board is seen as, its Rules what each event
--- answers), then Opening, Landing (what was worked out elsewhere), Walking and Undo (an event, and back). Store says what a board's data represents.
+-- Read Headline first (the promise of the whole machine over a board; llb_state's Board says what a board is seen as, its Rules what each event
+-- returns), then Opening, Landing (of work that was done elsewhere), Begun (which outcomes land with no comparison), Walking and Undo (an event is
+-- done and taken back). Store says what a board's data represents.
 pub mod Store
 pub mod Headline
 pub mod Opening
 pub mod Landing
+pub mod Begun
 pub mod Undo
 pub mod Walking

@@ -8,14 +8,14 @@ use Rattle.llb_state.specs.Board.{Seen, opened}
 use Rattle.llb_board.specs.declared.fault.OpenFault.{OpenFault}
 use Rattle.llb_board.specs.declared.fault.OpenFault.TheVariants as opening
 
--- there may be 1 to 64 workers
+-- whether a board may have this number of workers: 1 to 64
 abbrev pub may_work : ℕ → Bool
 may_work workers = nat_le 1 workers && nat_le workers 64
 
 abbrev pub open_with : Build → CachesValue → ℕ → Result Seen OpenFault
 open_with b c workers = if may_work workers then Ok (opened b workers c.rows) else Err (opening.Workers b.graph b.locals c)
 
--- first of all a local tree that is missing
+-- a missing local tree is the first cause of all
 abbrev pub open_unless : Option (List ℕ) → Build → CachesValue → ℕ → Result Seen OpenFault
 open_unless (Some name) b c workers = Err (opening.MissingLocal name b.graph b.locals c)
 open_unless None b c workers = open_with b c workers
@@ -23,7 +23,7 @@ open_unless None b c workers = open_with b c workers
 abbrev pub open_of : Build → CachesValue → ℕ → Result Seen OpenFault
 open_of b c workers = open_unless (missing_local b.locals b.graph.vertices) b c workers
 
--- where memory may be needed: where there is no other cause, or for the name of a missing local tree
+-- whether memory may be needed: if there is no other cause, or for the name of a missing local tree
 abbrev pub may_want_memory : Result Seen OpenFault → Bool
 may_want_memory (Ok b) = true
 may_want_memory (Err (opening.MissingLocal name g ts c)) = true

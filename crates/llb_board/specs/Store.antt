@@ -1,4 +1,4 @@
--- The contents of caches as a value that a type can be seen as.
+-- The contents of caches as a value that contracts can see a type as.
 use Rattle.std.specs.Prelude.{◌≡◌, ℕ, zero, suc, List, Option, Some, None, refl}
 use Rattle.std.specs.FinMap as finite
 use Rattle.std.specs.Coded.{Coded, code_by, coded×, coded_ℕ, coded_list, coded_option}
@@ -8,7 +8,7 @@ use Rattle.llb_cache.specs.declared.key.Mode.TheVariants.{Shared, Private, Locke
 use Rattle.llb_tree.specs.Tree.{coded_tree}
 use Rattle.llb_model.specs.Caches.{Place, Store, mode_number}
 
--- the way in which a cache is shared, by its number
+-- a cache's sharing mode, by its number
 abbrev pub mode_by : ℕ → Mode
 mode_by zero = Shared
 mode_by (suc zero) = Private

@@ -1,4 +1,4 @@
--- An event as a walker does it, what it displaces, and the board after the event taken back.
+-- An event as `walk` does it, what it displaces, and the board after the event is taken back.
 use Rattle.std.specs.Prelude.{◌≡◌, ℕ, ◌-◌, Bool, true, false, List, [], ◌∷◌, ◌++◌, length, Option, Some, None, Result, Ok, Err, slice_get, slice_set}
 use Rattle.llb_wire.specs.Answer as answer
 use Rattle.llb_cache.specs.Caches.{Row}
@@ -29,7 +29,7 @@ use Rattle.llb_board.specs.declared.walk.Reply.TheVariants as reply
 
 -- ---- the result of a walked event
 
--- the table's reply, a claim's job left out
+-- the reply of the table, without a claim's job
 abbrev pub told : table.Reply → Reply
 told (table.Claimed job) = reply.Claimed
 told table.HasRead = reply.Stepped stepped.Read
@@ -63,7 +63,7 @@ walk_memory (walk.Cancel e) = false
 abbrev pub GivesWalk : {X Y : Type 0} → (X → Y) → Result X WalkFault → Result Y WalkFault → Type 0
 GivesWalk = answer.Gives walk_memory
 
--- the event by which a worker leaves what it runs, and its faults where the worker is not there or idle
+-- the event by which a worker leaves what it runs, and its faults if the worker is not there or is idle
 abbrev pub end_of : End → ℕ → table.Event
 end_of end.Settle w = table.Settle w
 end_of end.Cancel w = table.Cancel w
@@ -78,13 +78,13 @@ not_running end.Cancel = walk.Cancel no_cancel.NotRunning
 
 -- ---- what an event displaces
 
--- a claim the vertex that waited, a step what it can change of a view, a settle and a cancel what the worker ran
+-- a claim displaces the vertex that waited, a step what it can change of a view, a settle and a cancel what the worker ran
 pub data Back : Type 0 where
   Unclaim : ℕ → ℕ → Back
   Unstep : ℕ → Mark → Back
   Resume : End → ℕ → Left → Back
 
--- and where the vertex shows caches, these as they were
+-- what an event displaced, and the caches as they were if the vertex shows some
 pub record Displaced : Type 0 where
   pub back : Back
   pub caches : Option Before
@@ -123,7 +123,7 @@ abbrev pub store_before : Option Before → Store → Store
 store_before (Some c) store = store_of c.caches.rows
 store_before None store = store
 
--- what an undo leaves of a board
+-- the board after an undo
 abbrev pub undone : Displaced → Seen → Seen
 undone u b = record b {
   state = record {
@@ -140,7 +140,7 @@ abbrev pub space_before : End → ℕ → Space → Space
 space_before end.Settle v space = space
 space_before end.Cancel v space = uncancelled v space
 
--- ---- where it can be taken back
+-- ---- when it can be taken back
 
 -- the event that is taken back
 abbrev pub event_before : Back → table.Event
@@ -148,7 +148,7 @@ event_before (Unclaim w v) = table.Claim w v
 event_before (Unstep w mark) = table.Step w
 event_before (Resume e w left) = end_of e w
 
--- it is the last of the record
+-- the event that is taken back is the last of the record
 pub record IsLast (u : Displaced) (b : Seen) : Type 0 where
   pub reply : table.Reply
   pub gives : table.table b.build (undone u b).state (event_before u.back) ≡ Some (b.state, reply)
@@ -172,13 +172,13 @@ StandsBehind (Unclaim w v) b = IsBegun b w v
 StandsBehind (Unstep w mark) b = IsStepped b w mark
 StandsBehind (Resume e w left) b = IsLeft b w left
 
--- what a worker left of a vertex that shows no cache has no instances
+-- if a worker left its vertex, what it left has no instances
 abbrev pub HasNoPlaces : Back → Type 0
 HasNoPlaces (Unclaim w v) = Unit {0}
 HasNoPlaces (Unstep w mark) = Unit {0}
 HasNoPlaces (Resume e w left) = left.execution.places ≡ []
 
--- the caches that are put back have the instances of the workers leased, by these leases
+-- in the caches that are put back, the workers' instances are leased, by these leases
 abbrev pub FitsLeases : Displaced → Seen → Option Before → Type 0
 FitsLeases u b (Some c) = AreLeased c.caches.out (undone u b).state.workers c.leases
 FitsLeases u b None = HasNoPlaces u.back
@@ -192,13 +192,13 @@ pub record CanUndo (u : Displaced) (b : Seen) : Type 0 where
 
 -- ---- what is kept of a board before an event
 
--- its caches, and the leases of its workers
+-- the board's caches, and the leases of its workers
 pub record KeepsCaches (b : Seen) (c : Before) : Type 0 where
   pub rows : c.caches.rows ≡ b.rows
   pub store : store_of c.caches.rows ≡ b.state.store
   pub leased : AreLeased c.caches.out b.state.workers c.leases
 
--- where something is shown or held
+-- the caches are kept, or nothing is shown or held
 abbrev pub KeepsWhere : {A : Type 0} → List A → Seen → Option Before → Type 0
 KeepsWhere shown b (Some c) = KeepsCaches b c
 KeepsWhere shown b None = shown ≡ []
@@ -221,7 +221,7 @@ pub record MarksEnd (b : Seen) (e : End) (w : ℕ) (u : Displaced) : Type 0 wher
   pub supplies : left.supplies ≡ supplies_for (slice_get b.build.graph.vertices left.execution.vertex)
   pub caches : KeepsWhere left.execution.places b u.caches
 
--- what an undo has, made before an event, is what the event can displace
+-- an undo that is made before an event has what the event can displace
 abbrev pub Marks : Seen → table.Event → Displaced → Type 0
 Marks b (table.Claim w v) u = MarksClaim b w v u
 Marks b (table.Step w) u = MarksStep b w u

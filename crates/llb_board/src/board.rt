@@ -1,6 +1,6 @@
-//! The board: what stands at each vertex, what each worker runs, the caches, and the record of events since it was opened. Its
-//! type keeps that the record is a run of the table to where the board is, that it has room for every event to come but those of a
-//! vertex that is claimed again after a cancel, and that each running worker has a lease of its instances of caches.
+//! The board: the state of each vertex, what each worker runs, the caches, and the record of events since it was opened. Its invariant:
+//! the record is a run of the table to the board's state, it has room for every event to come but those of a vertex that is claimed
+//! again after a cancel, and each running worker has a lease of its cache instances.
 
 ghost use Rattle.std.specs.Prelude.{◌≡◌, ◌<◌, ◌≤◌, ◌+◌, [], length, true, is_some, option_map, OnErr, IfErr, IfOk};
 ghost use Rattle.llb_model.specs.Outcome.{output_in};
@@ -41,7 +41,7 @@ use llb_wire::{Memory, Text};
 use std::alloc::Global;
 use std::marker::Model;
 
-/// A graph that is worked on with its local trees and caches, and the record of what was done.
+/// A graph that workers work on, with its local trees and caches, and the record of what was done.
 pub struct Board {
     pub(crate) alloc: Global,
     pub(crate) build: Build,
@@ -55,7 +55,7 @@ pub struct Board {
     pub(crate) history: History,
 }
 
-// Written out, so that the crates above drop one by this one function.
+// It is written out so that the crates above drop one by this one function.
 impl Drop for Board {
     fn drop(self) {
         let Board {
@@ -91,9 +91,9 @@ impl Model for Board {
 }
 
 impl Board {
-    /// A board on which nothing has happened. In this order: 121 with the name of the least vertex's local source that
-    /// no tree is given for, 122 where the number of workers is 0 or more than 64; 123 is out of memory. The graph, the local trees and
-    /// the caches come back in the fault. No lease of the caches is out.
+    /// Opens a board on which nothing has happened. Fails, in this order, with 121 `MissingLocal` and the name of the first local source, by
+    /// vertex, that has no tree, with 122 `Workers` where the number of workers is 0 or more than 64, and with 123 `Memory`. The fault holds
+    /// the graph, the local trees and the caches. No lease of the caches may be out.
     pub fn open(
         alloc: Global,
         graph: Graph,
@@ -120,7 +120,7 @@ impl Board {
         }
     }
 
-    // Where all local trees are there.
+    // Opens a board if all local trees are there.
     fn open_with(
         alloc: Global,
         build: Build,
@@ -156,10 +156,10 @@ impl Board {
         }
     }
 
-    /// An idle worker takes a vertex that waits and has all its inputs, with an instance of each cache that the vertex shows. 131, 132,
-    /// 133, 134, 135 with the first locked key that a running worker has, 141. Where memory is refused for that key's own
-    /// text, 141 stands in the place of 135; memory for anything else comes after it. A vertex that was cancelled before takes
-    /// room for its events once more.
+    /// Makes an idle worker claim a vertex that waits and has all its inputs, with an instance of each cache that the vertex shows. Fails with
+    /// 131 `NoWorker`, 132 `Busy`, 133 `NoVertex`, 134 `NotReady`, 135 `Held` and the first locked key that a running worker has, or 141 `Memory`.
+    /// If memory for that key's own text is refused, it fails with 141 in place of 135; want of any other memory is reported after 135. The
+    /// claim of a vertex that was cancelled before reserves room for its events once more.
     pub fn claim(&mut self, w: u32, v: u32) -> Result<Job, ClaimFault>
         ensures gives { GivesClaim (λ job. (self.new, claim_reply job)) result (claim_of self.old w v) }
         ensures last { IfErr result (λ e. claim_memory e ≡ true → claim_may_want (claim_of self.old w v) ≡ true) }
@@ -191,8 +191,9 @@ impl Board {
         Ok(job)
     }
 
-    /// The next micro-step of what a worker runs. A command runs or is skipped, by its join and the last status. It sees the caches as
-    /// they are now, and they are written at once. 131, 136, 137, 141; a skipped command takes no memory.
+    /// Does the next micro-step of what a worker runs. A command runs or is skipped, by its join and the last status. The micro-step reads the
+    /// caches as they are now and writes them at once. Fails with 131 `NoWorker`, 136 `NotRunning`, 137 `NothingLeft` or 141 `Memory`; a skipped
+    /// command does not allocate.
     pub fn step(&mut self, w: u32) -> Result<Stepped, StepFault>
         ensures gives { GivesStep (λ r. (self.new, step_reply r)) result (step_of self.old w) }
         ensures last { MemoryLast step_memory result (step_of self.old w) }
@@ -209,7 +210,8 @@ impl Board {
         Ok(stepped)
     }
 
-    /// A worker leaves what it runs, which is finished, and its instances of caches are free again. 131, 136, 138; no memory.
+    /// Makes a worker leave what it runs, which is finished; its cache instances are free again. Fails with 131 `NoWorker`, 136 `NotRunning` or
+    /// 138 `NotFinished`. Does not allocate.
     pub fn settle(&mut self, w: u32) -> Result<Settled, SettleFault>
         ensures gives { GivesSettle (λ r. (self.new, settle_reply r)) result (settle_of self.old w) }
         ensures err { OnErr result (self.new ≡ self.old) }
@@ -235,8 +237,8 @@ impl Board {
         Ok(Settled::Done(v))
     }
 
-    /// A worker gives up what it runs, finished or not. Its vertex waits again, its instances of caches are free, and they keep what
-    /// its micro-steps have written. 131, 136; no memory.
+    /// Makes a worker give up what it runs, finished or not. Its vertex waits again, its cache instances are free, and they keep what
+    /// its micro-steps have written. Fails with 131 `NoWorker` or 136 `NotRunning`. Does not allocate.
     pub fn cancel(&mut self, w: u32) -> Result<Cancelled, CancelFault>
         ensures gives { GivesCancel (λ r. (self.new, cancel_reply r)) result (cancel_of self.old w) }
         ensures err { OnErr result (self.new ≡ self.old) }
@@ -249,14 +251,14 @@ impl Board {
         Ok(cancelled)
     }
 
-    /// The graph that is worked on. No memory.
+    /// Returns the board's graph. Does not allocate.
     pub fn graph(&self) -> &Graph
         ensures { result.now ≡ self.now.build.graph }
     {
         self.build.graph()
     }
 
-    /// How a vertex looks. No memory.
+    /// Returns the status of a vertex; `None` past the last vertex. Does not allocate.
     pub fn status(&self, v: u32) -> Option<Status>
         ensures { result ≡ look_at self.now.build self.now.state v }
     {
@@ -266,7 +268,7 @@ impl Board {
         Some(look(stand, ready, is_marked(&self.stop_marks, v)))
     }
 
-    /// How a worker looks. No memory.
+    /// Returns what a worker does; `None` past the last worker. Does not allocate.
     pub fn worker(&self, w: u32) -> Option<At>
         ensures { result ≡ worker_look self.now.build self.now.state w }
     {
@@ -279,14 +281,14 @@ impl Board {
         }
     }
 
-    /// Output i of a vertex that is done. No memory.
+    /// Returns output i of a vertex that is done; `None` where there is no such vertex or output. Does not allocate.
     pub fn output(&self, v: u32, i: u32) -> Option<&Tree>
         ensures { option_map (λ t. t.now) result ≡ output_in (ending_at self.now.state.statuses v) i }
     {
         output_at(&self.stands, v, i)
     }
 
-    /// The vertices that have an edge to one, ascending, each once; empty past the last vertex. No memory.
+    /// Returns the users of a vertex, which are those with an edge to it: ascending, each once; empty past the last vertex. Does not allocate.
     pub fn users(&self, v: u32) -> &[u32]
         ensures { result.now ≡ users_of self.now.build.graph.vertices v }
     {
@@ -294,9 +296,9 @@ impl Board {
         self.links.users(v)
     }
 
-    /// The record of events since the board was opened: of each vertex at most one claim, one settle and its micro-steps, and as many
-    /// once more for each time that it was cancelled. It has room for all that is still to come, but for the vertices that wait
-    /// after a cancel, whose claim takes it. No memory.
+    /// Returns the record of events since the board was opened: for each vertex at most one claim, one settle and its micro-steps, and as many
+    /// again for each time that it was cancelled. It has room for all events still to come, except for vertices that wait after a
+    /// cancel: their claim reserves it. Does not allocate.
     pub fn events(&self) -> &Events
         ensures all { result.now.list ≡ self.now.events }
         ensures bound { still_to_come self.now.build self.now.state + length result.now.list ≤ most_events self.now.build (replies_in self.now) }
@@ -305,7 +307,7 @@ impl Board {
         self.history.events()
     }
 
-    /// The event that a driver chooses. No memory.
+    /// Returns the event that a driver chooses; `None` where the board is complete. Does not allocate.
     pub fn chosen(&self) -> Option<Event>
         ensures { option_map event_of result ≡ chosen self.now.build self.now.state }
     {
@@ -316,15 +318,15 @@ impl Board {
         }
     }
 
-    /// Whether nothing runs any more, and every vertex is done, failed or blocked. No memory.
+    /// Returns whether nothing runs any more and every vertex is done, failed or blocked. Does not allocate.
     pub fn is_complete(&self) -> bool
         ensures { result ≡ is_complete self.now.build self.now.state }
     {
         all_settled(&self.build, &self.stands, &self.stop_marks, self.first_open)
     }
 
-    /// The caches as they are now: each key in the order in which the first claim took it, after those that were handed in, with its
-    /// instances. The leases that are out have the instances of the running workers. No memory.
+    /// Returns the caches as they are now: each key with its instances, first the keys that were handed in, then the others in the order of
+    /// their first claims. The leases that are out have the instances of the running workers. Does not allocate.
     pub fn caches(&self) -> &Caches
         ensures rows { result.now.rows ≡ self.now.rows }
         ensures contents { store_of result.now.rows ≡ self.now.state.store }
@@ -333,7 +335,7 @@ impl Board {
         &self.caches
     }
 
-    /// The graph, the local trees and the caches as they are now come back, with no lease out. No memory.
+    /// Returns the graph, the local trees and the caches as they are now, with no lease out. Does not allocate.
     pub fn into_parts(self) -> (Graph, Locals, Caches)
         ensures graph { result.0 ≡ self.build.graph }
         ensures locals { result.1 ≡ self.build.locals }
@@ -359,14 +361,14 @@ impl Board {
         (graph, locals, caches)
     }
 
-    /// What is true of every graph is true of the board's.
+    /// Recalls the invariant of the board's graph: what is true of every graph is true of it.
     pub fn is_graph(&self)
         ensures { IsGraph self.now.build.graph }
     {
         let _ = self.build.vertices();
     }
 
-    /// There is a worker, and there are at most 64.
+    /// Recalls that the board has 1 to 64 workers.
     pub fn has_workers(&self)
         ensures some { 0 < length self.now.state.workers }
         ensures few { length self.now.state.workers ≤ 64 }
@@ -374,9 +376,9 @@ impl Board {
         let _ = &self.desks;
     }
 
-    /// The record is a run of the table from the opening state to where the board is, and the lists of instances are what it leaves of
-    /// those that were handed in: two boards of one opening and one record are the same. So the board's state is one to which granted
-    /// events lead.
+    /// Recalls that the record is a run of the table from the opening state to the board's state, and the lists of instances are what this run
+    /// leaves of those that were handed in: two boards with one opening and one record are the same. So granted events lead to the
+    /// board's state.
     pub fn replays(&self)
         ensures run { Replays self.now }
         ensures reached { IsReached self.now.build self.now.state }
@@ -385,14 +387,14 @@ impl Board {
     }
 }
 
-// Whether there may be that many workers.
+// Returns whether a board may have this number of workers: 1 to 64.
 fn may_work(workers: u32) -> bool
     ensures { result ≡ may_work workers }
 {
     1 <= workers && workers <= 64
 }
 
-// A copy of the first name that no local tree is given for.
+// Returns a copy of the first local source's name, by vertex, that has no tree.
 fn missing(alloc: Global, build: &Build) -> Result<Option<Text>, Memory>
     ensures first { IfOk result (λ o. o ≡ missing_local build.now.locals build.now.graph.vertices) }
     ensures some { IfErr result (λ _. is_some (missing_local build.now.locals build.now.graph.vertices) ≡ true) }
@@ -403,7 +405,7 @@ fn missing(alloc: Global, build: &Build) -> Result<Option<Text>, Memory>
     }
 }
 
-// How a vertex looks, by what stands there.
+// Returns the status of a vertex, given its state, whether it has no open input, and whether it is downstream of a failed vertex.
 fn look(stand: &Stand, ready: bool, behind: bool) -> Status
     ensures { result ≡ look ready behind (status_of stand.now) }
 {

@@ -7,8 +7,8 @@ use llb_events::Memory;
 use llb_state::{copied_desks, copied_stands};
 
 impl Board {
-    /// A second board, on which the same has happened. Its record has the same room, since the room is told by what is seen
-    /// (`events`). It shares the graph and all trees. 141 where memory is refused.
+    /// Returns a second board on which the same has happened. Its record has the same room, since `events` fixes the room by what contracts
+    /// see of a board. It shares the graph and all trees. Fails with 141 `Memory` alone.
     pub fn copy(&self) -> Result<Board, Memory>
         ensures { IfOk result (λ b. b ≡ self.now) }
     {

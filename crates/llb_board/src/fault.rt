@@ -1,5 +1,5 @@
-//! Why an opening and a landing are refused. A fault prints its number, and after it the name of a missing tree. What comes back from a
-//! refused call is in its fault.
+//! Why an opening and a landing are refused. A fault prints its number, and after it the name of a missing tree. What a refused call
+//! gives back is in its fault.
 
 use llb_cache::Caches;
 use llb_loader::{Graph, Locals};
@@ -8,7 +8,7 @@ use llb_wire::Text;
 use std::fmt;
 use thiserror::Error;
 
-/// Why an outcome does not land: the first cause that stands. The outcome comes back.
+/// Why an outcome does not land: the first cause that applies. The outcome is in the fault.
 #[derive(Drop, Error)]
 pub enum LandFault {
     /// 131: there is no worker of that number.
@@ -31,7 +31,7 @@ impl fmt::Debug for LandFault {
     }
 }
 
-/// Why a graph is not opened. The graph, the local trees and the caches come back.
+/// Why a graph is not opened. The graph, the local trees and the caches are in the fault.
 #[derive(Drop, Error)]
 pub enum OpenFault {
     /// 121: no tree is given for a local source, the least vertex's of those; its name.

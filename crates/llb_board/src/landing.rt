@@ -1,16 +1,19 @@
-//! The landing of an outcome: the block of all micro-steps that are left to a worker and of its settle, for work that was done away from
-//! the board. It stands on settles; it does no micro-step and compares trees by value alone.
+//! The landing of an outcome: the block of all micro-steps that a worker has left and of its settle, for work that was done away from
+//! the board. It settles and does no micro-step. `land` compares trees, by value alone; `land_known` compares nothing.
 
 ghost use Rattle.std.specs.Prelude.{◌≡◌, slice_get, IfOk, IfErr, OnOk, OnErr};
-ghost use Rattle.llb_board.specs.Landing.{CanLand, StandsInWay, IsRefused, land_fault, runs_shared, IsThrough, Lands};
+ghost use Rattle.llb_board.specs.Begun.{IsKnown};
+ghost use Rattle.llb_board.specs.Landing.{CanLand, StandsInWay, IsRefused, land_fault, places_had, runs_shared, IsThrough, Lands};
 ghost use Rattle.llb_state.specs.Views.{settle_reply};
 
 use crate::board::Board;
 use crate::fault::LandFault;
+use crate::laws::begun_are_plain;
+use llb_cache::Place;
 use llb_events::Settled;
 use llb_state::{Desk, Job, Outcome, desk_at, has_shared, is_run_of, put_left, write_back};
 
-/// Why no outcome lands.
+/// Why an outcome does not land.
 #[derive(Clone, Copy)]
 pub(crate) enum LandCause {
     NoWorker,
@@ -20,10 +23,10 @@ pub(crate) enum LandCause {
 }
 
 impl Board {
-    /// A worker brings back what was worked out of its job: the effect is that of all micro-steps that are left to it and of its settle,
-    /// and the record grows by exactly these. 131; 136; 140 where a cache of its vertex is in shared mode; 139 where the outcome's job is
-    /// not what the worker runs now, with the caches as they are now. The outcome comes back in the fault, and then the board is as
-    /// it was. No memory.
+    /// Lands the outcome of a worker's job: the effect is that of all micro-steps that the worker has left and of its settle, and the record
+    /// grows by exactly these. Fails with 131 `NoWorker`, 136 `NotRunning`, 140 `HasShared` where a cache of its vertex is in shared mode, or
+    /// 139 `Stranger` where the outcome's job is not what the worker runs now, with the caches as they are now. Then the fault holds the
+    /// outcome, and the board is as it was. Does not allocate.
     pub fn land(&mut self, w: u32, outcome: Outcome) -> Result<Settled, LandFault>
         ensures gives { IfOk result (λ r. Lands self.old w outcome self.new (settle_reply r)) }
         ensures refused { IfErr result (λ e. IsRefused self.old w outcome e) }
@@ -37,8 +40,20 @@ impl Board {
         Ok(self.settle(w).unwrap_or(Settled::Done(vertex)))
     }
 
-    /// Whether what a worker runs has an instance of a shared cache, so that nothing lands of it. False of a worker that runs nothing,
-    /// and where there is none of that number. No memory.
+    /// Lands an outcome, as `land` does, whose job is known to be what the worker runs: with no cache mount at or before its vertex and no
+    /// micro-step done. It compares nothing. Does not allocate.
+    pub fn land_known(&mut self, w: u32, outcome: Outcome) -> Settled
+        requires known { IsKnown self.old w outcome.job }
+        ensures gives { Lands self.old w outcome self.new (settle_reply result) }
+    {
+        begun_are_plain(self);
+        let vertex = outcome.job().vertex();
+        self.go_through(w, outcome);
+        self.settle(w).unwrap_or(Settled::Done(vertex))
+    }
+
+    /// Returns whether what a worker runs has an instance of a shared cache, so that no outcome of it lands. False where the worker runs nothing
+    /// or there is no such worker. Does not allocate.
     pub fn has_shared(&self, w: u32) -> bool
         ensures { result ≡ runs_shared (slice_get self.now.state.workers w) }
     {
@@ -48,7 +63,17 @@ impl Board {
         }
     }
 
-    // Whether the outcome of a job lands, or the first cause that stands in its way.
+    /// Returns the instances of caches that a worker has; none where it runs nothing, or there is no such worker. Does not allocate.
+    pub fn places(&self, w: u32) -> &[Place]
+        ensures { result.now ≡ places_had (slice_get self.now.state.workers w) }
+    {
+        match desk_at(&self.desks, w) {
+            Some(Desk::Runs(_, execution)) => &execution.places,
+            _ => &[],
+        }
+    }
+
+    // Checks that the outcome of a job lands; otherwise returns the first cause why it does not.
     fn can_land(&self, w: u32, job: &Job) -> Result<(), LandCause>
         ensures ok { OnOk result (CanLand self.now w job.now) }
         ensures err { IfErr result (λ cause. StandsInWay self.now w job.now cause) }
@@ -70,7 +95,7 @@ impl Board {
         }
     }
 
-    // What an outcome has come to stands at its worker's desk, and the record has its steps.
+    // Puts what an outcome's steps leave into its worker's execution and its caches, and records the steps.
     fn go_through(&mut self, w: u32, outcome: Outcome)
         requires { CanLand self.old w outcome.job }
         ensures { IsThrough self.old w outcome.count self.new }
@@ -85,7 +110,7 @@ impl Board {
     }
 }
 
-// The outcome comes back.
+// Returns the fault for a cause, with the outcome in it.
 fn refused(cause: LandCause, outcome: Outcome) -> LandFault
     ensures { result ≡ land_fault cause outcome }
 {

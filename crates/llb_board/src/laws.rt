@@ -1,5 +1,5 @@
-//! What holds of a board after every list of granted events, since its record replays to its state. Who reads one contract reads that
-//! of `headline`.
+//! What holds for a board after every list of granted events, since its record replays to its state. If you read only one contract, read
+//! that of `headline`.
 
 ghost use Rattle.std.specs.Prelude.{◌≡◌, ◌↔◌, ◌<◌, ℕ, None, true, length, slice_get};
 ghost use Rattle.llb_model.specs.Outcome.{outcome};
@@ -8,14 +8,15 @@ ghost use Rattle.llb_model.specs.Consistent.{IsConsistent};
 ghost use Rattle.llb_model.specs.Landing.{LandsAsBlock};
 ghost use Rattle.llb_model.specs.Laws as machine;
 ghost use Rattle.llb_state.specs.Board.{SettledArePlain, ChosenIsGranted, OthersKeep, OneWorkerEach, ReadyBehindDone, BlockedBehindAFailure, OutcomeByInputs};
+ghost use Rattle.llb_board.specs.Begun.{BegunArePlain, ClaimsArePlain, KnownLand};
 ghost use Rattle.llb_board.specs.Headline.{Headline, StandsInClaimOrder};
 
 use crate::board::Board;
 
-/// The promise of the whole machine. The record is a run of the written table from the opening state to the board's, with its replies.
-/// No two workers have one locked cache at once, nor one instance of a private one; no event of another worker changes what a worker
-/// has alone, and none looks at it. A settled vertex with no cache mount at or before it has its plain outcome. A board is so at every
-/// moment, whoever did the events, and in which order.
+/// Proves the promise of the whole machine. The record is a run of the written table from the opening state to the board's, with its replies.
+/// No two workers have the same locked cache at once, nor the same instance of a private one; another worker's event neither changes nor
+/// reads an instance that a worker holds exclusively. A settled vertex with no cache mount at or before it has its plain outcome. This holds
+/// at every moment, for any workers and any order of events.
 pub fn headline(board: &Board)
     ensures { Headline board.now }
 {
@@ -23,14 +24,15 @@ pub fn headline(board: &Board)
     board.replays();
 }
 
-/// Vertices and workers agree on what runs, what is done has all its outputs, and what does not wait all its inputs.
+/// Proves that vertices and workers agree on what runs, that a vertex that is done has all its outputs, and that one that does not wait has all
+/// its inputs.
 pub fn is_consistent(board: &Board)
     ensures { IsConsistent board.now.build board.now.state }
 {
     board.replays();
 }
 
-/// A settled vertex with no cache mount at or before it has its plain outcome, failures included, whoever shares caches elsewhere.
+/// Proves that a settled vertex with no cache mount at or before it has its plain outcome, failures included, whatever caches are shared elsewhere.
 pub fn settled_are_plain(board: &Board)
     ensures { SettledArePlain board.now }
 {
@@ -38,7 +40,7 @@ pub fn settled_are_plain(board: &Board)
     board.replays();
 }
 
-/// On a complete board of a graph without cache mounts every vertex stands as its plain outcome: ended so, or Blocked.
+/// Proves that on a complete board of a graph without cache mounts every vertex is as its plain outcome says: ended with it, or Blocked.
 pub fn complete_is_plain(board: &Board)
     ensures { machine.HasNoCaches board.now.build → is_complete board.now.build board.now.state ≡ true → (v : ℕ) → v < length board.now.build.graph.vertices
         → StandsPlainly (slice_get board.now.state.statuses v) (outcome board.now.build v) }
@@ -47,7 +49,7 @@ pub fn complete_is_plain(board: &Board)
     board.replays();
 }
 
-/// An event is chosen exactly until the board is complete.
+/// Proves that an event is chosen exactly until the board is complete.
 pub fn chosen_until_complete(board: &Board)
     ensures { (chosen board.now.build board.now.state ≡ None) ↔ (is_complete board.now.build board.now.state ≡ true) }
 {
@@ -55,16 +57,16 @@ pub fn chosen_until_complete(board: &Board)
     board.replays();
 }
 
-/// The event that is chosen is granted.
+/// Proves that the chosen event is granted.
 pub fn chosen_is_granted(board: &Board)
     ensures { ChosenIsGranted board.now }
 {
     board.has_workers();
 }
 
-/// An event that is granted leaves what the workers other than its own do as it is. From a worker's claim to its settle or cancel it
-/// also leaves the instances of caches that the worker has alone, and whatever stood there the event would have the same
-/// reply, and the same effect elsewhere.
+/// Proves that a granted event leaves what the workers other than its own do as it is. From a worker's claim to its settle or cancel, other
+/// workers' events leave the cache instances that it holds exclusively, and whatever trees these instances had, such an event would have
+/// the same reply, and the same effect elsewhere.
 pub fn others_keep(board: &Board)
     ensures workers { OthersKeep board.now }
     ensures instances { machine.OthersKeep board.now.build }
@@ -73,7 +75,7 @@ pub fn others_keep(board: &Board)
     let _ = board;
 }
 
-/// No two workers have one instance of a private or a locked cache at once, nor one locked key.
+/// Proves that no two workers have the same instance of a private or a locked cache at once, nor the same locked key.
 pub fn held_once(board: &Board)
     ensures instances { machine.IsHeldOnce board.now.build }
     ensures locked { machine.IsLockedOnce board.now.build }
@@ -81,21 +83,22 @@ pub fn held_once(board: &Board)
     let _ = board;
 }
 
-/// What a running worker has are instances that differ, each with a tree.
+/// Proves that the instances that a running worker has differ, and each has a tree.
 pub fn held_are_there(board: &Board)
     ensures { machine.HeldAreThere board.now.build }
 {
     board.is_graph();
 }
 
-/// A claim takes the least instance of a private key that no running worker has.
+/// Proves that a claim takes the least instance of a private key that no running worker has.
 pub fn claims_least(board: &Board)
     ensures { machine.ClaimsLeast board.now.build }
 {
     let _ = board;
 }
 
-/// The instances of a key are a list: no number is left out, on this board, and after all events where none is left out at first.
+/// Proves that the instances of a key are a list, in which no number is missing: on this board, and after any events where none is missing
+/// at first.
 pub fn stays_dense(board: &Board)
     ensures here { machine.IsDense board.now.state.store }
     ensures after { machine.StaysDense board.now.build }
@@ -103,9 +106,9 @@ pub fn stays_dense(board: &Board)
     let _ = board.caches();
 }
 
-/// Where no cache is shared, after any list of granted events the settled vertices and the free instances of caches stand as
-/// if each claimed vertex had been run at its claim, in the order of the claims: whole, or as far as it came where it was cancelled.
-/// So they do on this board, in the order of the claims of its record.
+/// Proves that where no cache is shared, after any list of granted events, the settled vertices and the free cache instances are as if each
+/// claimed vertex had been run at its claim, in the order of the claims: whole, or as far as it had been run when it was cancelled.
+/// They are so on this board, in the order of the claims of its record.
 pub fn runs_in_claim_order(board: &Board)
     ensures after { machine.NoShared board.now.build → machine.RunsInClaimOrder board.now.build }
     ensures here { machine.NoShared board.now.build → StandsInClaimOrder board.now }
@@ -114,24 +117,24 @@ pub fn runs_in_claim_order(board: &Board)
     board.replays();
 }
 
-/// One driver that does the chosen events leaves all vertices and all instances of caches so, shared ones included.
+/// Proves that one driver that does the chosen events leaves all vertices and all cache instances so, shared ones included.
 pub fn alone_in_claim_order(board: &Board)
     ensures { machine.AloneInClaimOrder board.now.build }
 {
     board.is_graph();
 }
 
-/// What was worked out away from the machine, on a worker's view and on the trees of its instances as they are now, has, landed, the effect
-/// of the block of its micro-steps and its settle.
+/// Proves that landing work that was done off the board, on a worker's view and the trees of its instances as they are now, has the same
+/// effect as the block of its micro-steps and its settle.
 pub fn lands_as_block(board: &Board)
     ensures { LandsAsBlock board.now.build }
 {
     let _ = board;
 }
 
-/// An exec is finished after its last command, or as soon as the last status is not 0 and every later command is joined by `&&`. Its fault
-/// is then the exit of the last command that ran, exactly where that status is not 0: of a script run by itself, and of every worker
-/// on this board and after any list of granted events, whatever others do to shared caches meanwhile.
+/// Proves that an exec is finished after its last command, or as soon as the last status is not 0 and every later command is joined by `&&`.
+/// Its fault is then the exit of the last command that ran, exactly where that status is not 0. This holds for a script run by itself, and for
+/// every worker on this board and after any list of granted events, whatever others do to shared caches meanwhile.
 pub fn execs_end_by_last_status(board: &Board)
     ensures alone { machine.FailsByLastStatus }
     ensures among_others { machine.ExecsEndByLastStatus board.now.build }
@@ -139,21 +142,21 @@ pub fn execs_end_by_last_status(board: &Board)
     let _ = board;
 }
 
-/// A script of `&&` alone runs its commands in turn up to the first with a status other than 0, and skips none.
+/// Proves that a script of `&&` alone runs its commands in turn up to the first with a status other than 0, and skips none.
 pub fn ands_run_in_turn(board: &Board)
     ensures { machine.AndsRunInTurn }
 {
     let _ = board;
 }
 
-/// No two workers run one vertex.
+/// Proves that no two workers run the same vertex.
 pub fn one_worker_each(board: &Board)
     ensures { OneWorkerEach board.now }
 {
     board.replays();
 }
 
-/// A vertex is Ready exactly where it waits, and all its inputs are done.
+/// Proves that a vertex is Ready exactly if it waits and all its inputs are done.
 pub fn ready_behind_done(board: &Board)
     ensures { ReadyBehindDone board.now }
 {
@@ -161,7 +164,7 @@ pub fn ready_behind_done(board: &Board)
     board.replays();
 }
 
-/// A vertex is blocked exactly where it waits, and an input of it has failed or is blocked.
+/// Proves that a vertex is Blocked exactly if it waits and an input of it has failed or is Blocked.
 pub fn blocked_behind_a_failure(board: &Board)
     ensures { BlockedBehindAFailure board.now }
 {
@@ -169,9 +172,20 @@ pub fn blocked_behind_a_failure(board: &Board)
     board.replays();
 }
 
-/// The plain outcome of a vertex is what its whole program makes of the outcomes of its inputs.
+/// Proves that the plain outcome of a vertex is what its whole program makes of the outcomes of its inputs.
 pub fn outcome_by_inputs(board: &Board)
     ensures { OutcomeByInputs board.now }
 {
     board.is_graph();
+}
+
+/// Proves that a worker that has done no micro-step of a vertex with no cache mount at or before it has what the build and the vertex alone
+/// determine, whatever was done before; a claim of the vertex hands out just that job. So its outcome lands, and no tree has to be compared.
+pub fn begun_are_plain(board: &Board)
+    ensures begun { BegunArePlain board.now }
+    ensures claims { ClaimsArePlain board.now }
+    ensures land { KnownLand board.now }
+{
+    board.is_graph();
+    board.replays();
 }

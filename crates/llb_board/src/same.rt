@@ -1,5 +1,5 @@
-//! Whether two boards are the same by value: opened alike, with the same at each vertex, each worker and each cache, and with the
-//! same record. The room of a record and the numbers of leases are not compared. Nothing here takes memory.
+//! Whether two boards are the same by value: opened alike, with the same state of each vertex, worker and cache, and with the
+//! same record. The room of a record and the numbers of leases are not compared. Nothing here allocates.
 
 ghost use Rattle.std.specs.Prelude.{◌≡◌, ◌↔◌, IsTrue};
 
@@ -8,8 +8,8 @@ use llb_state::{same_desks, same_events, same_stands};
 use llb_wire::Same;
 
 impl Board {
-    /// Whether both boards are the same by value: over the same graph and local trees, with the same caches as they were handed in and
-    /// as they are now, the same at each vertex and each worker, and the same record. Takes no memory.
+    /// Returns whether both boards are the same by value: the same graph and local trees, the same caches as they were handed in and
+    /// as they are now, the same state of each vertex and worker, and the same record. Does not allocate.
     pub fn same(&self, other: &Board) -> bool
         ensures { IsTrue result ↔ (self.now ≡ other.now) }
     {

@@ -1,4 +1,4 @@
-//! An event taken back: what it displaced is on the board again.
+//! Takes an event back: what it displaced is on the board again.
 
 ghost use Rattle.std.specs.Prelude.{◌≡◌, ◌<◌, length};
 ghost use Rattle.llb_board.specs.Undo.{Unclaim, Unstep, Resume, undone, CanUndo, space_before};
@@ -13,22 +13,22 @@ use llb_state::{
 use std::marker::Model;
 use std::mem;
 
-/// What takes an event back: what the event displaced, and where its vertex shows caches, these as they were, with the leases of all
-/// workers. Contracts see it as `Displaced`.
+/// What is needed to take an event back: what the event displaced and, if its vertex shows caches, the caches as they were, with the
+/// leases of all workers. Contracts see it as `Displaced`.
 #[derive(Drop)]
 pub struct Undo {
     pub(crate) back: Back,
     pub(crate) caches: Option<Before>,
 }
 
-/// By the event that is taken back.
+/// What an event displaced, by the kind of the event.
 #[derive(Drop)]
 pub(crate) enum Back {
-    /// Of a claim: the worker, and the vertex that waited.
+    /// For a claim: the worker, and the vertex that waited.
     Unclaim(u32, u32),
-    /// Of a step: the worker, and what the micro-step could change of its view.
+    /// For a step: the worker, and what the micro-step could change of its view.
     Unstep(u32, Mark),
-    /// Of a settle or a cancel: which of the two, the worker, and what it ran.
+    /// For a settle or a cancel: which of the two it was, the worker, and what it ran.
     Resume(End, u32, Execution),
 }
 
@@ -53,7 +53,7 @@ impl Model for Undo {
 }
 
 impl Board {
-    /// Takes an event back, which a walk has answered this undo of, or another one of which the same is known. No memory.
+    /// Takes an event back, given the `Undo` that `walk` returned for it, or one that satisfies `CanUndo`. Does not allocate.
     pub fn undo(&mut self, undo: Undo)
         requires { CanUndo undo self.old }
         ensures { self.new ≡ undone undo self.old }
@@ -66,7 +66,7 @@ impl Board {
         }
     }
 
-    // A claim taken back: the worker is idle, the vertex waits, and the room that the claim took is given back.
+    // Takes a claim back: the worker is idle, the vertex waits, and the room that the claim reserved is given up.
     fn unclaim(&mut self, w: u32, v: u32, before: Option<Before>)
         requires { CanUndo (record { back = Unclaim w v; caches = caches_in before }) self.old }
         ensures { self.new ≡ undone (record { back = Unclaim w v; caches = caches_in before }) self.old }
@@ -81,7 +81,7 @@ impl Board {
         self.history.give_room(v, events);
     }
 
-    // A micro-step taken back.
+    // Takes a micro-step back.
     fn unstep(&mut self, w: u32, mark: Mark, before: Option<Before>)
         requires { CanUndo (record { back = Unstep w mark; caches = caches_in before }) self.old }
         ensures { self.new ≡ undone (record { back = Unstep w mark; caches = caches_in before }) self.old }
@@ -91,7 +91,7 @@ impl Board {
         self.history.take_back();
     }
 
-    // A settle or a cancel taken back: the worker runs what it has left. The marks are made anew where the vertex had failed.
+    // Takes a settle or a cancel back: the worker runs what it had left. The marks are made anew if the vertex had failed.
     fn resume(&mut self, end: End, w: u32, execution: Execution, before: Option<Before>)
         requires { CanUndo (record { back = Resume end w (left_in execution); caches = caches_in before }) self.old }
         ensures { self.new ≡ undone (record { back = Resume end w (left_in execution); caches = caches_in before }) self.old }
@@ -113,7 +113,7 @@ impl Board {
     }
 }
 
-// The record without the event by which a worker left a vertex.
+// Removes the event by which a worker left a vertex from the record.
 fn take_back_end(history: &mut History, end: End, v: u32)
     requires { v < length history.old.space.cancels }
     ensures list { history.new.list ≡ front history.old.list }

@@ -1,4 +1,4 @@
-//! An event with what undoes it, for whoever walks a run forwards and back.
+//! Does an event and keeps what undoes it, for callers that go through a run forwards and back.
 
 ghost use Rattle.std.specs.Prelude.{◌≡◌, ◌==◌, false, not, length, option_map, slice_get, OnErr, IfOk, IfErr, Err};
 ghost use Rattle.llb_state.specs.Room.{needs_at};
@@ -17,7 +17,7 @@ use llb_events::{
 use llb_needs::shows_cache;
 use llb_state::{Before, Build, Desk, copied, copied_leases};
 
-/// What an event answers.
+/// The reply of an event.
 #[derive(Clone, Copy, Debug, PartialEq, Eq)]
 pub enum Reply {
     Claimed,
@@ -26,7 +26,7 @@ pub enum Reply {
     Cancelled(Cancelled),
 }
 
-/// An event that was done: its answer, and what takes it back.
+/// An event that was done: its reply, and what takes it back.
 #[derive(Drop)]
 pub struct Walked {
     pub reply: Reply,
@@ -34,8 +34,8 @@ pub struct Walked {
 }
 
 impl Board {
-    /// Does an event, and answers besides what takes it back: memory for that grows with what the event changes. The fault of the
-    /// claim, the step, the settle or the cancel, or 141, which may come at any time.
+    /// Does an event, and returns its reply with what takes it back; memory for that grows with what the event changes. Fails with the fault of
+    /// the claim, the step, the settle or the cancel, or with 141 `Memory`, which may come at any time.
     pub fn walk(&mut self, event: Event) -> Result<Walked, WalkFault>
         ensures gives { GivesWalk (λ r. (self.new, r.reply)) result (walk_of self.old (event_of event)) }
         ensures undo { IfOk result (λ r. undone r.undo self.new ≡ self.old) }
@@ -48,7 +48,7 @@ impl Board {
         Ok(Walked { reply, undo })
     }
 
-    // Does an event.
+    // Does an event and returns its reply.
     fn happen(&mut self, event: Event) -> Result<Reply, WalkFault>
         ensures gives { GivesWalk (λ r. (self.new, r)) result (walk_of self.old (event_of event)) }
         ensures err { OnErr result (self.new ≡ self.old) }
@@ -73,7 +73,7 @@ impl Board {
         }
     }
 
-    // What takes an event back that is done on the board as it is.
+    // Returns what takes an event back, before it is done on this board.
     fn before(&self, event: Event) -> Result<Undo, WalkFault>
         ensures marks { IfOk result (λ u. Marks self.now (event_of event) u) }
         ensures refused { IfErr result (λ e. walk_memory e ≡ false → walk_of self.now (event_of event) ≡ Err e) }
@@ -132,7 +132,7 @@ impl Board {
         }
     }
 
-    // A copy of the caches and of the leases of all workers, where it is needed.
+    // Returns a copy of the caches and of the leases of all workers, if it is needed.
     fn caches_if(&self, needed: bool) -> Result<Option<Before>, Memory>
         ensures { IfOk result (λ o. KeepsIf needed self.now (caches_in o)) }
     {
@@ -146,7 +146,7 @@ impl Board {
     }
 }
 
-// Of a settle or a cancel by a worker that is not there, 131.
+// Returns the fault of a settle or a cancel by a worker that is not there, 131 `NoWorker`.
 fn no_worker(end: End) -> WalkFault
     ensures { result ≡ no_worker end }
 {
@@ -156,7 +156,7 @@ fn no_worker(end: End) -> WalkFault
     }
 }
 
-// By one that is idle, 136.
+// Returns the fault of a settle or a cancel by a worker that is idle, 136 `NotRunning`.
 fn not_running(end: End) -> WalkFault
     ensures { result ≡ not_running end }
 {
@@ -166,14 +166,14 @@ fn not_running(end: End) -> WalkFault
     }
 }
 
-// What a worker has.
+// Returns the state of a worker; `None` past the last worker.
 fn desk_of(desks: &[Desk], w: u32) -> Option<&Desk>
     ensures { option_map (λ d. d.now) result ≡ slice_get desks.now w }
 {
     desks.get(w as usize)
 }
 
-// Whether the vertex of a number shows a cache.
+// Returns whether the vertex of a number shows a cache; false past the last vertex.
 fn shows_cache_at(build: &Build, v: u32) -> bool
     ensures { result ≡ not (length (needs_at (slice_get build.now.graph.vertices v)) == 0) }
 {

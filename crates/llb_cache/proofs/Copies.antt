@@ -22,7 +22,7 @@ split_at (e ∷ es) (suc i) below =
     let rest = split_at es i (omega (arith, below)) in
     record { row = rest.row; at = rest.at; whole = ap (λ xs. e ∷ xs) rest.whole; more = ap (λ xs. e ∷ xs) rest.more }
 
--- the next row's key is none of those before it, so that put in it stands after them
+-- the next row's key is none of those before it, so that when it is put in it comes after them
 pub row_copied : (es new : List Row) (i : ℕ) → i < length es → IsDistinct same_key (keys_of es)
     → IfSome (slice_get es i) (λ e. new ≡ insert_entry same_key (take i es) e.0 e.1) → new ≡ take (i + 1) es
 row_copied es new i below distinct put =

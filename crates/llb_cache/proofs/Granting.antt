@@ -8,7 +8,7 @@ use Rattle.llb_cache.specs.Caches.{CachesValue, Row, Leases, Taken, taken, made_
 use Rattle.llb_cache.specs.Caches.{lease_of, places_of, place_for}
 use Rattle.llb_cache.specs.Leased.{lease_has}
 
-places_shown : (readies : List Ready) → map (λ (r : Ready). r.place) readies ≡ map (λ (t : Taken). t.0) (map shown readies)
+pub places_shown : (readies : List Ready) → map (λ (r : Ready). r.place) readies ≡ map (λ (t : Taken). t.0) (map shown readies)
 places_shown [] = refl
 places_shown (r ∷ readies) = ap (λ ps. r.place ∷ ps) (places_shown readies)
 

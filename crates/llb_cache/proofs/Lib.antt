@@ -3,3 +3,5 @@ pub mod Kept
 pub mod Granting
 pub mod Copies
 pub mod Differing
+pub mod Marked
+pub mod Holding

@@ -1,5 +1,5 @@
 -- Caches and the leases of them: for each key the list of its instances, and for each lease the instances that it has. What
--- a lease takes depends on what other leases have alone, and on the modes of the keys.
+-- a lease takes depends on what other leases hold exclusively, and on the modes of the keys.
 use Rattle.std.specs.Prelude.{◌≡◌, ◌≢◌, ℕ, zero, suc, ◌+◌, ◌<◌, ◌≤◌, ◌==◌, Bool, true, false, not, ◌&&◌, nat_lt, if◌then◌else◌, List, []}
 use Rattle.std.specs.Prelude.{◌∷◌, ◌++◌, length, map, fold, count_by, slice_get, slice_set, slice_index_or, Option, Some, None, is_some}
 use Rattle.std.specs.Prelude.{unwrap_or, Result, Ok, Err}
@@ -38,7 +38,7 @@ place key number = record { key = key; number = number }
 abbrev pub trees_of : List Row → Key → List TreeMap
 trees_of rows key = unwrap_or (lookup (same_key key) rows) []
 
--- a key has these trees, in the place of those that it had; a new key stands after all others
+-- a key has these trees, in the place of those that it had; a new key comes after all others
 abbrev pub with_trees : List Row → Key → List TreeMap → List Row
 with_trees rows key trees = insert_entry same_key rows key trees
 
@@ -46,11 +46,11 @@ with_trees rows key trees = insert_entry same_key rows key trees
 abbrev pub tree_at : List Row → Place → Option TreeMap
 tree_at rows p = slice_get (trees_of rows p.key) p.number
 
--- an instance has this tree
+-- the rows where an instance has this tree
 abbrev pub put : List Row → Place → TreeMap → List Row
 put rows p tree = with_trees rows p.key (slice_set (trees_of rows p.key) p.number tree)
 
--- an instance that is not there is made with a tree, after the others of its key
+-- the rows where an instance that is not there is made with a tree, after the others of its key
 abbrev pub made : List Row → Place → TreeMap → List Row
 made rows p tree = if nat_lt p.number (length (trees_of rows p.key)) then rows else with_trees rows p.key (trees_of rows p.key ++ tree ∷ [])
 
@@ -86,12 +86,12 @@ place_at out lease i = slice_index_or (places_of out lease) i (place (record { i
 
 -- ---- what a lease takes
 
--- the least number from n on whose instance no lease has, where it is among that many or the one after them
+-- the least number at or after n whose instance no lease has, if it is one of the first `more` numbers; else n + more
 unfoldable pub first_free : Leases → Key → ℕ → ℕ → ℕ
 first_free out key n zero = n
 first_free out key n (suc more) = if is_held out (place key n) then first_free out key (n + 1) more else n
 
--- the number of the instance that a key gives: of a private one the least that no lease has, where that many are out
+-- the number of the instance for a key: 0, or for a private key the least whose instance no lease has, searched among as many numbers as there are leases
 abbrev pub number_for : Leases → Key → Mode → ℕ
 number_for out key Shared = 0
 number_for out key Locked = 0
@@ -124,7 +124,7 @@ is_shut out n = is_locked n.key.mode && is_held out (place n.key 0)
 abbrev pub free_lease : Leases → ℕ
 free_lease out = position_or_len (λ o. not (is_some o)) out
 
--- a lease is out under a number, that of one that was given back or the next
+-- the leases with one more, under its number: that of one that was given back, or the next
 abbrev pub with_lease : Leases → ℕ → List Place → Leases
 with_lease out lease ps = if nat_lt lease (length out) then slice_set out lease (Some ps) else out ++ Some ps ∷ []
 
@@ -149,7 +149,7 @@ lease_of c needs = lease_by c needs (find (is_shut c.out) needs)
 
 -- ---- the other calls
 
--- with another tree in the instance of a need
+-- the caches with another tree in the instance of a need
 abbrev pub with_content : CachesValue → ℕ → ℕ → TreeMap → CachesValue
 with_content c lease i tree = record c { rows = put c.rows (place_at c.out lease i) tree }
 
@@ -158,19 +158,19 @@ abbrev pub before : Leases → Leases
 before [] = []
 before (o ∷ out) = None ∷ o ∷ out
 
--- after the last lease that is out there is nothing
+-- the leases up to the last one that is out
 unfoldable pub trimmed : Leases → Leases
 trimmed [] = []
 trimmed (Some ps ∷ out) = Some ps ∷ trimmed out
 trimmed (None ∷ out) = before (trimmed out)
 
--- a lease is out no more, and all trees stay
+-- the caches where a lease is out no more; all trees stay
 abbrev pub given_back : CachesValue → ℕ → CachesValue
 given_back c lease = record c { out = trimmed (slice_set c.out lease None) }
 
 -- ---- what holds of caches
 
--- one lease at a time has such an instance
+-- a way of sharing in which one lease at a time has an instance
 abbrev pub IsExclusive : Mode → Type 0
 IsExclusive Shared = ⊥
 IsExclusive Private = Unit {0}

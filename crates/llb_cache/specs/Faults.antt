@@ -1,18 +1,18 @@
--- How a lease answers: what its rule gives, or out of memory.
+-- The results of a lease's calls: the result of the call's rule, or the fault `Memory`.
 use Rattle.std.specs.Prelude.{Bool, true, false, Result}
 use Rattle.llb_wire.specs.Answer as answer
 use Rattle.llb_cache.specs.declared.fault.LeaseFault.{LeaseFault}
 use Rattle.llb_cache.specs.declared.fault.LeaseFault.TheVariants.{Held, Memory}
 
--- out of memory, which no rule gives
+-- the fault for refused memory, which no rule returns
 abbrev pub is_memory : LeaseFault → Bool
 is_memory Memory = true
 is_memory (Held key) = false
 
--- what a call answers, seen by view, is what the rule gives
+-- the result of a call, seen by view, is the result of its rule
 abbrev pub Gives : {X Y : Type 0} → (X → Y) → Result X LeaseFault → Result Y LeaseFault → Type 0
 Gives = answer.Gives is_memory
 
--- and out of memory comes last: it is answered only where the rule has no refusal
+-- and `Memory` is last: a call fails with it only where its rule has no refusal
 abbrev pub MemoryLast : {X Y : Type 0} → Result X LeaseFault → Result Y LeaseFault → Type 0
 MemoryLast = answer.MemoryLast is_memory

@@ -38,7 +38,7 @@ any_in p (q ∷ ps) e = elim (either (same_place p q) (list_any (same_place p) p
   | inr later ↦ inr (any_in p ps later)
 ]
 
-in_any : (p : Place) (ps : List Place) → In ps p → list_any (same_place p) ps ≡ true
+pub in_any : (p : Place) (ps : List Place) → In ps p → list_any (same_place p) ps ≡ true
 in_any p [] h = absurd h
 in_any p (q ∷ ps) (inl is) = ap (λ b. b || list_any (same_place p) ps) (ap (same_place p) (sym is) ∙ place_itself p)
 in_any p (q ∷ ps) (inr h) = ap (λ b. same_place p q || b) (in_any p ps h) ∙ or_true (same_place p q)
@@ -102,7 +102,7 @@ some_same ps qs e = ap (λ o. unwrap_or o ps) e
 pub free_within : (out : Leases) → free_lease out ≤ length out
 free_within out = prefix_len-le-length _ out
 
--- where all numbers are taken, that many leases are out
+-- where all numbers are taken, there are as many leases as numbers
 all_out : (out : Leases) → length out ≤ free_lease out → leases out ≡ length out
 all_out [] h = refl
 all_out (None ∷ out) h = absurd (omega (arith, h))
@@ -151,7 +151,7 @@ before_short : (less : Leases) → length (before less) ≤ length less + 1
 before_short [] = omega arith
 before_short (o ∷ less) = omega arith
 
-trimmed_has : (out : Leases) (a : ℕ) (qs : List Place) → Has (trimmed out) a qs → Has out a qs
+pub trimmed_has : (out : Leases) (a : ℕ) (qs : List Place) → Has (trimmed out) a qs → Has out a qs
 unfolding trimmed
 trimmed_has [] a qs at = at
 trimmed_has (Some ps ∷ out) zero qs at = at
@@ -174,7 +174,7 @@ back_cases out n a qs at = elim (set_cases out n None a qs (trimmed_has (slice_s
 pub back_short : (out : Leases) (n : ℕ) → length (trimmed (slice_set out n None)) ≤ length out
 back_short out n = let less = trimmed_short (slice_set out n None) in let same = length-set out n None in omega (arith, less, same)
 
--- after the last lease that is out
+-- a list whose last lease is out stays as it is when it is trimmed
 pub trimmed_some : (out : Leases) (ps : List Place) → trimmed (out ++ Some ps ∷ []) ≡ out ++ Some ps ∷ []
 unfolding trimmed
 trimmed_some [] ps = refl

@@ -40,7 +40,7 @@ pairs_cons R x xs head all i zero d before below = absurd (omega (arith, before)
 pairs_cons R x xs head all zero (suc j) d before below = head (get_or xs j d) (in_contained xs (get_or xs j d) (Contains-get_or xs j d (omega (arith, below))))
 pairs_cons R x xs head all (suc i) (suc j) d before below = all i j d (omega (arith, before)) (omega (arith, below))
 
--- of a map's items
+-- a member of a mapped list is the image of a member of the list
 pub in_map : {A B : Type 0} (f : A → B) (xs : List A) (y : B) → In (map f xs) y → (x : A) × In xs x × (y ≡ f x)
 in_map f [] y h = absurd h
 in_map f (x ∷ xs) y (inl is) = (x, inl refl, is)
@@ -55,7 +55,7 @@ pairs_map R f (x ∷ xs) all =
 
 -- ---- numbers
 
--- without the first that is this one
+-- a list without the first item that is this number
 without : ℕ → List ℕ → List ℕ
 without n [] = []
 without n (m ∷ ms) = cond (eqb n m) ms (m ∷ without n ms)

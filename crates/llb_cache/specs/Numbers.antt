@@ -98,7 +98,7 @@ not_held : (b : Bool) → (b ≡ true → ⊥) → b ≡ false
 not_held true never = absurd (never refl)
 not_held false never = refl
 
--- no lease has the private instance that a key gives
+-- no lease has the private instance that is chosen for a key
 private_free : (out : Leases) (key : Key) → AreApart out → is_held out (place key (first_free out key 0 (leases out))) ≡ false
 private_free out key apart = go (first_free out key 0 (leases out)) (least out key 0 (leases out))
   where
@@ -111,12 +111,25 @@ private_free out key apart = go (first_free out key 0 (leases out)) (least out k
         let free = l.free (omega (arith, all)) in
         true≢false (sym is ∙ free))
 
+-- a number that no lease has, where leases have all below it, is the one that is chosen for the key
+pub first_unheld : (out : Leases) (key : Key) (r : ℕ) → AreApart out → ((k : ℕ) → k < r → is_held out (place key k) ≡ true)
+    → is_held out (place key r) ≡ false → first_free out key 0 (leases out) ≡ r
+first_unheld out key r apart below free =
+    let l = least out key 0 (leases out) in
+    elim (dec_lt (first_free out key 0 (leases out)) r) [
+      | yes less ↦ absurd (true≢false (sym (below (first_free out key 0 (leases out)) less) ∙ private_free out key apart))
+      | no past ↦ elim (dec_lt r (first_free out key 0 (leases out))) [
+        | yes more ↦ absurd (true≢false (sym (l.below r (omega arith) more) ∙ free))
+        | no none ↦ omega (arith, past, none)
+      ]
+    ]
+
 pub number_within : (out : Leases) (key : Key) (m : Mode) → number_for out key m ≤ leases out
 number_within out key Shared = omega arith
 number_within out key Locked = omega arith
 number_within out key Private = let w = (least out key 0 (leases out)).within in omega (arith, w)
 
--- no lease has the instance that a private or a locked key gives
+-- no lease has the instance that is chosen for a private or a locked key
 pub number_free : (out : Leases) (key : Key) (m : Mode) → AreApart out → (is_locked m && is_held out (place key 0)) ≡ false → IsExclusive m
     → is_held out (place key (number_for out key m)) ≡ false
 number_free out key Shared apart unheld alone = absurd alone
@@ -127,7 +140,7 @@ up_to : (r n : ℕ) → ((k : ℕ) → k < r → k < n) → r ≤ n
 up_to zero n all = omega arith
 up_to (suc r) n all = let last = all r (omega arith) in omega (arith, last)
 
--- the instance that a key gives is there, or the next of its key
+-- the instance that is chosen for a key is there, or is the next of its key
 pub number_next : (rows : List Row) (out : Leases) (key : Key) (m : Mode) → AreThere rows out → number_for out key m ≤ length (trees_of rows key)
 number_next rows out key Shared there = omega arith
 number_next rows out key Locked there = omega arith

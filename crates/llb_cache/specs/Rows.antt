@@ -22,7 +22,7 @@ some_value [] i w at = refl
 some_value (e ∷ es) zero w at = let same : e.1 ≡ w = ap (λ o. unwrap_or o w) at in λ j. (e.0, sym same j) ∷ es
 some_value (e ∷ es) (suc i) w at = ap (λ rows. e ∷ rows) (some_value es i w at)
 
--- what stands at the place of a key are its trees
+-- the value at the position of a key is its trees
 pub trees_there : (es : List Row) (k : Key) (i : ℕ) (old : List TreeMap) → position (same_key k) (keys_of es) ≡ Some i
     → slice_get (values_of es) i ≡ Some old → trees_of es k ≡ old
 trees_there es k i old place at = ap (λ o. unwrap_or o []) ((Found-position (same_key k) es i place).value ∙ at)

@@ -7,16 +7,15 @@ ghost use Rattle.llb_cache.specs.Caches.{IsOut, place_for, AreExclusive, IsCache
 ghost use Rattle.llb_cache.specs.Caches.{tree_at, with_content, given_back, is_locked, is_held, number_for, place};
 ghost use Rattle.llb_cache.specs.Faults.{Gives, MemoryLast};
 
-use crate::copying::{copied_leases, copied_rows, same_rows};
+use crate::any_key::{Rows, trees_at, trees_with};
+use crate::copying::{copied_leases, copied_marks, copied_rows, same_rows};
 use crate::fault::{LeaseFault, Memory};
-use crate::growing::{
-    admitted, make_all, places_at, places_for, readied, set_at, take_back, take_lease,
-};
+use crate::growing::{make_all, places_at, places_for, set_at, take_back, take_lease, unmark_all};
 use crate::key::Key;
 use crate::key_ref::KeyRef;
+use crate::marks::Marks;
 use crate::need::{Need, Place};
-use crate::search::{count, is_shut, keys_differ, number_for};
-use crate::trees::Trees;
+use crate::search::{count, keys_differ};
 use indexmap::IndexMap;
 use llb_tree::Tree;
 use llb_wire::{Many, all_same};
@@ -40,7 +39,7 @@ impl Model for Lease {
 }
 
 impl Lease {
-    /// The least number that no other lease had when this one was granted.
+    /// Returns the least number that no other lease had when this one was granted.
     pub fn number(&self) -> u32
         ensures { result ≡ self.now }
     {
@@ -50,21 +49,28 @@ impl Lease {
 
 /// Caches, and the leases of them that are out. Contracts see both as lists.
 pub struct Caches {
-    rows: IndexMap<Key, Trees>,
-    out: Vec<Option<Many<Place>>>,
+    pub(crate) rows: Rows,
+    // For each row the marks of the instances that leases have: those of locked and private keys are exact.
+    pub(crate) marks: Vec<Marks>,
+    pub(crate) out: Vec<Option<Many<Place>>>,
 }
 
 // Written out, so that the crates above drop one by this one function.
 impl Drop for Caches {
     fn drop(self) {
-        let Caches { rows: _, out: _ } = self;
+        let Caches {
+            rows: _,
+            marks: _,
+            out: _,
+        } = self;
     }
 }
 
 impl Model for Caches {
     ghost use Rattle.std.specs.Coded.{codes};
     ghost use Rattle.llb_tree.specs.Tree.{coded_tree};
-    ghost use Rattle.llb_cache.specs.Caches.{CachesValue, IsCaches};
+    ghost use Rattle.llb_cache.specs.Caches.{CachesValue};
+    ghost use Rattle.llb_cache.specs.Marks.{IsMarked};
 
     ghost Value = { CachesValue };
 
@@ -72,22 +78,23 @@ impl Model for Caches {
 
     ghost view = { λ c. record { rows = c.rows.entries; out = c.out.items } };
 
-    ghost invariant = { λ c. IsCaches (record { rows = c.rows.entries; out = c.out.items }) };
+    ghost invariant = { λ c. IsMarked (record { rows = c.rows.entries; out = c.out.items }) c.marks.items };
 }
 
 impl Caches {
-    /// No cache, and no lease. Takes no memory.
+    /// Returns caches without instances and without leases. Does not allocate.
     pub fn new(alloc: Global) -> Caches
         ensures { result ≡ record { rows = []; out = [] } }
     {
         Caches {
             rows: IndexMap::new(alloc),
+            marks: Vec::new(alloc),
             out: Vec::new(alloc),
         }
     }
 
-    /// Whether a lease of these needs can be asked for: their keys differ, and fewer than 65,536 leases are out. Takes no
-    /// memory, and time in the square of the number of needs.
+    /// Returns whether a lease of these needs can be asked for: their keys differ, and there are fewer than 65,536 leases. Does not
+    /// allocate, and takes time in the square of the number of needs.
     pub fn can_lease(&self, needs: &[Need]) -> bool
         ensures { IsTrue result ↔ (AllPairs (λ n m. n.key ≢ m.key) needs.now × (leases self.now.out < 65536)) }
     {
@@ -97,9 +104,9 @@ impl Caches {
         keys_differ(needs)
     }
 
-    /// An instance for each need, or none at all: of a shared or a locked key instance 0, of a private one the least that no
-    /// lease has. An instance that is not there is made with the tree of its need. The keys of the needs differ, and fewer
-    /// than 65,536 leases are out. 111 `Held` with the first locked key whose instance a lease has; then 112 `Memory`. After
+    /// Leases an instance for each need, or none at all: for a shared or a locked key instance 0, for a private one the least that no
+    /// lease has. An instance that is not there is made with the tree of its need. The keys of the needs differ, and there are fewer
+    /// than 65,536 leases. Fails with 111 `Held` with the first locked key whose instance a lease has; then with 112 `Memory`. After
     /// a refusal the caches are unchanged.
     pub fn lease(&mut self, needs: Many<Need>) -> Result<Lease, LeaseFault>
         requires differ { AllPairs (λ n m. n.key ≢ m.key) needs }
@@ -109,17 +116,18 @@ impl Caches {
         ensures last { MemoryLast result (lease_of self.old needs) }
         ensures err { OnErr result (self.new ≡ self.old) }
     {
-        let needs = admitted(&self.out, needs.into_vec())?;
-        let readies = readied(&self.out, needs)?;
-        let places = places_for(&self.out, &readies)?;
+        let needs = self.admitted(needs.into_vec())?;
+        let readies = self.readied(needs)?;
+        let places = places_for(*self.out.allocator(), &readies)?;
         self.rows.reserve(readies.len())?;
+        self.marks.reserve(readies.len())?;
         self.out.reserve(1)?;
-        make_all(&mut self.rows, readies);
+        make_all(&mut self.rows, &mut self.marks, readies);
         let number = take_lease(&mut self.out, places);
         Ok(Lease { number })
     }
 
-    /// Whether a lease is out. Takes no memory.
+    /// Returns whether a lease is out. Does not allocate.
     pub fn is_out(&self, lease: Lease) -> bool
         ensures { IsTrue result ↔ IsOut self.now.out lease }
     {
@@ -129,7 +137,7 @@ impl Caches {
         }
     }
 
-    /// How many needs a lease has, none where it is not out. Takes no memory.
+    /// Returns how many needs a lease has, 0 where it is not out. Does not allocate.
     pub fn needs(&self, lease: Lease) -> usize
         ensures { result ≡ length (places_of self.now.out lease) }
     {
@@ -139,7 +147,7 @@ impl Caches {
         }
     }
 
-    /// The number of the instance that a need of a lease that is out has. Takes no memory.
+    /// Returns the number of the instance that a need of a lease that is out has. Does not allocate.
     pub fn instance_of(&self, lease: &Lease, need: u32) -> u32
         requires { need < length (places_of self.now.out lease.now) }
         ensures { result ≡ (place_at self.now.out lease.now need).number }
@@ -147,16 +155,16 @@ impl Caches {
         places_at(&self.out, lease.number)[need as usize].number
     }
 
-    /// The tree of the instance that a need of a lease that is out has. Takes no memory.
+    /// Returns the tree of the instance that a need of a lease that is out has. Does not allocate.
     pub fn content(&self, lease: &Lease, need: u32) -> &Tree
         requires { need < length (places_of self.now.out lease.now) }
         ensures { tree_at self.now.rows (place_at self.now.out lease.now need) ≡ Some result.now }
     {
         let place = &places_at(&self.out, lease.number)[need as usize];
-        self.rows[&place.key].at(place.number)
+        trees_at(&self.rows, &place.key).at(place.number)
     }
 
-    /// Puts a tree in the place of the one that the instance of a need has, for all leases that have it. Takes no memory.
+    /// Puts a tree in the place of the one that the instance of a need has, for all leases that have it. Does not allocate.
     pub fn set_content(&mut self, lease: &Lease, need: u32, tree: Tree)
         requires { need < length (places_of self.old.out lease.now) }
         ensures { self.new ≡ with_content self.old lease.now need tree }
@@ -165,79 +173,82 @@ impl Caches {
         set_at(&mut self.rows, place, tree);
     }
 
-    /// Frees the instances of a lease that is out. No tree changes. Takes no memory.
+    /// Frees the instances of a lease that is out. No tree changes. Does not allocate.
     pub fn give_back(&mut self, lease: Lease)
         requires { IsOut self.old.out lease }
         ensures { self.new ≡ given_back self.old lease }
     {
+        unmark_all(
+            &self.rows,
+            &mut self.marks,
+            places_at(&self.out, lease.number),
+        );
         take_back(&mut self.out, lease.number);
     }
 
-    /// Whether a lease of this key would be refused: it is locked, and a lease has its instance. Takes no memory.
+    /// Returns whether a lease of this key would be refused: it is locked, and a lease has its instance. Does not allocate.
     pub fn is_shut(&self, key: &KeyRef<'_>) -> bool
         ensures { result ≡ (is_locked key.now.mode && is_held self.now.out (place key.now 0)) }
     {
-        is_shut(&self.out, key)
+        self.has_shut(key)
     }
 
-    /// The number of the instance that a lease of this key would have now. Takes no memory.
+    /// Returns the number of the instance that a lease of this key would have now. Does not allocate.
     pub fn next_instance(&self, key: &Key) -> u32
         ensures { result ≡ number_for self.now.out key.now key.now.mode }
     {
-        number_for(&self.out, &key.by_ref(), count(&self.out))
+        self.number_for(&key.by_ref())
     }
 
-    /// How many leases are out. Takes no memory.
+    /// Returns how many leases are out. Does not allocate.
     pub fn leases(&self) -> u32
         ensures { result ≡ leases self.now.out }
     {
         count(&self.out)
     }
 
-    /// How many instances a key has. Takes no memory.
+    /// Returns how many instances a key has. Does not allocate.
     pub fn instances(&self, key: &Key) -> u32
         ensures { result ≡ length (trees_of self.now.rows key.now) }
     {
-        match self.rows.get(key) {
+        match trees_with(&self.rows, key) {
             Some(trees) => trees.len() as u32,
             None => 0,
         }
     }
 
-    /// The tree of an instance of a key. Takes no memory.
+    /// Returns the tree of an instance of a key. Does not allocate.
     pub fn instance(&self, key: &Key, number: u32) -> Option<&Tree>
         ensures { option_map (λ t. t.now) result ≡ slice_get (trees_of self.now.rows key.now) number }
     {
-        match self.rows.get(key) {
-            Some(trees) => trees.get(number),
-            None => None,
-        }
+        trees_with(&self.rows, key)?.get(number)
     }
 
-    /// An equal second owner, of the leases too; 112 `Memory`.
+    /// Returns an equal copy, with its leases. Fails with 112 `Memory` alone.
     pub fn copy(&self) -> Result<Caches, Memory>
         ensures { IfOk result (λ c. c ≡ self.now) }
     {
         let rows = copied_rows(&self.rows)?;
+        let marks = copied_marks(&self.marks)?;
         let out = copied_leases(&self.out)?;
-        Ok(Caches { rows, out })
+        Ok(Caches { rows, marks, out })
     }
 
-    /// Whether both have the same keys in the same order with the same trees, and the same leases. Takes no memory.
+    /// Returns whether both have the same keys in the same order with the same trees, and the same leases. Does not allocate.
     pub fn same(&self, other: &Caches) -> bool
         ensures { IsTrue result ↔ (self.now ≡ other.now) }
     {
         same_rows(&self.rows, &other.rows) && all_same(self.out.as_slice(), other.out.as_slice())
     }
 
-    /// Whether both have the same keys in the same order with the same trees, whatever leases are out. Takes no memory.
+    /// Returns whether both have the same keys in the same order with the same trees, whatever leases are out. Does not allocate.
     pub fn has_same_trees(&self, other: &Caches) -> bool
         ensures { IsTrue result ↔ (self.now.rows ≡ other.now.rows) }
     {
         same_rows(&self.rows, &other.rows)
     }
 
-    /// A law: no key stands twice.
+    /// A law: no key occurs twice.
     pub fn keys_differ(&self)
         ensures { AllPairs (λ k l. k ≢ l) (keys_of self.now.rows) }
     {

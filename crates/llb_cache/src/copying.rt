@@ -4,32 +4,28 @@ ghost use Rattle.std.specs.Prelude.{◌≡◌, ◌↔◌, ◌<◌, IsTrue, IfOk,
 ghost use Rattle.indexmap.specs.IndexMap.{insert_entry};
 ghost use Rattle.llb_cache.specs.Key.{same_key};
 
+use crate::any_key::Rows;
 use crate::fault::Memory;
-use crate::key::Key;
+use crate::marks::Marks;
 use crate::need::Place;
-use crate::trees::Trees;
 use indexmap::IndexMap;
 use llb_wire::{Many, Same};
 use std::alloc::Global;
 
 // Puts a copy of the row at an index after the copies.
-fn copy_row(
-    copies: &mut IndexMap<Key, Trees>,
-    rows: &IndexMap<Key, Trees>,
-    i: usize,
-) -> Result<(), Memory>
+fn copy_row(copies: &mut Rows, rows: &Rows, i: usize) -> Result<(), Memory>
     ensures { OnOk result (IfSome (slice_get rows.now.entries i) (λ e. copies.new.entries ≡ insert_entry same_key copies.old.entries e.0 e.1)) }
 {
     match rows.get_index(i) {
         Some((key, trees)) => {
-            copies.insert(key.copy()?, trees.copy()?)?;
+            copies.insert(key.copy(*rows.allocator())?, trees.copy()?)?;
             Ok(())
         }
         None => Ok(()),
     }
 }
 
-pub(crate) fn copied_rows(rows: &IndexMap<Key, Trees>) -> Result<IndexMap<Key, Trees>, Memory>
+pub(crate) fn copied_rows(rows: &Rows) -> Result<Rows, Memory>
     ensures { IfOk result (λ r. r.entries ≡ rows.now.entries) }
 {
     let mut copies = IndexMap::new(*rows.allocator());
@@ -71,8 +67,18 @@ pub(crate) fn copied_leases(
     Ok(copies)
 }
 
+pub(crate) fn copied_marks(marks: &Vec<Marks>) -> Result<Vec<Marks>, Memory>
+    ensures { IfOk result (λ m. m.items ≡ marks.now.items) }
+{
+    let mut copies = Vec::new(*marks.allocator());
+    for mark in marks {
+        copies.push(mark.copy()?)?;
+    }
+    Ok(copies)
+}
+
 // Whether both have the same key with the same trees at an index.
-fn same_row(rows: &IndexMap<Key, Trees>, others: &IndexMap<Key, Trees>, i: usize) -> bool
+fn same_row(rows: &Rows, others: &Rows, i: usize) -> bool
     ensures { IsTrue result ↔ (slice_get rows.now.entries i ≡ slice_get others.now.entries i) }
 {
     match rows.get_index(i) {
@@ -84,7 +90,7 @@ fn same_row(rows: &IndexMap<Key, Trees>, others: &IndexMap<Key, Trees>, i: usize
     }
 }
 
-pub(crate) fn same_rows(rows: &IndexMap<Key, Trees>, others: &IndexMap<Key, Trees>) -> bool
+pub(crate) fn same_rows(rows: &Rows, others: &Rows) -> bool
     ensures { IsTrue result ↔ (rows.now.entries ≡ others.now.entries) }
 {
     if rows.len() != others.len() {

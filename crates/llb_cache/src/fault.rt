@@ -1,4 +1,4 @@
-//! Why a lease is refused, and a copy that is out of memory. A fault prints its number, and after it the ID of a key.
+//! Why a lease is refused, and why a copy fails. A fault prints its number, and after it the ID of a key.
 //! Refusals of memory of any kind become `Memory` by `?`.
 
 use crate::key::Key;
@@ -62,7 +62,7 @@ impl From<llb_wire::Memory> for Memory {
     }
 }
 
-/// Of a copy of a tree, which can only lack memory.
+/// Converts the fault of a copy of a tree, which can only lack memory.
 impl From<TreeFault> for Memory {
     fn from(_: TreeFault) -> Memory {
         Memory

@@ -1,120 +1,116 @@
-//! How a lease takes its instances: what may be refused comes first, and then the changes take no memory.
+//! How a lease takes its instances: what may be refused comes first, and then the changes do not allocate.
 
-ghost use Rattle.std.specs.Prelude.{◌≡◌, ◌<◌, ◌≤◌, ◌+◌, map, slice_set, length, vec_len, vec_capacity, IfOk, MatchResult, Some, None, [], ◌∷◌, ◌++◌};
-ghost use Rattle.std.specs.List.{All, find};
+ghost use Rattle.std.specs.Prelude.{◌≡◌, ◌<◌, ◌≤◌, ◌+◌, true, false, map, slice_set, length, vec_len, vec_capacity, IfOk, None};
+ghost use Rattle.std.specs.List.{All};
+ghost use Rattle.std.specs.Map.{keys_of};
 ghost use Rattle.indexmap.specs.IndexMap.{spare};
-ghost use Rattle.llb_cache.specs.Caches.{Taken, place, leases, is_shut, taken, made, made_all, free_lease, with_lease, places_of, place_at};
-ghost use Rattle.llb_cache.specs.Caches.{put, trees_of, trimmed};
-ghost use Rattle.llb_cache.specs.Growing.{shown, FitsIn, IsRefusal};
+ghost use Rattle.llb_cache.specs.Caches.{same_place, made, made_all, free_lease, with_lease, places_of, put, trees_of, trimmed};
+ghost use Rattle.llb_cache.specs.Growing.{shown, FitsIn};
+ghost use Rattle.llb_cache.specs.Marks.{Remarks, is_one_of};
 
-use crate::fault::{LeaseFault, Memory};
-use crate::key::Key;
-use crate::need::{Need, Place};
-use crate::search::{count, first_shut, free_lease, number_for};
+use crate::any_key::{AnyKey, Rows, row_of};
+use crate::fault::Memory;
+use crate::marks::Marks;
+use crate::need::Place;
+use crate::search::free_lease;
 use crate::trees::{Room, Trees};
-use indexmap::IndexMap;
 use llb_tree::Tree;
 use llb_wire::Many;
+use std::alloc::Global;
 
-// What a need takes: an instance, the tree that it holds where it is new, and room for it.
+// What a need takes: an instance, the tree that it holds where it is new, and room for it and for its mark.
 #[derive(Drop)]
 pub(crate) struct Ready {
     pub(crate) place: Place,
     pub(crate) tree: Tree,
     pub(crate) room: Room,
-}
-
-// The needs, where no locked key of theirs is held; else the first such key.
-pub(crate) fn admitted(
-    out: &[Option<Many<Place>>],
-    needs: Vec<Need>,
-) -> Result<Vec<Need>, LeaseFault>
-    ensures { MatchResult result (λ ns. (find (is_shut out.now) needs.items ≡ None) × (ns.items ≡ needs.items))
-        (IsRefusal (find (is_shut out.now) needs.items)) }
-{
-    match first_shut(out, &needs) {
-        Some(i) => {
-            let mut needs = needs;
-            let need = needs.swap_remove(i);
-            Err(LeaseFault::Held(need.key))
-        }
-        None => Ok(needs),
-    }
-}
-
-// What the needs take where these leases are out.
-pub(crate) fn readied(
-    out: &Vec<Option<Many<Place>>>,
-    needs: Vec<Need>,
-) -> Result<Vec<Ready>, Memory>
-    requires { length out.now.items ≤ 65536 }
-    ensures takes { IfOk result (λ rs. map shown rs.items ≡ taken out.now.items needs.items) }
-    ensures room { IfOk result (λ rs. All FitsIn rs.items) }
-{
-    let alloc = *out.allocator();
-    let count = count(out);
-    let mut readies = Vec::new(alloc);
-    for need in needs {
-        let number = number_for(out, &need.key.by_ref(), count);
-        let room = Room::up_to(alloc, number)?;
-        let place = Place {
-            key: need.key,
-            number,
-        };
-        readies.push(Ready {
-            place,
-            tree: need.tree,
-            room,
-        })?;
-    }
-    Ok(readies)
+    pub(crate) marks: Marks,
 }
 
 // The instances of a lease, as copies.
-pub(crate) fn places_for(
-    out: &Vec<Option<Many<Place>>>,
-    readies: &[Ready],
-) -> Result<Many<Place>, Memory>
+pub(crate) fn places_for(alloc: Global, readies: &[Ready]) -> Result<Many<Place>, Memory>
     ensures { IfOk result (λ ps. ps ≡ map (λ r. r.place) readies.now) }
 {
-    let mut places = Vec::new(*out.allocator());
+    let mut places = Vec::new(alloc);
     for ready in readies {
         places.push(ready.place.copy()?)?;
     }
     Ok(Many::new(places))
 }
 
-// Makes an instance that is not there. There is room for one key more.
-fn make(rows: &mut IndexMap<Key, Trees>, ready: Ready)
+// Makes an instance that is not there, and marks it. There is room for one key more.
+fn make(rows: &mut Rows, marks: &mut Vec<Marks>, ready: Ready)
     requires spare { 0 < spare rows.old }
+    requires free { vec_len marks.old < vec_capacity marks.old }
+    requires each { length marks.old.items ≡ length rows.old.entries }
     requires room { FitsIn ready }
     ensures rows { rows.new.entries ≡ made rows.old.entries ready.place ready.tree }
     ensures spare { spare rows.old ≤ spare rows.new + 1 }
+    ensures marks { Remarks (keys_of rows.old.entries) marks.old.items (keys_of rows.new.entries) marks.new.items (λ q. same_place q ready.place) true }
+    ensures free { (vec_capacity marks.new ≡ vec_capacity marks.old) × (vec_len marks.new ≤ vec_len marks.old + 1) }
+    ensures each { length marks.new.items ≡ length rows.new.entries }
 {
-    let Place { key, number } = ready.place;
-    match rows.get_index_of(&key) {
+    let Ready {
+        place,
+        tree,
+        room,
+        marks: free,
+    } = ready;
+    let Place { key, number } = place;
+    match row_of(rows, &key.by_ref()) {
         Some(i) => {
+            marks[i].set(number, free);
             let trees = &mut rows[i];
             if number as usize >= trees.len() {
-                trees.push_into(ready.room, ready.tree);
+                trees.push_into(room, tree);
             }
         }
         None => {
             let mut trees = Trees::new(*rows.allocator());
-            trees.push_into(ready.room, ready.tree);
-            rows.insert(key, trees).unwrap();
+            trees.push_into(room, tree);
+            rows.insert(AnyKey::own(key), trees).unwrap();
+            let mut first = Marks::new(*marks.allocator());
+            first.set(number, free);
+            marks.push_reserved(first);
         }
     }
 }
 
-// Makes the instances that are not there. There is room for as many keys more.
-pub(crate) fn make_all(rows: &mut IndexMap<Key, Trees>, readies: Vec<Ready>)
+// Makes the instances that are not there, and marks all. There is room for as many keys more.
+pub(crate) fn make_all(rows: &mut Rows, marks: &mut Vec<Marks>, readies: Vec<Ready>)
     requires spare { length readies.items ≤ spare rows.old }
+    requires free { vec_len marks.old + length readies.items ≤ vec_capacity marks.old }
+    requires each { length marks.old.items ≡ length rows.old.entries }
     requires room { All FitsIn readies.items }
-    ensures { rows.new.entries ≡ made_all rows.old.entries (map shown readies.items) }
+    ensures rows { rows.new.entries ≡ made_all rows.old.entries (map shown readies.items) }
+    ensures marks { Remarks (keys_of rows.old.entries) marks.old.items (keys_of rows.new.entries) marks.new.items
+        (is_one_of (map (λ r. r.place) readies.items)) true }
+    ensures each { length marks.new.items ≡ length rows.new.entries }
 {
     for ready in readies {
-        make(rows, ready);
+        make(rows, marks, ready);
+    }
+}
+
+// Takes the marks of instances away.
+pub(crate) fn unmark_all(rows: &Rows, marks: &mut Vec<Marks>, places: &[Place])
+    requires each { length marks.old.items ≡ length rows.now.entries }
+    ensures marks { Remarks (keys_of rows.now.entries) marks.old.items (keys_of rows.now.entries) marks.new.items (is_one_of places.now) false }
+    ensures each { length marks.new.items ≡ length marks.old.items }
+{
+    for place in places {
+        unmark(rows, marks, place);
+    }
+}
+
+// Takes the mark of an instance away.
+fn unmark(rows: &Rows, marks: &mut Vec<Marks>, place: &Place)
+    requires each { length marks.old.items ≡ length rows.now.entries }
+    ensures marks { Remarks (keys_of rows.now.entries) marks.old.items (keys_of rows.now.entries) marks.new.items (λ q. same_place q place.now) false }
+    ensures each { length marks.new.items ≡ length marks.old.items }
+{
+    if let Some(i) = row_of(rows, &place.key.by_ref()) {
+        marks[i].clear(place.number);
     }
 }
 
@@ -136,7 +132,6 @@ pub(crate) fn take_lease(out: &mut Vec<Option<Many<Place>>>, places: Many<Place>
 
 // The instances of a lease that is out.
 pub(crate) fn places_at(out: &[Option<Many<Place>>], lease: u32) -> &[Place]
-    requires { 0 < length (places_of out.now lease) }
     ensures { result.now ≡ places_of out.now lease }
 {
     match out.get(lease as usize) {
@@ -146,11 +141,12 @@ pub(crate) fn places_at(out: &[Option<Many<Place>>], lease: u32) -> &[Place]
 }
 
 // Puts a tree in the place of an instance's.
-pub(crate) fn set_at(rows: &mut IndexMap<Key, Trees>, place: &Place, tree: Tree)
+pub(crate) fn set_at(rows: &mut Rows, place: &Place, tree: Tree)
     requires { place.now.number < length (trees_of rows.old.entries place.now.key) }
-    ensures { rows.new.entries ≡ put rows.old.entries place.now tree }
+    ensures rows { rows.new.entries ≡ put rows.old.entries place.now tree }
+    ensures keys { keys_of rows.new.entries ≡ keys_of rows.old.entries }
 {
-    match rows.get_index_of(&place.key) {
+    match row_of(rows, &place.key.by_ref()) {
         Some(i) => {
             let trees = &mut rows[i];
             trees.set(place.number, tree);

@@ -1,4 +1,4 @@
-//! What a cache is known by: its ID, the output that a new instance begins with, and how leases share it. Two keys are one
+//! The key of a cache: its ID, the output that a new instance begins with, and how leases share it. Two keys are one
 //! where all three are equal.
 
 ghost use Rattle.std.specs.Prelude.{◌≡◌, ◌↔◌, IsTrue, IfOk};
@@ -7,7 +7,6 @@ ghost use Rattle.llb_cache.specs.Key.{same_key, same_seed, same_seeds, same_mode
 use crate::fault::Memory;
 use llb_wire::Text;
 use std::fmt;
-use std::hash::{Hash, Hasher};
 
 /// How leases share the instances of a cache.
 #[derive(Clone, Copy, Debug)]
@@ -37,7 +36,7 @@ impl Drop for Seed {
     }
 }
 
-/// What a cache is known by. A new instance of a key without a seed begins empty.
+/// The key of a cache. A new instance of a key without a seed begins empty.
 #[derive(Debug)]
 pub struct Key {
     pub id: Text,
@@ -98,7 +97,7 @@ fn copy_of(seed: &Option<Seed>) -> Result<Option<Seed>, Memory>
 }
 
 impl Key {
-    /// An equal second owner; 112 `Memory`.
+    /// Returns an equal second owner. Fails with 112 `Memory` alone.
     pub fn copy(&self) -> Result<Key, Memory>
         ensures { IfOk result (λ k. k ≡ self.now) }
     {
@@ -108,7 +107,7 @@ impl Key {
         Ok(Key { id, seed, mode })
     }
 
-    /// Whether both are the same key. Takes no memory.
+    /// Returns whether both are the same key. Does not allocate.
     pub fn same(&self, other: &Key) -> bool
         ensures { IsTrue result ↔ (self.now ≡ other.now) }
     {
@@ -152,18 +151,4 @@ impl Eq for Key {
     ghost use Rattle.llb_cache.specs.Key.{key_equiv};
 
     ghost laws = { key_equiv };
-}
-
-// Keys of one ID are few, so that the ID alone is hashed.
-impl Hash for Key {
-    ghost use Rattle.std.specs.Hash as fed;
-    ghost use Rattle.llb_cache.specs.Key.{keys_alike};
-
-    ghost hash_input = { λ k. fed.str k.id };
-
-    ghost respects_eq = { keys_alike };
-
-    fn hash<H: Hasher>(&self, state: &mut H) {
-        self.id.as_str().hash(state);
-    }
 }

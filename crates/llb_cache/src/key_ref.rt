@@ -1,12 +1,13 @@
 //! A key whose texts another value owns: caches are looked at by it before a key is made.
 
-ghost use Rattle.std.specs.Prelude.{◌≡◌, ◌==◌, not, length, option_map, true, IfErr, IfOk};
-ghost use Rattle.llb_cache.specs.Key.{same_key, same_mode, same_seeds, seed_by, has_digest, has_text};
+ghost use Rattle.std.specs.Prelude.{◌≡◌, ◌==◌, not, length, option_map, true, fold, IfErr, IfOk};
+ghost use Rattle.llb_cache.specs.Key.{same_key, same_mode, same_seeds, seed_by, has_digest, has_text, key_fed};
 
 use crate::fault::Memory;
 use crate::key::{Key, Mode, Seed, same_mode};
 use llb_tree::Text;
 use std::alloc::Global;
+use std::hash::{Hash, Hasher};
 use std::marker::Model;
 
 /// A key that borrows its texts. Contracts see the key.
@@ -28,14 +29,14 @@ impl<'a> Model for KeyRef<'a> {
 }
 
 impl<'a> KeyRef<'a> {
-    /// The key of this ID, with the digest text and the index of its seed, where it has one. Takes no memory.
+    /// Returns the key of this ID, with the digest text and the index of its seed, where it has one. Does not allocate.
     pub fn new(id: &'a str, seed: Option<(&'a str, u32)>, mode: Mode) -> KeyRef<'a>
         ensures { result ≡ record { id = id.now; seed = option_map (λ s. seed_by s.0.now s.1) seed.entry; mode = mode } }
     {
         KeyRef { id, seed, mode }
     }
 
-    /// An equal key that owns its texts. 112 `Memory`; a key without a byte of text takes none.
+    /// Returns an equal key that owns its texts. Fails with 112 `Memory` alone; a key without a byte of text takes no memory.
     pub fn to_key(&self, alloc: Global) -> Result<Key, Memory>
         ensures ok { IfOk result (λ k. k ≡ self.now) }
         ensures memory { IfErr result (λ _. has_text self.now ≡ true) }
@@ -52,23 +53,45 @@ impl<'a> KeyRef<'a> {
         self.mode
     }
 
-    /// Whether a key is this one.
-    #[tactic(auto, unfolding(crate::specs::Key::same_key))]
-    pub(crate) fn is(&self, key: &Key) -> bool
-        ensures { result ≡ same_key self.now key.now }
+    // The same key once more.
+    pub(crate) fn again(&self) -> KeyRef<'_>
+        ensures { result ≡ self.now }
     {
-        if !same_mode(self.mode, key.mode) {
+        KeyRef {
+            id: self.id,
+            seed: self.seed,
+            mode: self.mode,
+        }
+    }
+
+    // Whether both are the same key.
+    #[tactic(auto, unfolding(crate::specs::Key::same_key))]
+    pub(crate) fn is(&self, other: &KeyRef<'_>) -> bool
+        ensures { result ≡ same_key self.now other.now }
+    {
+        if !same_mode(self.mode, other.mode) {
             return false;
         }
-        if !is_seed(self.seed, &key.seed) {
+        if !same_parts(self.seed, other.seed) {
             return false;
         }
-        self.id.as_bytes() == key.id.as_str().as_bytes()
+        self.id.as_bytes() == other.id.as_bytes()
+    }
+
+    // Feeds a hasher the ID, and the seed where there is one, so that keys of one ID with other seeds are hashed apart.
+    pub(crate) fn feed<H: Hasher>(&self, state: &mut H)
+        ensures { state.new ≡ fold H.write state.old (key_fed self.now) }
+    {
+        self.id.hash(state);
+        if let Some((digest, index)) = self.seed {
+            digest.hash(state);
+            index.hash(state);
+        }
     }
 }
 
 impl Key {
-    /// The key as one that borrows its texts. Takes no memory.
+    /// Returns the key as one that borrows its texts. Does not allocate.
     pub fn by_ref(&self) -> KeyRef<'_>
         ensures { result ≡ self.now }
     {
@@ -84,17 +107,16 @@ impl Key {
     }
 }
 
-// Whether a seed has this digest text and this index, or neither is there.
-fn is_seed(parts: Option<(&str, u32)>, seed: &Option<Seed>) -> bool
-    ensures { result ≡ same_seeds (option_map (λ s. seed_by s.0.now s.1) parts.entry) seed.now }
+// Whether both have the same digest text and index, or neither is there.
+fn same_parts(parts: Option<(&str, u32)>, others: Option<(&str, u32)>) -> bool
+    ensures { result ≡ same_seeds (option_map (λ s. seed_by s.0.now s.1) parts.entry) (option_map (λ s. seed_by s.0.now s.1) others.entry) }
 {
     match parts {
-        Some((digest, index)) => match seed {
-            Some(seed) => index == seed.index
-                && digest.as_bytes() == seed.digest.as_str().as_bytes(),
+        Some((digest, index)) => match others {
+            Some((other, at)) => index == at && digest.as_bytes() == other.as_bytes(),
             None => false,
         },
-        None => seed.is_none(),
+        None => others.is_none(),
     }
 }
 

@@ -3,12 +3,14 @@
 //! cache. Trees stay when leases are given back.
 #![tactic(auto)]
 
+mod any_key;
 mod caches;
 mod copying;
 mod fault;
 mod growing;
 mod key;
 mod key_ref;
+mod marks;
 mod need;
 mod search;
 mod trees;

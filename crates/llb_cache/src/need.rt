@@ -1,11 +1,9 @@
-//! What a lease is asked for, and what it has: an instance of a cache for each need.
+//! What is asked of a lease, and what it has: an instance of a cache for each need.
 
 ghost use Rattle.std.specs.Prelude.{◌≡◌, IfOk};
-ghost use Rattle.llb_cache.specs.Caches.{same_place, place};
 
 use crate::fault::Memory;
 use crate::key::Key;
-use crate::key_ref::KeyRef;
 use llb_tree::Tree;
 
 /// An instance of this key. Where it is a new one, it begins with this tree: the seed's, or the empty one.
@@ -29,11 +27,5 @@ impl Place {
         let key = self.key.copy()?;
         let number = self.number;
         Ok(Place { key, number })
-    }
-
-    pub(crate) fn is(&self, key: &KeyRef<'_>, number: u32) -> bool
-        ensures { result ≡ same_place (place key.now number) self.now }
-    {
-        number == self.number && key.is(&self.key)
     }
 }

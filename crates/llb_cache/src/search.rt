@@ -1,40 +1,46 @@
-//! What leases have, and what is free: searches that take no memory, in time by the number of instances that leases have.
+//! What leases have, and what is free. A look at an instance uses its key's row and the mark of its number, and reads no lease.
 
-ghost use Rattle.std.specs.Prelude.{◌≡◌, ◌≢◌, ◌↔◌, ◌<◌, ◌≤◌, ◌&&◌, IsTrue, AllPairs, length, slice_get, IfSome, option_and_then};
-ghost use Rattle.std.specs.List.{list_any, find};
+ghost use Rattle.std.specs.Prelude.{◌≡◌, ◌≢◌, ◌↔◌, ◌<◌, ◌≤◌, ◌&&◌, ℕ, true, false, IsTrue, AllPairs, length, map, slice_get, IfOk, IfSome};
+ghost use Rattle.std.specs.Prelude.{MatchResult, None, option_and_then};
+ghost use Rattle.std.specs.List.{All, list_any, find};
+ghost use Rattle.std.specs.Map.{keys_of};
 ghost use Rattle.llb_cache.specs.Key.{same_key};
-ghost use Rattle.llb_cache.specs.Caches.{same_place, place, is_held, leases, first_free, number_for, is_locked, is_shut, free_lease};
+ghost use Rattle.llb_cache.specs.Caches.{place, is_held, leases, taken, number_for, is_locked, is_shut, free_lease};
+ghost use Rattle.llb_cache.specs.Growing.{shown, FitsIn, IsRefusal};
+ghost use Rattle.llb_cache.specs.Marks.{marked};
 
+use crate::any_key::{Rows, row_of};
+use crate::caches::Caches;
+use crate::fault::{LeaseFault, Memory};
+use crate::growing::Ready;
 use crate::key::Mode;
 use crate::key_ref::KeyRef;
+use crate::marks::Marks;
 use crate::need::{Need, Place};
+use crate::trees::Room;
 use llb_wire::Many;
 
-// Whether an instance is among these.
-fn has_place(places: &[Place], key: &KeyRef<'_>, number: u32) -> bool
-    ensures { result ≡ list_any (same_place (place key.now number)) places.now }
+// Whether an instance is marked.
+fn is_marked(rows: &Rows, marks: &[Marks], key: &KeyRef<'_>, number: u32) -> bool
+    requires { length marks.now ≡ length rows.now.entries }
+    ensures { result ≡ marked (keys_of rows.now.entries) marks.now (place key.now number) }
 {
-    for held in places {
-        if held.is(key, number) {
-            return true;
-        }
+    match row_of(rows, key) {
+        Some(i) => marks[i].has(number),
+        None => false,
     }
-    false
 }
 
-// Whether a lease that is out has an instance.
-#[tactic(auto, unfolding(crate::specs::Caches::is_held))]
-pub(crate) fn is_held(out: &[Option<Many<Place>>], key: &KeyRef<'_>, number: u32) -> bool
-    ensures { result ≡ is_held out.now (place key.now number) }
+// The least number of a key without a mark.
+fn first_unmarked(rows: &Rows, marks: &[Marks], key: &KeyRef<'_>) -> usize
+    requires { length marks.now ≡ length rows.now.entries }
+    ensures below { (k : ℕ) → k < result → marked (keys_of rows.now.entries) marks.now (place key.now k) ≡ true }
+    ensures clear { marked (keys_of rows.now.entries) marks.now (place key.now result) ≡ false }
 {
-    for lease in out {
-        if let Some(places) = lease {
-            if has_place(places.as_slice(), key, number) {
-                return true;
-            }
-        }
+    match row_of(rows, key) {
+        Some(i) => marks[i].first_clear(),
+        None => 0,
     }
-    false
 }
 
 // How many leases are out.
@@ -51,52 +57,81 @@ pub(crate) fn count(out: &[Option<Many<Place>>]) -> u32
     count
 }
 
-// The least number whose instance no lease has, where it is below the count or the count itself.
-fn first_free(out: &[Option<Many<Place>>], key: &KeyRef<'_>, count: u32) -> u32
-    ensures { result ≡ first_free out.now key.now 0 count }
-{
-    for number in 0..count {
-        if !is_held(out, key, number) {
-            return number;
+impl Caches {
+    // Whether a key is locked, and a lease has its instance.
+    pub(crate) fn has_shut(&self, key: &KeyRef<'_>) -> bool
+        ensures { result ≡ (is_locked key.now.mode && is_held self.now.out (place key.now 0)) }
+    {
+        match key.mode() {
+            Mode::Shared => false,
+            Mode::Private => false,
+            Mode::Locked => is_marked(&self.rows, &self.marks, key, 0),
         }
     }
-    count
-}
 
-// The number of the instance that a key gives, where that many leases are out.
-pub(crate) fn number_for(out: &[Option<Many<Place>>], key: &KeyRef<'_>, count: u32) -> u32
-    requires { count ≡ leases out.now }
-    ensures { result ≡ number_for out.now key.now key.now.mode }
-{
-    match key.mode() {
-        Mode::Shared => 0,
-        Mode::Locked => 0,
-        Mode::Private => first_free(out, key, count),
-    }
-}
-
-// Whether a key is locked, and a lease has its instance.
-pub(crate) fn is_shut(out: &[Option<Many<Place>>], key: &KeyRef<'_>) -> bool
-    ensures { result ≡ (is_locked key.now.mode && is_held out.now (place key.now 0)) }
-{
-    match key.mode() {
-        Mode::Shared => false,
-        Mode::Private => false,
-        Mode::Locked => is_held(out, key, 0),
-    }
-}
-
-// The first need whose locked key is held.
-pub(crate) fn first_shut(out: &[Option<Many<Place>>], needs: &[Need]) -> Option<usize>
-    ensures found { find (is_shut out.now) needs.now ≡ option_and_then (slice_get needs.now) result }
-    ensures within { IfSome result (λ i. i < length needs.now) }
-{
-    for (i, need) in needs.iter().enumerate() {
-        if is_shut(out, &need.key.by_ref()) {
-            return Some(i);
+    // The number of the instance that is chosen for a key.
+    pub(crate) fn number_for(&self, key: &KeyRef<'_>) -> u32
+        ensures { result ≡ number_for self.now.out key.now key.now.mode }
+    {
+        match key.mode() {
+            Mode::Shared => 0,
+            Mode::Locked => 0,
+            Mode::Private => first_unmarked(&self.rows, &self.marks, key) as u32,
         }
     }
-    None
+
+    // The first need whose locked key is held.
+    fn first_shut(&self, needs: &[Need]) -> Option<usize>
+        ensures found { find (is_shut self.now.out) needs.now ≡ option_and_then (slice_get needs.now) result }
+        ensures within { IfSome result (λ i. i < length needs.now) }
+    {
+        for (i, need) in needs.iter().enumerate() {
+            if self.has_shut(&need.key.by_ref()) {
+                return Some(i);
+            }
+        }
+        None
+    }
+
+    // The needs, where no locked key of theirs is held; else the first such key.
+    pub(crate) fn admitted(&self, needs: Vec<Need>) -> Result<Vec<Need>, LeaseFault>
+        ensures { MatchResult result (λ ns. (find (is_shut self.now.out) needs.items ≡ None) × (ns.items ≡ needs.items))
+            (IsRefusal (find (is_shut self.now.out) needs.items)) }
+    {
+        match self.first_shut(&needs) {
+            Some(i) => {
+                let mut needs = needs;
+                let need = needs.swap_remove(i);
+                Err(LeaseFault::Held(need.key))
+            }
+            None => Ok(needs),
+        }
+    }
+
+    // What the needs take where these leases are out.
+    pub(crate) fn readied(&self, needs: Vec<Need>) -> Result<Vec<Ready>, Memory>
+        ensures takes { IfOk result (λ rs. map shown rs.items ≡ taken self.now.out needs.items) }
+        ensures room { IfOk result (λ rs. All FitsIn rs.items) }
+    {
+        let alloc = *self.out.allocator();
+        let mut readies = Vec::new(alloc);
+        for need in needs {
+            let number = self.number_for(&need.key.by_ref());
+            let room = Room::up_to(alloc, number)?;
+            let marks = Marks::up_to(alloc, number)?;
+            let place = Place {
+                key: need.key,
+                number,
+            };
+            readies.push(Ready {
+                place,
+                tree: need.tree,
+                room,
+                marks,
+            })?;
+        }
+        Ok(readies)
+    }
 }
 
 // The least number that no lease has.

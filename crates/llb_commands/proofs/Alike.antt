@@ -18,7 +18,7 @@ use Rattle.llb_commands.specs.Answer.{build_of, result_in, IsEnd, Yields}
 use Rattle.llb_commands.specs.Aim.{LoadsAsOne}
 use Rattle.llb_commands.specs.Assembly.{RunsAlike, IsAssembled}
 
--- what stands in the place of an `Ok` or a `Some`
+-- what is in the place of an `Ok` or a `Some`
 abbrev ok_of : {A F : Type 0} → A → Result A F → A
 ok_of a (Ok x) = x
 ok_of a (Err e) = a
@@ -53,7 +53,7 @@ one_text locals bytes other one two y z graphs = y.printed ∙ ap tree_text tree
     trees : y.tree ≡ z.tree
     trees = ap (some_of y.tree) results
 
--- a text and any bytes with the entries that it stands for have one graph, so that both run to one text
+-- a text and any bytes with the entries that it is read as have one graph, so that both run to one text
 pub runs_alike : (text bytes : List ℕ) (entries : List (List ℕ)) → HasOneAnswer text → HasOneAnswerIn bytes → AreReadAgain entries → AreBytes bytes
     → RunsAlike text entries bytes
 runs_alike text bytes entries once graphs again are stands read locals definition one other assembled y z =
@@ -65,7 +65,7 @@ runs_alike text bytes entries once graphs again are stands read locals definitio
     loaded : IsGraphIn bytes y.graph
     loaded = moved definition bytes entries y.graph (ap definition_of same ∙ again bytes are read) read y.loaded
 
--- what a text is assembled to has the entries that the text stands for, where a definition has them
+-- what a text is assembled to has the entries that the text is read as, where a definition has them
 read_again : (text bytes : List ℕ) (entries : List (List ℕ)) → HasOneAnswer text → AreReadAgain entries → AreBytes bytes → StandsFor (kept text) entries
     → definition_of bytes ≡ Ok entries → (definition : List ℕ) → IsAssembled text definition → definition_of definition ≡ Ok entries
 read_again text bytes entries once again are stands read definition assembled =

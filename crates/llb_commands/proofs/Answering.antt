@@ -1,4 +1,4 @@
--- What a run tells of the bytes that it read.
+-- What a run prints for the bytes that it read.
 use Rattle.std.proofs.Common.{◌≡◌, ℕ, ◌<◌, Bool, true, false, cond, ltb, List, [], length, ◌⊎◌, Option, Some, None, Result, Ok, Err, inl}
 use Rattle.std.proofs.Common.{inr, refl, sym, ap, subst, ◌∙◌}
 use Rattle.std.specs.Prelude.{IfSome}
@@ -104,14 +104,14 @@ module _ (workers : ℕ) (ls : List Local) (left : Option (List ℕ)) (g : Numbe
         sym fin.build,
       )) loads
 
-  -- what is shown of the result is the answer
+  -- what is shown of the result is the answer of the run
   pub answers : (out out' : Option (List ℕ)) (r : Result (Option Seen) ProgramFault) → Shows b out out' (result_in b.state g) r
       → Answers workers ls left out out' r
   answers out out' (Ok None) s = answers_text out out' s.0 s.1 s.2
   answers out out' (Ok (Some x)) s = (s.2, subst (λ y. IfSome left (YieldsNoneOn workers ls y)) (sym s.0) (answers_none s.1))
   answers out out' (Err e) s = inr (s.0, answers_part out out' s.1.0 s.1.1 s.1.2)
 
--- ---- what the parts answered, where the answer is known
+-- ---- what the parts returned, where it is known
 
 abbrev read_err : ReadFault → Result (Vec ℕ Global) ReadFault
 read_err e = Err e
@@ -121,7 +121,7 @@ too_long : (left left' : Option (List ℕ)) (r : Result (Vec ℕ Global) ReadFau
 too_long left left' r e is same reads =
     let h : ReadsAll 67108864 134217728 left left' (Err TooLong) = subst (ReadsAll 67108864 134217728 left left') (is ∙ ap read_err same) reads in h
 
--- a refusal of what was not read stands, of what all bytes are that are too long
+-- a refusal of what was not read holds, where it holds of all bytes that are too long
 module _ (IsSo : ProgramFault → List ℕ → Type 0) (long : (bytes : List ℕ) → 67108864 < length bytes → IsSo (Refused (Definition OverLimit)) bytes)
     (left left' : Option (List ℕ)) (r : Result (Vec ℕ Global) ReadFault) where
   by_fault : (e : ReadFault) → r ≡ Err e → ReadsAll 67108864 134217728 left left' r → TellsRefusal IsSo left (unread_as e)
@@ -144,7 +144,7 @@ pub tells_no_definition : (left left' : Option (List ℕ)) (r : Result (Vec ℕ 
     → r ≡ Err e → p ≡ unread_as e → ReadsAll 67108864 134217728 left left' r → TellsRefusal IsUnread left p
 tells_no_definition = tells_so IsUnread (λ bytes long. inr (long, refl))
 
--- a reading without a fault gives all the bytes that were left
+-- a reading without a fault returns all the bytes that were left
 pub all_read : (left left' : Option (List ℕ)) (r : Result (Vec ℕ Global) ReadFault) (bytes : Vec ℕ Global) → r ≡ Ok bytes
     → ReadsAll 67108864 134217728 left left' r → IfSome left (λ xs. bytes.items ≡ xs)
 all_read left left' r bytes is reads =
@@ -185,7 +185,7 @@ ends_told IsSo Part input out out' err err' e status (inr (none, part)) (inl (is
   | inr three ↦ inr (is ∙ three, inr part)
 ]
 
--- the status for a fault tells it
+-- the line and the status of a fault are those of its result
 pub tells_fault : (out err err' : Option (List ℕ)) (r : Result (Option Seen) ProgramFault) (e : ProgramFault) (status : ℕ) → r ≡ Err e
     → Tells err err' e status → Ends out out err err' r status
 tells_fault out err err' r e status is told = subst (λ x. Ends out out err err' x status) (sym is) (Keeps-refl out, told)
@@ -213,7 +213,7 @@ module _ (workers : ℕ) (ls : List Local) (left out out' last err err' : Option
   answered e (inl (kept, tells)) keeps = inl (Keeps-trans out out' last kept keeps, tells)
   answered e (inr (none, part)) keeps = inr (none, some_map (YieldsPart workers ls out out') (YieldsPart workers ls out last) left (part_kept keeps) part)
 
-  -- an answer and the status that is told for it are a run
+  -- a result and the status that is returned for it are a run
   pub run_told : (r : Result (Option Seen) ProgramFault) (status : ℕ) → Answers workers ls left out out' r → Ends out' last err err' r status
       → Runs workers ls left out last err err' status
   run_told (Ok None) status done (keeps, inl (zero, kept)) = inl (
@@ -236,7 +236,7 @@ module _ (workers : ℕ) (ls : List Local) (left out out' last err err' : Option
 
 -- ---- a show
 
--- a text that is out is a prefix of itself
+-- a text that is written is a prefix of itself
 pub drawn_unflushed : (left out out' last : Option (List ℕ)) (g : Numbered) → IfSome left (λ bytes. IsGraphIn bytes g)
     → Appends out out' (graph_text g) → Keeps out' last → IfSome left (DrawsPart out last)
 drawn_unflushed left out out' last g loads whole keeps =

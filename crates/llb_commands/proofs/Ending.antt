@@ -174,7 +174,7 @@ pub tree_fails_none : (b : Build) → IsGraph b.graph → (s : State) → IsCons
     (Failed f) → ⊥
 tree_fails_none b graph s here = none_fails b s here graph
 
--- an ending that stands is the plain one
+-- an output of a vertex in a complete run is that of its plain outcome
 stands_plainly : (o : Option Status) (p : Option Outcome) (i : ℕ) (t : TreeMap) → StandsPlainly o p → output_in (ending_of o) i ≡ Some t
     → output_in (ending_in p) i ≡ Some t
 stands_plainly (Some (Settled e)) p i t stands is = ap (λ q. output_in (ending_in q) i) stands ∙ is

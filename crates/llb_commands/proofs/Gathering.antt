@@ -11,7 +11,7 @@ use Rattle.llb_treetext.specs.declared.fault.TextFault.{TextFault}
 use Rattle.llb_treetext.specs.Reading.{Answers, MemoryIsLast}
 use Rattle.llb_commands.specs.Sources.{limit, told, Reads, Gathers}
 
--- what the reading of a text answers, told of the bytes where they are known
+-- the result of reading a text, stated of the bytes where they are known
 pub reads_told : (known : Option (List ℕ)) (bytes : List ℕ) (r : Result TreeMap TextFault) → IfSome known (λ xs. bytes ≡ xs)
     → length bytes ≤ limit → Answers bytes r
     → MemoryIsLast bytes r → Reads known (told r)
@@ -27,7 +27,7 @@ pub gathers_more : (files : List ℕ → Option (List ℕ)) (ls : List Local) (i
     → Gathers files (drop (i + 1) ls) (with_local trees (get_or ls i d).name.now t) r → Gathers files (drop i ls) trees r
 gathers_more files ls i d trees t r lt reads rest = subst (λ xs. Gathers files xs trees r) (sym (drop_more ls i d lt)) (inr (t, reads, rest))
 
--- the next source's file does not read as a tree, and its fault is the answer for all
+-- the next source's file does not read as a tree, and its fault is the result for all
 pub gathers_none : (files : List ℕ → Option (List ℕ)) (ls : List Local) (i : ℕ) (d : Local) (trees : List given.Local) (e : SourceFault)
     (r : Result (List given.Local) SourceFault)
     → i < length ls → Reads (files (get_or ls i d).file.now) (Err e) → r ≡ Err e → Gathers files (drop i ls) trees r

@@ -10,7 +10,7 @@ use Rattle.llb_wire.specs.Sink.{part_then, part_after}
 use Rattle.llb_commands.specs.Output.{Writes}
 
 module _ {A : Type 0} where
-  -- the item at a place stands between those before it and those after
+  -- the item at a place is between those before it and those after
   split_here : (es : List A) (at : ℕ) (e : A) → slice_get es at ≡ Some e → es ≡ take at es ++ (e ∷ drop (suc at) es)
   split_here [] zero e there = absurd cc
   split_here [] (suc at) e there = absurd cc
@@ -56,12 +56,12 @@ module _ {A : Type 0} where
   all_taken (x ∷ es) zero le = absurd (omega arith)
   all_taken (x ∷ es) (suc at) le = ap (λ ys. x ∷ ys) (all_taken es at (omega arith))
 
--- a prefix is out, and a part of what comes next
+-- a prefix is written, and a part of what comes next
 pub stops_inside : {F : Type 0} (is_memory : F → Bool) (a b c : Option (List ℕ)) (failed : Bool) (front line rest : List ℕ) (e : F)
     → Appends a b front → Writes is_memory b c failed line (Err e) → Writes is_memory a c failed (front ++ (line ++ rest)) (Err e)
 stops_inside is_memory a b c failed front line rest e before part = (part.0, part_after a b c front (line ++ rest) before (part_then b c line rest part.1))
 
--- a text is out, and then the next, or a prefix of it
+-- a text is written, and then the next, or a prefix of it
 pub writes_after : {F : Type 0} (is_memory : F → Bool) (a b c : Option (List ℕ)) (failed : Bool) (text more : List ℕ)
     (r : Result (Unit {0}) F) → Appends a b text → Writes is_memory b c failed more r → Writes is_memory a c failed (text ++ more) r
 writes_after is_memory a b c failed text more (Ok u) whole next = Appends-trans a b c text more whole next
@@ -82,7 +82,7 @@ module _ {A : Type 0} (line : A → List ℕ) where
       ap (λ k. flat_map line (take k es)) (add-one at) ∙ ap (flat_map line) (take_more es at e there) ∙ flat_map-append line (take at es) (e ∷ [])
       ∙ ap (λ ys. flat_map line (take at es) ++ ys) (append-nil (line e))
 
-  -- what is out where the line at a place is not
+  -- what is written where the line at a place is not
   pub prints_err : {F : Type 0} (is_memory : F → Bool) (es : List A) (at : ℕ) (e : A) (a b c : Option (List ℕ)) (failed : Bool) (fault : F)
       → Some e ≡ slice_get es at → Appends a b (flat_map line (take at es))
       → Writes is_memory b c failed (line e) (Err fault) → Writes is_memory a c failed (flat_map line es) (Err fault)
@@ -100,6 +100,6 @@ module _ {A : Type 0} (line : A → List ℕ) where
       → Appends a b (flat_map line (take (at + 1) es))
   prints_none es at a b none before = subst (λ xs. Appends a b (flat_map line xs)) (sym (no_more es at (sym none))) before
 
-  -- past the last place, all lines are out
+  -- past the last place, all lines are written
   pub prints_all : (es : List A) (at : ℕ) (a b : Option (List ℕ)) → length es ≤ at → Appends a b (flat_map line (take at es)) → Appends a b (flat_map line es)
   prints_all es at a b all before = subst (λ xs. Appends a b (flat_map line xs)) (all_taken es at all) before

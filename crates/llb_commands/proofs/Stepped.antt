@@ -1,4 +1,4 @@
--- What a stepping session tells of the bytes of its definition.
+-- What a stepping session prints for the bytes of its definition.
 use Rattle.std.proofs.Common.{◌≡◌, ℕ, Bool, true, false, cond, List, [], ◌⊎◌, Option, Some, None, Result, Ok, Err, inl, inr, refl, sym, ap, subst, ◌∙◌}
 use Rattle.std.specs.Prelude.{IfSome}
 use Rattle.llb_loader.specs.Graph.{Numbered}

@@ -1,4 +1,4 @@
--- The text of the entries that were read is out, or a prefix of it.
+-- The text of the entries that were read is written, or a prefix of it.
 use Rattle.std.proofs.Common.{◌≡◌, ℕ, List, [], refl, sym}
 use Rattle.std.proofs.KnownBytes.{Appends-kept}
 use Rattle.std.proofs.lemmas.List.{append-nil}
@@ -15,7 +15,7 @@ module _ (left : Option (List ℕ)) (entries : List (List ℕ)) (read : IfSome l
   comes : (bytes : List ℕ) → definition_of bytes ≡ Ok entries → IsDisassembled bytes (plain_text xs)
   comes bytes is = record { entries = entries; read = is; forms = xs; are = are; same = refl }
 
-  -- a prefix is out
+  -- a prefix is written
   pub part : (out out' : Option (List ℕ)) → PartOut out out' (plain_text xs) → IfSome left (IsPartOut IsDisassembled out out')
   part out out' some = some_map (λ bytes. definition_of bytes ≡ Ok entries) (IsPartOut IsDisassembled out out') left (λ bytes is. (
     plain_text xs,
@@ -28,7 +28,7 @@ module _ (left : Option (List ℕ)) (entries : List (List ℕ)) (read : IfSome l
     kept : Appends out last (plain_text xs)
     kept = Appends-kept out out' last (plain_text xs) all keeps
 
-    -- all of it is out
+    -- all of it is written
     pub whole : IfSome left (IsOut IsDisassembled out last)
     whole = some_map (λ bytes. definition_of bytes ≡ Ok entries) (IsOut IsDisassembled out last) left (λ bytes is. (plain_text xs, comes bytes is, kept)) read
 

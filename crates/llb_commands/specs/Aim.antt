@@ -26,7 +26,7 @@ abbrev pub AfterAll : Numbered → (Seen → Type 0) → Type 0
 AfterAll graph Holds = (b : Seen) (replies : List Reply) → b.build.graph ≡ graph
     → run b.build (opening b.build b.opening) b.events ≡ Some (b.state, replies) → Holds b
 
--- a text that stands for the entries of the definition is assembled to bytes that are loaded as the graph, and as no other
+-- a text that is read as the entries of the definition is assembled to bytes that are loaded as the graph, and as no other
 abbrev pub LoadsAsOne : List ℕ → List ℕ → List (List ℕ) → Numbered → Type 0
 LoadsAsOne text definition entries graph = StandsFor (kept text) entries → definition_of definition ≡ Ok entries → (assembled : List ℕ) (other : Numbered)
     → IsAssembled text assembled → IsGraphIn assembled graph × (IsGraphIn assembled other → other ≡ graph)

@@ -28,11 +28,11 @@ use Rattle.llb_commands.specs.declared.fault.ProgramFault.TheVariants as fault
 use Rattle.llb_commands.specs.Faults.{TellsWhy}
 use Rattle.llb_commands.specs.GraphText.{graph_text}
 
--- a run is over a graph and the local trees
+-- the build of a run: a graph and the local trees
 abbrev pub build_of : List Local → Numbered → Build
 build_of locals g = record { graph = g; locals = locals }
 
--- a run begins with a number of workers, and with caches that are empty
+-- the opening of a run: a number of workers, and caches that are empty
 abbrev pub run_opening : ℕ → Opening
 run_opening workers = record { workers = workers; store = no_instances }
 
@@ -51,16 +51,16 @@ pub record IsEnd (workers : ℕ) (b : Build) (s : State) : Type 0 where
   pub plain : HasNoCaches b → (v : ℕ) → v < length b.graph.vertices → StandsPlainly (slice_get s.statuses v) (outcome b v)
   pub alone : workers ≡ 1 → IsAlone b s events
 
--- the tree that a graph's result is in a state: none where its vertex is not done
+-- the tree of a graph's result in a state: none where its vertex is not done
 abbrev pub result_in : State → Numbered → Option TreeMap
 result_in s g = output_in (ending_at s.statuses g.result.vertex) g.result.index
 
--- the tree that a graph's result is by the plain outcomes
+-- the tree of a graph's result by the plain outcomes
 abbrev pub plain_result : Build → Option TreeMap
 plain_result b = output_in (ending_in (outcome b b.graph.result.vertex)) b.graph.result.index
 
 -- bytes that are the definition of a graph whose result, where a run on these local trees by these workers has ended, is a tree of that text; then no
--- vertex has failed, and without caches it is the tree that the plain outcomes give
+-- vertex has failed, and without caches it is the result's tree by the plain outcomes
 pub record Yields (workers : ℕ) (locals : List Local) (bytes text : List ℕ) : Type 0 where
   pub graph : Numbered
   pub loaded : IsGraphIn bytes graph
@@ -102,11 +102,11 @@ IsUnopened locals g workers _ = ⊥
 abbrev pub IsNotRun : ℕ → List Local → ProgramFault → List ℕ → Type 0
 IsNotRun workers locals p bytes = IsRefused p bytes ⊎ ((g : Numbered) × IsGraphIn bytes g × IsUnopened locals g workers p)
 
--- a prefix of the text that the bytes yield is out, and no more
+-- a prefix of the text that the bytes yield is written, and no more
 abbrev pub YieldsPart : ℕ → List Local → Option (List ℕ) → Option (List ℕ) → List ℕ → Type 0
 YieldsPart workers locals out out' bytes = (text : List ℕ) × Yields workers locals bytes text × PartOut out out' text
 
--- the text is out, and nothing else
+-- the text is written, and nothing else
 abbrev pub YieldsAll : ℕ → List Local → Option (List ℕ) → Option (List ℕ) → List ℕ → Type 0
 YieldsAll workers locals out out' bytes = (text : List ℕ) × Yields workers locals bytes text × Appends out out' text
 
@@ -122,14 +122,14 @@ unfoldable pub failed_lines : Build → State → ℕ → List ℕ
 failed_lines b s zero = []
 failed_lines b s (suc v) = failed_lines b s v ++ failed_line v (look_at b s v)
 
--- the result is no tree, and the lines of all failures are out
+-- the result is no tree, and the lines of all failures are written
 abbrev pub FailsAll : ℕ → List Local → Option (List ℕ) → Option (List ℕ) → List ℕ → Type 0
 FailsAll workers locals err err' bytes = (y : YieldsNone workers locals bytes)
     × Appends err err' (failed_lines (build_of locals y.graph) y.state (length y.graph.vertices))
 
--- How a run by a number of workers ends. 0: the text of the result is out, and nothing else. 1: a vertex failed, so that the result is no tree, and nothing is
--- out but the lines of the failures. 2: the bytes are refused, a local tree is missing, or there are no workers or too many, and nothing is out but the line
--- that says which. 3: a device, a thread or memory failed; nothing is out, or a prefix of the text.
+-- How a run by a number of workers ends. 0: the text of the result is written, and nothing else. 1: a vertex failed, so that the result is no tree, and
+-- nothing is written but the lines of the failures. 2: the bytes are refused, a local tree is missing, or there are no workers or too many, and nothing is
+-- written but the line that says which. 3: a device, a thread or memory failed; nothing is written, or a prefix of the text.
 abbrev pub Runs : ℕ → List Local → Option (List ℕ) → Option (List ℕ) → Option (List ℕ) → Option (List ℕ) → Option (List ℕ) → ℕ → Type 0
 Runs workers locals input out out' err err' status =
     ((status ≡ 0) × Keeps err err' × IfSome input (YieldsAll workers locals out out'))
@@ -137,16 +137,16 @@ Runs workers locals input out out' err err' status =
     ⊎ (((status ≡ 2) × Keeps out out' × TellsWhy (IsNotRun workers locals) input err err')
     ⊎ ((status ≡ 3) × (Keeps out out' ⊎ IfSome input (YieldsPart workers locals out out')))))
 
--- the text of the graph of the bytes is out, and nothing else
+-- the text of the graph of the bytes is written, and nothing else
 abbrev pub DrawsAll : Option (List ℕ) → Option (List ℕ) → List ℕ → Type 0
 DrawsAll out out' bytes = (g : Numbered) × IsGraphIn bytes g × Appends out out' (graph_text g)
 
--- a prefix of it is, and no more
+-- a prefix of it is written, and no more
 abbrev pub DrawsPart : Option (List ℕ) → Option (List ℕ) → List ℕ → Type 0
 DrawsPart out out' bytes = (g : Numbered) × IsGraphIn bytes g × PartOut out out' (graph_text g)
 
--- How a show ends. 0: the text of the graph is out, and nothing else. 2: the bytes are refused, and nothing is out but the line that says why. 3: a device or
--- memory failed; nothing is out, or a prefix of the text.
+-- How a show ends. 0: the text of the graph is written, and nothing else. 2: the bytes are refused, and nothing is written but the line that says why. 3: a
+-- device or memory failed; nothing is written, or a prefix of the text.
 abbrev pub Draws : Option (List ℕ) → Option (List ℕ) → Option (List ℕ) → Option (List ℕ) → Option (List ℕ) → ℕ → Type 0
 Draws input out out' err err' status =
     ((status ≡ 0) × Keeps err err' × IfSome input (DrawsAll out out'))

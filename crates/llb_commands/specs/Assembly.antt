@@ -19,7 +19,7 @@ use Rattle.llb_commands.specs.declared.fault.ProgramFault.TheVariants as fault
 use Rattle.llb_commands.specs.Faults.{TellsWhy}
 use Rattle.llb_commands.specs.Sources.{limit}
 
--- the definition of the entries that a text stands for
+-- the definition of the entries that a text is read as
 pub record IsAssembled (text definition : List ℕ) : Type 0 where
   pub entries : List (List ℕ)
   pub stands : StandsFor (kept text) entries
@@ -36,7 +36,7 @@ refuses_a_line Write = false
 abbrev pub HasFaultyLine : ProgramFault → List ℕ → Type 0
 HasFaultyLine p text = (e : AsmFault) × (refuses_a_line e ≡ true) × asm.Assembles text (Err e) × (p ≡ fault.Assembling e)
 
--- a text that stands for no entries, and why: it is too long, or one of its lines is refused
+-- a text that is read as no entries, and why: it is too long, or one of its lines is refused
 abbrev pub IsNoText : ProgramFault → List ℕ → Type 0
 IsNoText p text = ((limit < length text) × (p ≡ fault.TooLong)) ⊎ HasFaultyLine p text
 
@@ -53,16 +53,16 @@ abbrev pub IsUnread : ProgramFault → List ℕ → Type 0
 IsUnread p definition = ((e : OpFault) × (definition_of definition ≡ Err e) × (p ≡ fault.Unread e))
     ⊎ ((limit < length definition) × (p ≡ fault.Refused (Definition OverLimit)))
 
--- what comes of the input is out, and nothing else
+-- the bytes made from the input are written, and nothing else
 abbrev pub IsOut : (List ℕ → List ℕ → Type 0) → Option (List ℕ) → Option (List ℕ) → List ℕ → Type 0
 IsOut Comes out out' input = (text : List ℕ) × Comes input text × Appends out out' text
 
--- a prefix of it is, and no more
+-- a prefix of them is written, and no more
 abbrev pub IsPartOut : (List ℕ → List ℕ → Type 0) → Option (List ℕ) → Option (List ℕ) → List ℕ → Type 0
 IsPartOut Comes out out' input = (text : List ℕ) × Comes input text × PartOut out out' text
 
--- How a command ends that writes what comes of its input. 0: all of it is out, and nothing else. 2: the input is refused, and nothing is out but the line that
--- says why. 3: a device or memory failed; nothing is out, or a prefix of it.
+-- How a command ends that writes what it makes from its input. 0: all of it is written, and nothing else. 2: the input is refused, and nothing is written but
+-- the line that says why. 3: a device or memory failed; nothing is written, or a prefix of it.
 abbrev pub Ends : (List ℕ → List ℕ → Type 0) → (ProgramFault → List ℕ → Type 0) → Option (List ℕ) → Option (List ℕ) → Option (List ℕ) → Option (List ℕ)
     → Option (List ℕ) → ℕ → Type 0
 Ends Comes IsRefused input out out' err err' status =
@@ -70,7 +70,7 @@ Ends Comes IsRefused input out out' err err' status =
     ⊎ (((status ≡ 2) × Keeps out out' × TellsWhy IsRefused input err err')
     ⊎ ((status ≡ 3) × (Keeps out out' ⊎ IfSome input (IsPartOut Comes out out'))))
 
--- a text is assembled to the definition of the entries that it stands for
+-- a text is assembled to the definition of the entries that it is read as
 abbrev pub Assembles : Option (List ℕ) → Option (List ℕ) → Option (List ℕ) → Option (List ℕ) → Option (List ℕ) → ℕ → Type 0
 Assembles = Ends IsAssembled IsNoText
 
@@ -78,7 +78,7 @@ Assembles = Ends IsAssembled IsNoText
 abbrev pub Disassembles : Option (List ℕ) → Option (List ℕ) → Option (List ℕ) → Option (List ℕ) → Option (List ℕ) → ℕ → Type 0
 Disassembles = Ends IsDisassembled IsUnread
 
--- the definition that a text is assembled to, and any bytes whose entries are those that the text stands for, run to the same text of the result
+-- the definition that a text is assembled to, and any bytes whose entries are those that the text is read as, run to the same text of the result
 abbrev pub RunsAlike : List ℕ → List (List ℕ) → List ℕ → Type 0
 RunsAlike text entries bytes =
     StandsFor (kept text) entries → definition_of bytes ≡ Ok entries → (locals : List Local) (definition one other : List ℕ)

@@ -20,7 +20,7 @@ assembling_fault (asm.UnknownLabel n) = fault.Assembling (asm.UnknownLabel n)
 assembling_fault asm.Memory = fault.Text asm.Memory
 assembling_fault asm.Write = fault.Text asm.Write
 
--- how a fault of reading entries is
+-- how a fault of reading entries is passed on
 abbrev pub entries_fault : OpFault → ProgramFault
 entries_fault e = if ops.is_memory e then fault.Entries else fault.Unread e
 
@@ -31,7 +31,7 @@ text_unread_as (reading.Failed kind) = fault.Read
 text_unread_as (reading.Unending interrupted) = fault.Read
 text_unread_as reading.Memory = fault.Memory
 
--- what the input gives is out; or there is a fault, and at most a prefix of it is out
+-- the text made from the input is written; or there is a fault, and at most a prefix of the text is written
 abbrev pub EndsIn : (List ℕ → List ℕ → Type 0) → (ProgramFault → List ℕ → Type 0) → Option (List ℕ) → Option (List ℕ) → Option (List ℕ)
     → Result (Unit {0}) ProgramFault → Type 0
 EndsIn Comes IsRefused input out out' (Ok u) = IfSome input (IsOut Comes out out')

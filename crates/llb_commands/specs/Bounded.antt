@@ -1,4 +1,4 @@
--- What a bounded reading gives.
+-- What a bounded reading returns.
 use Rattle.std.specs.Prelude.{◌≡◌, ◌≤◌, ◌<◌, ◌+◌, ℕ, List, length, Option, Result, Ok, Err, IfSome, Vec}
 use Rattle.std.specs.Io.KnownBytes.{Consumes, IsAtEnd}
 use Rattle.std.specs.Global.{Global}
@@ -11,7 +11,7 @@ pub record Took (limit : ℕ) (left left' : Option (List ℕ)) : Type 0 where
   pub few : length bytes ≤ limit
   pub rest : Consumes left left' bytes
 
--- bytes within the limit were read, and each of the reads gave one of them or was interrupted
+-- bytes within the limit were read, and each of the reads returned one of them or was interrupted
 pub record TookIn (reads limit interrupted : ℕ) (left left' : Option (List ℕ)) : Type 0 where
   pub took : Took limit left left'
   pub each : reads ≤ length took.bytes + interrupted

@@ -18,26 +18,27 @@ use Rattle.llb_commands.specs.declared.words.Local.{Local}
 use Rattle.llb_commands.specs.declared.words.WordsFault.{WordsFault}
 use Rattle.llb_commands.specs.declared.words.WordsFault.TheVariants.{Words, Memory}
 
--- the program's name is no word of its own, and `help` is no command
+-- the program's name is no word of its own, `help` is no command, and the version can be asked for
 abbrev pub base_app : App
 base_app = record {
-  top = record (new_app (codes "llbm")).top { no_binary_name = true; disable_help_subcommand = true };
+  top = record (new_app (codes "llbm")).top { has_version = true; no_binary_name = true; disable_help_subcommand = true };
   subs = [];
 }
 
 -- words that name local sources, as many as there are
 abbrev pub local_rule : Rule
-local_rule = record (new_rule (codes "local")) { action = Some Append }
+local_rule = record (new_rule (codes "local")) { action = Some Append; value_names = 1 }
 
 -- the file of the definition, which has to be there
 abbrev pub file_rule : Rule
-file_rule = record (new_rule (codes "file")) { action = Some Set; required = true }
+file_rule = record (new_rule (codes "file")) { action = Some Set; required = true; value_names = 1 }
 
 -- the number of workers, one of 32 bits, after `--workers`
 abbrev pub workers_rule : Rule
 workers_rule = record (new_rule (codes "workers")) {
   long = Some (codes "workers");
   action = Some Set;
+  value_names = 1;
   parser = Some (Signed (pos 0) (pos 4294967295));
 }
 
@@ -52,7 +53,7 @@ step_app = with_rule (with_rule (with_rule (new_app (codes "step")) workers_rule
 abbrev pub with_plain : App → Text → App
 with_plain app name = with_subcommand app (new_app name).top
 
--- those on graphs
+-- the commands on graphs
 abbrev pub graph_app : App
 graph_app = with_subcommand (with_plain (with_subcommand base_app run_app.top) (codes "show")) step_app.top
 
@@ -171,6 +172,6 @@ abbrev pub words_status : WordsFault → ℕ
 words_status (Words w) = 2
 words_status Memory = 3
 
--- the line of the fault is out, and the status is the fault's; or the line could not be written, and the status is 3
+-- the line of the fault is written, and the status is the fault's; or the line could not be written, and the status is 3
 abbrev pub TellsWords : Option (List ℕ) → Option (List ℕ) → WordsFault → ℕ → Type 0
 TellsWords err err' e = TellsLine err err' (words_text e) (words_status e)

@@ -7,6 +7,7 @@ use Rattle.llb_loader.specs.Locals.{Local}
 use Rattle.llb_commands.specs.Answer.{Runs, Draws}
 use Rattle.llb_commands.specs.Assembly.{Assembles, Disassembles}
 use Rattle.llb_commands.specs.CommandLine.{llbm_app, given, IsByWords, Says, TellsWords}
+use Rattle.llb_commands.specs.Pages.{HasPage, TellsWithPage}
 use Rattle.llb_commands.specs.Sources.{Gathers, TellsSource}
 use Rattle.llb_commands.specs.Stepping.{Steps}
 use Rattle.llb_commands.specs.declared.sources.SourceFault.{SourceFault}
@@ -16,11 +17,11 @@ use Rattle.llb_commands.specs.declared.words.Line.{Line}
 use Rattle.llb_commands.specs.declared.words.WordsFault.{WordsFault}
 use Rattle.llb_commands.specs.declared.words.WordsFault.TheVariants.{Words}
 
--- what files have, where it is known
+-- what files hold, where it is known
 abbrev pub Shelf : Type 0
 Shelf = List ℕ → Option (List ℕ)
 
--- a session over the definition in a file; where no file is named, or it is not opened or not read, nothing is out but the line that says so
+-- a session over the definition in a file; where no file is named, or it is not opened or not read, nothing is written but the line that says so
 abbrev pub StepsAt : Shelf → Option (Bor (List ℕ)) → ℕ → List Local → Option (List ℕ) → Option (List ℕ) → Option (List ℕ) → Option (List ℕ)
     → Option (List ℕ) → Option (List ℕ) → ℕ → Type 0
 StepsAt files None workers locals commands commands' out out' err err' status = Keeps out out' × TellsWords err err' (Words None) status
@@ -39,21 +40,23 @@ abbrev pub Performs : Shelf → Line → List Local → Option (List ℕ) → Op
     → ℕ → Type 0
 Performs files line = PerformsAs files line.command line
 
--- The words are refused, and a line says so.
+-- The words are refused, and a line says so; the page that they ask for follows it.
 pub record IsRefusedByWords (words : List Text) (out out' err err' : Option (List ℕ)) (status : ℕ) : Type 0 where
   pub fault : WordsFault
+  pub page : Text
   pub refused : IsByWords (fault_of llbm_app words) (given (subcommand_of llbm_app words)) (Err fault)
+  pub asked : HasPage (fault_of llbm_app words) words fault page
   pub none : Keeps out out'
-  pub told : TellsWords err err' fault status
+  pub told : TellsWithPage err err' fault page status
 
--- They name a local source that has no tree, and a line says why.
+-- The words name a local source that has no tree, and a line says why.
 pub record LacksSource (files : Shelf) (line : Line) (out out' err err' : Option (List ℕ)) (status : ℕ) : Type 0 where
   pub fault : SourceFault
   pub gathered : Gathers files line.locals [] (Err fault)
   pub none : Keeps out out'
   pub told : TellsSource err err' fault status
 
--- Or the command is done on the trees of the local sources.
+-- The command is done on the trees of the local sources.
 pub record IsDone (files : Shelf) (line : Line) (input input' out out' err err' : Option (List ℕ)) (status : ℕ) : Type 0 where
   pub locals : List Local
   pub gathered : Gathers files line.locals [] (Ok locals)

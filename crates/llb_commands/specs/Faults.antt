@@ -45,7 +45,7 @@ source_text source.Adding = codes "92"
 abbrev pub fault_line : List ℕ → List ℕ
 fault_line text = codes "fault " ++ (text ++ codes "\n")
 
--- 2 for a refusal of the input, else 3
+-- the status for a fault: 2 for a refusal of the input, else 3
 abbrev pub status_of : ProgramFault → ℕ
 status_of (fault.Refused f) = 2
 status_of (fault.MissingLocal name) = 2
@@ -55,13 +55,13 @@ status_of (fault.Assembling f) = 2
 status_of fault.TooLong = 2
 status_of _ = 3
 
--- the line of a fault is out, and the status is the fault's; or the line could not be written, and the status is 3
+-- the line of a fault is written, and the status is the fault's; or the line could not be written, and the status is 3
 abbrev pub TellsLine : Option (List ℕ) → Option (List ℕ) → List ℕ → ℕ → ℕ → Type 0
 TellsLine err err' text of_fault status = ((status ≡ of_fault) × Appends err err' (fault_line text)) ⊎ (status ≡ 3)
 
 abbrev pub Tells : Option (List ℕ) → Option (List ℕ) → ProgramFault → ℕ → Type 0
 Tells err err' e = TellsLine err err' (program_text e) (status_of e)
 
--- the input is refused, and the line of the fault that says why is out
+-- the input is refused, and the line of the fault that says why is written
 abbrev pub TellsWhy : (ProgramFault → List ℕ → Type 0) → Option (List ℕ) → Option (List ℕ) → Option (List ℕ) → Type 0
 TellsWhy IsRefused input err err' = (e : ProgramFault) × IfSome input (IsRefused e) × Appends err err' (fault_line (program_text e))

@@ -22,11 +22,11 @@ kind_text (Some (Build b)) = codes "build"
 kind_text (Some (Diff d)) = codes "diff"
 kind_text None = codes "none"
 
--- vertex and index
+-- the text of an edge: its vertex and its index
 abbrev pub edge_text : Edge → List ℕ
 edge_text e = decimal e.vertex ++ (codes "." ++ decimal e.index)
 
--- a space before each input, and a dash for none
+-- the text of an input: a space before each, and a dash for none
 abbrev pub input_text : Edge → List ℕ
 input_text e = codes " " ++ edge_text e
 

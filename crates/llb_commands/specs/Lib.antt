@@ -1,6 +1,7 @@
 -- Read first Answer (what a run prints for the bytes that it reads) with GraphText and Output, then Assembly (asm and dis), Stepping (a session),
--- CommandLine (what the words say), Sources (files of local sources), Bounded (a bounded reading), Faults (what a fault prints, with its status) and
--- Commands (how each command ends, and the program). Running and AssemblyParts are the parts of these.
+-- CommandLine (what the words say), Pages (what follows the line of words that ask for help), Sources (files of local sources), Bounded (a bounded
+-- reading), Faults (what a fault prints, with its status) and Commands (how each command ends, and the program). Running and AssemblyParts are the
+-- parts of these.
 pub mod Bounded
 pub mod Faults
 pub mod Answer
@@ -8,6 +9,7 @@ pub mod Running
 pub mod Output
 pub mod GraphText
 pub mod CommandLine
+pub mod Pages
 pub mod Sources
 pub use Rattle.std.specs.Io.KnownBytes.{Appends, Consumes, IsAtEnd, Keeps}
 pub mod Assembly

@@ -1,10 +1,10 @@
--- What is out of a text that was to be written.
+-- How much of a text that was to be written is written.
 use Rattle.std.specs.Prelude.{ℕ, List, Option, Result, Ok, Err}
 use Rattle.std.specs.Io.KnownBytes.{Appends}
 use Rattle.llb_wire.specs.Sink.{PartOut}
 pub use Rattle.llb_treetext.specs.Output.{Writes}
 
--- the whole text is out, or a prefix of it
+-- the whole text is written, or a prefix of it
 abbrev pub PrintsOut : {F : Type 0} → Option (List ℕ) → Option (List ℕ) → List ℕ → Result (Unit {0}) F → Type 0
 PrintsOut out out' text (Ok u) = Appends out out' text
 PrintsOut out out' text (Err e) = PartOut out out' text

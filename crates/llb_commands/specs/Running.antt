@@ -57,7 +57,7 @@ pub record IsFinished (workers : ℕ) (locals : List Local) (g : Numbered) (b : 
   pub ended : IsEnd workers (build_of locals g) b.state
   pub here : IsConsistent (build_of locals g) b.state
 
--- a tree is out where there is one; where there is none, the board comes back
+-- a tree is written where there is one; where there is none, the board is handed back
 abbrev pub Shows : Seen → Option (List ℕ) → Option (List ℕ) → Option TreeMap → Result (Option Seen) ProgramFault → Type 0
 Shows board out out' tree (Ok None) = (t : TreeMap) × (tree ≡ Some t) × Appends out out' (tree_text t)
 Shows board out out' tree (Ok (Some b)) = (b ≡ board) × (tree ≡ None) × Keeps out out'
@@ -67,21 +67,21 @@ Shows board out out' tree (Err e) = (¬ IsRefusal e) × ((t : TreeMap) × (tree 
 abbrev pub YieldsNoneOn : ℕ → List Local → Seen → List ℕ → Type 0
 YieldsNoneOn workers locals b bytes = (y : YieldsNone workers locals bytes) × (y.state ≡ b.state) × (build_of locals y.graph ≡ b.build)
 
--- the text is out; or the result is no tree, or there is a fault, and at most a prefix of the text is out
+-- the text is written; or the result is no tree, or there is a fault, and at most a prefix of the text is written
 abbrev pub Answers : ℕ → List Local → Option (List ℕ) → Option (List ℕ) → Option (List ℕ) → Result (Option Seen) ProgramFault → Type 0
 Answers workers locals input out out' (Ok None) = IfSome input (YieldsAll workers locals out out')
 Answers workers locals input out out' (Ok (Some b)) = Keeps out out' × IfSome input (YieldsNoneOn workers locals b)
 Answers workers locals input out out' (Err e) =
     (Keeps out out' × TellsRefusal (IsNotRun workers locals) input e) ⊎ ((¬ IsRefusal e) × IfSome input (YieldsPart workers locals out out'))
 
--- the exit status for an answer, with its lines: 0 for a text that is out, 1 where there is none, 2 for a refusal, and 3 where a device fails after any of them
+-- the exit status for a result, with its lines: 0 for a text that is written, 1 where there is none, 2 for a refusal, and 3 where a device fails after any
 abbrev pub Ends : Option (List ℕ) → Option (List ℕ) → Option (List ℕ) → Option (List ℕ) → Result (Option Seen) ProgramFault → ℕ → Type 0
 Ends out out' err err' (Ok None) status = Keeps out out' × (((status ≡ 0) × Keeps err err') ⊎ (status ≡ 3))
 Ends out out' err err' (Ok (Some b)) status =
     Keeps out out' × (((status ≡ 1) × Appends err err' (failed_lines b.build b.state (length b.build.graph.vertices))) ⊎ (status ≡ 3))
 Ends out out' err err' (Err e) status = Keeps out out' × Tells err err' e status
 
--- the text of the graph is out; or there is a fault, and at most a prefix of the text is out
+-- the text of the graph is written; or there is a fault, and at most a prefix of the text is written
 abbrev pub ShowsIn : Option (List ℕ) → Option (List ℕ) → Option (List ℕ) → Result (Unit {0}) ProgramFault → Type 0
 ShowsIn input out out' (Ok u) = IfSome input (DrawsAll out out')
 ShowsIn input out out' (Err e) = (Keeps out out' × TellsRefusal IsRefused input e) ⊎ ((¬ IsRefusal e) × IfSome input (DrawsPart out out'))

@@ -19,7 +19,7 @@ limit = 67108864
 abbrev pub most_reads : ℕ
 most_reads = 134217728
 
--- What is read of bytes: the tree whose text they are, or why they are none's. A device or memory may fail at any bytes, but the reading of the
+-- The result of reading bytes: the tree whose text they are, or why they are no tree's. A device or memory may fail at any bytes, but the reading of the
 -- text needs memory only where the bytes are a tree's.
 abbrev pub ReadsTree : List ℕ → Result TreeMap SourceFault → Type 0
 ReadsTree bytes (Ok t) = (length bytes ≤ limit) × Answers bytes (Ok t)
@@ -38,7 +38,7 @@ told (Err e) = Err (Text e)
 abbrev pub Reads : Option (List ℕ) → Result TreeMap SourceFault → Type 0
 Reads known r = IfSome known (λ bytes. ReadsTree bytes r)
 
--- what files give to local sources, one after another, each over the trees of those before it: the first fault, or all their trees
+-- the trees that files hold for local sources, one after another, each over the trees of those before it: the first fault, or all their trees
 abbrev pub Gathers : (List ℕ → Option (List ℕ)) → List Local → List given.Local → Result (List given.Local) SourceFault → Type 0
 Gathers files [] trees r = r ≡ Ok trees
 Gathers files (l ∷ ls) trees r = ((e : SourceFault) × Reads (files l.file.now) (Err e) × (r ≡ Err e))
@@ -52,6 +52,6 @@ source_status (Text e) = if is_memory e then 3 else 2
 source_status Reading = 3
 source_status Adding = 3
 
--- the line of the fault is out, and the status is the fault's; or the line could not be written, and the status is 3
+-- the line of the fault is written, and the status is the fault's; or the line could not be written, and the status is 3
 abbrev pub TellsSource : Option (List ℕ) → Option (List ℕ) → SourceFault → ℕ → Type 0
 TellsSource err err' e = TellsLine err err' (source_text e) (source_status e)

@@ -25,7 +25,7 @@ begun locals g workers = record { board = opened (build_of locals g) workers [];
 abbrev pub IsNotOpened : List Local → ℕ → ProgramFault → List ℕ → Type 0
 IsNotOpened locals workers p bytes = IsRefused p bytes ⊎ ((g : Numbered) × IsGraphIn bytes g × IsUnopened locals g workers p)
 
--- a session over the graph of the bytes: what is said to the commands is out
+-- a session over the graph of the bytes: the replies to the commands are written
 pub record IsSession (locals : List Local) (workers : ℕ) (commands commands' out out' : Option (List ℕ)) (result : Result (Unit {0}) SessionFault)
     (bytes : List ℕ) : Type 0 where
   pub graph : Numbered
@@ -41,7 +41,7 @@ session_fault session.Write = fault.Output output.Write
 session_fault session.Memory = fault.Memory
 session_fault session.TooLong = fault.TooLong
 
--- a session went on to its end; or there is none, and nothing is out; or it ended with a fault
+-- a session went on to its end; or there is none, and nothing is written; or it ended with a fault
 abbrev pub StepsIn : List Local → ℕ → Option (List ℕ) → Option (List ℕ) → Option (List ℕ) → Option (List ℕ) → Option (List ℕ)
     → Result (Unit {0}) ProgramFault → Type 0
 StepsIn locals workers file commands commands' out out' (Ok u) = IfSome file (IsSession locals workers commands commands' out out' (Ok u))
@@ -53,9 +53,9 @@ StepsIn locals workers file commands commands' out out' (Err e) =
 abbrev pub IsBroken : List Local → ℕ → Option (List ℕ) → Option (List ℕ) → Option (List ℕ) → Option (List ℕ) → List ℕ → Type 0
 IsBroken locals workers commands commands' out out' bytes = (f : SessionFault) × IsSession locals workers commands commands' out out' (Err f) bytes
 
--- How the command ends. 0: the session went on to its end. 2: the bytes are refused, a local tree is missing, or the number of workers is none, and nothing
--- is out but the line that says which; or there were too many bytes of commands, which a line says. 3: a device or memory failed; nothing is out, or what was
--- said up to there.
+-- How the command ends. 0: the session went on to its end. 2: the bytes are refused, a local tree is missing, or the number of workers is not 1 to 64, and
+-- nothing is written but the line that says which; or there were too many bytes of commands, which a line says. 3: a device or memory failed; nothing is
+-- written, or the replies up to there.
 abbrev pub Steps : List Local → ℕ → Option (List ℕ) → Option (List ℕ) → Option (List ℕ) → Option (List ℕ) → Option (List ℕ) → Option (List ℕ)
     → Option (List ℕ) → ℕ → Type 0
 Steps locals workers file commands commands' out out' err err' status =

@@ -1,4 +1,4 @@
-//! From a text to the definition of the entries that it stands for: read, assemble, write.
+//! From a text to the definition of the entries that it is read as: read, assemble, write.
 
 ghost use Rattle.std.specs.Prelude.{◌≡◌};
 ghost use Rattle.llb_commands.specs.Assembly.{Assembles, IsAssembled, IsNoText};
@@ -13,7 +13,7 @@ use llb_wire::{Bytes, Over, write_all};
 use std::alloc::Global;
 use std::io::{Read, Write};
 
-// A refusal of a line is one of the program; out of memory is not.
+// A refusal of a line is one of the program; the want of memory is not.
 fn assembling_fault(fault: AsmFault) -> ProgramFault
     ensures { result ≡ assembling_fault fault }
 {
@@ -34,7 +34,7 @@ fn text_unread(fault: ReadFault) -> ProgramFault
     }
 }
 
-// The definition of the entries that a text stands for.
+// The definition of the entries that a text is read as.
 fn definition_of(alloc: Global, text: &[u8]) -> Result<Bytes, ProgramFault>
     ensures { IsDefinitionOf text.now result }
 {
@@ -86,8 +86,8 @@ fn assembled<R: Read, W: Write>(
     }
 }
 
-/// Reads a text from `input` and writes the definition of the entries that it stands for to `out`; a refusal goes to `err`, as a line.
-/// Answers the exit status: 0 where the whole definition is out; 2 where the text is refused (`fault 161 N RULE`, `fault 162 N`, and
+/// Reads a text from `input` and writes the definition of the entries that it is read as to `out`; a refusal goes to `err`, as a line.
+/// Returns the exit status: 0 where the whole definition is written; 2 where the text is refused (`fault 161 N RULE`, `fault 162 N`, and
 /// `fault 185` past 67,108,864 bytes), and nothing is written to `out`; 3 where a read (181), a write (182) or memory (14, 163, 184)
 /// failed, and nothing, or a prefix of the definition, is written.
 pub fn asm_over<R: Read, W: Write, E: Write>(

@@ -1,11 +1,12 @@
 //! The command line, which `clap` reads: no words or `run`, which takes the number of workers and local sources as NAME=FILE, `step`,
-//! which takes a file too, and `show`, `asm` and `dis`.
+//! which takes a file too, and `show`, `asm` and `dis`. The texts for its pages of help are those of `pages`.
 
 ghost use Rattle.std.specs.Prelude.{◌≡◌, false, map, IfOk, IfErr};
-ghost use Rattle.clap.specs.Words.{app_of, kind_of, fault_of, found_of, rows_of, rule_of, subcommand_of};
+ghost use Rattle.clap.specs.Words.{app_of, kind_of, fault_of, found_of, new_app, rows_of, rule_of, subcommand_of};
 ghost use Rattle.clap.specs.declared.builder.command.Command.TheViews.{out-Command as fields_of};
 ghost use Rattle.llb_commands.specs.CommandLine.{
   llbm_app,
+  base_app,
   graph_app,
   run_app,
   step_app,
@@ -25,8 +26,10 @@ ghost use Rattle.llb_commands.specs.CommandLine.{
   RefusesWord,
   StandsFor,
 };
+ghost use Rattle.llb_commands.specs.Pages.{IsByWordsWithPage};
 
-use crate::words::{Command, Line, Local, WordsFault};
+use crate::pages::{VERSION, named, named_first, page_for};
+use crate::words::{Command, Line, Local, Refusal, WordsFault};
 use clap::error::ErrorKind;
 use clap::{Arg, ArgAction, ArgMatches, Error, value_parser};
 use llb_wire::Many;
@@ -38,7 +41,10 @@ fn local_arg<'a>(alloc: Global) -> Arg<'a>
     ensures rule { rule_of result ≡ local_rule }
     ensures plain { result.global ≡ false }
 {
-    Arg::new(alloc, "local").action(ArgAction::Append)
+    Arg::new(alloc, "local")
+        .value_name("NAME=FILE")
+        .help("The tree of the local source NAME, as its text in FILE")
+        .action(ArgAction::Append)
 }
 
 // The file of the definition, which has to be there.
@@ -47,17 +53,21 @@ fn file_arg<'a>(alloc: Global) -> Arg<'a>
     ensures plain { result.global ≡ false }
 {
     Arg::new(alloc, "file")
+        .value_name("FILE")
+        .help("The definition")
         .required(true)
         .action(ArgAction::Set)
 }
 
 // The number of workers, after `--workers`.
-fn workers_arg<'a>(alloc: Global) -> Arg<'a>
+fn workers_arg<'a>(alloc: Global, help: &'a str) -> Arg<'a>
     ensures rule { rule_of result ≡ workers_rule }
     ensures plain { result.global ≡ false }
 {
     Arg::new(alloc, "workers")
         .long("workers")
+        .value_name("N")
+        .help(help)
         .action(ArgAction::Set)
         .value_parser(value_parser!(u32))
 }
@@ -67,7 +77,8 @@ fn run_command<'a>(alloc: Global) -> Result<clap::Command<'a>, AllocError>
     ensures plain { IfOk result (λ c. (fields_of c).has_globals ≡ false) }
 {
     clap::Command::new(alloc, "run")
-        .arg(workers_arg(alloc))?
+        .about("Runs the definition on standard input, and prints the tree of its result")
+        .arg(workers_arg(alloc, "The number of workers, 1 to 64; without it, 1"))?
         .arg(local_arg(alloc))
 }
 
@@ -76,30 +87,64 @@ fn step_command<'a>(alloc: Global) -> Result<clap::Command<'a>, AllocError>
     ensures plain { IfOk result (λ c. (fields_of c).has_globals ≡ false) }
 {
     clap::Command::new(alloc, "step")
-        .arg(workers_arg(alloc))?
+        .about("Steps through the run of a definition, by commands on standard input")
+        .arg(workers_arg(alloc, "The number of workers, 1 to 64; without it, 2"))?
         .arg(file_arg(alloc))?
         .arg(local_arg(alloc))
+}
+
+// A command that takes no word.
+fn plain_command<'a>(alloc: Global, name: &'a str, about: &'a str) -> clap::Command<'a>
+    ensures app { app_of result ≡ new_app name.now }
+    ensures plain { (fields_of result).has_globals ≡ false }
+{
+    clap::Command::new(alloc, name).about(about)
+}
+
+// The program before its commands.
+fn base_command<'a>(alloc: Global) -> Result<clap::Command<'a>, AllocError>
+    ensures app { IfOk result (λ c. app_of c ≡ base_app) }
+    ensures plain { IfOk result (λ c. (fields_of c).has_globals ≡ false) }
+{
+    clap::Command::new(alloc, "llbm")
+        .about("Solves graphs of BuildKit's LLB")
+        .after_help("Without a command the definition is run by one worker, on no local sources.")
+        .version(VERSION)
+        .no_binary_name(true)
+        .disable_help_subcommand(true)
+        .bin_name("llbm")
 }
 
 // The commands on graphs.
 fn graph_commands<'a>(alloc: Global) -> Result<clap::Command<'a>, AllocError>
     ensures { IfOk result (λ c. app_of c ≡ graph_app) }
 {
-    clap::Command::new(alloc, "llbm")
-        .no_binary_name(true)
-        .disable_help_subcommand(true)
+    let show = plain_command(
+        alloc,
+        "show",
+        "Prints the graph of the definition on standard input",
+    );
+    base_command(alloc)?
         .subcommand(run_command(alloc)?)?
-        .subcommand(clap::Command::new(alloc, "show"))?
+        .subcommand(show)?
         .subcommand(step_command(alloc)?)
 }
 
-// All commands.
-fn llbm_command<'a>(alloc: Global) -> Result<clap::Command<'a>, AllocError>
+/// Returns the command line as `clap` takes it, with all commands.
+pub fn llbm_command<'a>(alloc: Global) -> Result<clap::Command<'a>, AllocError>
     ensures { IfOk result (λ c. app_of c ≡ llbm_app) }
 {
-    graph_commands(alloc)?
-        .subcommand(clap::Command::new(alloc, "asm"))?
-        .subcommand(clap::Command::new(alloc, "dis"))
+    let asm = plain_command(
+        alloc,
+        "asm",
+        "Writes the definition of the entries in the text on standard input",
+    );
+    let dis = plain_command(
+        alloc,
+        "dis",
+        "Prints the entries of the definition on standard input, as text",
+    );
+    graph_commands(alloc)?.subcommand(asm)?.subcommand(dis)
 }
 
 // The command of that name.
@@ -107,17 +152,7 @@ fn command_named(name: &str) -> Command
     requires { IsName name.now }
     ensures { name_of result ≡ name.now }
 {
-    if name == "show" {
-        Command::Show
-    } else if name == "step" {
-        Command::Step
-    } else if name == "asm" {
-        Command::Assemble
-    } else if name == "dis" {
-        Command::Disassemble
-    } else {
-        Command::Run
-    }
+    named(name).unwrap_or(Command::Run)
 }
 
 // Splits each word at its first `=`.
@@ -197,7 +232,7 @@ fn run_alone<'a>(alloc: Global) -> Line<'a>
     }
 }
 
-// What a refusal by `clap` comes to.
+// The fault for a refusal by `clap`.
 fn refused_by<'a>(error: Error) -> WordsFault<'a>
     ensures { StandsFor (kind_of error) result }
 {
@@ -208,19 +243,38 @@ fn refused_by<'a>(error: Error) -> WordsFault<'a>
     }
 }
 
-/// What the words after the program's name say: no words are `run`. 183 without a word where `clap` refuses them, a
-/// request for help among them; 183 with the first word for a local source that has no `=`; 184.
-pub fn command_of<'a, S: AsStr>(alloc: Global, words: &'a [S]) -> Result<Line<'a>, WordsFault<'a>>
+/// Returns what `command_of` returns, and for words that are refused also the page that they ask for.
+pub(crate) fn line_or_page<'a, S: AsStr>(
+    alloc: Global,
+    words: &'a [S],
+) -> Result<Line<'a>, Refusal<'a>>
     ensures says { IfOk result (Says (subcommand_of llbm_app (map S.text words.entry.now))) }
-    ensures refuses { IsByWords (fault_of llbm_app (map S.text words.entry.now)) (given (subcommand_of llbm_app (map S.text words.entry.now))) result }
+    ensures refuses { IsByWordsWithPage (fault_of llbm_app (map S.text words.entry.now)) (given (subcommand_of llbm_app (map S.text words.entry.now)))
+        (map S.text words.entry.now) result }
 {
     let command = llbm_command(alloc)?;
     let matches = match command.try_get_matches_from(words) {
         Ok(matches) => matches,
-        Err(error) => return Err(refused_by(error)),
+        Err(error) => {
+            let page = page_for(error.kind(), named_first(words));
+            let fault = refused_by(error);
+            return Err(Refusal { fault, page });
+        }
     };
     match matches.subcommand() {
-        Some((name, own)) => line_of(alloc, command_named(name), own),
+        Some((name, own)) => Ok(line_of(alloc, command_named(name), own)?),
         None => Ok(run_alone(alloc)),
+    }
+}
+
+/// Returns what the words after the program's name say: no words are `run`. Fails with 183 without a word where `clap` refuses them, a
+/// request for help among them; with 183 and the first word for a local source that has no `=`; with 184.
+pub fn command_of<'a, S: AsStr>(alloc: Global, words: &'a [S]) -> Result<Line<'a>, WordsFault<'a>>
+    ensures says { IfOk result (Says (subcommand_of llbm_app (map S.text words.entry.now))) }
+    ensures refuses { IsByWords (fault_of llbm_app (map S.text words.entry.now)) (given (subcommand_of llbm_app (map S.text words.entry.now))) result }
+{
+    match line_or_page(alloc, words) {
+        Ok(line) => Ok(line),
+        Err(refusal) => Err(refusal.fault),
     }
 }

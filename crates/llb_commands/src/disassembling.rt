@@ -15,7 +15,7 @@ use llb_wire::Over;
 use std::alloc::Global;
 use std::io::{Read, Write};
 
-// A definition that does not read is refused; out of memory is no refusal.
+// A definition that does not read is refused; the want of memory is no refusal.
 fn entries_fault(fault: OpFault) -> ProgramFault
     ensures { result ≡ entries_fault fault }
 {
@@ -64,8 +64,8 @@ fn disassembled<R: Read, W: Write>(
     }
 }
 
-/// Reads a definition from `input` and writes its entries to `out` as their one text; a refusal goes to `err`, as a line. Answers the
-/// exit status: 0 where the whole text is out; 2 where the definition does not read (`fault 1` to `4`, `11` to `13`, and `fault 81 13` past
+/// Reads a definition from `input` and writes its entries to `out` as their one text; a refusal goes to `err`, as a line. Returns the
+/// exit status: 0 where the whole text is written; 2 where the definition does not read (`fault 1` to `4`, `11` to `13`, and `fault 81 13` past
 /// 67,108,864 bytes), and nothing is written to `out`; 3 where a read (181), a write (164) or memory (14, 163, 184) failed, and
 /// nothing, or a prefix of the text, is written.
 pub fn dis_over<R: Read, W: Write, E: Write>(

@@ -1,5 +1,5 @@
-//! Why the program ends without its answer, and the status that it then ends with. A fault prints what stands after the
-//! word `fault`, and takes no memory for it.
+//! Why the program ends without its result, and the status that it then ends with. A fault prints what comes after the
+//! word `fault`, and does not allocate for it.
 
 ghost use Rattle.std.specs.Prelude.{◌≡◌, Some};
 ghost use Rattle.llb_commands.specs.Faults.{output_text, program_text, status_of, Tells};
@@ -47,7 +47,7 @@ impl From<AllocError> for OutputFault {
     }
 }
 
-/// Why the program ends without its answer.
+/// Why the program ends without its result.
 #[derive(Debug, Drop)]
 pub enum ProgramFault {
     /// 81 to 90: the definition is refused.
@@ -60,8 +60,8 @@ pub enum ProgramFault {
     Workers,
     /// 123: memory was refused while the board was opened.
     Opening,
-    /// 151: memory was refused in the run; 153: a thread could not be started. 152 and 154 stand for a gate that stops and a board that is
-    /// another: no run of the program ends so.
+    /// 151: memory was refused in the run; 153: a thread could not be started. 152 and 154 mean a gate that stops and another
+    /// board than the given one: no run of the program ends so.
     Run(RunFault),
     /// 34 and 35: the result's text is not out.
     Print(PrintFault),
@@ -110,7 +110,7 @@ impl fmt::Display for ProgramFault {
 impl error::Error for ProgramFault {}
 
 impl ProgramFault {
-    /// The status with which the program ends, once the fault's line is out: 2 for a refusal of the input, else 3.
+    /// Returns the status with which the program ends, once the fault's line is written: 2 for a refusal of the input, else 3.
     pub fn status(&self) -> u8
         ensures { result ≡ status_of self.now }
     {
@@ -126,7 +126,7 @@ impl ProgramFault {
     }
 }
 
-/// The fault's line goes out, and its status is the answer; 3 where the line can't be written.
+/// Writes the fault's line, and returns its status; 3 where the line can't be written.
 pub fn refusal<E: Write>(fault: &ProgramFault, err: &mut E) -> u8
     ensures { Tells (E.contents err.old) (E.contents err.new) fault.now result }
 {

@@ -10,7 +10,7 @@ use llb_ops::OpFault;
 use std::alloc::Global;
 use std::io::Read;
 
-// A refusal by the loader is one of the program; out of memory is not.
+// A refusal by the loader is one of the program; the want of memory is not.
 fn passed_on(fault: LoadFault) -> ProgramFault
     ensures { result ≡ passed_on fault }
 {
@@ -20,7 +20,7 @@ fn passed_on(fault: LoadFault) -> ProgramFault
     }
 }
 
-/// Why the program ends where no definition was read: one that is too long is refused (81 13), else 181 or 184.
+/// Returns why the program ends where no definition was read: one that is too long is refused (81 13), else 181 or 184.
 pub fn unread(fault: ReadFault) -> ProgramFault
     ensures { result ≡ unread_as fault }
 {

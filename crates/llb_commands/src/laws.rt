@@ -1,4 +1,4 @@
-//! What holds of texts, definitions and runs together.
+//! Laws of texts, definitions and runs together.
 
 ghost use Rattle.std.specs.Prelude.{IfOk};
 ghost use Rattle.llb_loader.specs.Graph.{Numbered};
@@ -16,7 +16,7 @@ use llb_stepper::{Stepper, past_is_the_records, replay_is_the_run, tells_the_run
 use llb_wire::Bytes;
 use std::alloc::Global;
 
-/// For a text that stands for some entries: the definition that it is assembled to, and any bytes that have these entries, run on the
+/// A law: for a text that is read as some entries, the definition that it is assembled to, and any bytes that have these entries, run on the
 /// same local trees to the text of one and the same result.
 pub fn assembled_runs_alike(text: &[u8], entries: &Entries, bytes: &Bytes)
     ensures { RunsAlike text.now entries.now bytes.now }
@@ -30,7 +30,7 @@ pub fn assembled_runs_alike(text: &[u8], entries: &Entries, bytes: &Bytes)
 /// The aim of the machine. For every definition that is loaded as a graph, and a board and a stepper over it, on all local trees and by any
 /// number of workers: after every interleaving of events the board's state and replies are the written table's on its record; no two
 /// executions hold one locked cache at once; every settled vertex with no cache mount at or before it has the graph's plain outcome; and a
-/// text that stands for the definition's entries is assembled to bytes that load as this graph, over which the stepper's state
+/// text that is read as the definition's entries is assembled to bytes that load as this graph, over which the stepper's state
 /// and lines are the table's.
 pub fn aim(
     text: &[u8],
@@ -57,7 +57,7 @@ pub fn aim(
     replay_is_the_run(board);
 }
 
-/// A caller of `aim`: what the calls give that load a definition, open boards over its graph and make a stepper meets its premises.
+/// A caller of `aim`: the results of the calls that load a definition, open boards over its graph and make a stepper meet its premises.
 pub fn aim_is_met(
     alloc: Global,
     text: &[u8],

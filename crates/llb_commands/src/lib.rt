@@ -11,6 +11,7 @@ mod graph_text;
 mod input;
 pub mod laws;
 mod opening;
+mod pages;
 mod performing;
 mod run;
 mod show;
@@ -20,7 +21,7 @@ mod words;
 
 pub use assembling::asm_over;
 pub use bounded::{ReadFault, read_bounded};
-pub use command_line::command_of;
+pub use command_line::{command_of, llbm_command};
 pub use disassembling::dis_over;
 pub use fault::{OutputFault, ProgramFault, refusal};
 pub use graph_text::print_graph;

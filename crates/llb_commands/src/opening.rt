@@ -11,7 +11,7 @@ use llb_cache::Caches;
 use llb_loader::{Graph, Locals};
 use std::alloc::Global;
 
-/// A board with that many workers and no caches, or why there is none.
+/// Opens a board with this number of workers and no caches, or fails with why there is none.
 pub(crate) fn opened(
     alloc: Global,
     graph: Graph,

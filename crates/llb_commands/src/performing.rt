@@ -1,11 +1,11 @@
-//! What the words ask for is done: one of the commands, over the readers, writers and local trees; and the program whole.
+//! Dispatches a command line: one of the commands, over the readers, writers and local trees; and the program whole.
 
 ghost use Rattle.std.specs.Prelude.{map};
 ghost use Rattle.llb_commands.specs.Commands.{IsProgram, Performs, StepsAt};
 ghost use Rattle.llb_commands.specs.Running.{Loads};
 
 use crate::assembling::asm_over;
-use crate::command_line::command_of;
+use crate::command_line::line_or_page;
 use crate::disassembling::dis_over;
 use crate::fault::ProgramFault;
 use crate::input::loaded;
@@ -13,7 +13,7 @@ use crate::run::run_many_over;
 use crate::show::show_over;
 use crate::sources::{Sources, locals_of, source_refusal};
 use crate::stepping::session_over;
-use crate::words::{Command, Line, WordsFault, words_refusal};
+use crate::words::{Command, Line, WordsFault, tell_refusal, words_refusal};
 use llb_loader::{Graph, Locals};
 use std::alloc::Global;
 use std::convert::AsStr;
@@ -21,7 +21,7 @@ use std::io::{Read, Write};
 use std::sync::Wait;
 use std::thread::Threads;
 
-// The graph of the definition in a file, which is read to its end and closed. 181 where it is not opened.
+// The graph of the definition in a file, which is read to its end and closed; or 181 where it is not opened.
 fn graph_in<S: Sources>(alloc: Global, sources: &S, file: &str) -> Result<Graph, ProgramFault>
     ensures { Loads (S.bytes sources.now file.now) result }
 {
@@ -51,7 +51,7 @@ fn step_in<S: Sources, R: Read, W: Write, E: Write>(
     session_over(alloc, graph, input, out, err, locals, line.workers)
 }
 
-/// Does what the line says on the local trees, which are those of its local sources, and answers the exit status: that of the
+/// Does what the line says on the local trees, which are those of its local sources, and returns the exit status: that of the
 /// command's own call. A session's definition is read from the line's file, to its end, before the first of its commands: where none is
 /// named, `fault 183` and 2, and where it is not opened, `fault 181` and 3. It may wait where the command is `run` with more than one worker.
 pub fn perform<T: Threads + Wait + Sync, S: Sources, R: Read, W: Write, E: Write>(
@@ -76,9 +76,10 @@ pub fn perform<T: Threads + Wait + Sync, S: Sources, R: Read, W: Write, E: Write
     }
 }
 
-/// The program: does what the words after its name say, and answers the exit status. Words that say nothing are told by a line (183, 184),
-/// and so is the first local source that has no tree (31 to 34, 92, 181, 184, 185); else the command is done on their trees, and the status
-/// is its own. It may wait where the command is `run` with more than one worker.
+/// Runs the program: does what the words after its name say, and returns the exit status. Words that say nothing end it with a line (183, 184),
+/// and below it the page that they ask for, where they ask for help or for the version; so does the first local source that has no tree
+/// (31 to 34, 92, 181, 184, 185); else the command is done on their trees, and the status is its own. It may wait where the command is `run`
+/// with more than one worker.
 pub fn program<T: Threads + Wait + Sync, A: AsStr, S: Sources, R: Read, W: Write, E: Write>(
     rt: &T,
     alloc: Global,
@@ -91,9 +92,9 @@ pub fn program<T: Threads + Wait + Sync, A: AsStr, S: Sources, R: Read, W: Write
     ensures { IsProgram (S.bytes sources.now) (map A.text words.now) (R.remaining input.old) (R.remaining input.new)
         (W.contents out.old) (W.contents out.new) (E.contents err.old) (E.contents err.new) result }
 {
-    let line = match command_of(alloc, words) {
+    let line = match line_or_page(alloc, words) {
         Ok(line) => line,
-        Err(fault) => return words_refusal(&fault, err),
+        Err(refusal) => return tell_refusal(&refusal, err),
     };
     match locals_of(alloc, sources, line.locals.as_slice()) {
         Ok(locals) => perform(rt, alloc, sources, &line, locals, input, out, err),

@@ -120,7 +120,7 @@ fn answer<R: Read, W: Write>(
     print_result(alloc, board, edge, out)
 }
 
-// The same with that many.
+// The same with this number of workers.
 fn answer_by<T: Threads + Wait + Sync, R: Read, W: Write>(
     rt: &T,
     alloc: Global,
@@ -160,7 +160,7 @@ fn failures<E: Write>(board: &Board, err: &mut E) -> io::Result<()>
     Ok(())
 }
 
-// The exit status for an answer, once its lines are out.
+// The exit status for a result, once its lines are written.
 fn told<W: Write, E: Write>(
     answer: Result<Option<Board>, ProgramFault>,
     out: &mut W,
@@ -184,8 +184,8 @@ fn told<W: Write, E: Write>(
 }
 
 /// Reads a definition from `input`, runs it on the local trees with one worker and caches that are empty at first, and writes
-/// the text of its result to `out`; refusals and failures go to `err`, a line each. Answers the exit status: 0 where the whole
-/// text is out; 1 where a vertex failed; 2 where the definition is refused, or a local source has no tree (`fault 121` and its
+/// the text of its result to `out`; refusals and failures go to `err`, a line each. Returns the exit status: 0 where the whole
+/// text is written; 1 where a vertex failed; 2 where the definition is refused, or a local source has no tree (`fault 121` and its
 /// name); 3 where a read, a write or memory failed. But for 0, nothing is written to `out`, or, for 3, a prefix of the text.
 /// Reading ends past 67,108,864 bytes (`fault 81 13`) or after 2^27 reads (`fault 181`).
 pub fn run_over<R: Read, W: Write, E: Write>(
@@ -201,9 +201,9 @@ pub fn run_over<R: Read, W: Write, E: Write>(
     told(answer, out, err)
 }
 
-/// The same with that many workers, where they are several each in a thread of its own, which it waits for. Where no cache is mounted, the text is
-/// that of the plain outcomes, for any number of workers. 2 also where the number is 0, or more than 64 (`fault 122`); 3 also where a thread
-/// could not be started (`fault 153`).
+/// Does the same with this number of workers, where they are several each in a thread of its own, which it waits for. Where no cache is mounted,
+/// the text is that of the plain outcomes, for any number of workers. The status is 2 also where the number is 0, or more than 64 (`fault 122`),
+/// and 3 also where a thread could not be started (`fault 153`).
 pub fn run_many_over<T: Threads + Wait + Sync, R: Read, W: Write, E: Write>(
     rt: &T,
     alloc: Global,

@@ -1,4 +1,4 @@
-//! The trees of local sources, read from the texts of their files. Which files there are is told by a trait, so that
+//! The trees of local sources, read from the texts of their files. A trait says which files there are, so that
 //! the program's are the only ones whose bytes are not known here.
 
 ghost use Rattle.std.specs.Prelude.{◌≡◌, ℕ, List, [], Option, Some, IfOk, IfErr, OnOk, IfSome};
@@ -60,8 +60,8 @@ pub trait Sources {
         ensures { IfOk result (λ input. IfSome (bytes self.now file.now) (λ xs. Self.Input.remaining input ≡ Some xs)) };
 }
 
-/// Reads a text to its end as a tree. 181 where a read fails, or the end is not met in 2^27 reads; 185 past 67,108,864
-/// bytes; 31 to 34; 184.
+/// Reads a text to its end as a tree. Fails with 181 where a read fails, or the end is not met in 2^27 reads; with 185 past
+/// 67,108,864 bytes; with 31 to 34; with 184.
 pub fn local_from<R: Read>(alloc: Global, input: &mut R) -> Result<Tree, SourceFault>
     ensures { Reads (R.remaining input.old) result }
 {
@@ -73,7 +73,7 @@ pub fn local_from<R: Read>(alloc: Global, input: &mut R) -> Result<Tree, SourceF
     }
 }
 
-// What is told of the reading of a text.
+// The fault of the reading of a text, as one of a local source.
 fn told(read: Result<Tree, TextFault>) -> Result<Tree, SourceFault>
     ensures { result ≡ told read }
 {
@@ -125,7 +125,7 @@ pub fn locals_of<F: Sources>(
 }
 
 impl SourceFault {
-    /// The status with which the program ends, once the fault's line is out: 2 where the text is refused, else 3.
+    /// Returns the status with which the program ends, once the fault's line is written: 2 where the text is refused, else 3.
     pub fn status(&self) -> u8
         ensures { result ≡ source_status self.now }
     {
@@ -138,7 +138,7 @@ impl SourceFault {
     }
 }
 
-/// The line of a local source that has no tree goes out, and its fault's status is the answer; 3 where the line can't be written.
+/// Writes the line of a local source that has no tree, and returns its fault's status; 3 where the line can't be written.
 pub fn source_refusal<E: Write>(fault: &SourceFault, err: &mut E) -> u8
     ensures { TellsSource (E.contents err.old) (E.contents err.new) fault.now result }
 {

@@ -1,4 +1,4 @@
-//! A stepping session over the run of a definition: read, load, open a board, answer the commands.
+//! A stepping session over the run of a definition: read, load, open a board, reply to the commands.
 
 ghost use Rattle.std.specs.Prelude.{◌≡◌, ℕ, List, Option};
 ghost use Rattle.llb_commands.specs.Running.{Loads};
@@ -14,7 +14,7 @@ use llb_stepper::Stepper;
 use std::alloc::Global;
 use std::io::{Read, Write};
 
-// What a fault of a session comes to.
+// The program's fault for a fault of a session.
 fn session_fault(fault: SessionFault) -> ProgramFault
     ensures { result ≡ session_fault fault }
 {
@@ -47,7 +47,7 @@ fn stepped<C: Read, W: Write>(
     }
 }
 
-/// A session over a definition that was read, whatever it was read from; or the refusal that came of it. Answers the exit status.
+/// Runs a session over a definition that was read, whatever it was read from; or passes on the refusal. Returns the exit status.
 pub(crate) fn session_over<C: Read, W: Write, E: Write>(
     alloc: Global,
     graph: Result<Graph, ProgramFault>,
@@ -66,12 +66,12 @@ pub(crate) fn session_over<C: Read, W: Write, E: Write>(
     }
 }
 
-/// Reads a definition from `file`, and answers the lines of `commands` on a board with that many workers and caches that are empty at first:
-/// what they print goes to `out`, line by line, refusals of commands too. A refusal of the definition goes to `err`, as a line. Answers the
+/// Reads a definition from `file`, and replies to the lines of `commands` on a board with this number of workers and caches that are empty at first:
+/// what they print goes to `out`, line by line, refusals of commands too. A refusal of the definition goes to `err`, as a line. Returns the
 /// exit status: 0 where the session ended, by a line `quit` or with the commands; 2 where the definition is refused (81 to 90), a local
 /// source has no tree (121), or the number of workers is 0 or more than 64 (122), and nothing is written to `out`, or where the commands
-/// have more than 67,108,864 bytes (185), and the lines within them are answered; 3 where a read (181), a write (182) or memory (91, 123, 184)
-/// failed, and nothing, or a prefix of the answers, is written.
+/// have more than 67,108,864 bytes (185), and the lines within them get their replies; 3 where a read (181), a write (182) or memory (91, 123, 184)
+/// failed, and nothing, or a prefix of the replies, is written.
 pub fn step_over<R: Read, C: Read, W: Write, E: Write>(
     alloc: Global,
     file: &mut R,

@@ -1,7 +1,8 @@
-//! What the words of the command line say, or why they say nothing.
+//! What the words of the command line say, or why they are rejected.
 
 ghost use Rattle.std.specs.Prelude.{◌≡◌, Some};
 ghost use Rattle.llb_commands.specs.CommandLine.{words_status, words_text, TellsWords};
+ghost use Rattle.llb_commands.specs.Pages.{TellsWithPage};
 
 use llb_wire::Many;
 use std::alloc::{AllocError, AllocFailed};
@@ -17,7 +18,7 @@ pub enum Command {
     Show,
     /// To step through the run of a definition.
     Step,
-    /// To write the definition of the entries that a text stands for.
+    /// To write the definition of the entries that a text is read as.
     Assemble,
     /// To write the entries of a definition as text.
     Disassemble,
@@ -86,7 +87,7 @@ impl<T: Drop> From<AllocFailed<T>> for WordsFault<'_> {
 }
 
 impl WordsFault<'_> {
-    /// The status with which the program ends, once the fault's line is out: 2 for the words, 3 where it is out of memory.
+    /// Returns the status with which the program ends, once the fault's line is written: 2 for the words, 3 where it is out of memory.
     pub fn status(&self) -> u8
         ensures { result ≡ words_status self.now }
     {
@@ -97,7 +98,7 @@ impl WordsFault<'_> {
     }
 }
 
-/// The line of words that say nothing goes out, and their fault's status is the answer; 3 where the line can't be written.
+/// Writes the line of words that say nothing, and returns their fault's status; 3 where the line can't be written.
 pub fn words_refusal<E: Write>(fault: &WordsFault<'_>, err: &mut E) -> u8
     ensures { TellsWords (E.contents err.old) (E.contents err.new) fault.now result }
 {
@@ -105,4 +106,43 @@ pub fn words_refusal<E: Write>(fault: &WordsFault<'_>, err: &mut E) -> u8
         return 3;
     }
     fault.status()
+}
+
+/// Words that say nothing: why, and the page that they ask for, an empty one where they ask for none.
+#[derive(Clone, Copy, Debug)]
+pub(crate) struct Refusal<'a> {
+    pub(crate) fault: WordsFault<'a>,
+    pub(crate) page: &'static str,
+}
+
+impl<'a> From<WordsFault<'a>> for Refusal<'a> {
+    ghost use Rattle.std.specs.Prelude.{◌≡◌, []};
+
+    ghost from_gives = { λ fault e. (e.fault ≡ fault) × (e.page.now ≡ []) };
+
+    fn from(fault: WordsFault<'a>) -> Self {
+        Refusal { fault, page: "" }
+    }
+}
+
+impl From<AllocError> for Refusal<'_> {
+    ghost use Rattle.std.specs.Prelude.{◌≡◌, []};
+    ghost use Rattle.llb_commands.specs.declared.words.WordsFault.TheVariants.{Memory};
+
+    ghost from_gives = { λ _ e. (e.fault ≡ Memory) × (e.page.now ≡ []) };
+
+    fn from(_: AllocError) -> Self {
+        Refusal::from(WordsFault::Memory)
+    }
+}
+
+/// Writes the line of refused words, and below it the page that they ask for; returns the fault's status, or 3 where they can't be
+/// written.
+pub(crate) fn tell_refusal<E: Write>(refusal: &Refusal<'_>, err: &mut E) -> u8
+    ensures { TellsWithPage (E.contents err.old) (E.contents err.new) refusal.now.fault refusal.now.page.now result }
+{
+    if write!(err, "fault {}\n{}", refusal.fault, refusal.page).is_err() {
+        return 3;
+    }
+    refusal.fault.status()
 }

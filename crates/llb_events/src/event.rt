@@ -1,4 +1,4 @@
-//! The events that change a board and what they answer, and how a vertex and a worker look from outside.
+//! The events that change a board and their replies, and how a vertex and a worker look from outside.
 
 use llb_model::VertexFault;
 
@@ -15,7 +15,7 @@ pub enum Event {
     Cancel(u32),
 }
 
-/// What a micro-step answers.
+/// The reply to a micro-step.
 #[derive(Clone, Copy, Debug, PartialEq, Eq)]
 pub enum Stepped {
     /// The local tree is read.

@@ -1,4 +1,4 @@
-//! Why an event is refused, and why a job comes to no outcome. A fault prints its number, and after it the ID of a held key.
+//! Why an event is refused, and why a job has no outcome. A fault prints its number, and after it the ID of a held key.
 
 ghost use Rattle.std.specs.Prelude.{Some};
 ghost use Rattle.llb_events.specs.Faults.{claim_text, step_text, settle_text, cancel_text, walk_text};
@@ -15,7 +15,7 @@ use thiserror::Error;
 #[error("141")]
 pub struct Memory;
 
-/// Why a job comes to no outcome.
+/// Why a job has no outcome.
 #[derive(Clone, Copy, Debug, Error)]
 pub enum WorkFault {
     /// 143: the gate let no work begin.
@@ -26,7 +26,7 @@ pub enum WorkFault {
     Memory,
 }
 
-/// Why a vertex is not claimed: the first cause that stands.
+/// Why a vertex is not claimed: the first cause that applies.
 #[derive(Debug, Drop)]
 pub enum ClaimFault {
     /// 131: there is no worker of that number.
@@ -60,7 +60,7 @@ impl fmt::Display for ClaimFault {
 
 impl error::Error for ClaimFault {}
 
-/// Why a micro-step is not done: the first cause that stands.
+/// Why a micro-step is not done: the first cause that applies.
 #[derive(Clone, Copy, Debug, PartialEq, Eq)]
 pub enum StepFault {
     /// 131: there is no worker of that number.
@@ -88,7 +88,7 @@ impl fmt::Display for StepFault {
 
 impl error::Error for StepFault {}
 
-/// Why a vertex is not settled: the first cause that stands.
+/// Why a vertex is not settled: the first cause that applies.
 #[derive(Clone, Copy, Debug, PartialEq, Eq)]
 pub enum SettleFault {
     /// 131: there is no worker of that number.
@@ -113,7 +113,7 @@ impl fmt::Display for SettleFault {
 
 impl error::Error for SettleFault {}
 
-/// Why what a worker runs is not given up: the first cause that stands.
+/// Why what a worker runs is not given up: the first cause that applies.
 #[derive(Clone, Copy, Debug, PartialEq, Eq)]
 pub enum CancelFault {
     /// 131: there is no worker of that number.
@@ -135,7 +135,7 @@ impl fmt::Display for CancelFault {
 
 impl error::Error for CancelFault {}
 
-/// Why an event of a walk is refused: the fault of the claim, the step, the settle or the cancel, or out of memory, whoever has it.
+/// Why an event of a walk is refused: the fault of the claim, the step, the settle or the cancel, or `Memory`, whichever call ran out.
 #[derive(Debug, Drop)]
 pub enum WalkFault {
     /// 131 to 135.
@@ -178,35 +178,35 @@ impl<T: Drop> From<AllocFailed<T>> for Memory {
     }
 }
 
-/// Of a copy of caches.
+/// Converts the fault of a copy of caches.
 impl From<llb_cache::Memory> for Memory {
     fn from(_: llb_cache::Memory) -> Memory {
         Memory
     }
 }
 
-/// Of a copy of a tree, which can only lack memory.
+/// Converts the fault of a copy of a tree, which can only lack memory.
 impl From<TreeFault> for Memory {
     fn from(_: TreeFault) -> Memory {
         Memory
     }
 }
 
-/// Of a copy of a view.
+/// Converts the fault of a copy of a view.
 impl From<llb_wire::Memory> for Memory {
     fn from(_: llb_wire::Memory) -> Memory {
         Memory
     }
 }
 
-/// Of a copy of a graph and of local trees.
+/// Converts the fault of a copy of a graph and of local trees.
 impl From<llb_loader::Memory> for Memory {
     fn from(_: llb_loader::Memory) -> Memory {
         Memory
     }
 }
 
-/// Of a copy of where commands run.
+/// Converts the fault of a copy of where commands run.
 impl From<llb_applet::Memory> for Memory {
     fn from(_: llb_applet::Memory) -> Memory {
         Memory
@@ -257,7 +257,7 @@ impl<T: Drop> From<AllocFailed<T>> for ClaimFault {
     }
 }
 
-/// Of a call on a tree that can only lack memory.
+/// Converts the fault of a call on a tree that can only lack memory.
 impl From<TreeFault> for ClaimFault {
     ghost use Rattle.std.specs.Prelude.{◌≡◌};
     ghost use Rattle.llb_events.specs.declared.fault.ClaimFault.TheVariants.{Memory};
@@ -269,7 +269,7 @@ impl From<TreeFault> for ClaimFault {
     }
 }
 
-/// Of a copy of a text, and of the parts of an execution.
+/// Converts the fault of a copy of a text, and of the parts of an execution.
 impl From<llb_wire::Memory> for ClaimFault {
     ghost use Rattle.std.specs.Prelude.{◌≡◌};
     ghost use Rattle.llb_events.specs.declared.fault.ClaimFault.TheVariants.{Memory};
@@ -281,7 +281,7 @@ impl From<llb_wire::Memory> for ClaimFault {
     }
 }
 
-/// Of room for events.
+/// Converts the fault of making room for events.
 impl From<Memory> for ClaimFault {
     ghost use Rattle.std.specs.Prelude.{◌≡◌};
     ghost use Rattle.llb_events.specs.declared.fault.ClaimFault.TheVariants as claim;
@@ -293,7 +293,7 @@ impl From<Memory> for ClaimFault {
     }
 }
 
-/// Of a copy of a key.
+/// Converts the fault of a copy of a key.
 impl From<llb_cache::Memory> for ClaimFault {
     ghost use Rattle.std.specs.Prelude.{◌≡◌};
     ghost use Rattle.llb_events.specs.declared.fault.ClaimFault.TheVariants.{Memory};
@@ -305,7 +305,7 @@ impl From<llb_cache::Memory> for ClaimFault {
     }
 }
 
-/// Of a lease that can only lack memory.
+/// Converts the fault of a lease that can only lack memory.
 impl From<llb_cache::LeaseFault> for ClaimFault {
     ghost use Rattle.std.specs.Prelude.{◌≡◌};
     ghost use Rattle.llb_events.specs.declared.fault.ClaimFault.TheVariants.{Memory};
@@ -317,7 +317,7 @@ impl From<llb_cache::LeaseFault> for ClaimFault {
     }
 }
 
-/// Of a call on a tree that can only lack memory.
+/// Converts the fault of a call on a tree that can only lack memory.
 impl From<TreeFault> for StepFault {
     ghost use Rattle.std.specs.Prelude.{◌≡◌};
     ghost use Rattle.llb_events.specs.declared.fault.StepFault.TheVariants.{Memory};
@@ -329,7 +329,7 @@ impl From<TreeFault> for StepFault {
     }
 }
 
-/// Of a micro-step on a view, which can only lack memory.
+/// Converts the fault of a micro-step on a view, which can only lack memory.
 impl From<llb_wire::Memory> for StepFault {
     ghost use Rattle.std.specs.Prelude.{◌≡◌};
     ghost use Rattle.llb_events.specs.declared.fault.StepFault.TheVariants.{Memory};
@@ -363,7 +363,7 @@ impl From<Memory> for WalkFault {
     }
 }
 
-/// Of a mark of a view.
+/// Converts the fault of a mark of a view.
 impl From<llb_wire::Memory> for WalkFault {
     ghost use Rattle.std.specs.Prelude.{◌≡◌};
     ghost use Rattle.llb_events.specs.declared.fault.WalkFault.TheVariants as walk;

@@ -1,4 +1,4 @@
-//! What stands before work: a worker passes it once before it works, and it may stop the worker there.
+//! The gate: a worker passes it once before it works on a vertex, and it may stop the worker there.
 
 ghost use Rattle.std.specs.Prelude.{ℕ, Bool, IfErr, IsTrue};
 
@@ -14,7 +14,7 @@ pub trait Gate {
     /// At which workers and vertices it may stop.
     ghost may_stop: { ℕ → ℕ → Bool };
 
-    /// Lets worker w work on vertex v, or stops it. It answers after a bounded number of turns.
+    /// Lets worker w work on vertex v, or stops it. It returns after a bounded number of turns.
     fn pass(&self, w: u32, v: u32) -> Result<(), Stopped>
         ensures { IfErr result (λ _. IsTrue (may_stop w v)) };
 }

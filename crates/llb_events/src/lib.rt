@@ -1,4 +1,4 @@
-//! What is asked of a board and what it answers: the events, their replies, how vertices and workers look, why an event is refused, and
+//! What is asked of a board and its replies: the events, their replies, how vertices and workers look, why an event is refused, and
 //! the gate before work. Types alone: which event is granted, and what it changes, is the board's.
 #![tactic(auto)]
 

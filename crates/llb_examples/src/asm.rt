@@ -1,4 +1,4 @@
-//! The assembler's calls, each once: what texts stand for and how entries are written is tried by the program (the tests of `asm` and `dis` in
+//! The assembler's calls, each once: what texts are read as and how entries are written is tested by the program (the tests of `asm` and `dis` in
 //! `llbm`).
 
 use super::told::is_so;

@@ -1,4 +1,4 @@
-//! What faults print: what stands after the word `fault` in a refusal. Those of records and messages, the loader's other refusals, each feature
+//! What faults print: what comes after the word `fault` in a refusal. Those of records and messages, the loader's other refusals, each feature
 //! and each rule are printed in `loader` and by the program (`show`, `taken_ops`, `taken_executions` and `taken_caches` in `llbm`).
 
 use super::told::prints;

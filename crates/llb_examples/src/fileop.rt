@@ -1,4 +1,4 @@
-//! File actions by calls. What they leave of trees, and by which faults they fail, is tried by the program (`file_actions` in `llbm`).
+//! File actions by calls. What they leave of trees, and by which faults they fail, is tested by the program (`file_actions` in `llbm`).
 
 use super::ops::{COPY, MAKES_A};
 use super::told::{is_same, say, say_fault, say_path, say_tree};

@@ -102,7 +102,7 @@ fn a_path_matches_part_by_part_and_a_bad_pattern_is_refused(rt: HostRuntime) {
     }
 }
 
-// A text that many times over and then a rest, another one that many times over, and whether they match.
+// A text a number of times and then a rest, another one a number of times, and whether they match.
 type Long = (
     &'static str,
     usize,

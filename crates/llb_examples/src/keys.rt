@@ -1,4 +1,4 @@
-//! Keys of caches: what is the same key, and what faults tell of one.
+//! Keys of caches: what is the same key, and what faults print of one.
 
 use super::leases::{Row, key_of};
 use super::told::{prints, row_holds};

@@ -1,8 +1,8 @@
-//! Caches, as transcripts. A line with `> ` first is a call, and the lines after it are what it answers; one with `# ` first says what the
+//! Caches, as transcripts. A line with `> ` first is a call, and the lines after it are its result; one with `# ` first says what the
 //! next calls show. A need is the ID and the way of its key, the index of its seed or `-`, and the name of the one file in its tree, where it
-//! has one. `lease NEED, ..` answers the number of the lease and of the instance of each need, or the fault; `see LEASE NEED` the name of the
-//! file in what a lease has there, which `set LEASE NEED NAME` changes, and `back LEASE` gives a lease back; leases are named by their place
-//! among those granted. `count NEED` answers how many instances a key has, how many leases are out, and each instance's file; `next NEED` the
+//! has one. `lease NEED, ..` prints the number of the lease and of the instance of each need, or the fault; `see LEASE NEED` the name of the
+//! file in what a lease has there, which `set LEASE NEED NAME` changes, and `back LEASE` releases a lease; leases are named by their place
+//! among those granted. `count NEED` prints how many instances a key has, how many leases are out, and each instance's file; `next NEED` the
 //! instance that a lease would have now, or `shut`. There are no caches after `new`.
 
 use super::told::{file, made, row_holds, say, say_fault, say_number};
@@ -145,7 +145,7 @@ fn next_instance(caches: &Caches, key: &Key) -> Option<u32> {
     Some(caches.next_instance(key))
 }
 
-// ---- what they answer
+// ---- their results
 
 // The number of a lease, and of the instance of each of its needs.
 fn say_lease(rt: &impl Abort, text: &mut String, caches: &Caches, lease: Lease) {
@@ -198,7 +198,7 @@ fn say_next(rt: &impl Abort, alloc: Global, text: &mut String, caches: &Caches, 
     say(rt, text, "\n");
 }
 
-// The lease at a place, the number of a need, and what stands after both.
+// The lease at a place, the number of a need, and what comes after both.
 fn lease_at<'a>(rt: &impl Abort, stage: &Stage, words: &'a str) -> (Lease, u32, &'a str) {
     let (place, rest) = word_and_rest(words);
     let (need, name) = word_and_rest(rest);

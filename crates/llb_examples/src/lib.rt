@@ -1,5 +1,5 @@
-//! Worked examples of the libraries below the board, by their calls: tests, and nothing else. What the program tells of them is tried by its
-//! transcripts (`crates/llbm/src/tests`). The values are written out from the rules by hand.
+//! Worked examples of the libraries below the board, by their calls: tests, and nothing else. What a library does that the program prints is tested
+//! by the program's transcripts (`crates/llbm/src/tests`). The values are written out from the rules by hand.
 #![tactic(auto)]
 
 #[cfg(test)]

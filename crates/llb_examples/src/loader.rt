@@ -1,4 +1,4 @@
-//! Rows under digest texts of any kind: the graph that they are, or what is refused of them. Rows stand as `DIGEST = NAME`, with `; ` between
+//! Rows under digest texts of any kind: the graph that they are, or why they are refused. Rows are written as `DIGEST = NAME`, with `; ` between
 //! them, NAME being that of an entry of `entries`.
 
 use super::entries::ENTRIES;
@@ -111,7 +111,7 @@ fn rows_are_graphs(rt: HostRuntime) {
     }
 }
 
-// The op of a chain that stands on the op of that number, or makes `/a` where there is none.
+// The op of a chain that reads the output of the op of that number, or makes `/a` where there is none.
 fn push_op(rt: &impl Abort, text: &mut String, below: Option<u32>) {
     match below {
         None => text.push_str(block(ENTRIES, "MAKES_A").unwrap_or("")),

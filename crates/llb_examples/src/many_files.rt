@@ -1,4 +1,4 @@
-//! A tree of a thousand files and its copies: changes of one are not in the others. Trees are told by their whole texts.
+//! A tree of a thousand files and its copies: changes of one are not in the others. Trees are compared by their whole texts.
 
 use super::overlay::copied;
 use super::told::{dir, file, is_so, made, put, say};

@@ -1,4 +1,4 @@
-//! One tree laid over another: three of them, and what is known of any two. What merges of inputs give is tried by the program (`layers` in
+//! One tree laid over another: three of them, and what is known of any two. The outputs of merges of inputs are tested by the program (`layers` in
 //! `llbm`).
 
 use super::overlay::lent;

@@ -1,5 +1,5 @@
 //! Views. A mount is a row: its dest, its selector, whether it is read-only, and the name of the one file in its tree. A
-//! story is told in a line of text: the answer to each step, and then the mounts.
+//! story is a line of text: the result of each step, and then the mounts.
 
 use super::told::{file, holds, is_same, made, prints, row_holds, say, say_names, say_path};
 use super::tree::path_of;
@@ -126,7 +126,7 @@ fn say_mounts(rt: &impl Abort, alloc: Global, text: &mut String, view: &View) {
     }
 }
 
-// What a mount's tree is set to, or the fault and what comes back.
+// What a mount's tree is set to, or the fault and the tree that is handed back.
 fn say_set(rt: &impl Abort, alloc: Global, text: &mut String, answer: Result<(), ReadOnly>) {
     match answer {
         Ok(()) => say(rt, text, "ok "),
@@ -153,7 +153,7 @@ fn take_steps(rt: &impl Abort, alloc: Global, text: &mut String, view: &mut View
     }
 }
 
-// The story of the steps, and then a view of the mounts that a copy gives back, which was made before them.
+// The story of the steps, and then a view of the mounts of a copy that was made before them.
 fn story(rt: &impl Abort, alloc: Global, steps: &[Step]) -> String {
     let mut text = String::new(alloc);
     let mut view = view_of(rt, alloc, THREE).expect(rt, "a view");

@@ -39,7 +39,7 @@ fn leave_children<'a>(
     }
 }
 
-// What stands at each node, before what is below it.
+// The entry at each node, before what is below it.
 fn say_nodes(rt: &impl Abort, alloc: Global, text: &mut String, root: &Node) {
     let mut left = Vec::new(alloc);
     left.push((String::new(alloc), root)).expect(rt, "memory");
@@ -52,7 +52,7 @@ fn say_nodes(rt: &impl Abort, alloc: Global, text: &mut String, root: &Node) {
     }
 }
 
-// What is told by the nodes, and after a bar by a walk.
+// The text of a tree by its nodes, and after a bar by a walk.
 fn told(rt: &impl Abort, alloc: Global, rows: &[Row<'_>]) -> String {
     let tree = made(rt, alloc, rows);
     let mut text = String::new(alloc);
@@ -62,7 +62,7 @@ fn told(rt: &impl Abort, alloc: Global, rows: &[Row<'_>]) -> String {
     text
 }
 
-// Trees, and how the nodes and a walk tell them.
+// Trees, and their texts by the nodes and by a walk.
 const TOLD: &[(&[Row<'static>], &str)] = &[
     (&[], " d| d"),
     (TWO, " d d/e f/f=x| d d/e f/f=x"),
@@ -138,7 +138,7 @@ fn cut_at(rt: &impl Abort, tree: &mut Tree, path: &Path) {
     tree.remove(path).expect(rt, "what is there");
 }
 
-// Whether a tree of that many levels, of which those from a number on are gone again, fits below a path of that many names.
+// Whether a tree of `levels` levels, without those at or after `cut`, fits below a path of `names` names.
 fn fits(
     rt: &impl Abort,
     alloc: Global,

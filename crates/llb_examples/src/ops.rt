@@ -1,4 +1,4 @@
-//! Entries and definitions. What an op is, its canonical bytes show; the fields of each message the program tells (`messages` in `llbm`).
+//! Entries and definitions. The canonical bytes of an op show what it is; the program prints the fields of each message (`messages` in `llbm`).
 
 use super::told::{holds, is_so, row_holds};
 use llb_ops::{
@@ -50,7 +50,7 @@ const RUNS_TRUE: &[u8] = b"\x0A\x49\x0A\x47\
     \x12\x28\x0A\x21\x0A\x07/bin/sh\x0A\x02-c\x0A\x04true\x12\x09PATH=/bin\x1A\x01/\x12\x03\x1A\x01/\
     \x52\x0E\x0A\x05amd64\x12\x05linux\x5A\x00";
 
-// What is known of an op that was read, and of the bytes that it was read from.
+// The laws of an op that was read, and of the bytes that it was read from.
 fn laws(entry: &[u8], op: &Op) {
     entry_has_fields(entry);
     op_is_read_again(op);
@@ -88,7 +88,7 @@ const ENTRIES: &[(&[u8], Result<&[u8], OpFault>)] = &[
         b"\x22\x0C\x12\x0A\x2A\x08\x22\x02\x0A\x00\x22\x02\x12\x00",
         Ok(b"\x22\x0A\x12\x08\x2A\x06\x22\x04\x0A\x00\x12\x00"),
     ),
-    // The last member holds, with what stands after the others.
+    // The last member holds, with what comes after the others.
     (
         b"\x22\x02\x12\x00\x3A\x00\x22\x02\x12\x00",
         Ok(b"\x22\x02\x12\x00"),

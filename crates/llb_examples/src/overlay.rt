@@ -1,4 +1,4 @@
-//! One tree laid over another in a way: told by the entries of what comes of it.
+//! One tree laid over another in a way: shown by the entries of the result.
 
 use super::stage::are_told;
 use super::told::{Row, is_so, made, row_holds};
@@ -107,6 +107,28 @@ const LAID: &str = "
     > tree
     d d/a(755 2:2) f/a/x(644 2:2)=up f/a/y(600 1:1)=low d/b(755 2:2) f/b/e(644 2:2)=up d/c(755 2:2) f/c/d(644 2:2)=up f/z(644 2:2)=up
 
+    # Names that the upper tree has all, but for one below a directory that both have.
+    > new
+    > dir / 711 2:2
+    > dir /a 755 2:2
+    > file /a/x 644 2:2 up
+    > dir /b 755 2:2
+    > file /b/y 644 2:2 up
+    > file /c 644 2:2 up
+    > dir /e 755 2:2
+    > swap
+    > dir /a 700 1:1
+    > file /a/x 600 1:1 low
+    > dir /b 700 1:1
+    > file /b/y 600 1:1 low
+    > file /b/z 600 1:1 low
+    > dir /c 700 1:1
+    > file /c/w 600 1:1 low
+    > dir /e 700 1:1
+    > overlay - - - -
+    > tree
+    d(711 2:2) d/a(755 2:2) f/a/x(644 2:2)=up d/b(755 2:2) f/b/y(644 2:2)=up f/b/z(600 1:1)=low f/c(644 2:2)=up d/e(755 2:2)
+
     # Directories that both have stay.
     > new
     > dir /a 755 2:2
@@ -210,7 +232,7 @@ fn in_place(rt: &impl Abort, mut lower: Tree, upper: &Tree) -> Tree {
     lower
 }
 
-// Whether a tree that another is laid over in place, and then one that is handed over, come to the same as one that is lent.
+// Whether a tree that another is laid over in place, and then one that is handed over, end the same as one that is lent.
 fn lays_the_same(rt: &impl Abort, alloc: Global, lower: &[Row<'_>], upper: &[Row<'_>]) -> bool {
     let (first, second) = (made(rt, alloc, lower), made(rt, alloc, lower));
     let upper = made(rt, alloc, upper);
@@ -233,7 +255,7 @@ fn a_lower_tree_is_lent_or_handed_over_or_laid_over_in_place(rt: HostRuntime) {
     }
 }
 
-// Whether a way that keeps and gives comes to the same in place.
+// Whether a way that keeps directories and sets modes and owners ends the same in place.
 fn way_in_place(rt: &impl Abort, alloc: Global) -> bool {
     let (mut lower, upper) = (made(rt, alloc, LOWER), made(rt, alloc, UPPER));
     let way = Way::new(Some(0o4640), None, Some(5), true).expect(rt, "a way");

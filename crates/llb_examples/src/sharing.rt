@@ -132,6 +132,28 @@ const TREE_IS_EDITED: &str = "
     > tree
     d f/b=x d/c f/c/d=y
 
+    # A content is in a second file, and what is put in the place of the first leaves that one.
+    > new
+    > dir /a 755 0:0
+    > file /a/b 644 0:0 x
+    > share /a/b /c 600 1:2
+    > share /a/b /a/b 640 0:0
+    > share /a /e 600 1:2
+    > share /none /e 600 1:2
+    > tree
+    d d/a f/a/b(640 0:0)=x f/c(600 1:2)=x
+    > file /a/b 644 0:0 y
+    > share /a/b / 600 1:2
+    25
+    > share /a/b /a 600 1:2
+    23
+    > share /a/b /x/y 600 1:2
+    21
+    > share /a/b /c/y 600 1:2
+    22
+    > tree
+    d d/a f/a/b=y f/c(600 1:2)=x
+
     # The tree is edited, and what holds a graft of it stays.
     > new
     > dir /a 755 0:0
@@ -172,7 +194,7 @@ fn is_whole(alloc: Global, call: &str) -> Result<bool, TreeFault> {
     Ok(is_same && kept && copied.same(&fresh))
 }
 
-const EDITS: [&str; 7] = [
+const EDITS: [&str; 8] = [
     "file /a/b 600 0:0 new",
     "file /a/c/e 644 0:0 new",
     "dir /a/c 700 0:0",
@@ -180,9 +202,10 @@ const EDITS: [&str; 7] = [
     "remove /a/c/d",
     "remove /a",
     "graft /a /a/c/e",
+    "share /a/b /c 600 1:2",
 ];
 
-// Passes whichever allocation fails, as long as it is one: at most one story is then not told to its end.
+// Passes whichever allocation fails, as long as it is one: at most one story is then cut short.
 #[test]
 fn a_refused_edit_leaves_a_shared_tree_as_it_was(rt: HostRuntime) {
     let mut is_refused = false;

@@ -1,4 +1,4 @@
-//! Calls on the libraries as transcripts. A line with `> ` first is a call, and the lines after it are what it answers, or its fault; one
+//! Calls on the libraries as transcripts. A line with `> ` first is a call, and the lines after it are its result, or its fault; one
 //! with `# ` first says what the next calls show. On the stage are two trees (`trees`) and the mounts of a view (`views`), none of them after
 //! `new`.
 
@@ -42,7 +42,7 @@ fn say_call(rt: &impl Abort, alloc: Global, text: &mut String, stage: &mut Stage
     }
 }
 
-// A call and what it answers; nothing of a line that is no call.
+// A call and its result; nothing for a line that is no call.
 fn say_line(rt: &impl Abort, alloc: Global, text: &mut String, stage: &mut Stage, line: &str) {
     if let Some(call) = line.strip_prefix("> ") {
         say(rt, text, line);
@@ -60,7 +60,7 @@ fn transcript(rt: &impl Abort, alloc: Global, told: &str) -> String {
     text
 }
 
-// Ends the test at the first line of what is told that is another in the transcript.
+// Ends the test at the first line of a text that differs from the transcript.
 pub(crate) fn is_told_as(rt: &impl Abort, text: &str, told: &str) {
     let mut lines = text.lines();
     for line in told.lines() {
@@ -72,7 +72,7 @@ pub(crate) fn is_told_as(rt: &impl Abort, text: &str, told: &str) {
     is_so(rt, lines.next().is_none());
 }
 
-// Ends the test at the first line of a transcript that is told otherwise.
+// Ends the test at the first line of a transcript that differs.
 pub(crate) fn are_told(rt: &impl Abort, alloc: Global, told: &str) {
     is_told_as(rt, transcript(rt, alloc, told).as_str(), told);
 }

@@ -1,4 +1,4 @@
-//! Trees by their rows, and how they are told in a line of text: of each entry a `d` or an `f` and its path, its mode and owner where they
+//! Trees by their rows, and how they are written in a line of text: for each entry a `d` or an `f` and its path, its mode and owner where they
 //! are not those of a new one, and the content of a file after `=`.
 
 use llb_tree::{Bytes, Entry, Meta, Name, Node, Path, Tree, TreeFault};
@@ -46,7 +46,7 @@ pub(crate) fn made(rt: &impl Abort, alloc: Global, rows: &[Row<'_>]) -> Tree {
     tree_of(alloc, rows).expect(rt, "memory")
 }
 
-// Ends the test where what is told is not what is wanted; the failure shows both.
+// Ends the test where a text is not the expected one; the failure shows both.
 pub(crate) fn is_same(rt: &impl Abort, told: &str, wanted: &str) {
     assert_eq!(rt; told, wanted);
 }
@@ -86,7 +86,7 @@ pub(crate) fn say_fault<E: Display>(rt: &impl Abort, text: &mut String, fault: &
     write!(text, "{fault}\n").expect(rt, "memory");
 }
 
-// A part that many times over, and then a rest.
+// A part a number of times, and then a rest.
 pub(crate) fn repeated(
     rt: &impl Abort,
     alloc: Global,
@@ -102,7 +102,7 @@ pub(crate) fn repeated(
     text
 }
 
-// The lines after the one with `== ` and the name; what stands there after `: ` is told to the reader.
+// The lines after the one with `== ` and the name; what comes there after `: ` is for the reader.
 pub(crate) fn block<'a>(text: &'a str, wanted: &str) -> Option<&'a str> {
     for block in text.split("== ") {
         if let Some((head, lines)) = block.split_once('\n') {
@@ -137,7 +137,7 @@ fn say_meta(rt: &impl Abort, text: &mut String, meta: Meta, new: u16) {
     }
 }
 
-// A content in one line: an end of line is told as `\n`.
+// A content in one line: an end of line is written as `\n`.
 fn say_content(rt: &impl Abort, text: &mut String, content: &str) {
     for (at, line) in content.split('\n').enumerate() {
         if at > 0 {
@@ -147,14 +147,14 @@ fn say_content(rt: &impl Abort, text: &mut String, content: &str) {
     }
 }
 
-// What stands after the path of a file.
+// What follows the path of a file.
 fn say_file(rt: &impl Abort, text: &mut String, meta: Meta, content: &[u8]) {
     say_meta(rt, text, meta, 0o644);
     say(rt, text, "=");
     say_content(rt, text, str::from_utf8(content).unwrap_or("not UTF-8"));
 }
 
-// What stands after the path of an entry.
+// What follows the path of an entry.
 pub(crate) fn say_rest(rt: &impl Abort, text: &mut String, entry: &Entry<'_>) {
     match entry {
         Entry::Dir(meta) => say_meta(rt, text, *meta, 0o755),
@@ -162,7 +162,7 @@ pub(crate) fn say_rest(rt: &impl Abort, text: &mut String, entry: &Entry<'_>) {
     }
 }
 
-/// What stands at a node, after its path.
+/// Writes the entry at a node, after its path.
 pub(crate) fn say_node(rt: &impl Abort, text: &mut String, names: &str, node: &Node) {
     let entry = node.entry();
     say(rt, text, kind_of(&entry));

@@ -66,7 +66,7 @@ fn names_of(alloc: Global, text: &str) -> Result<usize, TreeFault> {
     Ok(path.names().len())
 }
 
-// A part that many times over, a rest, and the number of the names.
+// A part a number of times, a rest, and the number of the names.
 type Counted = (&'static str, usize, &'static str, Result<usize, TreeFault>);
 
 const COUNTS: &[Counted] = &[
@@ -91,14 +91,14 @@ pub(crate) fn path_of(rt: &impl Abort, alloc: Global, text: &str) -> Path {
     Path::read(alloc, text).expect(rt, "a path")
 }
 
-// Whether a path is another one, and whether it stands before it.
+// Whether a path is another one, and whether it sorts before it.
 fn compared(rt: &impl Abort, alloc: Global, one: &str, other: &str) -> (bool, bool) {
     let path = path_of(rt, alloc, one);
     let other = path_of(rt, alloc, other);
     (path.same(&other), path < other)
 }
 
-// Two paths, whether they are the same, and whether the first stands before the second.
+// Two paths, whether they are the same, and whether the first sorts before the second.
 const ORDERED: &[(&str, &str, bool, bool)] = &[
     ("etc", "etc/a", false, true),
     ("etc/z", "etc-", false, true),
@@ -146,7 +146,7 @@ fn names_and_paths_by_hand(rt: HostRuntime) {
     is_so(&rt, is_pushed(&rt, alloc) && Path::root(alloc).is_root());
 }
 
-// The path of the name `a` that many times over.
+// The path of the name `a` a number of times.
 pub(crate) fn path_with(rt: &impl Abort, alloc: Global, names: usize) -> Path {
     let mut path = Path::root(alloc);
     for _ in 0..names {
@@ -335,7 +335,7 @@ pub(crate) fn deep_tree(rt: &impl Abort, alloc: Global, names: usize) -> Tree {
     tree
 }
 
-// What a graft at a path of this many names answers, for a tree with one name.
+// The result of a graft at a path of this many names, for a tree with one name.
 fn graft_depth(rt: &impl Abort, alloc: Global, names: usize) -> Result<(), TreeFault> {
     let mut tree = deep_tree(rt, alloc, names);
     let other = made(rt, alloc, &[file("/b", "")]);

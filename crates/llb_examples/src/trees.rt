@@ -1,9 +1,10 @@
 //! Calls on trees, as transcripts have them (`stage`). There are two trees, this one and the other, both empty at first.
 //!
 //! `dir PATH MODE OWNER` and `file PATH MODE OWNER CONTENT` put an entry; `remove PATH` removes what is at or below a path; `graft PATH GOAL`
-//! puts what is at or below the path at the goal as well; `overlay MODE USER GROUP KEEPS` lays the other tree over this one. `look PATH`,
-//! `list PATH` and `tree` tell of this one. `copy` and `subtree PATH` make the other tree of this one, `below PATH` makes it an empty tree
-//! with this one at the path, and `swap` exchanges the two. A content that ends in `\n` ends in an end of line.
+//! puts what is at or below the path at the goal as well; `share PATH GOAL MODE OWNER` puts a file of the content of the one at the path there,
+//! if one is; `overlay MODE USER GROUP KEEPS` lays the other tree over this one. `look PATH`, `list PATH` and `tree` show this one. `copy` and
+//! `subtree PATH` make the other tree of this one, `below PATH` makes it an empty tree with this one at the path, and `swap` exchanges the two.
+//! A content that ends in `\n` ends in an end of line.
 
 use super::told::{say, say_looked, say_names, say_tree};
 use llb_tree::{Bytes, Meta, Path, Tree, TreeFault, Way};
@@ -64,6 +65,16 @@ fn graft(alloc: Global, tree: &mut Tree, from: &str, to: &str) -> Result<(), Tre
     tree.graft(&to, &taken)
 }
 
+fn share(alloc: Global, tree: &mut Tree, from: &str, words: &str) -> Result<(), TreeFault> {
+    let (to, rest) = word_and_rest(words);
+    let (mode, owner) = word_and_rest(rest);
+    let (from, to) = (Path::read(alloc, from)?, Path::read(alloc, to)?);
+    match tree.content(&from)? {
+        None => Ok(()),
+        Some(content) => tree.put_content(&to, meta(mode, owner), content),
+    }
+}
+
 // Does an edit of one tree.
 pub(crate) fn edit(alloc: Global, tree: &mut Tree, call: &str) -> Result<(), TreeFault> {
     let (name, words) = word_and_rest(call);
@@ -72,6 +83,10 @@ pub(crate) fn edit(alloc: Global, tree: &mut Tree, call: &str) -> Result<(), Tre
         "graft" => {
             let (from, to) = word_and_rest(words);
             graft(alloc, tree, from, to)
+        }
+        "share" => {
+            let (from, rest) = word_and_rest(words);
+            share(alloc, tree, from, rest)
         }
         _ => put(alloc, tree, name, words),
     }
@@ -113,7 +128,7 @@ fn change(alloc: Global, trees: &mut Trees, name: &str, call: &str) -> Result<()
     Ok(())
 }
 
-// What is told of a tree.
+// The text of a tree.
 fn tell(
     rt: &impl Abort,
     alloc: Global,
@@ -133,7 +148,7 @@ fn tell(
     Ok(())
 }
 
-// What a call answers, or its fault.
+// The result of a call, or its fault.
 pub(crate) fn answer(
     rt: &impl Abort,
     alloc: Global,

@@ -109,7 +109,7 @@ const LATE: &[(&str, TextFault)] = &[
     ),
 ];
 
-// No allocation is made here: the answers stay the same where each one fails.
+// No allocation is made here: the results stay the same where each one fails.
 #[test]
 fn a_late_fault_is_told_without_memory(rt: HostRuntime) {
     for (text, wanted) in LATE {
@@ -117,7 +117,7 @@ fn a_late_fault_is_told_without_memory(rt: HostRuntime) {
     }
 }
 
-// A root, that many files, and then a path below the last of them.
+// A root, `files` files, and then a path below the last of them.
 fn long_text(rt: &impl Abort, alloc: Global, files: usize) -> String {
     let mut text = String::new(alloc);
     say(rt, &mut text, "d 0755 0 0 /\n");
@@ -138,7 +138,7 @@ fn the_last_line_of_many_is_faulty(rt: HostRuntime) {
     );
 }
 
-// What is answered of the text of a good root, and then of one line.
+// The result for the text of a good root, and then of one line.
 fn second_line(rt: &impl Abort, alloc: Global, line: &str) -> String {
     let mut text = String::new(alloc);
     say(rt, &mut text, "d 0755 0 0 /\n");

@@ -1,6 +1,6 @@
 //! Scripts on views, as transcripts have them (`stage`). `mount DEST SELECTOR` puts a mount with this tree, which is then empty; `read-only`
-//! after them makes it so. `run CWD TEXT` runs the script of a text on a view of such mounts, and answers the statuses of its commands, `-` for
-//! one that is skipped, and then each mount's tree after a bar; the mounts themselves stay as they are. Where the text is no script it answers
+//! after them makes it so. `run CWD TEXT` runs the script of a text on a view of such mounts, and prints the statuses of its commands, `-` for
+//! one that is skipped, and then each mount's tree after a bar; the mounts themselves stay as they are. Where the text is no script it prints
 //! the fault.
 
 use super::told::{say, say_fault, say_number, say_tree};
@@ -77,7 +77,7 @@ fn is_run(join: Join, last: u32) -> bool {
     }
 }
 
-// Runs the commands that are not skipped, and tells their statuses.
+// Runs the commands that are not skipped, and prints their statuses.
 fn say_statuses(
     rt: &impl Abort,
     alloc: Global,

@@ -167,7 +167,7 @@ fn text_of(rt: &impl Abort, alloc: Global, text: &str) -> Text {
     Text::from_str(alloc, text).expect(rt, "memory")
 }
 
-// Whether a byte string's copy and the vector that it gives back are these bytes.
+// Whether a byte string's copy and the vector that it becomes are these bytes.
 fn keeps_bytes(rt: &impl Abort, alloc: Global, bytes: &[u8], other: &[u8]) -> bool {
     let kept = bytes_of(rt, alloc, bytes);
     kept.is_bytes();
@@ -203,7 +203,7 @@ fn texts_byte_strings_and_lists_own_what_they_were_given(rt: HostRuntime) {
     prints(&rt, alloc, &text_of(&rt, alloc, "é"), "é");
 }
 
-// A writer that takes one byte a write, and fails after that many.
+// A writer that takes one byte a write, and fails after `room` bytes.
 #[derive(Drop)]
 struct Narrow {
     room: usize,
@@ -230,7 +230,7 @@ impl Write for Narrow {
     }
 }
 
-// How many bytes of `hello` a writer of that room has, whether it is told that it failed, and then whether writing nothing is done, and
+// How many bytes of `hello` a writer of that room takes, whether it then says that it failed, and then whether writing nothing is done, and
 // whether one more byte is refused where there is room again.
 fn written(alloc: Global, room: usize) -> (usize, [bool; 3]) {
     let mut writer = Narrow {

@@ -225,7 +225,7 @@ module _ {before : List Shown} {ms : List ℕ} {came : List TreeMap} {i : ℕ} {
     mounts_count = as_many mounts m t ∙ so_far.mounts_count;
   }
 
-  -- as it is written: a spare tree first, and then the one that the mount showed
+  -- in the order in which it is written: a spare tree first, and then the one that the mount showed
   pub exchanged_by : (next : List Shown) (spare left : TreeMap) → next ≡ with_tree_of mounts m t → left ≡ shown
       → Exchanging before ms came (i + 1) next (set (set trees i spare) i left)
   exchanged_by next spare left after old =

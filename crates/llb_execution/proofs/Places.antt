@@ -1,4 +1,4 @@
--- The outputs, as the results take their places from the last one on.
+-- The outputs, as the results take their places, the last one first.
 use Rattle.std.proofs.Common.{◌≡◌, ℕ, zero, suc, ◌+◌, ◌<◌, ◌≤◌, List, [], ◌∷◌, ◌++◌, map, drop, length, refl, ap, sym, ◌∙◌, drop-cons, add-one}
 use Rattle.std.proofs.Common.{append_assoc, zero-add, arith}
 use Rattle.std.specs.Prelude.{ℤ, pos, negsuc, ◌==◌, Bool, Option, Some, None, slice_get, slice_set, replicate, unwrap_or, if◌then◌else◌}
@@ -116,7 +116,7 @@ placed_past ns all n rs t outs here past =
       front = ap (λ l. rs ++ l) rest ∙ whole;
     }
 
--- where no result is left, each output has the tree that stands beside the first number that is its own
+-- where no result is left, each output has the tree that is beside the first number that is its own
 pub placed_end : (ns : List ℤ) (all : List TreeMap) (n : ℕ) (rs outs : List TreeMap) → PlacedSoFar ns all n rs outs → rs ≡ []
     → outs ≡ map (λ i. tree_by i ns all) (range_with_len 0 n)
 placed_end ns all n rs outs here is = here.outputs ∙ ap (λ l. map (from_on ns all (length l)) (range_with_len 0 n)) is
@@ -152,7 +152,7 @@ shown_by i [] mounts = refl
 shown_by i (n ∷ ns) [] = refl
 shown_by i (n ∷ ns) (m ∷ mounts) = ap (λ t. if is_output i n then m.tree else t) (shown_by i ns mounts)
 
--- outputs that are placed by the trees of mounts are the outputs that the mounts give
+-- outputs that are placed by the trees of mounts are the outputs of the mounts
 pub shown_end : (ns : List ℤ) (mounts : List Shown) (n : ℕ) (outs : List TreeMap) → outs ≡ map (λ i. tree_by i ns (trees_of mounts)) (range_with_len 0 n)
     → outs ≡ map (λ i. tree_for i ns mounts) (range_with_len 0 n)
 shown_end ns mounts n outs is =
@@ -187,7 +187,7 @@ by_kind i (Some (kind.Build b)) script rs = refl
 by_kind i (Some (kind.Diff d)) script rs = refl
 by_kind i None script rs = refl
 
--- the program of a vertex, with that many outputs
+-- the program of a vertex, with n outputs
 abbrev pub program_with : Vertex → ℕ → Program
 program_with v n = record (program_of v) { outputs = n }
 

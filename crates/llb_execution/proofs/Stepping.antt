@@ -20,7 +20,7 @@ use Rattle.llb_execution.proofs.Exchanges.{as_many_filled}
 
 -- ---- actions
 
--- an action that gives a tree leaves the view with that result more, and no fault
+-- an action that returns a tree leaves the view with that result more, and no fault
 pub acted : (k : ℕ) (view : View) (a : Action) (t : TreeMap) (trees : List TreeMap) → act_among a (trees_in view) ≡ Ok t
     → left_with (with_tree view t) trees None ≡ step_on k (Some (Act a)) (work_with view trees)
 unfolding micro_step

@@ -7,7 +7,7 @@ use Rattle.llb_execution.specs.Parts.{work_with}
 use Rattle.llb_execution.specs.declared.mark.Was.{Was}
 use Rattle.llb_execution.specs.declared.mark.Was.TheVariants as was
 
--- of a source nothing, of a file op how many results there are, of a merge what is laid, of an exec its mounts and the last status
+-- for a source nothing, for a file op how many results there are, for a merge what is laid, for an exec its mounts and the last status
 pub data Mark : Type 0 where
   Nothing : Mark
   Results : ℕ → Mark

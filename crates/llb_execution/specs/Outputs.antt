@@ -11,7 +11,7 @@ abbrev pub actions_in : Option Kind → List Action
 actions_in (Some (kind.File f)) = f.actions
 actions_in _ = []
 
--- the numbers of the outputs that actions give
+-- the numbers of the outputs of actions
 abbrev pub numbers_of : List Action → List ℤ
 numbers_of actions = map (λ (a : Action). a.output) actions
 
@@ -31,7 +31,7 @@ abbrev pub placed : ℤ → TreeMap → List TreeMap → List TreeMap
 placed (pos i) t trees = slice_set trees i t
 placed (negsuc i) t trees = trees
 
--- by the number of the output, where there is one
+-- a tree in the place of an output by its number, where there is one
 abbrev pub placed_by : Option ℤ → TreeMap → List TreeMap → List TreeMap
 placed_by (Some n) t trees = placed n t trees
 placed_by None t trees = trees

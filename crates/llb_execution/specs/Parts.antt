@@ -51,7 +51,7 @@ mounts_in (model.LocalTree t) = 0
 mounts_in (model.Files inputs results) = 0
 mounts_in (model.Layers inputs t) = 0
 
--- the numbers of those that show caches
+-- the numbers of the mounts of a view that show caches
 abbrev pub shown_in : model.View → List ℕ
 shown_in (model.Mounted mounts caches last) = caches
 shown_in (model.LocalTree t) = []

@@ -1,4 +1,4 @@
-//! A command on mounts of which some show caches, whose trees come in from outside for that one command. Stands on mounts and
+//! A command on mounts of which some show caches, whose trees come in from outside for that one command. It rests on mounts and
 //! on commands; it knows neither keys nor instances.
 
 ghost use Rattle.std.specs.Prelude.{◌≡◌, ◌<◌, length, replicate, IfOk, OnErr};
@@ -17,14 +17,14 @@ use llb_wire::Memory;
 use std::alloc::Global;
 use std::mem;
 
-/// As many empty trees. `Memory`: out of memory, the one refusal.
+/// Returns `count` empty trees. Fails with `Memory` alone.
 pub fn empty_trees(alloc: Global, count: u32) -> Result<Vec<Tree>, Memory>
     ensures { IfOk result (λ v. v.items ≡ replicate count empty_tree) }
 {
     Ok(blanks(alloc, count as usize)?)
 }
 
-// As many empty trees.
+// `count` empty trees.
 fn blanks(alloc: Global, count: usize) -> Result<Vec<Tree>, NoMemory>
     ensures { IfOk result (λ v. v.items ≡ replicate count empty_tree) }
 {
@@ -35,7 +35,7 @@ fn blanks(alloc: Global, count: usize) -> Result<Vec<Tree>, NoMemory>
     Ok(trees)
 }
 
-// Exchanges each tree with the one in the mount of its number. The spare tree stands where a tree is on its way.
+// Exchanges each tree with the one in the mount of its number. The spare tree takes the place of a tree that is being moved.
 fn swap_all(mounts: &mut Mounts, numbers: &[u32], trees: &mut Vec<Tree>, spare: Tree) -> Tree
     requires apart { Distinct numbers.now }
     requires within { All (λ n. n < length mounts.old) numbers.now }
@@ -52,7 +52,7 @@ fn swap_all(mounts: &mut Mounts, numbers: &[u32], trees: &mut Vec<Tree>, spare: 
     spare
 }
 
-/// Runs a command on mounts of which those of these numbers show these trees meanwhile, and answers its status. Where that is 0,
+/// Runs a command on mounts of which those of these numbers show these trees meanwhile, and returns its status. Where that is 0,
 /// the trees are written back and these mounts are empty; else, and where memory is refused, mounts and trees are as they were.
 pub(crate) fn run_filled(
     alloc: Global,

@@ -20,8 +20,8 @@ pub struct Further {
     pub fault: Option<VertexFault>,
 }
 
-/// Does the micro-steps of a program from number `done` on, up to the first that faults or the last. The trees are those of the
-/// instances of the caches that the view shows, in the order of the needs. `Memory`: out of memory, the one refusal; then
+/// Does the micro-steps of a program from number `done`, up to the first that faults or the last. The trees are those of the
+/// instances of the caches that the view shows, in the order of the needs. Fails with `Memory` alone; then
 /// some of the micro-steps may be done.
 pub fn do_further(
     alloc: Global,

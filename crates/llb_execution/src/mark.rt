@@ -11,8 +11,8 @@ use llb_tree::Tree;
 use llb_wire::Memory;
 use std::marker::Model;
 
-/// What a micro-step can change of a view: of a source nothing, of a file op how many results there are, of a merge what is laid so
-/// far, of an exec its mounts and its last status.
+/// What a micro-step can change of a view: for a source nothing, for a file op how many results there are, for a merge what is laid so
+/// far, for an exec its mounts and its last status.
 #[derive(Drop)]
 pub struct Mark {
     was: Was,
@@ -39,8 +39,8 @@ impl Model for Mark {
 }
 
 impl View {
-    /// What the next micro-step can change, and no more of the view: no input of a file op or of a merge. Trees are shared. `Memory` is
-    /// out of memory, and the one refusal.
+    /// Returns what the next micro-step can change, and no more of the view: no input of a file op or of a merge. Trees are shared. Fails with
+    /// `Memory` alone.
     pub fn mark(&self) -> Result<Mark, Memory>
         ensures is { IfOk result (λ m. m ≡ mark_of self.now) }
         ensures back { IfOk result (λ m. PutsBack self.now m) }
@@ -49,7 +49,7 @@ impl View {
         Ok(Mark { was: held })
     }
 
-    /// What a mark has is in the view again. Takes no memory.
+    /// Puts what a mark has into the view again. Does not allocate.
     pub fn put_back(&mut self, mark: Mark)
         ensures { self.new ≡ put_back mark self.old }
     {

@@ -1,5 +1,5 @@
-//! The micro-steps of a vertex, one by one: each is a part of the vertex, or of a program of its own, that is looked at where it
-//! stands. Nothing here does one.
+//! The micro-steps of a vertex, one by one: each is a part of the vertex, or of a program of its own, that is read where it
+//! is. Nothing here does one.
 
 ghost use Rattle.std.specs.Prelude.{◌≡◌, ◌∷◌, [], length, map, option_map, slice_get, unwrap_or};
 ghost use Rattle.llb_loader.specs.Graph.{IsVertexOf};
@@ -21,7 +21,7 @@ pub enum MicroStep<'a> {
     Run(&'a Setting, &'a Joined, &'a [Joined]),
 }
 
-/// How many micro-steps a vertex has. Takes no memory.
+/// Returns how many micro-steps a vertex has. Does not allocate.
 pub fn step_count(vertex: &Vertex) -> u32
     requires { IsVertexOf vertex.now vertex.now.op.kind }
     ensures { result ≡ length (program_of vertex.now).steps }
@@ -29,8 +29,8 @@ pub fn step_count(vertex: &Vertex) -> u32
     vertex.steps
 }
 
-/// The micro-step of that number, from 0, of a vertex whose commands run in this setting (`setting_of`); `None` from the number of
-/// its micro-steps on. Takes no memory.
+/// Returns micro-step k, from 0, of a vertex whose commands run in this setting (`setting_of`); `None` where k is at least the number
+/// of its micro-steps. Does not allocate.
 pub fn step_of<'a>(vertex: &'a Vertex, setting: &'a Setting, k: u32) -> Option<MicroStep<'a>>
     requires { setting.now ≡ kind_setting vertex.now.op.kind }
     ensures { option_map step_in result ≡ slice_get (program_of vertex.now).steps k }
@@ -44,7 +44,7 @@ pub fn step_of<'a>(vertex: &'a Vertex, setting: &'a Setting, k: u32) -> Option<M
     }
 }
 
-/// The one micro-step of a source.
+/// Returns the one micro-step of a source.
 pub(crate) fn read_at<'a>(k: u32) -> Option<MicroStep<'a>>
     ensures { option_map step_in result ≡ slice_get (ReadLocal ∷ []) k }
 {
@@ -54,7 +54,7 @@ pub(crate) fn read_at<'a>(k: u32) -> Option<MicroStep<'a>>
     Some(MicroStep::ReadLocal)
 }
 
-/// The action of that number.
+/// Returns the action of that number.
 pub(crate) fn act_at<'a>(actions: &'a [Action], k: u32) -> Option<MicroStep<'a>>
     ensures { option_map step_in result ≡ slice_get (map Act actions.now) k }
 {
@@ -74,7 +74,7 @@ fn lay_at<'a>(inputs: &'a [MergeInput], k: u32) -> Option<MicroStep<'a>>
     }
 }
 
-/// The command of that number.
+/// Returns the command of that number.
 pub(crate) fn run_at<'a>(
     setting: &'a Setting,
     commands: &'a [Joined],
@@ -92,7 +92,7 @@ pub(crate) fn run_at<'a>(
     }
 }
 
-/// The commands of a script, where there is one.
+/// Returns the commands of a script, where there is one.
 pub(crate) fn commands_of(script: &Option<Script>) -> &[Joined]
     ensures { result.now ≡ unwrap_or script.now [] }
 {

@@ -5,7 +5,7 @@ ghost use Rattle.llb_model.specs.State.{missing_local};
 
 use llb_loader::{Graph, Locals};
 
-/// The first name, by vertex, that no local tree is given for. Takes no memory.
+/// Returns the name of the first local source, by vertex, that has no tree. Does not allocate.
 pub fn missing_local<'a>(graph: &'a Graph, locals: &Locals) -> Option<&'a str>
     ensures { option_map (λ t. t.now) result ≡ missing_local locals.now graph.now.vertices }
 {

@@ -17,8 +17,8 @@ use llb_tree::{Path, Tree, TreeFault};
 use llb_wire::{Many, Memory, Text};
 use std::alloc::Global;
 
-/// Where the commands of a vertex run: an exec's cwd and env, and of any other vertex, which has no commands, the root and no env.
-/// `Memory`: out of memory, the one refusal.
+/// Returns where the commands of a vertex run: an exec's cwd and env; for any other vertex, which has no commands, the root and no env.
+/// Fails with `Memory` alone.
 pub fn setting_of(alloc: Global, vertex: &Vertex) -> Result<Setting, Memory>
     ensures { IfOk result (λ s. s ≡ kind_setting vertex.now.op.kind) }
 {
@@ -28,7 +28,7 @@ pub fn setting_of(alloc: Global, vertex: &Vertex) -> Result<Setting, Memory>
     }
 }
 
-/// Where commands run that have this meta.
+/// Returns where commands run that have this meta.
 pub(crate) fn setting_with(alloc: Global, meta: &Option<Meta>) -> Result<Setting, NoMemory>
     ensures { IfOk result (λ s. s ≡ setting_of meta.now) }
 {
@@ -70,7 +70,7 @@ fn copies(alloc: Global, texts: &[Text]) -> Result<Vec<Text>, NoMemory>
     Ok(copied)
 }
 
-/// The mounts of a kind: those of an exec. Takes no memory.
+/// Returns the mounts of a kind: those of an exec. Does not allocate.
 pub fn mounts_of(kind: &Option<Kind>) -> &[Mount]
     ensures { result.now ≡ kind_mounts kind.now }
 {
@@ -80,7 +80,7 @@ pub fn mounts_of(kind: &Option<Kind>) -> &[Mount]
     }
 }
 
-/// The view of mounts that show these inputs.
+/// Returns the view of mounts that show these inputs.
 pub(crate) fn view_of(alloc: Global, inputs: &[Tree], mounts: &[Mount]) -> Result<View, NoMemory>
     requires { IsView (map (shown_of inputs.now) mounts.now) }
     ensures { IfOk result (λ v. v ≡ map (shown_of inputs.now) mounts.now) }
@@ -138,7 +138,7 @@ fn tree_shown(alloc: Global, inputs: &[Tree], mount: &Mount) -> Result<Tree, NoM
     }
 }
 
-/// The tree of an input by its number; `None` stands for the empty tree. Takes no memory.
+/// Returns the tree of an input by its number; `None` means the empty tree. Does not allocate.
 pub fn input_tree(inputs: &[Tree], input: i64) -> Option<&Tree>
     ensures { unwrap_or (option_map (λ t. t.now) result) empty_tree ≡ base_in input inputs.now }
 {

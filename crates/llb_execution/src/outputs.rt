@@ -1,5 +1,5 @@
 //! The outputs of a vertex, as they are taken from what all its micro-steps left, in the places of the empty trees that were made
-//! for them. Nothing here takes memory.
+//! for them. Nothing here allocates.
 
 ghost use Rattle.std.specs.Prelude.{◌≡◌, map, length, replicate, slice_get};
 ghost use Rattle.std.specs.List.{range_with_len};
@@ -16,7 +16,7 @@ use llb_mount::Shown;
 use llb_ops::{Action, Kind, Mount};
 use llb_tree::Tree;
 
-/// The outputs of what all micro-steps of a vertex left.
+/// Returns the outputs of what all micro-steps of a vertex left.
 pub(crate) fn outputs_of(own: Own, outputs: Vec<Tree>, vertex: &Vertex) -> Vec<Tree>
     requires { outputs.items ≡ replicate (length outputs.items) empty_tree }
     ensures { result.items ≡ outputs_of (record (program_of vertex.now) { outputs = length outputs.items }) (own_of own) }
@@ -52,7 +52,7 @@ fn place_first(mut outputs: Vec<Tree>, tree: Tree) -> Vec<Tree>
     outputs
 }
 
-// Each result takes the place of its action's output, from the last one on, so that of two the first one stays.
+// Each result takes the place of its action's output, the last one first, so that of two the first one stays.
 fn place_all(mut outputs: Vec<Tree>, mut results: Vec<Tree>, actions: &[Action]) -> Vec<Tree>
     requires { outputs.items ≡ replicate (length outputs.items) empty_tree }
     ensures { result.items ≡ map (λ i. tree_by i (numbers_of actions.now) results.items) (range_with_len 0 (length outputs.items)) }
@@ -63,7 +63,7 @@ fn place_all(mut outputs: Vec<Tree>, mut results: Vec<Tree>, actions: &[Action])
     outputs
 }
 
-// Each mount's whole tree takes the place of the mount's output, from the last one on.
+// Each mount's whole tree takes the place of the mount's output, the last one first, so that of two the first one stays.
 fn place_shown(mut outputs: Vec<Tree>, mut mounts: Vec<Shown>, given: &[Mount]) -> Vec<Tree>
     requires { outputs.items ≡ replicate (length outputs.items) empty_tree }
     ensures { result.items ≡ map (λ i. tree_for i (mount_outputs given.now) mounts.items) (range_with_len 0 (length outputs.items)) }

@@ -1,5 +1,5 @@
-//! The program of a vertex, which owns its data: its micro-steps, how many outputs it has, and which output each mount of an exec
-//! gives.
+//! The program of a vertex, which owns its data: its micro-steps, how many outputs it has, and the output number of each mount of an
+//! exec.
 
 ghost use Rattle.std.specs.Prelude.{◌≡◌, [], IfOk, map, option_map, slice_get, unwrap_or};
 ghost use Rattle.llb_loader.specs.Rules.{mount_outputs};
@@ -18,7 +18,7 @@ use std::alloc::Global;
 use std::marker::Model;
 
 /// The micro-steps of a vertex: one read of a source, the actions of a file op, the inputs of a merge, or the commands of an
-/// exec; and the outputs that they give.
+/// exec; and their outputs.
 pub struct Program {
     pub(crate) steps: Steps,
     pub(crate) outputs: u32,
@@ -55,7 +55,7 @@ impl Model for Program {
 }
 
 impl Program {
-    /// The program of a vertex. Actions are shared with the vertex; `Memory`: out of memory, the one refusal.
+    /// Returns the program of a vertex. Actions are shared with the vertex. Fails with `Memory` alone.
     pub fn of(alloc: Global, vertex: &Vertex) -> Result<Program, Memory>
         ensures { IfOk result (λ p. p ≡ program_of vertex.now) }
     {
@@ -68,7 +68,7 @@ impl Program {
         })
     }
 
-    /// Its micro-step of that number, from 0; `None` from the number of its micro-steps on. Takes no memory.
+    /// Returns its micro-step k, from 0; `None` where k is at least the number of its micro-steps. Does not allocate.
     pub fn step(&self, k: u32) -> Option<MicroStep<'_>>
         ensures { option_map step_in result ≡ slice_get self.now.steps k }
     {
@@ -82,7 +82,7 @@ impl Program {
     }
 }
 
-// The laying of the input whose number stands there.
+// The laying of the input with that number.
 fn number_at<'a>(numbers: &[i64], k: u32) -> Option<MicroStep<'a>>
     ensures { option_map step_in result ≡ slice_get (map LayInput numbers.now) k }
 {
@@ -132,7 +132,7 @@ fn numbers_of(alloc: Global, inputs: &[MergeInput]) -> Result<Vec<i64>, NoMemory
     Ok(numbers)
 }
 
-// The numbers of the outputs that mounts give.
+// The output numbers of mounts.
 fn given_by(alloc: Global, mounts: &[Mount]) -> Result<Vec<i64>, NoMemory>
     ensures { IfOk result (λ v. v.items ≡ mount_outputs mounts.now) }
 {

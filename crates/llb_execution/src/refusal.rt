@@ -1,4 +1,4 @@
-//! Out of memory, as all calls of lower crates that are made here can refuse it: each of their refusals is one.
+//! Refused memory, the only fault of all calls of lower crates that are made here.
 
 use llb_applet::ScriptFault;
 use llb_tree::TreeFault;
@@ -27,42 +27,42 @@ impl<T: Drop> From<AllocFailed<T>> for NoMemory {
     }
 }
 
-/// Of a copy of a text or of actions.
+/// Converts the fault of a copy of a text or of actions.
 impl From<Memory> for NoMemory {
     fn from(_: Memory) -> NoMemory {
         NoMemory
     }
 }
 
-/// Of a new tree or a copy of one, which can only lack memory.
+/// Converts the fault of a new tree or of a copy of one, which can only lack memory.
 impl From<TreeFault> for NoMemory {
     fn from(_: TreeFault) -> NoMemory {
         NoMemory
     }
 }
 
-/// Of a copy of a script, which can only lack memory.
+/// Converts the fault of a copy of a script, which can only lack memory.
 impl From<ScriptFault> for NoMemory {
     fn from(_: ScriptFault) -> NoMemory {
         NoMemory
     }
 }
 
-/// Of a view of mounts.
+/// Converts the fault of a view of mounts.
 impl From<llb_mount::Memory> for NoMemory {
     fn from(_: llb_mount::Memory) -> NoMemory {
         NoMemory
     }
 }
 
-/// Of a laying.
+/// Converts the fault of a laying.
 impl From<llb_merge::Memory> for NoMemory {
     fn from(_: llb_merge::Memory) -> NoMemory {
         NoMemory
     }
 }
 
-/// Of a command.
+/// Converts the fault of a command.
 impl From<llb_applet::Memory> for NoMemory {
     fn from(_: llb_applet::Memory) -> NoMemory {
         NoMemory

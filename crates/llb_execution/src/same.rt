@@ -1,4 +1,4 @@
-//! Whether two views are the same by value, and whether a program is that of a vertex. Nothing here takes memory: the vertex's own
+//! Whether two views are the same by value, and whether a program is that of a vertex. Nothing here allocates: the vertex's own
 //! program is not made, but each part of the one at hand is compared with what the vertex says.
 
 ghost use Rattle.std.specs.Prelude.{◌≡◌, ◌↔◌, IsTrue, [], ◌∷◌, map};
@@ -44,7 +44,7 @@ fn same_own(own: &Own, other: &Own) -> bool
 }
 
 impl Program {
-    /// Whether this is the program of a vertex, as `of` makes it. Takes no memory.
+    /// Returns whether this is the program of a vertex, as `of` makes it. Does not allocate.
     pub fn is_of(&self, vertex: &Vertex) -> bool
         ensures { IsTrue result ↔ (self.now ≡ program_of vertex.now) }
     {
@@ -54,7 +54,7 @@ impl Program {
     }
 }
 
-// Whether these are the numbers of the outputs that mounts give.
+// Whether these are the output numbers of the mounts.
 fn are_outputs(numbers: &[i64], mounts: &[Mount]) -> bool
     ensures { IsTrue result ↔ (numbers.now ≡ mount_outputs mounts.now) }
 {
@@ -84,7 +84,7 @@ fn are_inputs(numbers: &[i64], inputs: &[MergeInput]) -> bool
     true
 }
 
-// Whether these are the micro-steps of an op's kind; of an exec the commands of its script.
+// Whether these are the micro-steps of an op's kind; those of an exec are the commands of its script.
 fn are_steps(steps: &Steps, kind: &Option<Kind>, script: &Option<Script>) -> bool
     ensures { IsTrue result ↔ (steps_in steps.now ≡ steps_of kind.now script.now) }
 {

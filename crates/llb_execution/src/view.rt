@@ -1,5 +1,5 @@
 //! What a program works on, which owns its data: it begins on the trees of the vertex's inputs, each micro-step changes it, and the
-//! outputs are taken from it at the end. Stands on what one action, one laying and one command do.
+//! outputs are taken from it at the end. It rests on what one action, one laying and one command do.
 
 ghost use Rattle.std.specs.Prelude.{◌≡◌, ◌<◌, List, length, map, option_map, replicate, unwrap_or, Some, None, IfOk, OnOk, OnErr};
 ghost use Rattle.std.specs.List.{All};
@@ -31,8 +31,8 @@ use llb_wire::Memory;
 use std::alloc::Global;
 use std::marker::Model;
 
-/// What a program works on: of a source its local tree, of a file op the trees of its inputs and the results so far, of a
-/// merge the trees of its inputs and what is laid so far, of an exec its mounts, of which those that show caches are empty, and
+/// What a program works on: for a source its local tree, for a file op the trees of its inputs and the results so far, for a
+/// merge the trees of its inputs and what is laid so far, for an exec its mounts, of which those that show caches are empty, and
 /// the status of the last command that ran.
 pub struct View {
     pub(crate) own: Own,
@@ -67,8 +67,8 @@ impl Model for View {
 }
 
 impl View {
-    /// Before the first micro-step of a vertex: on the trees of its inputs, with the numbers of the mounts that show caches, in the
-    /// order of the needs. `Memory`: out of memory, the one refusal.
+    /// Makes the view before the first micro-step of a vertex: on the trees of its inputs, with the numbers of the mounts that show caches, in
+    /// the order of the needs. Fails with `Memory` alone.
     pub fn on(
         alloc: Global,
         locals: &Locals,
@@ -84,7 +84,7 @@ impl View {
         Ok(View { own })
     }
 
-    /// An equal second owner, whose trees are shared. `Memory`: out of memory, the one refusal.
+    /// Returns an equal second owner, whose trees are shared. Fails with `Memory` alone.
     pub fn copy(&self) -> Result<View, Memory>
         ensures { IfOk result (λ v. v ≡ self.now) }
     {
@@ -92,7 +92,7 @@ impl View {
         Ok(View { own })
     }
 
-    /// The status of the last command that ran, 0 before one has. Takes no memory.
+    /// Returns the status of the last command that ran, 0 before one has. Does not allocate.
     pub fn last(&self) -> u32
         ensures { result ≡ last_of self.now }
     {
@@ -102,7 +102,7 @@ impl View {
         }
     }
 
-    /// Whether a micro-step is a command that is skipped here: it changes nothing. Takes no memory.
+    /// Returns whether a micro-step is a command that is skipped here: it changes nothing. Does not allocate.
     pub fn skips(&self, step: MicroStep<'_>) -> bool
         ensures { result ≡ is_skipped (step_in step.entry) self.now }
     {
@@ -113,8 +113,8 @@ impl View {
     }
 
     /// Does micro-step k; that number is in its fault. The trees are those of the instances of the caches that the view shows,
-    /// in the order of the needs, and a command leaves them as it changes them. The answer is the fault, where there is one, and
-    /// then the view and the trees are as they were but for the last status. `Memory`: out of memory, the one refusal; then they
+    /// in the order of the needs, and a command leaves them as it changes them. Returns the fault, where there is one, and
+    /// then the view and the trees are as they were but for the last status. Fails with `Memory` alone; then they
     /// are as they were.
     pub fn step(
         &mut self,
@@ -136,8 +136,8 @@ impl View {
         Ok(self.do_step(alloc, k, step, trees)?)
     }
 
-    /// The outputs of what all micro-steps of the vertex left, each in the place of an empty tree that was made for it
-    /// (`empty_trees`). Takes no memory.
+    /// Returns the outputs of what all micro-steps of the vertex left, each in the place of an empty tree that was made for it
+    /// (`empty_trees`). Does not allocate.
     pub fn into_outputs(self, outputs: Vec<Tree>, vertex: &Vertex) -> Vec<Tree>
         requires { outputs.items ≡ replicate vertex.now.outputs empty_tree }
         ensures { result.items ≡ outputs_of (program_of vertex.now) self }
@@ -195,7 +195,7 @@ impl View {
         }
     }
 
-    // The tree of that number that an action can begin with; `None` stands for the empty tree.
+    // The tree with that number, which an action can begin with; `None` means the empty tree.
     fn tree(&self, number: i64) -> Option<&Tree>
         ensures { unwrap_or (option_map (λ t. t.now) result) empty_tree ≡ base_in number (trees_in self.now) }
     {
@@ -241,7 +241,7 @@ impl View {
         }
     }
 
-    // The first that many results of a file op.
+    // The first results of a file op, by their count.
     pub(crate) fn keep_results(&mut self, count: usize)
         ensures { self.new ≡ put_back (Results count) self.old }
     {
@@ -275,7 +275,7 @@ impl View {
     }
 
     // Command k runs on an exec's mounts, of which those that show caches have these trees meanwhile; or it is skipped, by its join
-    // and the last status. The answer is its fault: its status, where no later command may run.
+    // and the last status. Returns its fault: its status, where no later command may run.
     fn run(
         &mut self,
         alloc: Global,

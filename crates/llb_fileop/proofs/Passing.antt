@@ -1,19 +1,16 @@
 -- Passing over entries in the order of their paths.
-use Rattle.std.proofs.Common.{◌≡◌, ℕ, zero, suc, ◌<◌, ◌≤◌, Bool, true, false, cond, not, ◌&&◌, List, [], ◌∷◌, map, length, drop, Some, None}
-use Rattle.std.proofs.Common.{IsSome, is_some, T, refl, sym, ap, ◌∙◌, true≢false, arith}
+use Rattle.std.proofs.Common.{◌≡◌, ℕ, zero, suc, ◌<◌, ◌≤◌, Bool, true, false, cond, not, ◌&&◌, List, [], ◌∷◌, length, drop, Some, None}
+use Rattle.std.proofs.Common.{T, refl, sym, ap, ◌∙◌, true≢false, arith}
 use Rattle.std.specs.Prelude.{slice_get}
-use Rattle.std.specs.List.{filter}
 use Rattle.std.specs.declared.cmp.Ordering.{Ordering}
 use Rattle.std.specs.declared.cmp.Ordering.TheVariants.{Less, Equal, Greater}
 use Rattle.std.specs.Ordering.{is_lt, is_eq, eq_by_cmp}
 use Rattle.std.specs.Cmp.{tied_itself}
 use Rattle.std.specs.FinMap as finite
 use Rattle.std.specs.FinMap.Entries.{below_all, where_key}
-use Rattle.llb_glob.specs.declared.item.Item.{Item}
-use Rattle.llb_glob.specs.Matching.{path_matches}
 use Rattle.llb_tree.specs.Path.{path_cmp, is_within}
 use Rattle.llb_tree.specs.PathOrder.{path_cmp-IsTotalOrder, path_cmp-IsAntisymmetric}
-use Rattle.llb_tree.specs.Tree.{TreeMap, Entry}
+use Rattle.llb_tree.specs.Tree.{Entry}
 use Rattle.llb_tree.specs.Walks.{past}
 
 abbrev pub Pair : Type 0
@@ -102,40 +99,3 @@ skip_short es fs k e is next =
     let long = ap length (walk_first es k e is) in
     let same = ap length (sym (past_is es k e is) ∙ next) in
     omega (arith, long, same, beside_short k (drop 1 es))
-
--- each path of the entries is there
-abbrev pub Stand : TreeMap → List Pair → Type 0
-Stand t [] = Unit {0}
-Stand t (e ∷ es) = IsSome (finite.get t e.0) × Stand t es
-
-stand_each : (t : TreeMap) (es : List Pair) → ((i : ℕ) (k : List (List ℕ)) (e : Entry) → slice_get es i ≡ Some (k, e) → IsSome (finite.get t k)) → Stand t es
-stand_each t [] each = tt
-stand_each t (e ∷ es) each = (each 0 e.0 e.1 refl, stand_each t es (λ i. each (suc i)))
-
--- each of a tree's own entries has its path in the tree
-pub stand_all : (t : TreeMap) → Stand t (finite.entries t)
-stand_all t = stand_each t (finite.entries t) (λ i k e is. ap is_some (finite.get-entries t k ∙ found_at (finite.entries t) i k e (finite.entries_sorted t) is))
-
--- where all paths of what is left are there, so is the path of the first entry
-pub stand_first : (t : TreeMap) (es : List Pair) (k : List (List ℕ)) (e : Entry) → slice_get es 0 ≡ Some (k, e) → Stand t es → IsSome (finite.get t k)
-stand_first t [] k e is all = absurd cc
-stand_first t (f ∷ es) k e is all = let same : f ≡ (k, e) = cc in ap (λ x. is_some (finite.get t x.0)) (sym same) ∙ all.0
-
--- where all paths of what is left are there, so are those after the first entry
-pub stand_rest : (t : TreeMap) (es : List Pair) → Stand t es → Stand t (drop 1 es)
-stand_rest t [] all = tt
-stand_rest t (e ∷ es) all = all.1
-
--- the paths that match a pattern
-abbrev pub hits : List (List Item) → List Pair → List (List (List ℕ))
-hits pattern es = filter (path_matches pattern) (map (λ e. e.0) es)
-
--- where the first entry's path matches, the matches are this path and those of the rest
-pub hits_next : (pattern : List (List Item)) (es : List Pair) (k : List (List ℕ)) (e : Entry) → slice_get es 0 ≡ Some (k, e)
-    → path_matches pattern k ≡ true → hits pattern es ≡ k ∷ hits pattern (drop 1 es)
-hits_next pattern es k e is hit =
-    ap (hits pattern) (walk_first es k e is) ∙ ap (λ b. cond b (k ∷ hits pattern (drop 1 es)) (hits pattern (drop 1 es))) hit
-
--- where no entry is left, no path matches
-pub hits_end : (pattern : List (List Item)) (es : List Pair) → slice_get es 0 ≡ None → hits pattern es ≡ []
-hits_end pattern es is = ap (hits pattern) (walk_end es is)

@@ -1,5 +1,5 @@
--- The tree that is left where sources of a second tree are copied to a destination, or the first fault. What stands at a
--- source and below it comes to stand at the source's target and below it, entry by entry.
+-- The tree after sources of a second tree are copied to a destination, or the first fault. The entries at and below a
+-- source are copied to the source's target and below it, entry by entry.
 use Rattle.std.specs.Prelude.{ℕ, ◌-◌, Bool, true, false, ◌||◌, ◌&&◌, nat_eq, nat_lt, List, [], ◌∷◌, ◌++◌, length, drop, map, Option, Some}
 use Rattle.std.specs.Prelude.{None, Result, Ok, Err, if◌then◌else◌}
 use Rattle.std.specs.List.{ends_with}
@@ -36,7 +36,7 @@ chosen_by c =
     if c.allow_wildcard then (on_pattern (pattern_of c.src) >>= λ pattern. Ok (EachMatch pattern))
     else (on_tree (path_of c.src) >>= λ p. Ok (OnePath p))
 
--- none at all is a fault, or is let be where that is allowed
+-- if no path matches, that is a fault, unless it is allowed
 abbrev pub some_match : Bool → List (List (List ℕ)) → Result (List (List (List ℕ))) TreeFault
 some_match true ps = Ok ps
 some_match false [] = Err NotFound
@@ -49,11 +49,11 @@ sources allow_empty second (EachMatch pattern) = some_match allow_empty (matchin
 
 -- ---- the target of a source
 
--- the last name of a path, of the root none
+-- the last name of a path, as a list; the root has none
 abbrev pub last_name : List (List ℕ) → List (List ℕ)
 last_name p = drop (length p - 1) p
 
--- the destination itself, or a place in it by the source's name
+-- the target of a source: the destination itself, or a place in it under the source's last name
 abbrev pub target : CopyFile → List (List ℕ) × Bool → TreeMap → List (List ℕ) → TreeMap → List (List ℕ)
 target c dest second s t =
     if c.dir_copy_contents && is_dir (finite.get second s) then dest.0
@@ -61,11 +61,11 @@ target c dest second s t =
 
 -- ---- the entries of a source at their places
 
--- there is no 129th name
+-- a path has at most 128 names
 abbrev pub fits : List (List ℕ) → Result (Unit {0}) TreeFault
 fits p = if nat_lt 128 (length p) then Err BadName else Ok tt
 
--- a file against a directory, either way
+-- a file may not meet a directory, either way
 abbrev pub meets : Option Entry → Entry → Result (Unit {0}) TreeFault
 meets None e = Ok tt
 meets (Some (Dir m)) (Dir n) = Ok tt
@@ -73,23 +73,23 @@ meets (Some (Dir m)) (File n bytes) = Err Conflict
 meets (Some (File m old)) (Dir n) = Err Conflict
 meets (Some (File m old)) (File n bytes) = Ok tt
 
--- the first entry that can't stand at its place decides
+-- the first entry that can't be at its place gives the fault
 abbrev pub all_land : TreeMap → List (List (List ℕ) × Entry) → Result (Unit {0}) TreeFault
 all_land t [] = Ok tt
 all_land t (e ∷ es) = fits e.0 >>= λ _. meets (finite.get t e.0) e.1 >>= λ _. all_land t es
 
--- what stands where an entry is copied to: a directory that is there is kept as it is
+-- what is at the place of a copied entry: a directory that was there is kept as it is
 abbrev pub landed : (MetaValue → MetaValue) → Option Entry → Entry → Entry
 landed given (Some (Dir m)) (Dir n) = Dir m
 landed given (Some (File m old)) (Dir n) = Dir (given n)
 landed given None (Dir n) = Dir (given n)
 landed given there (File n bytes) = File (given n) bytes
 
--- an entry at its place, as it stands there
+-- an entry at its place, as it is there after the copy
 abbrev pub landed_on : (MetaValue → MetaValue) → TreeMap → List (List ℕ) × Entry → List (List ℕ) × Entry
 landed_on given t e = (e.0, landed given (finite.get t e.0) e.1)
 
--- a tree with entries at their places, over what it had
+-- a tree with entries at their places, over the entries that it had
 abbrev pub laid_on : (MetaValue → MetaValue) → TreeMap → List (List (List ℕ) × Entry) → TreeMap
 laid_on given t es = finite.from_entries (map (landed_on given t) es ++ finite.entries t)
 
@@ -97,7 +97,7 @@ laid_on given t es = finite.from_entries (map (landed_on given t) es ++ finite.e
 abbrev pub at_target : TreeMap → List (List ℕ) → List (List ℕ) → List (List (List ℕ) × Entry)
 at_target second s goal = map (moved (length s) goal) (where_key path_cmp (is_within s) (finite.entries second))
 
--- the parents of a target: they are there, or the missing ones are made
+-- the parents of a target: the missing ones are made, or all have to be there
 abbrev pub parents_for : Bool → List (List ℕ) → TreeMap → Result TreeMap TreeFault
 parents_for true p t = make_all new_dir_meta (parents p) t
 parents_for false p t = walk (finite.get t) p >>= λ _. Ok t
@@ -105,20 +105,20 @@ parents_for false p t = walk (finite.get t) p >>= λ _. Ok t
 abbrev pub land : (MetaValue → MetaValue) → List (List (List ℕ) × Entry) → TreeMap → Result TreeMap TreeFault
 land given es t = all_land t es >>= λ _. Ok (laid_on given t es)
 
--- one source at its target
+-- the tree after one source is copied to its target
 abbrev pub copy_to : CopyFile → TreeMap → List (List ℕ) → List (List ℕ) → TreeMap → Result TreeMap TreeFault
 copy_to c second s goal t = fits goal >>= λ _. parents_for c.create_dest_path goal t >>= land (copied c.mode c.owner) (at_target second s goal)
 
--- one source
+-- the tree after one source is copied
 abbrev pub copy_one : CopyFile → List (List ℕ) × Bool → TreeMap → List (List ℕ) → TreeMap → Result TreeMap TreeFault
 copy_one c dest second s t = copy_to c second s (target c dest second s t) t
 
--- one source after another
+-- the tree after these sources are copied, one after another
 abbrev pub copy_each : CopyFile → List (List ℕ) × Bool → TreeMap → List (List (List ℕ)) → TreeMap → Result TreeMap TreeFault
 copy_each c dest second [] t = Ok t
 copy_each c dest second (s ∷ ss) t = copy_one c dest second s t >>= copy_each c dest second ss
 
--- the sources, one after another
+-- the tree after the chosen sources are copied, one after another
 abbrev pub copy_chosen : CopyFile → List (List ℕ) × Bool → TreeMap → TreeMap → Chosen → Result TreeMap TreeFault
 copy_chosen c dest t second chosen = sources c.allow_empty_wildcard second chosen >>= λ ss. copy_each c dest second ss t
 

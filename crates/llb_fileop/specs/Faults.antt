@@ -1,4 +1,4 @@
--- How the calls of this crate answer, and the faults of lower calls as its own.
+-- What the calls of this crate return, and the faults of lower calls as its own.
 use Rattle.std.specs.Prelude.{Bool, true, false, Result, Ok, Err}
 use Rattle.llb_wire.specs.Answer as answer
 use Rattle.llb_tree.specs.declared.fault.TreeFault.{TreeFault}
@@ -8,21 +8,21 @@ use Rattle.llb_glob.specs.declared.fault.PatternFault.TheVariants as pattern
 use Rattle.llb_fileop.specs.declared.fault.ActFault.{ActFault}
 use Rattle.llb_fileop.specs.declared.fault.ActFault.TheVariants.{File, BadPattern, Memory}
 
--- out of memory, which no rule gives
+-- whether a fault is `Memory`, which no rule gives
 abbrev pub is_memory : ActFault → Bool
 is_memory Memory = true
 is_memory (File f) = false
 is_memory BadPattern = false
 
--- what a call answers, seen by view, is what the rule gives
+-- what a call returns, seen by view, is what the rule gives, unless it is `Memory`
 abbrev pub Gives : {X Y : Type 0} → (X → Y) → Result X ActFault → Result Y ActFault → Type 0
 Gives = answer.Gives is_memory
 
--- out of memory comes last
+-- `Memory` comes last: a call fails with it only where the rule has no fault
 abbrev pub MemoryLast : {X Y : Type 0} → Result X ActFault → Result Y ActFault → Type 0
 MemoryLast = answer.MemoryLast is_memory
 
--- a fault of a path or a tree
+-- a fault of a path or a tree, as an action's
 abbrev pub of_tree : TreeFault → ActFault
 of_tree tree.Memory = Memory
 of_tree tree.NotFound = File tree.NotFound
@@ -32,12 +32,12 @@ of_tree tree.Conflict = File tree.Conflict
 of_tree tree.Root = File tree.Root
 of_tree tree.BadName = File tree.BadName
 
--- a fault of a pattern
+-- a fault of a pattern, as an action's
 abbrev pub of_pattern : PatternFault → ActFault
 of_pattern pattern.Memory = Memory
 of_pattern pattern.BadPattern = BadPattern
 
--- what a tree's rule gives, with its fault as an action's
+-- the result of a tree's rule, with its fault as an action's
 abbrev pub on_tree : {A : Type 0} → Result A TreeFault → Result A ActFault
 on_tree (Ok x) = Ok x
 on_tree (Err f) = Err (of_tree f)

@@ -1,4 +1,4 @@
--- What a granted copy of one source is, path by path.
+-- What a granted copy of one source leaves, path by path.
 use Rattle.std.specs.Prelude.{◌≡◌, ℕ, zero, negsuc, Bool, true, false, List, ◌++◌, Some, None, Ok, ◌⊎◌}
 use Rattle.std.specs.FinMap as finite
 use Rattle.llb_ops.specs.declared.actions.CopyFile.{CopyFile}
@@ -8,13 +8,13 @@ use Rattle.llb_tree.specs.Tree.{TreeMap, Dir, File}
 use Rattle.llb_fileop.specs.Owners.{copied}
 use Rattle.llb_fileop.specs.Copying.{target, copy_one}
 
--- a parent of the target that was made, 0755 0:0
+-- a missing parent of the target was made, 0755 0:0
 pub record IsMadeParent (t u : TreeMap) (goal q : List (List ℕ)) : Type 0 where
   pub above : is_within q goal ≡ true
   pub was : finite.get t q ≡ None
   pub is : finite.get u q ≡ Some (Dir new_dir_meta)
 
--- each entry at or below the source stands at its place, a directory that was there is as it was, and so is all else but
+-- each entry at or below the source is at its place, a directory that was there is as it was, and so is everything else except
 -- the parents that were made
 pub record IsCopied (c : CopyFile) (second t u : TreeMap) (s goal : List (List ℕ)) : Type 0 where
   pub files : (q : List (List ℕ)) (m : MetaValue) (bytes : List ℕ)
@@ -28,6 +28,6 @@ pub record IsCopied (c : CopyFile) (second t u : TreeMap) (s goal : List (List �
   pub beside : (q : List (List ℕ)) → finite.get second (s ++ q) ≡ None → finite.get u (goal ++ q) ≡ finite.get t (goal ++ q)
   pub outside : (q : List (List ℕ)) → is_within goal q ≡ false → (finite.get u q ≡ finite.get t q) ⊎ IsMadeParent t u goal q
 
--- a granted copy of one source is one to its target
+-- a granted copy of one source copies it to its target
 abbrev pub CopiesOne : CopyFile → List (List ℕ) × Bool → TreeMap → TreeMap → List (List ℕ) → Type 0
 CopiesOne c dest t second s = (u : TreeMap) → copy_one c dest second s t ≡ Ok u → IsCopied c second t u s (target c dest second s t)

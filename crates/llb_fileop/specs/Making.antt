@@ -1,4 +1,4 @@
--- The tree that is left where a file or a directory is made, or the first fault.
+-- The tree after a file or a directory is made, or the first fault.
 use Rattle.std.specs.Prelude.{Bool, true, false, List, [], ◌∷◌, ℕ, Option, Some, None, Result, Ok, Err}
 use Rattle.std.specs.FinMap as finite
 use Rattle.llb_wire.specs.Answer.{◌>>=◌}
@@ -11,27 +11,27 @@ use Rattle.llb_tree.specs.declared.fault.TreeFault.{TreeFault}
 use Rattle.llb_tree.specs.declared.fault.TreeFault.TheVariants.{NotDir}
 use Rattle.llb_fileop.specs.Owners.{made}
 
--- the file stands there, or replaces one
+-- the tree with a new file, which replaces a file that is there
 abbrev pub mkfile : file.MkFile → TreeMap → Result TreeMap TreeFault
 mkfile m t = path_of m.path >>= λ p. put_file t p (made m.mode m.owner) m.body
 
--- a directory at a path, made where nothing stands; a file there is in the way
+-- the tree with a directory at a path: it is made if nothing is there; a file there is a fault
 abbrev pub kept_or_made : MetaValue → List (List ℕ) → Option Entry → TreeMap → Result TreeMap TreeFault
 kept_or_made m p None t = put_dir t p m
 kept_or_made m p (Some (Dir n)) t = Ok t
 kept_or_made m p (Some (File n bytes)) t = Err NotDir
 
--- directories at these paths, from the first on
+-- the tree with directories at these paths, from the first on
 abbrev pub make_all : MetaValue → List (List (List ℕ)) → TreeMap → Result TreeMap TreeFault
 make_all m [] t = Ok t
 make_all m (p ∷ ps) t = kept_or_made m p (finite.get t p) t >>= make_all m ps
 
--- the missing parents are made, where that is asked for
+-- the missing parents are made if `make_parents` asks for it
 abbrev pub with_parents : Bool → MetaValue → List (List ℕ) → TreeMap → Result TreeMap TreeFault
 with_parents true m p t = make_all m (parents p) t
 with_parents false m p t = Ok t
 
--- a directory that is there stays as it is
+-- the tree with a directory; one that is there stays as it is
 abbrev pub make_dir : Bool → MetaValue → List (List ℕ) → Option Entry → TreeMap → Result TreeMap TreeFault
 make_dir parents m p (Some (Dir n)) t = Ok t
 make_dir parents m p (Some (File n bytes)) t = with_parents parents m p t >>= λ u. put_dir u p m

@@ -11,7 +11,7 @@ abbrev pub mode_of : ℤ → ℕ
 mode_of (pos n) = n % 4096
 mode_of (negsuc n) = 4095 - n % 4096
 
--- the number of a user or a group, where one is given
+-- the number of a user or a group, if one is given
 abbrev pub number_in : Option User → Option ℕ
 number_in (Some (ById n)) = Some n
 number_in (Some (ByName name)) = None
@@ -29,17 +29,17 @@ abbrev pub group_in : Option ChownOpt → Option ℕ
 group_in None = None
 group_in (Some o) = id_in o.group
 
--- the mode and the owner of what an action makes: 0 where no owner is given
+-- the mode and the owner of what an action makes: user or group 0 if none is given
 abbrev pub made : ℤ → Option ChownOpt → MetaValue
 made mode owner = record { mode = mode_of mode; uid = unwrap_or (user_in owner) 0; gid = unwrap_or (group_in owner) 0 }
 
--- -1 leaves the mode
+-- the mode of what is copied; -1 leaves its own
 abbrev pub mode_from : ℤ → ℕ → ℕ
 mode_from (negsuc zero) own = own
 mode_from (negsuc (suc n)) own = mode_of (negsuc (suc n))
 mode_from (pos n) own = mode_of (pos n)
 
--- the mode and the owner of what is copied: its own where none is given
+-- the mode and the owner of what is copied: its own if none is given
 abbrev pub copied : ℤ → Option ChownOpt → MetaValue → MetaValue
 copied mode owner own =
     record { mode = mode_from mode own.mode; uid = unwrap_or (user_in owner) own.uid; gid = unwrap_or (group_in owner) own.gid }

@@ -1,4 +1,4 @@
--- The steps of a copy at its place: whether each entry can land, and what stands where trees are one.
+-- The steps of a copy at its place: whether each entry can land, and what is at each path when two trees are laid together.
 use Rattle.std.specs.Prelude.{◌≡◌, ℕ, ◌+◌, nat_lt, List, [], ◌∷◌, length, Option, Some, None, Result, Ok, Err, if◌then◌else◌}
 use Rattle.std.specs.FinMap as finite
 use Rattle.llb_wire.specs.Answer.{◌>>=◌}
@@ -8,40 +8,40 @@ use Rattle.llb_tree.specs.declared.fault.TreeFault.{TreeFault}
 use Rattle.llb_tree.specs.declared.fault.TreeFault.TheVariants.{BadName}
 use Rattle.llb_fileop.specs.Copying.{meets, landed, land, fits}
 
--- an entry is put at a path
+-- the tree with an entry put at a path
 abbrev pub put : Entry → TreeMap → List (List ℕ) → Result TreeMap TreeFault
 put (Dir m) t p = put_dir t p m
 put (File m bytes) t p = put_file t p m bytes
 
--- no file of one stands against a directory of the other
+-- at no path does a file of one tree meet a directory of the other
 abbrev pub AgreeOn : TreeMap → TreeMap → Type 0
 AgreeOn t source = (q : List (List ℕ)) (e : Entry) → finite.get source q ≡ Some e → meets (finite.get t q) e ≡ Ok tt
 
--- the first entry that can't land on what a tree has there decides
+-- the first entry that can't land on what a tree has there gives the fault
 abbrev pub all_meet : TreeMap → List (List (List ℕ) × Entry) → Result (Unit {0}) TreeFault
 all_meet here [] = Ok tt
 all_meet here (e ∷ es) = meets (finite.get here e.0) e.1 >>= λ _. all_meet here es
 
--- the first that can't land below a path of that many names, where the tree has this at it
+-- the first entry that can't land below a path of `depth` names, given the tree that is there, gives the fault
 abbrev pub all_below : TreeMap → ℕ → List (List (List ℕ) × Entry) → Result (Unit {0}) TreeFault
 all_below here depth [] = Ok tt
 all_below here depth (e ∷ es) =
     if nat_lt 128 (depth + length e.0) then Err BadName else (meets (finite.get here e.0) e.1 >>= λ _. all_below here depth es)
 
--- what stands where trees are one: a directory that is on both sides is kept
+-- what is at a path when two trees are laid together: a directory that is on both sides is kept
 abbrev pub laid : (MetaValue → MetaValue) → Option Entry → Option Entry → Option Entry
 laid given there None = there
 laid given there (Some e) = Some (landed given there e)
 
--- an entry is put, if there is one
+-- the tree with an entry put at a path, if there is an entry
 abbrev pub put_some : Option Entry → TreeMap → List (List ℕ) → Result TreeMap TreeFault
 put_some None t p = Ok t
 put_some (Some e) t p = put e t p
 
--- the walk to the target, and then the landing
+-- the parents of the target are checked, and then the entries land
 abbrev pub land_at : (MetaValue → MetaValue) → List (List (List ℕ) × Entry) → List (List ℕ) → TreeMap → Result TreeMap TreeFault
 land_at given es goal t = walk (finite.get t) goal >>= λ _. land given es t
 
--- a path that has a place
+-- a path with at most 128 names
 abbrev pub placed : List (List ℕ) → Result (List (List ℕ)) TreeFault
 placed p = fits p >>= λ _. Ok p

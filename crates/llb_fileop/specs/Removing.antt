@@ -1,4 +1,4 @@
--- The tree that is left where a path, or all that match a pattern, go, or the first fault.
+-- The tree after a path, or all paths that match a pattern, are removed, or the first fault.
 use Rattle.std.specs.Prelude.{ℕ, Bool, true, false, not, List, [], ◌∷◌, Option, Some, None, Result, Ok, Err, if◌then◌else◌}
 use Rattle.std.specs.List.{list_any, filter}
 use Rattle.std.specs.FinMap as finite
@@ -14,17 +14,17 @@ use Rattle.llb_glob.specs.Pattern.{pattern_of}
 use Rattle.llb_fileop.specs.declared.fault.ActFault.{ActFault}
 use Rattle.llb_fileop.specs.Faults.{on_tree, on_pattern}
 
--- what is not there is a fault, or is left so where that is allowed
+-- if nothing is there, that is a fault, unless it is allowed
 abbrev pub absent : Bool → TreeMap → Result TreeMap TreeFault
 absent true t = Ok t
 absent false t = Err NotFound
 
--- the whole subtree goes
+-- the tree without what is at and below a path
 abbrev pub removed : Bool → List (List ℕ) → Option Entry → TreeMap → Result TreeMap TreeFault
 removed allowed p (Some e) t = Ok (without t p)
 removed allowed p None t = absent allowed t
 
--- one path, which is not the root
+-- one path is removed, which may not be the root
 abbrev pub rm_path : Bool → TreeMap → List (List ℕ) → Result TreeMap TreeFault
 rm_path allowed t p = not_root p >>= λ _. removed allowed p (finite.get t p) t
 
@@ -32,20 +32,20 @@ rm_path allowed t p = not_root p >>= λ _. removed allowed p (finite.get t p) t
 abbrev pub matching : List (List Item) → TreeMap → List (List (List ℕ))
 matching pattern t = filter (path_matches pattern) (finite.keys t)
 
--- a path is at or below one of some
+-- whether a path is at or below one of these paths
 abbrev pub is_below_any : List (List (List ℕ)) → List (List ℕ) → Bool
 is_below_any ps q = list_any (λ p. is_within p q) ps
 
--- what is left where all that match go, with what is below them
+-- the tree without the paths that match, and what is below them
 abbrev pub left : List (List Item) → TreeMap → TreeMap
 left pattern t = finite.retain_keys t (λ q. not (is_below_any (matching pattern t) q))
 
--- all that match go, with what is below them
+-- these paths are removed, with what is below them
 abbrev pub removed_all : Bool → List (List (List ℕ)) → TreeMap → Result TreeMap TreeFault
 removed_all allowed [] t = absent allowed t
 removed_all allowed (p ∷ ps) t = Ok (finite.retain_keys t (λ q. not (is_below_any (p ∷ ps) q)))
 
--- a pattern without parts is the root's
+-- the paths that match a pattern are removed; a pattern without parts matches the root, which is refused
 abbrev pub rm_pattern : Bool → TreeMap → List (List Item) → Result TreeMap TreeFault
 rm_pattern allowed t [] = Err Root
 rm_pattern allowed t (part ∷ parts) = removed_all allowed (matching (part ∷ parts) t) t

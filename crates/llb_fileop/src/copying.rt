@@ -13,7 +13,7 @@ use crate::dest::resolve;
 use crate::fault::ActFault;
 use crate::making::make_parents;
 use crate::merging::{land_dir, land_file};
-use crate::parts::any_matches;
+use crate::removing::absent;
 use llb_glob::Pattern;
 use llb_ops::CopyFile;
 use llb_tree::{Meta, Path, Tree, TreeFault};
@@ -67,16 +67,13 @@ fn copy_matches(
 ) -> Result<Tree, TreeFault>
     ensures { trees.Gives (λ t. t) result (copy_chosen action.now (dest.now, inside) base.now second.now (EachMatch pattern.now)) }
 {
-    if !action.allow_empty_wildcard && !any_matches(pattern, second)? {
-        return Err(TreeFault::NotFound);
+    let sources = second.passing(pattern.parts())?;
+    if sources.is_empty() {
+        return absent(action.allow_empty_wildcard, base);
     }
     let mut tree = base.copy()?;
-    let mut walk = second.walk();
-    while let Some((path, _)) = walk.at() {
-        if pattern.matches(path) {
-            copy_one(alloc, action, dest, inside, second, path, &mut tree)?;
-        }
-        walk.advance()?;
+    for path in &sources {
+        copy_one(alloc, action, dest, inside, second, path, &mut tree)?;
     }
     Ok(tree)
 }

@@ -1,12 +1,10 @@
-//! A path, or all that match a pattern, go from a copy of a tree. For a pattern the tree is walked once, past what goes.
+//! A path, or all that match a pattern, go from a copy of a tree, which shares what stays as it is.
 
-ghost use Rattle.std.specs.Prelude.{◌≢◌, [], Ok};
 ghost use Rattle.llb_tree.specs.Tree as tree;
 ghost use Rattle.llb_fileop.specs.Faults.{Gives};
-ghost use Rattle.llb_fileop.specs.Removing.{rm, rm_path, rm_pattern, left, absent};
+ghost use Rattle.llb_fileop.specs.Removing.{rm, rm_path, rm_pattern, absent};
 
 use crate::fault::ActFault;
-use crate::parts::any_matches;
 use llb_glob::Pattern;
 use llb_ops::Rm;
 use llb_tree::{Path, Tree, TreeFault};
@@ -45,35 +43,15 @@ fn rm_path(path: &Path, allowed: bool, base: &Tree) -> Result<Tree, TreeFault>
 fn rm_pattern(pattern: &Pattern, allowed: bool, base: &Tree) -> Result<Tree, TreeFault>
     ensures { tree.Gives (λ t. t) result (rm_pattern allowed base.now pattern.now) }
 {
-    if pattern.has_no_parts() {
-        return Err(TreeFault::Root);
+    base.is_tree();
+    match base.without_passing(pattern.parts())? {
+        Some(tree) => Ok(tree),
+        None => absent(allowed, base),
     }
-    if !any_matches(pattern, base)? {
-        return absent(allowed, base);
-    }
-    kept(pattern, base)
 }
 
-// What stays where all that match a pattern go, with what is below them.
-fn kept(pattern: &Pattern, base: &Tree) -> Result<Tree, TreeFault>
-    requires { pattern.now ≢ [] }
-    ensures { tree.Gives (λ t. t) result (Ok (left pattern.now base.now)) }
-{
-    let mut tree = base.copy()?;
-    let mut walk = base.walk();
-    while let Some((path, _)) = walk.at() {
-        if pattern.matches(path) {
-            tree.remove(path)?;
-            walk.skip()?;
-        } else {
-            walk.advance()?;
-        }
-    }
-    Ok(tree)
-}
-
-// What is not there is a fault, or is let be.
-fn absent(allowed: bool, base: &Tree) -> Result<Tree, TreeFault>
+/// What is not there is a fault, or is let be.
+pub fn absent(allowed: bool, base: &Tree) -> Result<Tree, TreeFault>
     ensures { tree.Gives (λ t. t) result (absent allowed base.now) }
 {
     if allowed {

@@ -13,7 +13,7 @@ use Rattle.llb_glob.specs.Class.{none_yet}
 use Rattle.llb_glob.specs.Items.{cut, item_by, class_by, behind, is_whole, ended, items_from, items_of}
 use Rattle.llb_glob.specs.Pattern.{each_cut}
 
--- where nothing is cut yet, the answer is that of what is left
+-- where nothing is cut yet, the result is that of what is left
 pub behind_none : {A : Type 0} (rest : Result (List A) PatternFault) → behind [] rest ≡ rest
 behind_none (Ok more) = refl
 behind_none (Err e) = refl
@@ -61,7 +61,7 @@ module _ (cursor : Cursor) (letters : List ℕ) (i c : ℕ) (inside : i < length
       ap (λ ls. items_from ls cursor none_yet) (at_drop letters i c inside is)
       ∙ ap (λ s. s >>= and_then (drop (i + 1) letters) none_yet) says
 
-  -- the characters from it on can be cut just if those after it can
+  -- the characters from it on can be cut exactly if those after it can
   pub is_more :
       (next : Cursor × Effect)
       → cut cursor c ≡ Ok next
@@ -85,7 +85,7 @@ pub cut_ends :
     → items_from (drop i letters) cursor class ≡ ended (is_whole cursor)
 cut_ends cursor class letters i past = ap (λ ls. items_from ls cursor class) (drop_all i letters past)
 
--- it is whole, or refused
+-- a part that ends is read exactly if it is whole
 pub is_ok-ended : (b : Bool) → is_ok (ended b) ≡ b
 is_ok-ended true = refl
 is_ok-ended false = refl
@@ -103,7 +103,7 @@ module _ (names : List (List ℕ)) (i : ℕ) (name : List ℕ) (inside : i < len
       → each_cut (drop i names) ≡ (r >>= λ part. behind (part ∷ []) (each_cut (drop (i + 1) names)))
   name_says r says = at_name ∙ ap (λ r. r >>= λ part. behind (part ∷ []) (each_cut (drop (i + 1) names))) says
 
-  -- the part that a name is cut into joins the parts before it, and all comes to the same
+  -- the part that a name is cut into joins the parts before it, and the result is the same
   pub part_more :
       (part : List Item)
       → items_of (chars name) ≡ Ok part
@@ -112,7 +112,7 @@ module _ (names : List (List ℕ)) (i : ℕ) (name : List ℕ) (inside : i < len
       → behind (before ++ part ∷ []) (each_cut (drop (i + 1) names)) ≡ r
   part_more part says before r so_far = sym (behind_both before (part ∷ []) _) ∙ ap (behind before) (sym (name_says (Ok part) says)) ∙ so_far
 
-  -- a name that can't be cut has the whole pattern refused, for the same cause
+  -- if a name can't be cut, the whole pattern is refused, for the same cause
   pub part_stops :
       (e : PatternFault)
       → items_of (chars name) ≡ Err e

@@ -1,4 +1,4 @@
--- A text that is looked through part by part: where it leads, and how many of the names are parts of a pattern.
+-- A text is checked part by part: where it leads, and how many of the names are parts of a pattern.
 use Rattle.std.proofs.Common.{◌≡◌, ℕ, suc, ◌+◌, ◌-◌, ◌<◌, ◌==◌, Bool, true, false, cond, if◌then◌else◌, ◌||◌, nat_lt, zero, List, [], ◌∷◌}
 use Rattle.std.proofs.Common.{◌++◌, length, take, drop, get_or, min, Result, Ok, Err, is_ok, refl, sym, ap, ◌∙◌, inl, inr, eq-eqb, ne_eqb}
 use Rattle.std.proofs.Common.{arith}
@@ -21,7 +21,7 @@ use Rattle.llb_glob.proofs.Cutting.{at_drop}
 
 -- ---- where the text leads
 
--- a path where the walk stands, from where what is left of the text leads where the whole text does
+-- a path that the walk has counted, from which the rest of the text leads where the whole text does
 pub record Leads (parts : List (List ℕ)) (r : Result (List (List ℕ)) TreeFault) (walk : Walk) : Type 0 where
   pub path : List (List ℕ)
   pub stands : Stands path walk
@@ -94,7 +94,7 @@ module _ {A : Type 0} (p : A → Bool) where
       first false less more e = omega arith
 
 module _ (path : List (List ℕ)) (part : List ℕ) (sound : ℕ) (is : sound ≡ prefix_len is_part path) where
-  -- of the names of a path and one more
+  -- the count of parts among a path's names and one more
   one_more : prefix_len is_part (path ++ part ∷ []) ≡ cond (sound == length path) (length path + cond (is_part part) 1 0) sound
   one_more = prefix_len-append is_part path (part ∷ []) ∙ ap (λ n. cond (n == length path) (length path + cond (is_part part) 1 0) n) (sym is)
 
@@ -114,7 +114,7 @@ module _ (path : List (List ℕ)) (part : List ℕ) (sound : ℕ) (is : sound �
         | inr some ↦ sym (one_more ∙ ap (λ b. cond b (length path + cond (is_part part) 1 0) sound) (ne_eqb sound (length path) some))
       ]
 
--- all are where as many as there are
+-- all names are parts exactly if the count is that of the names
 pub all_parts : (names : List (List ℕ)) → (prefix_len is_part names == length names) ≡ is_ok (each_cut names)
 all_parts [] = refl
 all_parts (name ∷ names) = first (items_of (chars name)) (prefix_len is_part names) (length names) (each_cut names) (all_parts names)
@@ -136,7 +136,7 @@ all_parts (name ∷ names) = first (items_of (chars name)) (prefix_len is_part n
 
 -- ---- the end of the text
 
--- what is no path is no pattern
+-- a text that is no path is no pattern
 pub refused : (r : Result (List (List ℕ)) TreeFault) → is_ok r ≡ false → is_ok (cut_path r) ≡ false
 refused (Ok names) e = absurd (false≢true (sym e))
 refused (Err fault) e = refl

@@ -10,18 +10,18 @@ use Rattle.llb_glob.specs.declared.item.Letter.{Letter}
 use Rattle.llb_glob.specs.Matching.{Takes, MatchesName}
 use Rattle.llb_glob.specs.Places.{IsIn, Reaches, AreStarts}
 
--- from a place on, each place from where one of the old set can be reached is in the new; before it nothing has changed
+-- at or after `start`, exactly the places from where one of the old set can be reached are in the new set; before it nothing has changed
 pub record IsWidened (old new : List Bool) (start last : ℕ) : Type 0 where
   pub done : (i : ℕ) → start ≤ i → i ≤ last → IsIn new i ↔ Reaches old last i
   pub rest : (i : ℕ) → i < start → get_or new i false ≡ get_or old i false
 
--- before a place, each place from where one of the old set is reached by one character is in the new; from it on nothing has changed
+-- before `upto`, exactly the places from where one character reaches one of the old set are in the new set; at or after it nothing has changed
 pub record IsNarrowed (letter : Letter) (name : List ℕ) (old new : List Bool) (upto : ℕ) : Type 0 where
   pub done : (i : ℕ) → i < upto → IsIn new i ↔ (Takes letter (get_or name i 0) × IsIn old (i + 1))
   pub rest : (i : ℕ) → upto ≤ i → get_or new i false ≡ get_or old i false
 
 module _ (items : List Item) (name : List ℕ) (old new : List Bool) (starts : AreStarts items name old) where
-  -- a run before the items
+  -- the starts of the items with a run before them
   pub run_starts :
       ((i : ℕ) → i ≤ length name → IsIn new i ↔ Reaches old (length name) i)
       → AreStarts (Run ∷ items) name new
@@ -47,7 +47,7 @@ module _ (items : List Item) (name : List ℕ) (old new : List Bool) (starts : A
             | inr inside ↦ (i + n, omega arith, inside, (starts.at (i + n) inside).1 matched)
           ]
 
-  -- one character of these before the items
+  -- the starts of the items with one character before them
   pub one_starts :
       (letter : Letter)
       → ((i : ℕ) → i < length name → IsIn new i ↔ (Takes letter (get_or name i 0) × IsIn old (i + 1)))

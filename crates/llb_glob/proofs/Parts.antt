@@ -1,4 +1,4 @@
--- A path against a pattern, part by part.
+-- A path is matched with a pattern, part by part.
 use Rattle.std.proofs.Common.{◌≡◌, ◌↔◌, ℕ, suc, ◌+◌, ◌<◌, List, [], ◌∷◌, length, drop, get_or, refl, ap, subst}
 use Rattle.std.specs.Str.{chars}
 use Rattle.llb_glob.specs.declared.item.Item.{Item}
@@ -30,6 +30,6 @@ module _
     pub matches_more : MatchesName part (chars name) → Matches (drop (i + 1) parts) (drop (i + 1) path) ↔ Matches parts path
     matches_more m = (λ rest. at_hand.0 (m, rest), λ all. (at_hand.1 all).1)
 
-    -- it doesn't match, so the whole path does not
+    -- the name at hand does not match, so the whole path does not
     pub matches_not : (MatchesName part (chars name) → ⊥) → Matches parts path → ⊥
     matches_not not all = not (at_hand.1 all).0

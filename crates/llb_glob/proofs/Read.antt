@@ -1,4 +1,4 @@
--- What is read of a part is spelled by it: at each stage what is left of the text and the class at hand spell the items that are still to come.
+-- The items that a part is read as are spelled by it: at each stage the rest of the text and the class at hand spell the items still to come.
 use Rattle.std.proofs.Common.{◌≡◌, ◌≢◌, ◌⊎◌, ℕ, ◌≤◌, ◌==◌, Bool, true, false, cond, List, [], ◌∷◌, ◌++◌, length, option_to_list, Result, Ok, Err}
 use Rattle.std.proofs.Common.{refl, sym, ap, ◌∙◌, inl, inr, subst, append_assoc, append-nil, eqb-true, arith}
 use Rattle.std.proofs.lemmas.Bool.{eqb-false}
@@ -21,7 +21,7 @@ use Rattle.llb_glob.proofs.Spelled.{listed, added, reaching, with_spans, range, 
 
 -- ---- what is left of a text, by the stage
 
--- the items of a class that are still to come, at least `least` of them, then its `]`, and the items behind it
+-- the items of a class that are still to come, at least `least` of them, then its `]`, and the items after it
 record Closing (least : ℕ) (class : ClassValue) (text : List ℕ) (items : List Item) : Type 0 where
   body : List ℕ
   tail : List ℕ
@@ -48,7 +48,7 @@ Left Single class text items = Closing 0 class text items ⊎ ((rest : List ℕ)
 Left Dash class text items = Reaching class text items
 Left Range class text items = Closing 0 class text items
 
--- a `\` that stands for nothing yet is still left
+-- a `\` whose character is still to come is still left
 abbrev slashed : Bool → List ℕ → List ℕ
 slashed true text = 92 ∷ text
 slashed false text = text
@@ -109,7 +109,7 @@ letter_first class c front rest items letter (inr (behind, dash, (high, second, 
     (one_more class (reaching (added class c) high) (range c high) (front ++ 45 ∷ second) tail items
     (inr (front, second, refl, letter, high_letter)) more closing)
 
--- a `]` right here
+-- a `]` closes the class
 closes : (class : ClassValue) (tail : List ℕ) (items : List Item) → Spells items tail → Closing 0 class (93 ∷ tail) (One (In class) ∷ items)
 closes class tail items others = record {
   body = [];
@@ -123,13 +123,13 @@ closes class tail items others = record {
   others = others;
 }
 
--- ---- a class behind its `[`
+-- ---- a class after its `[`
 
 begins_front : (c : ℕ) (front rest : List ℕ) → BeginsWith c front → BeginsWith c (front ++ rest)
 begins_front c [] rest h = absurd h
 begins_front c (d ∷ front) rest h = h
 
--- what is between the brackets, and all behind
+-- what is between the brackets, and everything after them
 class_first :
     (excludes : Bool) (spans : List Span) (body tail : List ℕ) (items after : List Item)
     → SpellsBody excludes spans body

@@ -1,4 +1,4 @@
--- A part that is spelled is read: the reading takes what spells an item as a whole, and goes on behind it.
+-- A part that is spelled is read: the reader takes what spells an item as a whole, and goes on after it.
 use Rattle.std.proofs.Common.{◌≡◌, ◌≢◌, ℕ, ◌<◌, Bool, true, false, List, [], ◌∷◌, ◌++◌, length, Result, Ok}
 use Rattle.std.proofs.Common.{refl, sym, ap, ◌∙◌, inl, inr, subst, append_assoc, append-nil, ne_eqb, arith}
 use Rattle.std.proofs.lemmas.Bool.{cases_eq}
@@ -19,19 +19,19 @@ use Rattle.llb_glob.proofs.Cutting.{and_then, behind_none}
 
 -- ---- a class with more items
 
--- with these items
+-- the class with these items
 abbrev pub listed : ClassValue → List Span → ClassValue
 listed class spans = record class { spans = spans }
 
--- with one more character
+-- the class with one more character
 abbrev pub added : ClassValue → ℕ → ClassValue
 added class c = record class { spans = class.spans ++ one_alone c ∷ [] }
 
--- with another high end of the last item
+-- the class with another high end of its last item
 abbrev pub reaching : ClassValue → ℕ → ClassValue
 reaching class c = record class { spans = extended class.spans c }
 
--- with more items
+-- the class with more items
 abbrev pub with_spans : ClassValue → List Span → ClassValue
 with_spans class spans = record class { spans = class.spans ++ spans }
 
@@ -147,7 +147,7 @@ span_begins span front more (inr (low, high, is, first, second)) =
 begins_no_dash : (text : List ℕ) → BeginsItem text → ¬ BeginsWith 45 text
 begins_no_dash text begins = subst (λ t. ¬ BeginsWith 45 t) (sym begins.is) begins.dash
 
--- an item is read as a whole, where no `-` is behind it
+-- an item is read as a whole, if no `-` is after it
 span_read :
     (class : ClassValue) (span : Span) (front rest : List ℕ)
     → SpellsSpan span front
@@ -165,19 +165,19 @@ span_read class span front rest (inr (low, high, is, first, second)) dash =
     ∙ letter_extends (added class span.low) rest span.high high second
     ∙ ap (λ spans. items_from rest (at Range) (listed class spans)) (extended-append class.spans span.low span.high)
 
--- items begin with one
+-- one or more items begin with a character that may begin an item
 spans_begin : (spans : List Span) (text rest : List ℕ) → 0 < length spans → SpellsSpans spans text → BeginsItem (text ++ 93 ∷ rest)
 spans_begin [] text rest some spells = absurd (omega arith)
 spans_begin (span ∷ spans) text rest some (front, more, is, first, others) =
     let all : text ++ 93 ∷ rest ≡ front ++ (more ++ 93 ∷ rest) = ap (λ t. t ++ 93 ∷ rest) is ∙ append_assoc front more (93 ∷ rest) in
     subst BeginsItem (sym all) (span_begins span front (more ++ 93 ∷ rest) first)
 
--- behind an item comes another one, or the `]`
+-- after an item comes another one, or the `]`
 goes_on : (spans : List Span) (text rest : List ℕ) → SpellsSpans spans text → ¬ BeginsWith 45 (text ++ 93 ∷ rest)
 goes_on [] text rest is = subst (λ t. ¬ BeginsWith 45 (t ++ 93 ∷ rest)) (sym is) close_is_no_dash
 goes_on (span ∷ spans) text rest spells = begins_no_dash _ (spans_begin (span ∷ spans) text rest (omega arith) spells)
 
--- all items, and the `]`
+-- all items of a class are read, and the `]`
 spans_read :
     (spans : List Span) (class : ClassValue) (body rest : List ℕ)
     → SpellsSpans spans body

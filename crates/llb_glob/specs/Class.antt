@@ -12,7 +12,7 @@ abbrev pub IsInSome : List Span → ℕ → Type 0
 IsInSome [] c = ⊥
 IsInSome (span ∷ spans) c = IsInSpan span c ⊎ IsInSome spans c
 
--- a class matches what is in one of its items or, where it excludes, what is in none
+-- a class matches what is in one of its items or, if it excludes, what is in none
 abbrev pub Excluding : Bool → Type 0 → Type 0
 Excluding false P = P
 Excluding true P = ¬ P
@@ -20,7 +20,7 @@ Excluding true P = ¬ P
 abbrev pub ClassTakes : ClassValue → ℕ → Type 0
 ClassTakes class c = Excluding class.excludes (IsInSome class.spans c)
 
--- the relation as tests
+-- ---- the relation as a test
 abbrev pub is_in_span : Span → ℕ → Bool
 is_in_span span c = nat_le span.low c && nat_le c span.high
 
@@ -39,7 +39,7 @@ none_yet = record { excludes = false; spans = [] }
 abbrev pub one_alone : ℕ → Span
 one_alone c = record { low = c; high = c }
 
--- the items, where the last one has another high end
+-- the items, of which the last one has another high end
 abbrev pub extended : List Span → ℕ → List Span
 extended [] high = []
 extended (span ∷ []) high = record span { high = high } ∷ []

@@ -1,4 +1,4 @@
--- How the calls of this crate answer: what their rule gives, or out of memory.
+-- What the calls of this crate return: what their rule gives, or `Memory`.
 use Rattle.std.specs.Prelude.{Bool, true, false, Result}
 use Rattle.llb_wire.specs.Answer as answer
 use Rattle.llb_tree.specs.declared.fault.TreeFault.{TreeFault}
@@ -6,20 +6,20 @@ use Rattle.llb_tree.specs.declared.fault.TreeFault.TheVariants as tree
 use Rattle.llb_glob.specs.declared.fault.PatternFault.{PatternFault}
 use Rattle.llb_glob.specs.declared.fault.PatternFault.TheVariants.{BadPattern, Memory}
 
--- out of memory, which no rule gives
+-- whether a fault is `Memory`, which no rule gives
 abbrev pub is_memory : PatternFault → Bool
 is_memory Memory = true
 is_memory BadPattern = false
 
--- what a call answers, seen by view, is what the rule gives
+-- what a call returns, seen by view, is what the rule gives, unless it is `Memory`
 abbrev pub Gives : {X Y : Type 0} → (X → Y) → Result X PatternFault → Result Y PatternFault → Type 0
 Gives = answer.Gives is_memory
 
--- out of memory comes last
+-- `Memory` comes last: a call fails with it only where the rule has no fault
 abbrev pub MemoryLast : {X Y : Type 0} → Result X PatternFault → Result Y PatternFault → Type 0
 MemoryLast = answer.MemoryLast is_memory
 
--- what a refused path is called here
+-- a fault of a path as a pattern's fault
 abbrev pub renamed : TreeFault → PatternFault
 renamed tree.Memory = Memory
 renamed tree.NotFound = BadPattern

@@ -1,5 +1,5 @@
--- How the characters of a part are read into items, one after the other and never back. What a character does depends on the stage of the reading, and on
--- whether a `\` quotes it. The grammar, apart from any reading, is in Spelling.
+-- How the characters of a part are read into items, one after the other and never backwards. What a character does depends on the stage of the
+-- reader, and on whether a `\` quotes it. The grammar, apart from any reading, is in Spelling.
 use Rattle.std.specs.Prelude.{ℕ, ◌==◌, Bool, true, false, not, ◌&&◌, if◌then◌else◌, List, [], ◌∷◌, ◌++◌, Option, Some, None, option_to_list, Result, Ok, Err}
 use Rattle.llb_wire.specs.Answer.{◌>>=◌}
 use Rattle.llb_glob.specs.declared.fault.PatternFault.{PatternFault}
@@ -33,7 +33,7 @@ literal Single c = (at Single, Add c)
 literal Dash c = (at Range, Extend c)
 literal Range c = (at Single, Add c)
 
--- in no class a `[` opens one, `*` is any run and `?` any one character
+-- outside a class a `[` opens one, `*` is any run and `?` any one character
 abbrev pub outside : ℕ → Cursor × Effect
 outside c =
     if c == 91 then (at Opened, Nothing)
@@ -75,7 +75,7 @@ abbrev pub quoted : Bool → Stage → ℕ → Result (Cursor × Effect) Pattern
 quoted true stage c = Ok (literal stage c)
 quoted false stage c = if c == 92 then Ok (record { stage = stage; quotes = true }, Nothing) else plain stage c
 
--- where the reading is after a character, and what the character does
+-- where the reader is after a character, and what the character does
 abbrev pub cut : Cursor → ℕ → Result (Cursor × Effect) PatternFault
 cut cursor c = quoted cursor.quotes cursor.stage c
 
@@ -90,7 +90,7 @@ item_by (Add c) class = None
 item_by (Extend c) class = None
 item_by Close class = Some (One (In class))
 
--- the class at hand after an effect; behind a class the next one has no item yet
+-- the class at hand after an effect; after a class is closed, the next one has no item yet
 abbrev pub class_by : Effect → ClassValue → ClassValue
 class_by Nothing class = class
 class_by (Whole item) class = class
@@ -99,11 +99,11 @@ class_by (Add c) class = record class { spans = class.spans ++ one_alone c ∷ [
 class_by (Extend c) class = record class { spans = extended class.spans c }
 class_by Close class = none_yet
 
--- items, and then those that are left
+-- a result's items with these before them
 abbrev pub behind : {A : Type 0} → List A → Result (List A) PatternFault → Result (List A) PatternFault
 behind before rest = rest >>= λ more. Ok (before ++ more)
 
--- a part may end in no class, where no `\` waits for its character
+-- a part may end outside a class, if no `\` waits for its character
 abbrev pub is_outside : Stage → Bool
 is_outside Outside = true
 is_outside Opened = false
@@ -119,7 +119,7 @@ abbrev pub ended : Bool → Result (List Item) PatternFault
 ended true = Ok []
 ended false = Err BadPattern
 
--- the items that characters are read as from where the reading is, with the class at hand
+-- the items that characters are read as, from the reader's cursor on, with the class at hand
 abbrev pub items_from : List ℕ → Cursor → ClassValue → Result (List Item) PatternFault
 items_from [] cursor class = ended (is_whole cursor)
 items_from (c ∷ cs) cursor class =

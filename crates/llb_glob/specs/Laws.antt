@@ -1,4 +1,4 @@
--- The test of a path against a pattern tells whether it matches.
+-- The test of a path against a pattern decides whether it matches.
 use Rattle.std.specs.Prelude.{◌≡◌, ◌↔◌, ℕ, zero, suc, Bool, true, false, ◌&&◌, ◌||◌, List, [], ◌∷◌, drop, IsTrue}
 use Rattle.std.specs.List.{list_any}
 use Rattle.std.proofs.Common.{refl, sym, inl, inr, eqb-true, eq-eqb, leb-true, le-leb}
@@ -14,14 +14,14 @@ use Rattle.llb_glob.specs.ClassValue.{ClassValue}
 use Rattle.llb_glob.specs.Class.{IsInSpan, IsInSome, Excluding, ClassTakes, is_in_span, excluding, class_takes}
 use Rattle.llb_glob.specs.Matching.{Takes, MatchesName, Matches, takes, any_suffix, name_matches, path_matches}
 
--- a test that tells whether a fact holds
+-- a test decides whether a fact holds
 abbrev pub Tells : Bool → Type 0 → Type 0
 Tells b P = IsTrue b ↔ P
 
 both : (a b : Bool) (P Q : Type 0) → Tells a P → Tells b Q → Tells (a && b) (P × Q)
 both a b P Q p q = (λ e. (p.0 (and_parts a b e).0, q.0 (and_parts a b e).1), λ h. and_from a b (p.1 h.0) (q.1 h.1))
 
--- a class, by its items
+-- ---- a class, by its items
 is_in_span-tells : (span : Span) (c : ℕ) → Tells (is_in_span span c) (IsInSpan span c)
 is_in_span-tells span c = both _ _ _ _ (leb-true span.low c, le-leb span.low c) (leb-true c span.high, le-leb c span.high)
 
@@ -41,7 +41,7 @@ takes-tells Any c = (λ _. tt, λ _. refl)
 takes-tells (Only only) c = (eqb-true c only, eq-eqb c only)
 takes-tells (In class) c = class_takes-tells class c
 
--- where a test tells of each name, it tells of the suffixes of one
+-- if a test decides for each name, it decides for the suffixes of a name
 suffix-tells : (items : List Item) → ((name : List ℕ) → Tells (name_matches items name) (MatchesName items name)) → (name : List ℕ)
     → Tells (any_suffix (name_matches items) name) ((n : ℕ) × MatchesName items (drop n name))
 suffix-tells items each [] = (λ e. (0, (each []).0 e), λ h. (each []).1 (at_end h.0 h.1))
@@ -78,12 +78,17 @@ path_matches-tells [] (name ∷ path) = (λ e. absurd (false≢true e), λ h. ab
 path_matches-tells (part ∷ parts) [] = (λ e. absurd (false≢true e), λ h. absurd h)
 path_matches-tells (part ∷ parts) (name ∷ path) = both _ _ _ _ (name_matches-tells part (chars name)) (path_matches-tells parts path)
 
--- what tells whether a path matches is the test
+same : (a b : Bool) → (IsTrue a → IsTrue b) → (IsTrue b → IsTrue a) → a ≡ b
+same true b there back = sym (there refl)
+same false true there back = back refl
+same false false there back = refl
+
+-- whatever decides whether a path matches is the test
 pub is_the_test : (b : Bool) (parts : List (List Item)) (path : List (List ℕ)) → (IsTrue b ↔ Matches parts path) → b ≡ path_matches parts path
 is_the_test b parts path tells = same b (path_matches parts path) (λ e. (path_matches-tells parts path).1 (tells.0 e))
     (λ e. tells.1 ((path_matches-tells parts path).0 e))
-  where
-    same : (a b : Bool) → (IsTrue a → IsTrue b) → (IsTrue b → IsTrue a) → a ≡ b
-    same true b there back = sym (there refl)
-    same false true there back = back refl
-    same false false there back = refl
+
+-- whatever decides whether a name matches is the test of a name
+pub is_the_name_test : (b : Bool) (items : List Item) (name : List ℕ) → (IsTrue b ↔ MatchesName items name) → b ≡ name_matches items name
+is_the_name_test b items name tells = same b (name_matches items name) (λ e. (name_matches-tells items name).1 (tells.0 e))
+    (λ e. tells.1 ((name_matches-tells items name).0 e))

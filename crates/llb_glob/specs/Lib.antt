@@ -1,5 +1,5 @@
--- Read first Matching with Class (when a path matches a pattern), then Spelling (what spells a part) and Pattern (what a text reads as) with Items, then
--- Simple, Faults and Laws. Reading, Places and Walk are the code's own way.
+-- Read Matching with Class first (when a path matches a pattern), then Spelling (what spells a part) and Pattern (what a text reads as) with Items, then
+-- Simple, Faults and Laws. Reading, Places and Walk follow the steps of the code.
 pub mod Faults
 pub mod ClassValue
 pub mod Class

@@ -1,5 +1,5 @@
 -- The pattern that a text reads as: its parts are read as those of a path are, and then each is cut into items. A part
--- that a later `..` removes is a name, and no part of the pattern.
+-- that a later `..` removes has to be a name, but is not a part of the pattern.
 use Rattle.std.specs.Prelude.{ℕ, List, [], ◌∷◌, Result, Ok, Err}
 use Rattle.std.specs.Str.{chars}
 use Rattle.llb_wire.specs.Answer.{◌>>=◌}
@@ -10,12 +10,12 @@ use Rattle.llb_glob.specs.declared.fault.PatternFault.TheVariants.{BadPattern}
 use Rattle.llb_glob.specs.declared.item.Item.{Item}
 use Rattle.llb_glob.specs.Items.{items_of}
 
--- each name cut into items
+-- the parts, each of which is a name cut into items
 abbrev pub each_cut : List (List ℕ) → Result (List (List Item)) PatternFault
 each_cut [] = Ok []
 each_cut (name ∷ names) = items_of (chars name) >>= λ part. each_cut names >>= λ parts. Ok (part ∷ parts)
 
--- what is no path is no pattern
+-- a text that is no path is no pattern
 abbrev pub cut_path : Result (List (List ℕ)) TreeFault → Result (List (List Item)) PatternFault
 cut_path (Ok names) = each_cut names
 cut_path (Err e) = Err BadPattern

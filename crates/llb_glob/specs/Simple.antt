@@ -1,5 +1,5 @@
--- How a pattern is read in which no `[` is but after a `\`: without classes, each item of a part is one character, or a `\` and the one after it. A law of the
--- crate says that such a pattern is read so.
+-- How a pattern is read that has a `[` only after a `\`: without classes, each item of a part is one character, or a `\` and the one after it.
+-- A law of the crate says that such a pattern is read so.
 use Rattle.std.specs.Prelude.{ℕ, ◌==◌, if◌then◌else◌, List, [], ◌∷◌, Result, Ok, Err}
 use Rattle.std.specs.Str.{chars}
 use Rattle.llb_wire.specs.Answer.{◌>>=◌}
@@ -11,7 +11,7 @@ use Rattle.llb_glob.specs.declared.item.Item.{Item}
 use Rattle.llb_glob.specs.declared.item.Item.TheVariants.{Run, One}
 use Rattle.llb_glob.specs.declared.item.Letter.TheVariants.{Any, Only}
 
--- a character that is no `\` and not after one
+-- the item of a character that is no `\` and not after one
 abbrev pub simple_item : ℕ → Result Item PatternFault
 simple_item c =
     if c == 91 then Err BadPattern

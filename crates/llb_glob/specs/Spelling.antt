@@ -1,5 +1,5 @@
 -- The grammar of patterns, apart from any reading: a part is items, one after the other. How a text is read is in Items and Pattern; a law of the crate says
--- that a text is read as the parts that it spells, and is refused where it spells none.
+-- that a text is read as the parts that it spells, and is refused if it spells none.
 use Rattle.std.specs.Prelude.{◌≡◌, ◌≢◌, ◌⊎◌, ℕ, ◌<◌, Bool, true, false, List, [], ◌∷◌, ◌++◌, length, Ok}
 use Rattle.std.specs.Str.{chars}
 use Rattle.llb_tree.specs.Path.{path_of}
@@ -59,13 +59,13 @@ Spells (item ∷ items) text = Then (SpellsItem item) (λ rest. Spells items res
 
 -- ---- a pattern
 
--- as many names as parts, and each name spells the part at its place
+-- there are as many names as parts, and each name spells the part at its place
 abbrev pub SpellEach : List (List Item) → List (List ℕ) → Type 0
 SpellEach [] [] = Unit {0}
 SpellEach [] (name ∷ names) = ⊥
 SpellEach (part ∷ parts) [] = ⊥
 SpellEach (part ∷ parts) (name ∷ names) = Spells part (chars name) × SpellEach parts names
 
--- a text spells a pattern where it reads as a path whose names spell the parts
+-- a text spells a pattern if it reads as a path whose names spell the parts
 abbrev pub SpellsPattern : List (List Item) → List ℕ → Type 0
 SpellsPattern parts text = (names : List (List ℕ)) × (path_of text ≡ Ok names) × SpellEach parts names

@@ -1,5 +1,5 @@
-//! Classes of characters, as `[a-z]` in a pattern. A class is built item by item while its part is read. It knows nothing
-//! of the text that spells it.
+//! Classes of characters, as `[a-z]` in a pattern. A class is built item by item while its part is read. It does not depend on
+//! the text that spells it.
 
 ghost use Rattle.std.specs.Prelude.{◌≡◌, ◌↔◌, ◌++◌, false, true, [], ◌∷◌, IsTrue, OnOk};
 ghost use Rattle.std.specs.List.{list_any};
@@ -8,7 +8,7 @@ ghost use Rattle.llb_glob.specs.Class.{ClassTakes, is_in_span, none_yet, one_alo
 use std::alloc::{AllocError, Global};
 use std::marker::Model;
 
-/// An item of a class: the characters from `low` to `high`, by scalar value. A character alone is a span of one; a span
+/// An item of a class: the characters from `low` to `high`, by scalar value. A single character is a span of one; a span
 /// whose low end is above its high end is empty.
 #[derive(Clone, Copy)]
 pub struct Span {
@@ -17,7 +17,7 @@ pub struct Span {
 }
 
 impl Span {
-    /// Whether a character is in the span.
+    /// Returns whether a character is in the span.
     pub fn has(&self, letter: char) -> bool
         ensures { result ≡ is_in_span self.now letter }
     {
@@ -25,13 +25,13 @@ impl Span {
     }
 }
 
-/// A class. Contracts see its items, and whether it matches what is in none of them.
+/// A class of characters. Contracts see its items, and whether it matches what is in none of them.
 pub struct Class {
     excludes: bool,
     spans: Vec<Span>,
 }
 
-// Written out, so that what owns one drops it by this one function.
+// It is written out so that whatever owns one drops it by this one function.
 impl Drop for Class {
     fn drop(self) {
         let Class {
@@ -50,7 +50,7 @@ impl Model for Class {
 }
 
 impl Class {
-    /// A class with no item yet. Does not allocate.
+    /// Makes a class with no item yet. Does not allocate.
     pub fn new(alloc: Global) -> Class
         ensures { result ≡ none_yet }
     {
@@ -60,14 +60,14 @@ impl Class {
         }
     }
 
-    /// From now on the class matches what is in none of its items.
+    /// Makes the class match what is in none of its items.
     pub fn exclude(&mut self)
         ensures { self.new ≡ record self.old { excludes = true } }
     {
         self.excludes = true;
     }
 
-    /// Adds an item: a character alone.
+    /// Adds an item: a single character. Fails only for want of memory.
     pub fn add(&mut self, letter: char) -> Result<(), AllocError>
         ensures ok { OnOk result (self.new ≡ record self.old { spans = self.old.spans ++ one_alone letter ∷ [] }) }
     {
@@ -78,7 +78,7 @@ impl Class {
         Ok(())
     }
 
-    /// Moves the high end of the last item, if there is one.
+    /// Sets the high end of the last item, if there is one.
     pub fn extend(&mut self, high: char)
         ensures { self.new ≡ record self.old { spans = extended self.old.spans high } }
     {
@@ -87,14 +87,14 @@ impl Class {
         }
     }
 
-    /// Whether the class matches a character.
+    /// Returns whether the class matches a character.
     pub fn takes(&self, letter: char) -> bool
         ensures { IsTrue result ↔ ClassTakes self.now letter }
     {
         self.lists(letter) != self.excludes
     }
 
-    // Whether a character is in one of the items.
+    // Returns whether a character is in one of the items.
     fn lists(&self, letter: char) -> bool
         ensures { result ≡ list_any (λ span. is_in_span span letter) self.now.spans }
     {

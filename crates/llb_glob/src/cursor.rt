@@ -1,5 +1,5 @@
 //! How a part of a pattern is read: character by character, in one pass. What a character does depends on where the
-//! reading is, and on nothing further back.
+//! reader is, and on nothing further back.
 
 ghost use Rattle.std.specs.Prelude.{◌≡◌};
 ghost use Rattle.llb_glob.specs.Items.{at, start, literal, outside, inside, closed, dashed, plain, cut, is_whole};
@@ -7,7 +7,7 @@ ghost use Rattle.llb_glob.specs.Items.{at, start, literal, outside, inside, clos
 use crate::fault::PatternFault;
 use crate::item::{Item, Letter};
 
-/// Where the reading is.
+/// Where the reader is.
 #[derive(Clone, Copy)]
 pub enum Stage {
     /// In no class.
@@ -24,7 +24,7 @@ pub enum Stage {
     Range,
 }
 
-/// Where the reading is, and whether a `\` quotes the next character.
+/// Where the reader is, and whether a `\` quotes the next character.
 #[derive(Clone, Copy)]
 pub struct Cursor {
     pub stage: Stage,
@@ -49,21 +49,21 @@ pub enum Effect {
 }
 
 impl Cursor {
-    /// The start of a part.
+    /// Returns the cursor at the start of a part.
     pub fn start() -> Cursor
         ensures { result ≡ start }
     {
         at(Stage::Outside)
     }
 
-    /// Whether a part may end here.
+    /// Returns whether a part may end here.
     pub fn is_whole(self) -> bool
         ensures { result ≡ is_whole self }
     {
         matches!(self.stage, Stage::Outside) && !self.quotes
     }
 
-    /// What the next character does, and where the reading is after it; 41 `BadPattern`.
+    /// Returns where the reader is after the next character, and what the character does. Fails with 41 `BadPattern` alone.
     pub fn cut(self, letter: char) -> Result<(Cursor, Effect), PatternFault>
         ensures { result ≡ cut self letter }
     {
@@ -81,7 +81,7 @@ impl Cursor {
     }
 }
 
-// At a stage, with no `\` before.
+// Returns the cursor at a stage, with no `\` before.
 fn at(stage: Stage) -> Cursor
     ensures { result ≡ at stage }
 {
@@ -91,7 +91,7 @@ fn at(stage: Stage) -> Cursor
     }
 }
 
-// A character that means itself.
+// Reads a character that means itself.
 fn literal(stage: Stage, letter: char) -> (Cursor, Effect)
     ensures { result ≡ literal stage letter }
 {
@@ -105,7 +105,7 @@ fn literal(stage: Stage, letter: char) -> (Cursor, Effect)
     }
 }
 
-// A character that is neither a `\` nor after one.
+// Reads a character that is neither a `\` nor after one.
 fn plain(stage: Stage, letter: char) -> Result<(Cursor, Effect), PatternFault>
     ensures { result ≡ plain stage letter }
 {
@@ -116,7 +116,7 @@ fn plain(stage: Stage, letter: char) -> Result<(Cursor, Effect), PatternFault>
     }
 }
 
-// The same, in no class.
+// Reads such a character outside a class.
 fn outside(letter: char) -> (Cursor, Effect)
     ensures { result ≡ outside letter }
 {
@@ -128,7 +128,7 @@ fn outside(letter: char) -> (Cursor, Effect)
     }
 }
 
-// The same, in a class.
+// Reads such a character in a class.
 fn inside(stage: Stage, letter: char) -> Result<(Cursor, Effect), PatternFault>
     ensures { result ≡ inside stage letter }
 {
@@ -139,7 +139,7 @@ fn inside(stage: Stage, letter: char) -> Result<(Cursor, Effect), PatternFault>
     }
 }
 
-// A `]`, which closes a class of one or more whole items.
+// Reads a `]`, which closes a class of one or more whole items.
 fn closed(stage: Stage) -> Result<(Cursor, Effect), PatternFault>
     ensures { result ≡ closed stage }
 {
@@ -149,7 +149,7 @@ fn closed(stage: Stage) -> Result<(Cursor, Effect), PatternFault>
     }
 }
 
-// A `-`, which is between the two ends of a range.
+// Reads a `-`, which is between the two ends of a range.
 fn dashed(stage: Stage) -> Result<(Cursor, Effect), PatternFault>
     ensures { result ≡ dashed stage }
 {

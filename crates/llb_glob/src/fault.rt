@@ -1,4 +1,4 @@
-//! Why a pattern is refused. A fault prints what stands after the word `fault` in a refusal: its number.
+//! Why a pattern is refused. A fault prints what follows the word `fault` in a refusal: its number.
 //! Refusals of memory of any kind become `Memory` by `?`.
 
 use llb_tree::TreeFault;

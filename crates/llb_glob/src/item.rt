@@ -1,4 +1,4 @@
-//! What a part of a pattern is made of.
+//! The items of which a part of a pattern is made.
 
 ghost use Rattle.std.specs.Prelude.{◌↔◌, IsTrue};
 ghost use Rattle.llb_glob.specs.Matching.{Takes};
@@ -8,25 +8,25 @@ use crate::class::Class;
 /// An item of a part.
 #[derive(Drop)]
 pub enum Item {
-    /// `*`: any run of characters, an empty one too.
+    /// `*`: any run of characters, also an empty one.
     Run,
-    /// One character of these.
+    /// One character that the letter matches.
     One(Letter),
 }
 
-/// Which characters match.
+/// Which characters an item matches.
 #[derive(Drop)]
 pub enum Letter {
-    /// `?`: any.
+    /// `?`: any character.
     Any,
-    /// This one.
+    /// This character.
     Only(char),
-    /// Those of a class.
+    /// The characters that a class matches.
     In(Class),
 }
 
 impl Letter {
-    /// Whether a character matches.
+    /// Returns whether a character matches.
     pub fn takes(&self, letter: char) -> bool
         ensures { IsTrue result ↔ Takes self.now letter }
     {

@@ -1,4 +1,4 @@
-//! What holds of the reading of patterns.
+//! What holds for the reading of patterns.
 
 ghost use Rattle.std.specs.Prelude.{◌≡◌, ◌↔◌, List, Ok, Err};
 ghost use Rattle.llb_glob.specs.declared.item.Item.{Item};
@@ -8,8 +8,8 @@ ghost use Rattle.llb_glob.specs.Spelling.{SpellsPattern};
 
 use crate::fault::PatternFault;
 
-/// A text is read as the pattern that it spells by the grammar, which knows of no reading of parts. It is a bad pattern
-/// exactly where it spells none, and no text spells two patterns.
+/// Proves that a text is read as the pattern that it spells by the grammar, which does not mention how parts are read. The text is
+/// refused as a bad pattern exactly if it spells none, and no text spells two patterns.
 pub fn reads_by_the_grammar(text: &str)
     ensures spelled { (parts : List (List Item)) → (pattern_of text.now ≡ Ok parts) ↔ SpellsPattern parts text.now }
     ensures refused { (pattern_of text.now ≡ Err PatternFault.BadPattern) ↔ ((parts : List (List Item)) → ¬ SpellsPattern parts text.now) }
@@ -18,7 +18,7 @@ pub fn reads_by_the_grammar(text: &str)
     let _ = text;
 }
 
-/// A pattern that is read without classes, with each `[` after a `\`, is read the same with them: classes change no other
+/// Proves that a pattern that is read without classes, with each `[` after a `\`, is read the same with them: classes change no other
 /// pattern.
 pub fn reads_without_classes(text: &str)
     ensures { (parts : List (List Item)) → simple_pattern_of text.now ≡ Ok parts → pattern_of text.now ≡ Ok parts }

@@ -1,11 +1,11 @@
-//! The characters of a name, side by side.
+//! A name's characters as a slice.
 
 ghost use Rattle.std.specs.Prelude.{◌≡◌, ◌≤◌, length};
 ghost use Rattle.std.specs.Str.{chars};
 
 use std::marker::Model;
 
-/// The characters of a text of at most 255 bytes; they take no memory.
+/// The characters of a text of at most 255 bytes, kept without allocating.
 #[derive(Drop)]
 pub struct Letters {
     room: [char; 255],
@@ -23,7 +23,7 @@ impl Model for Letters {
 }
 
 impl Letters {
-    /// The characters of a text.
+    /// Returns the characters of a text of at most 255 bytes.
     pub fn of(text: &str) -> Letters
         requires { length text.now ≤ 255 }
         ensures { result ≡ chars text.now }
@@ -37,7 +37,7 @@ impl Letters {
         Letters { room, count }
     }
 
-    /// The characters, at most 255.
+    /// Returns the characters, of which there are at most 255.
     pub fn as_slice(&self) -> &[char]
         ensures all { result.now ≡ self.now }
         ensures short { length self.now ≤ 255 }

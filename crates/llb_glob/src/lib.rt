@@ -1,5 +1,5 @@
 //! Patterns: which paths a text with `*`, `?`, classes and `\` matches. A pattern is read part by part, as a path is, and
-//! a path matches where each of its names matches the part at its place. Nothing here knows a tree or an operation.
+//! a path matches if it has as many names as parts, and each name matches the part at its place. Nothing here knows a tree or an operation.
 #![tactic(auto)]
 
 mod class;
@@ -14,4 +14,5 @@ mod places;
 
 pub use fault::PatternFault;
 pub use laws::{reads_by_the_grammar, reads_without_classes};
+pub use part::Part;
 pub use pattern::Pattern;

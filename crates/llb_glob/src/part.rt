@@ -12,16 +12,17 @@ use crate::fault::PatternFault;
 use crate::item::{Item, Letter};
 use crate::letters::Letters;
 use crate::places::matches_letters;
+use llb_tree::{Name, NameTest};
 use std::alloc::Global;
 use std::marker::Model;
 use std::mem;
 
-/// A part of a pattern. Contracts see the list of its items.
+/// A part of a pattern: a test of one name. Contracts see the list of its items.
 pub struct Part {
     items: Vec<Item>,
 }
 
-// Written out, so that what owns one drops it by this one function.
+// It is written out so that whatever owns one drops it by this one function.
 impl Drop for Part {
     fn drop(self) {
         let Part { items: _ } = self;
@@ -38,8 +39,8 @@ impl Model for Part {
 }
 
 impl Part {
-    /// The part that a text spells; 41 `BadPattern`, 42 `Memory`.
-    pub fn read(alloc: Global, text: &str) -> Result<Part, PatternFault>
+    // Reads a text as a part. Fails with 41 `BadPattern` where it spells none, with 42 `Memory`.
+    pub(crate) fn read(alloc: Global, text: &str) -> Result<Part, PatternFault>
         requires { length text.now ≤ 255 }
         ensures { Gives (λ p. p) result (items_of (chars text.now)) }
     {
@@ -60,8 +61,8 @@ impl Part {
         })
     }
 
-    /// Whether a name matches.
-    pub fn matches(&self, name: &str) -> bool
+    // Returns whether a name matches.
+    pub(crate) fn matches(&self, name: &str) -> bool
         requires { length name.now ≤ 255 }
         ensures { IsTrue result ↔ MatchesName self.now (chars name.now) }
     {
@@ -70,7 +71,18 @@ impl Part {
     }
 }
 
-// A part while it is read: where the reading is, the whole items before it, and the class at hand.
+impl NameTest for Part {
+    ghost use Rattle.std.specs.Str.{chars};
+    ghost use Rattle.llb_glob.specs.Matching.{name_matches};
+
+    ghost passes = { λ part name. name_matches part (chars name) };
+
+    fn passes(&self, name: &Name) -> bool {
+        self.matches(name.as_str())
+    }
+}
+
+// A part while it is read: where the reader is, the whole items before it, and the class at hand.
 #[derive(Drop)]
 pub struct Reading {
     cursor: Cursor,
@@ -81,7 +93,7 @@ pub struct Reading {
 impl Reading {
     ghost use Rattle.llb_glob.specs.Reading.{ahead, Reads};
 
-    // Takes the next character; 41 `BadPattern`, 42 `Memory`.
+    // Takes the next character. Fails with 41 `BadPattern` or 42 `Memory`.
     fn take(&mut self, alloc: Global, letter: char) -> Result<(), PatternFault>
         ensures { (rest : List ℕ) → Reads result (ahead self.old (letter ∷ rest)) (ahead self.new rest) }
     {
@@ -102,7 +114,7 @@ impl Reading {
     }
 }
 
-/// Whether a text spells a part.
+/// Returns whether a text spells a part. Does not allocate.
 pub fn is_part(text: &str) -> bool
     requires { length text.now ≤ 255 }
     ensures { result ≡ is_ok (items_of (chars text.now)) }

@@ -1,7 +1,7 @@
-//! Patterns. A text is read as that of a path is, and then each part is cut into items. Reading looks the text through
-//! once without memory, so that a bad pattern is told apart from out of memory, and then makes the pattern.
+//! Patterns. A text is read as that of a path is, and then each part is cut into items. Reading first checks the text
+//! once without memory, so that a bad pattern is not mistaken for want of memory, and then makes the pattern.
 
-ghost use Rattle.std.specs.Prelude.{◌≡◌, ◌↔◌, List, ℕ, [], length, take, is_ok, IsTrue};
+ghost use Rattle.std.specs.Prelude.{◌≡◌, ◌↔◌, List, ℕ, [], is_ok, IsTrue};
 ghost use Rattle.llb_tree.specs.Path.{enter};
 ghost use Rattle.llb_glob.specs.Faults.{Gives, MemoryLast};
 ghost use Rattle.llb_glob.specs.Matching.{Matches, path_matches};
@@ -18,7 +18,7 @@ pub struct Pattern {
     parts: Vec<Part>,
 }
 
-// Written out, so that what owns one drops it by this one function.
+// It is written out so that whatever owns one drops it by this one function.
 impl Drop for Pattern {
     fn drop(self) {
         let Pattern { parts: _ } = self;
@@ -35,12 +35,12 @@ impl Model for Pattern {
 }
 
 impl Pattern {
-    /// The pattern that a text reads as: the text is split at `/`, empty parts and `.` are dropped, `..` removes the last
-    /// part and stops at the root, and each part that is left is cut into items: `*` any run of characters, `?` any one
+    /// Reads a text as a pattern: the text is split at `/`, empty parts and `.` are dropped, `..` removes the last
+    /// part and stops at the root, and each part that is left is cut into items: `*` matches any run of characters, `?` any one
     /// character, `[..]` one that is in an item of the class, `[^..]` one that is in none, `\c` the character c, any other
-    /// character itself. An item of a class is a character or a range `lo-hi`. 41 `BadPattern` at a part that is no name or
-    /// is the 129th, also where a later `..` would remove it, and where a part that is left ends in a lone `\` or has a
-    /// class that is empty, not closed or misspelled; 42 `Memory`, where there is no other fault.
+    /// character itself. An item of a class is a character or a range `lo-hi`. Fails with 41 `BadPattern` at a part that is no name or
+    /// is the 129th, also if a later `..` would remove it, and if a part that is left ends in a lone `\` or has a
+    /// class that is empty, not closed or misspelled. Fails with 42 `Memory` where there is no other fault.
     pub fn read(alloc: Global, text: &str) -> Result<Pattern, PatternFault>
         ensures gives { Gives (λ p. p) result (pattern_of text.now) }
         ensures last { MemoryLast result (pattern_of text.now) }
@@ -52,7 +52,7 @@ impl Pattern {
         Pattern::cut(alloc, &path)
     }
 
-    // Each name cut into items.
+    // Cuts each name into items.
     fn cut(alloc: Global, path: &Path) -> Result<Pattern, PatternFault>
         ensures { Gives (λ p. p) result (each_cut path.now) }
     {
@@ -64,7 +64,7 @@ impl Pattern {
         Ok(Pattern { parts })
     }
 
-    /// Whether a path matches: it has as many names as the pattern has parts, and each matches the part at its place.
+    /// Returns whether a path matches: it has as many names as the pattern has parts, and each matches the part at its place.
     pub fn matches(&self, path: &Path) -> bool
         ensures relation { IsTrue result ↔ Matches self.now path.now }
         ensures test { result ≡ path_matches self.now path.now }
@@ -72,17 +72,14 @@ impl Pattern {
         all_match(&self.parts, path.names())
     }
 
-    /// Whether a path matches, or the one above it that has as many names as the pattern has parts.
-    pub fn matches_at_or_above(&self, path: &Path) -> bool
-        ensures { result ≡ path_matches self.now (take (length self.now) path.now) }
+    /// Returns the parts, from the root down. Each is a test of the name at its place.
+    pub fn parts(&self) -> &[Part]
+        ensures { result.now ≡ self.now }
     {
-        let names = path.names();
-        let count = self.parts.len().min(names.len());
-        let (front, _) = names.split_at(count);
-        all_match(&self.parts, front)
+        &self.parts
     }
 
-    /// Whether the root alone matches.
+    /// Returns whether the pattern has no parts, so that only the root matches.
     pub fn has_no_parts(&self) -> bool
         ensures { IsTrue result ↔ (self.now ≡ []) }
     {
@@ -90,7 +87,7 @@ impl Pattern {
     }
 }
 
-// Whether there are as many names as parts, and each matches the part at its place.
+// Returns whether there are as many names as parts, and each matches the part at its place.
 fn all_match(parts: &[Part], names: &[Name]) -> bool
     ensures { IsTrue result ↔ Matches parts.now names.now }
 {
@@ -105,7 +102,7 @@ fn all_match(parts: &[Part], names: &[Name]) -> bool
     true
 }
 
-// Whether a text reads as a pattern.
+// Returns whether a text reads as a pattern. Does not allocate.
 fn is_pattern(text: &str) -> bool
     ensures { result ≡ is_ok (pattern_of text.now) }
 {
@@ -118,7 +115,7 @@ fn is_pattern(text: &str) -> bool
     walk.sound == walk.depth
 }
 
-// Where a text has led so far: how many names there are, and how many of them, from the root down, are all parts.
+// Where a text has led so far: how many names there are, and how many of the first names all spell parts.
 #[derive(Drop)]
 struct Walk {
     depth: usize,
@@ -128,7 +125,7 @@ struct Walk {
 impl Walk {
     ghost use Rattle.llb_glob.specs.Walk.{Stands, Enters};
 
-    // Goes where a part of a text leads, or nowhere if it is no name or the 129th.
+    // Goes where a part of a text leads; returns false if it is no name or the 129th.
     fn enter(&mut self, part: &str) -> bool
         ensures { (path : List (List ℕ)) → Stands path self.old → Enters (enter path part.now) result self.new }
     {

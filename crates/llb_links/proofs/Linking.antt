@@ -89,7 +89,7 @@ leads_here es e = leads_push es e e.vertex ∙ ap (λ b. leads es e.vertex || b)
     by_test true = refl
     by_test false = refl
 
--- of a vertex without edges no list changes, and nothing is counted
+-- for a vertex without edges no list changes, and nothing is counted
 pub entered_none : (v : ℕ) (lists : List (List ℕ)) → IsEntered [] v lists lists 0
 entered_none v lists = record { same = refl; lists = λ u low. refl; counted = sym (none (length lists)) }
   where

@@ -129,7 +129,7 @@ visits_more us x m0 m1 m2 r0 r1 r2 a b = record {
 
 -- ---- and those after them
 
--- as far as a loop has come, which has visited the users of the first reached ones
+-- the state of a loop that has visited the users of the first reached ones
 pub record Spreading (users : List (List ℕ)) (v : ℕ) (old now : List Bool) (reached : List ℕ) (i : ℕ) : Type 0 where
   pub same : length now ≡ length old
   pub kept : (x : ℕ) → is_marked old x ≡ true → is_marked now x ≡ true

@@ -1,4 +1,4 @@
--- What follows of links, for whoever rests on them: who the users of a vertex are, what a vertex that is done changes, and when a count is 0.
+-- Laws of links, for whoever rests on them: who the users of a vertex are, what a vertex that is done changes, and when a count is 0.
 use Rattle.std.proofs.Common.{◌≡◌, ◌≢◌, ℕ, zero, suc, ◌+◌, ◌<◌, ◌≤◌, Bool, true, false, List, [], ◌∷◌, length, get_or, refl, sym, ap, subst, ◌∙◌, arith}
 use Rattle.std.proofs.Common.{inl, inr}
 use Rattle.std.specs.Prelude.{All, Some, slice_get, if◌then◌else◌, ◌||◌, ◌&&◌, ◌==◌, not}
@@ -33,7 +33,7 @@ eq_no x y apart = ne_eqb x y apart
 
 -- ---- how many numbers pass a test
 
--- of two tests that agree below a bound as many numbers pass
+-- two tests that agree below a bound pass for as many numbers
 pub count_same : (p q : ℕ → Bool) (n : ℕ) → ((u : ℕ) → u < n → p u ≡ q u) → count_below p n ≡ count_below q n
 count_same p q zero same = refl
 count_same p q (suc n) same = λ i. (if same n (omega arith) i then 1 else 0) + count_same p q n (λ u low. same u (omega (arith, low))) i
@@ -120,7 +120,7 @@ linked_same vs done later l same so = record {
       (same u));
 }
 
--- of the vertices that are not done, one less
+-- once vertex u is done too, x has one open input less if one of its inputs leads to u
 one_done : (vs : List Vertex) (done later : ℕ → Bool) (u : ℕ) (x : Vertex) → u < length vs → done u ≡ false → later u ≡ true → ((w : ℕ) → w ≢ u
     → done w ≡ later w)
     → open_inputs vs done x ≡ open_inputs vs later x + (if leads x.inputs u then 1 else 0)

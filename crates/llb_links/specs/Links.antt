@@ -1,4 +1,4 @@
--- Which vertices have an edge to which, how many inputs of each are not done, and what is after a vertex.
+-- Which vertices have an edge to which, how many inputs of each are not done, and what is downstream of a vertex.
 use Rattle.std.specs.Prelude.{◌≡◌, ℕ, zero, suc, ◌+◌, ◌-◌, ◌<◌, ◌≤◌, ◌==◌, Bool, true, false, ◌&&◌, not, List, [], ◌∷◌, ◌++◌, length, get_or}
 use Rattle.std.specs.Prelude.{◌⊎◌, All, Contains, Some, slice_get, if◌then◌else◌}
 use Rattle.std.specs.List.{list_any}
@@ -45,7 +45,7 @@ pub record IsEntered (edges : List Edge) (v : ℕ) (old new : List (List ℕ)) (
   pub lists : (u : ℕ) → u < length old → get_or new u [] ≡ (if leads edges u then get_or old u [] ++ v ∷ [] else get_or old u [])
   pub counted : count ≡ count_below (leads edges) (length old)
 
--- what is kept: of each vertex those that have an edge to it, and how many inputs of it are not done
+-- the links: for each vertex those that have an edge to it, and how many inputs of it are not done
 pub record Linked : Type 0 where
   pub users : List (List ℕ)
   pub counts : List ℕ
@@ -55,7 +55,7 @@ pub record HasRoom (count : ℕ) (reached : List ℕ) (room : ℕ) : Type 0 wher
   pub none : reached ≡ []
   pub fits : count ≤ room
 
--- these are those of the vertices, of which some are done
+-- the links are those of the vertices, of which some are done
 pub record IsLinked (vs : List Vertex) (done : ℕ → Bool) (l : Linked) : Type 0 where
   pub same_users : length l.users ≡ length vs
   pub same_counts : length l.counts ≡ length vs
@@ -81,7 +81,7 @@ AreLowered users old new = (length new ≡ length old) × ((x : ℕ) → get_or 
 abbrev pub AreRaised : List ℕ → List ℕ → List ℕ → Type 0
 AreRaised users old new = (length new ≡ length old) × ((x : ℕ) → x < length old → get_or new x 0 ≡ get_or old x 0 + times x users)
 
--- ---- marks that spread from a vertex to those after it
+-- ---- marks that spread from a vertex to those downstream
 
 abbrev pub is_marked : List Bool → ℕ → Bool
 is_marked marks x = get_or marks x false

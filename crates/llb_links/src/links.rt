@@ -12,7 +12,7 @@ use std::alloc::{AllocError, Global};
 use std::marker::Model;
 use std::sync::Arc;
 
-/// Of each vertex of a graph its users, the vertices that have an edge to it, ascending, each once, which copies share; and how many
+/// For each vertex of a graph: its users, the vertices that have an edge to it, ascending, each once, which copies share; and how many
 /// vertices that are not done it has edges to. There is room for a list of all vertices. Contracts see both as lists.
 pub struct Links {
     users: Arc<Vec<Vec<u32>>>,
@@ -44,8 +44,8 @@ impl Model for Links {
 }
 
 impl Links {
-    /// Those of a graph of which no vertex is done, whose edges all lead to vertices below their own. Memory grows with the edges,
-    /// and is the one cause of a refusal.
+    /// Makes the links of a graph in which no vertex is done, whose edges all lead to vertices below their own. Memory grows with the edges;
+    /// fails for want of memory alone.
     pub fn new(alloc: Global, vertices: &[Vertex]) -> Result<Links, AllocError>
         requires below { AreBelow vertices.now }
         requires few { length vertices.now < 2 ^ 32 }
@@ -65,7 +65,7 @@ impl Links {
         })
     }
 
-    /// A second owner of the lists of users, and a copy of the counts. Out of memory is the one cause of a refusal.
+    /// Returns a second owner of the lists of users, and a copy of the counts. Fails for want of memory alone.
     pub fn copy(&self, alloc: Global) -> Result<Links, AllocError>
         ensures { IfOk result (λ l. l ≡ self.now) }
     {
@@ -76,7 +76,7 @@ impl Links {
         })
     }
 
-    /// The vertices that have an edge to one, ascending, each once; none past the last vertex. No memory.
+    /// Returns the users of a vertex, ascending, each once; none past the last vertex. Does not allocate.
     pub fn users(&self, v: u32) -> &[u32]
         ensures { result.now ≡ users_at self.now v }
     {
@@ -86,7 +86,7 @@ impl Links {
         }
     }
 
-    /// Whether no input of a vertex is open; false past the last vertex. No memory.
+    /// Returns whether no input of a vertex is open; false past the last vertex. Does not allocate.
     pub fn has_inputs(&self, v: u32) -> bool
         ensures { result ≡ has_inputs self.now v }
     {
@@ -96,7 +96,7 @@ impl Links {
         }
     }
 
-    /// A vertex is done: each that has an edge to it has one open input less. No memory.
+    /// Records that a vertex is done: decrements the count of open inputs of each of its users. Does not allocate.
     pub fn count_down(&mut self, v: u32)
         requires low { v < length self.old.users }
         requires below { All (λ x. x < length self.old.counts) (users_at self.old v) }
@@ -111,7 +111,7 @@ impl Links {
         lower(counts, &users[v as usize]);
     }
 
-    /// A vertex is not done any more: each that has an edge to it has one open input more. No memory.
+    /// Records that a vertex is no longer done: increments the count of open inputs of each of its users. Does not allocate.
     pub fn count_up(&mut self, v: u32)
         requires low { v < length self.old.users }
         requires below { All (λ x. x < length self.old.counts) (users_at self.old v) }
@@ -127,7 +127,7 @@ impl Links {
         raise(counts, &users[v as usize]);
     }
 
-    /// Marks a vertex, and all that have an edge to a marked one, each once. No memory.
+    /// Marks a vertex and everything downstream of it, each once: all that have an edge to a marked one. Does not allocate.
     pub fn spread(&mut self, marks: &mut [bool], v: u32)
         requires count { (length self.old.users ≡ length marks.old) × (length self.old.counts ≡ length marks.old) }
         requires low { v < length marks.old }
@@ -154,8 +154,8 @@ fn empty(alloc: Global, count: usize) -> Result<Vec<Vec<u32>>, AllocError>
     Ok(lists)
 }
 
-// Vertex v, which is above all that are listed, stands at the end of the list of each vertex to which one of the edges leads, and
-// these are that many.
+// Appends vertex v, which is above all that are listed, to the list of each vertex that one of the edges leads to, and returns
+// the number of these vertices.
 fn enter(users: &mut Vec<Vec<u32>>, v: u32, edges: &[Edge]) -> Result<u32, AllocError>
     requires below { All (λ (e : edge.Edge). e.vertex < length users.old.items) edges.now }
     requires few { length users.old.items < 2 ^ 32 }
@@ -169,7 +169,7 @@ fn enter(users: &mut Vec<Vec<u32>>, v: u32, edges: &[Edge]) -> Result<u32, Alloc
     Ok(more)
 }
 
-// The number stands at the end of a list; how often it was put there.
+// Appends the number to a list; returns how often it was put there.
 fn enter_once(list: &mut Vec<u32>, v: u32) -> Result<u32, AllocError>
     ensures again { (front : List ℕ) → list.old.items ≡ front ++ v ∷ [] → IfOk result (λ n. (list.new.items ≡ list.old.items) × (n ≡ 0)) }
     ensures fresh { All (λ x. x < v) list.old.items → IfOk result (λ n. (list.new.items ≡ list.old.items ++ v ∷ []) × (n ≡ 1)) }

@@ -39,7 +39,7 @@ fn visit(marks: &mut [bool], reached: &mut Vec<u32>, users: &[u32])
     }
 }
 
-// The same of one vertex.
+// Does the same for one vertex.
 fn reach(marks: &mut [bool], reached: &mut Vec<u32>, x: u32)
     requires low { x < length marks.old }
     requires room { unmarked marks.old + length reached.old.items ≤ vec_capacity reached.old }

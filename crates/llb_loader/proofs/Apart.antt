@@ -131,12 +131,12 @@ not_seen {X} values n p held here none s m =
     let h = s.all p (subst (λ (o : Option X). IsAmong values n o) here m) in
     let x : true ≡ false = sym h ∙ none in cc
 
--- a value that the set has stands at an earlier place, so that two places share it
+-- a value that the set has is at an earlier place, so that two places share it
 pub already_seen : {X : Type 0} (values : List (Option X)) (n : ℕ) (p : X) (held : X → Bool) → value_at values n ≡ Some p → held p ≡ true
     → IsSeen values n held → ¬ AreApart values
 already_seen {X} values n p held here some s = among_not_apart values n (subst (λ (o : Option X). IsAmong values n o) (sym here) (s.among p some))
 
--- no value stands where there is none
+-- a place without a value shares none with an earlier one
 pub apart_skip : {X : Type 0} (values : List (Option X)) (n : ℕ) → value_at values n ≡ None → ApartBelow values n → ApartBelow values (n + 1)
 apart_skip {X} values n none s = apart_more values n (λ m. let e = m.shared in let x : ◌≡◌ {A = Option X} None (Some e.0) = sym none ∙ e.2 in cc) s
 

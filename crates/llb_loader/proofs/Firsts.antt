@@ -23,7 +23,7 @@ cases_bytes x y = elim (cases_Bool (bytes_eq x y)) [
   | inr f ↦ inr (λ e. let t : bytes_eq x y ≡ true = (bytes_eq-Decides x y).1 e in let z : true ≡ false = sym t ∙ f in cc)
 ]
 
--- the answer is the first of the first n rows with a digest text
+-- the result is the first of the first n rows with a digest text
 abbrev pub IsFirst : List Row → ℕ → List ℕ → Option ℕ → Type 0
 IsFirst rows n d None = (j : ℕ) → j < n → (row_at rows j).digest ≢ d
 IsFirst rows n d (Some k) = (k < n) × ((row_at rows k).digest ≡ d) × ((j : ℕ) → j < k → (row_at rows j).digest ≢ d)
@@ -108,7 +108,7 @@ equal_apart rows j k f e apart c =
 pub row_read : (rows : List Row) (k : ℕ) (x : Row) → k < length rows → x ≡ get_or rows k x → row_at rows k ≡ x
 row_read rows k x h e = sym (get_or_read rows k x h e (record { digest = []; bytes = [] }))
 
--- an answer that is read as row k tells that row k is the first
+-- a result that is row k shows that row k is the first
 pub first_below : (rows : List Row) (n k : ℕ) (d : List ℕ) (o : Option ℕ) → o ≡ Some k → IsFirst rows n d o → IsFirst rows n d (Some k)
 first_below rows n k d o e f = subst (λ (x : Option ℕ). IsFirst rows n d x) e f
 
@@ -118,7 +118,7 @@ below_step P n below here j l = elim (cases_lt j n) [ inl b ↦ below j b | inr 
 
 -- ---- the terminal
 
--- an answer for one row more
+-- a result for one row more
 one_more : (rows : List Row) (n : ℕ) (d : List ℕ) (o : Option ℕ) → IsFirst rows n d o → (p : Option ℕ) × IsFirst rows (n + 1) d p
 one_more rows n d None f = elim (cases_bytes (row_at rows n).digest d) [
   | inl e ↦ (Some n, first_new rows n d e f)
@@ -126,7 +126,7 @@ one_more rows n d None f = elim (cases_bytes (row_at rows n).digest d) [
 ]
 one_more rows n d (Some k) f = (Some k, first_there rows n d k f)
 
--- there is an answer
+-- there is a result
 find_first : (rows : List Row) (n : ℕ) (d : List ℕ) → (o : Option ℕ) × IsFirst rows n d o
 find_first rows zero d = (None, first_start rows d)
 find_first rows (suc n) d =

@@ -10,12 +10,12 @@ filter_map_more {X} {Y} h xs i x l e =
     ap (filter_map h) (take_more xs i x l) ∙ filter_map-append h (take i xs) (get_or xs i x ∷ [])
     ∙ ap (λ (y : X). filter_map h (take i xs) ++ cons_option (h y) []) (sym e)
 
--- the next item gives a value, which comes after those of the items before it
+-- the next item has a value, which comes after those of the items before it
 pub filter_map_some : {X Y : Type 0} (h : X → Option Y) (xs : List X) (i : ℕ) (x : X) (y : Y) → i < length xs → x ≡ get_or xs i x → h x ≡ Some y
     → filter_map h (take (i + 1) xs) ≡ filter_map h (take i xs) ++ y ∷ []
 filter_map_some {X} {Y} h xs i x y l e s = filter_map_more h xs i x l e ∙ ap (λ (o : Option Y). filter_map h (take i xs) ++ cons_option o []) s
 
--- the next item gives no value, and the values stay as they are
+-- the next item has no value, and the values stay as they are
 pub filter_map_none : {X Y : Type 0} (h : X → Option Y) (xs : List X) (i : ℕ) (x : X) → i < length xs → x ≡ get_or xs i x → h x ≡ None
     → filter_map h (take (i + 1) xs) ≡ filter_map h (take i xs)
 filter_map_none {X} {Y} h xs i x l e s = filter_map_more h xs i x l e

@@ -22,13 +22,13 @@ more_no os i h t = count_by_more_no is_output os i none h t
 pub output_read : {X : Type 0} (output : X → ℤ) (xs : List X) (i : ℕ) (x : X) → i < length xs → x ≡ get_or xs i x → output_at (map output xs) i ≡ output x
 output_read output xs i x h e = get_or-map output xs i x none h ∙ ap output (sym e)
 
--- of items with output numbers, the next gives an output: one more is counted
+-- among items with output numbers, the next has an output: one more is counted
 pub count_more_yes : {X : Type 0} (output : X → ℤ) (xs : List X) (i : ℕ) (x : X) → i < length xs → x ≡ get_or xs i x → is_output (output x) ≡ true
     → count_outputs (take (i + 1) (map output xs)) ≡ count_outputs (take i (map output xs)) + 1
 count_more_yes output xs i x h e t = more_yes (map output xs) i (let l = length-map xs output in omega (arith, l, h))
     (ap is_output (output_read output xs i x h e) ∙ t)
 
--- the next item gives no output: no more are counted
+-- the next item has no output: no more are counted
 pub count_more_no : {X : Type 0} (output : X → ℤ) (xs : List X) (i : ℕ) (x : X) → i < length xs → x ≡ get_or xs i x → is_output (output x) ≡ false
     → count_outputs (take (i + 1) (map output xs)) ≡ count_outputs (take i (map output xs))
 count_more_no output xs i x h e t = more_no (map output xs) i (let l = length-map xs output in omega (arith, l, h))
@@ -68,7 +68,7 @@ taking_start os n e = record {
   left = (let u = unmarked-none n in omega (arith, u, e));
 }
 
--- a place that gives no output takes no number
+-- a place without an output takes no number
 pub taking_skip : (os : List ℤ) (seen : List Bool) (i : ℕ) → output_at os i ≡ none
     → count_outputs (take (i + 1) os) ≡ count_outputs (take i os) → IsTaking os seen i → IsTaking os seen (i + 1)
 taking_skip os seen i e n s = record {
@@ -130,7 +130,7 @@ taking_end os seen i h s = record {
 pub outside : (os : List ℤ) (i : ℕ) → output_at os i ≢ none → ¬ IsBelow (count_outputs os) (output_at os i) → ¬ AreOutputs os
 outside os i o n s = n (s.within i o)
 
--- a number that is already taken stands twice, which is against the rule
+-- a number that is already taken occurs twice, which is against the rule
 pub twice : (os : List ℤ) (seen : List Bool) (i j : ℕ) → output_at os i ≡ pos j → IsMarked seen j → IsTaking os seen i → ¬ AreOutputs os
 twice os seen i j e m s o =
     let r = s.marked j m in

@@ -118,7 +118,7 @@ named_cons h x xs d n (Some y) e f r =
     let same : filter_map h (x ∷ xs) ≡ y ∷ filter_map h xs = ap (λ (o : Option ℕ). cons_option o (filter_map h xs)) e in
     (rw same (let l = r.0 in omega (arith, l)), λ i l. rw same (head_or_tail h x xs d n y e r i l))
 
--- where each of the first n items gives a value, the value of item i stands at place i
+-- where each of the first n items has a value, the value of item i is at place i
 pub named_at : {X : Type 0} (h : X → Option ℕ) (xs : List X) (d : X) (n : ℕ) → n ≤ length xs → ((i : ℕ) → i < n → h (get_or xs i d) ≢ None) → NamedAt h xs d n
 named_at h [] d n l f = (l, λ i m. absurd (omega (arith, l, m)))
 named_at h (x ∷ xs) d zero l f = (omega arith, λ i m. absurd (omega (arith, m)))
@@ -127,7 +127,7 @@ named_at h (x ∷ xs) d (suc n) l f = named_cons h x xs d n (h x) refl (f 0 (ome
 
 -- ---- numbers below a bound
 
--- of any integer it can be told whether it is from 0 to n - 1
+-- for any integer it is decided whether it is from 0 to n - 1
 pub below_cases : (n : ℕ) (z : ℤ) → IsBelow n z ⊎ (¬ IsBelow n z)
 below_cases n (pos m) = elim (cases_lt m n) [ inl l ↦ inl (below_at n (pos m) m refl l) | inr g ↦ inr (λ b. let h = b.high in omega (arith, ints, g, h)) ]
 below_cases n (negsuc m) = inr (λ b. let h = b.low in omega (arith, ints, h))

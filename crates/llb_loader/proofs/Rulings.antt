@@ -9,7 +9,7 @@ use Rattle.llb_loader.specs.declared.fault.Rule.TheVariants as rule
 use Rattle.llb_loader.specs.Rules.{Meets, MeetsAll, Breaks, kind_fault, rules_on}
 use Rattle.llb_loader.specs.Checking.{IsFirstBroken, source_rules}
 
--- a rule that is met stands before the others
+-- a rule that is met comes before the others
 broken_after : (inputs : List Input) (kind : Option Kind) (r : Rule) (rs : List Rule) (broken : Option Rule) → Meets inputs kind r
     → IsFirstBroken inputs kind rs broken → IsFirstBroken inputs kind (r ∷ rs) broken
 broken_after inputs kind r rs None met rest = (met, rest)
@@ -32,13 +32,13 @@ pub met_both : (inputs : List Input) (kind : Option Kind) (rs more : List Rule) 
     → MeetsAll inputs kind (rs ++ more)
 met_both inputs kind rs more met rest = broken_behind inputs kind rs more None met rest
 
--- a call that tells the first of more rules that follow rules that are met
+-- a call that returns the first broken one of more rules, which follow rules that are met
 pub told_behind : {E : Type 0} (inputs : List Input) (kind : Option Kind) (rs more : List Rule) (told : Result (Option Rule) E)
     → MeetsAll inputs kind rs → IfOk told (λ b. IsFirstBroken inputs kind more b) → IfOk told (λ b. IsFirstBroken inputs kind (rs ++ more) b)
 told_behind inputs kind rs more (Ok b) met rest = broken_behind inputs kind rs more b met rest
 told_behind inputs kind rs more (Err e) met rest = rest
 
--- where a call tells the same of any inputs, it does of these
+-- where a call returns the same for any inputs, it does for these
 pub told_here : {E : Type 0} (inputs : List Input) (kind : Option Kind) (rs : List Rule) (told : Result (Option Rule) E)
     → IfOk told (λ b. (is : List Input) → IsFirstBroken is kind rs b) → IfOk told (λ b. IsFirstBroken inputs kind rs b)
 told_here inputs kind rs (Ok b) h = h inputs

@@ -1,4 +1,4 @@
--- At most one answer stands: the refusals come one after another, and each stands where all before it do not.
+-- There is at most one result: the refusals come one after another, and each applies where all before it do not.
 use Rattle.std.proofs.Common.{◌≡◌, ℕ, zero, suc, ◌+◌, ◌<◌, ◌≤◌, List, [], ◌∷◌, inl, inr, ◌-◌, Option, Some, None, Result, Ok, Err, length}
 use Rattle.std.proofs.Common.{refl, sym, ◌∙◌, ap, subst, arith, true, false}
 use Rattle.std.specs.Prelude.{IsOk}
@@ -62,7 +62,7 @@ broken_one is kind (r ∷ rs) a b h g = elim h [
 -- ---- the refusals of a plan, one after another
 
 module _ (p : Plan) where
-  -- what holds once the first refusals do not stand
+  -- what holds once the first refusals do not apply
   abbrev Passes : ℕ → Type 0
   Passes zero = ¬ AllSame p.rows
   Passes (suc zero) = IsApart p.rows
@@ -104,7 +104,7 @@ module _ (p : Plan) where
   passed_below m zero s = subst (λ (n : ℕ). Passes n) (let e : zero + m ≡ m = omega arith in e) s
   passed_below m (suc d) s = passed_below m d (passed_before (d + m) (subst (λ (n : ℕ). Passes n) (let e : suc d + m ≡ suc (d + m) = omega arith in e) s))
 
-  -- a refusal stands where all before it do not
+  -- a refusal applies where all before it do not
   stopped_after : (n : ℕ) (e : LoadFault) → Stops (suc n) e → Passes n
   stopped_after zero e s = s.2
   stopped_after (suc zero) e s = s.1
@@ -170,7 +170,7 @@ module _ (p : Plan) where
       s.3 ∙ ap (λ (k : ℕ). BadIndex k s.2) at.0 ∙ ap (λ (i : ℕ). BadIndex t.1 i) at.1 ∙ sym t.3
   stopped_one (suc (suc (suc (suc (suc (suc (suc (suc (suc n))))))))) e f s t = absurd s
 
-  -- no two stand in different turns
+  -- no two apply in different turns
   not_earlier : (m n : ℕ) (e f : LoadFault) → m < n → Stops m e → Stops n f → ⊥
   not_earlier m zero e f l s t = omega (arith, l)
   not_earlier m (suc n) e f l s t =
@@ -194,7 +194,7 @@ module _ (p : Plan) where
   stops_within (suc (suc (suc (suc (suc (suc (suc (suc zero)))))))) e s = omega arith
   stops_within (suc (suc (suc (suc (suc (suc (suc (suc (suc n))))))))) e s = absurd s
 
-  -- where no refusal is left, none stands
+  -- where the plan is whole, no refusal applies
   not_whole : (n : ℕ) (e : LoadFault) → Stops n e → ¬ ((order : List ℕ) × IsWhole p order)
   not_whole n e s w =
       stopped_fails n e s (passed_below n (8 - n)

@@ -144,7 +144,7 @@ place_step g start done w r r' ws ws' P Q split p x s = elim x [
   | inr y ↦ place_waiting g start done w r r' ws ws' P Q y.0 y.1 split p y.2 s
 ]
 
--- the rows still to be placed may be told by any test that holds of each of them
+-- the rows still to be placed may be described by any test that holds of each of them
 pub placed_weaker : (g : List (List ℕ)) (start : ℕ) (done : List Bool) (r : ℕ → Bool) (ws : List (List Waiter)) (P Q : ℕ → Type 0)
     → ((k : ℕ) → Reached g start k → P k → Q k) → IsPlaced g start done r ws P → IsPlaced g start done r ws Q
 placed_weaker g start done r ws P Q weaker s = record {

@@ -14,7 +14,7 @@ rank_head x k xs e = ap (λ (b : Bool). cond b 0 (suc (rank_in xs k))) (eq-eqb x
 rank_tail : (x k : ℕ) (xs : List ℕ) → x ≢ k → rank_in (x ∷ xs) k ≡ suc (rank_in xs k)
 rank_tail x k xs n = ap (λ (b : Bool). cond b 0 (suc (rank_in xs k))) (ne_eqb x k n)
 
--- a row stands at its rank
+-- a row is at its rank
 pub rank_at : (xs : List ℕ) (k i : ℕ) → i < length xs → get_or xs i 0 ≡ k → (rank_in xs k < length xs) × (get_or xs (rank_in xs k) 0 ≡ k)
 rank_at [] k i h e = absurd (omega arith)
 rank_at (x ∷ xs) k zero h e = let r = rank_head x k xs e in (omega (arith, r), subst (λ (n : ℕ). get_or (x ∷ xs) n 0 ≡ k) (sym r) e)
@@ -24,7 +24,7 @@ rank_at (x ∷ xs) k (suc i) h e = elim (cases_eq x k) [
       (omega (arith, r, t.0), subst (λ (m : ℕ). get_or (x ∷ xs) m 0 ≡ k) (sym r) t.1))
 ]
 
--- and not after any place where it stands
+-- and not after any place where it is
 pub rank_before : (xs : List ℕ) (k i j : ℕ) → j < length (take i xs) → get_or (take i xs) j 0 ≡ k → rank_in xs k < i
 rank_before [] k zero j h e = absurd (omega arith)
 rank_before [] k (suc i) j h e = absurd (omega arith)
@@ -35,7 +35,7 @@ rank_before (x ∷ xs) k (suc i) (suc j) h e = elim (cases_eq x k) [
   | inr n ↦ (let r = rank_tail x k xs n in let t = rank_before xs k i j (omega arith) e in omega (arith, r, t))
 ]
 
--- in a numbering each input stands before the row that names it, so that every edge goes down
+-- in a numbering each input is before the row that names it, so that every edge goes down
 pub numbering_down : (g : List (List ℕ)) (start : ℕ) (order : List ℕ) → IsNumbering g start order → GoesDown g start (rank_in order)
 numbering_down g start order s a b t e =
     let c = s.whole a t in
@@ -75,7 +75,7 @@ one_numbering g start xs ys s t = elim (cases_order (length xs) (length ys)) [
   | inr o ↦ elim o [ inl h ↦ absurd (no_more g start xs ys s t h) | inr h ↦ absurd (no_more g start ys xs t s h) ]
 ]
 
--- a row stands once
+-- a row occurs once
 pub numbered_once : (g : List (List ℕ)) (start : ℕ) (order : List ℕ) (i j : ℕ) → IsNumbering g start order → i < length order → j < i
     → get_or order j 0 ≢ get_or order i 0
 numbered_once g start order i j s h l e =

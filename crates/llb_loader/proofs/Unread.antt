@@ -1,4 +1,4 @@
--- What a definition is refused for, where its bytes or its entries are.
+-- Why a definition is refused, for its bytes or for its entries.
 use Rattle.std.proofs.Common.{◌≡◌, true, false, Err, refl, List, ℕ, inl}
 use Rattle.llb_ops.specs.declared.fault.OpFault.{OpFault}
 use Rattle.llb_ops.specs.declared.fault.OpFault.TheVariants as op

@@ -71,7 +71,7 @@ none_found : {X : Type 0} (p : X → Bool) (xs : List X) → find p xs ≡ None 
 none_found p [] e = tt
 none_found p (x ∷ xs) e = let f = not_found p x xs e in (f.0, none_found p xs f.1)
 
--- what stands after a text's prefix that is not the whole text
+-- what follows a text's prefix that is not the whole text
 behind_front : (front text : List ℕ) → starts_with nat_eq text front ≡ true → text ≢ front
     → (text ≡ front ++ drop (length front) text) × (0 < length (drop (length front) text)) × (behind front text ≡ Some (drop (length front) text))
 behind_front front text e n =

@@ -18,22 +18,22 @@ source_rules = rule.LocalName ∷ []
 abbrev pub file_rules : List Rule
 file_rules = rule.NoActions ∷ rule.ActionInput ∷ rule.ActionOutput ∷ []
 
--- what is run
+-- the rules on what is run
 abbrev pub word_rules : List Rule
 word_rules = rule.NoMeta ∷ rule.NoArgs ∷ rule.NoMounts ∷ []
 
--- where the mounts are
+-- the rules on where the mounts are
 abbrev pub path_rules : List Rule
 path_rules = rule.NoRoot ∷ rule.BadPath ∷ rule.SameDest ∷ []
 
--- what they show and give
+-- the rules on what they show, and on their outputs
 abbrev pub mount_rules : List Rule
 mount_rules = rule.MountKind ∷ rule.MountInput ∷ rule.MountOutput ∷ []
 
 abbrev pub cache_rules : List Rule
 cache_rules = rule.NoCacheOpt ∷ rule.Sharing ∷ rule.CacheTwice ∷ []
 
--- the script that the words are
+-- the rule on the script that the words are
 abbrev pub script_rules : Option Meta → List Rule
 script_rules meta = rule.Script (script_fault meta) ∷ []
 

@@ -13,12 +13,12 @@ use Rattle.llb_loader.specs.declared.fault.Rule.TheVariants as rule
 use Rattle.llb_loader.specs.declared.fault.LoadFault.{LoadFault}
 use Rattle.llb_loader.specs.declared.fault.LoadFault.TheVariants as fault
 
--- refused memory, which no rule gives
+-- the fault for refused memory, which no rule returns
 abbrev pub is_memory : LoadFault → Bool
 is_memory fault.Memory = true
 is_memory _ = false
 
--- the result of a call, seen by view, is what the rule gives
+-- the result of a call, seen by view, is the result of its rule
 abbrev pub Gives : {X Y : Type 0} → (X → Y) → Result X LoadFault → Result Y LoadFault → Type 0
 Gives = answer.Gives is_memory
 

@@ -10,11 +10,11 @@ use Rattle.std.specs.Cmp.Lexicographic.{slice_cmp, nat_list_cmp_total, options_t
 use Rattle.std.specs.FinMap.{IsAntisymmetric, slice_cmp-IsAntisymmetric, nat_cmp-IsAntisymmetric, int_cmp-IsAntisymmetric}
 use Rattle.llb_loader.specs.Mounts.{Seed, CacheKey}
 
--- by digest text, then by index
+-- the order of seeds: by digest text, then by index
 abbrev pub seed_cmp : Seed → Seed → Ordering
 seed_cmp a b = ordering_then (slice_cmp nat_cmp a.digest b.digest) (int_cmp a.index b.index)
 
--- by ID, then by mode, then by seed
+-- the order of keys: by ID, then by mode, then by seed
 abbrev pub key_cmp : CacheKey → CacheKey → Ordering
 key_cmp a b = ordering_then (ordering_then (slice_cmp nat_cmp a.id b.id) (int_cmp a.mode b.mode)) (option_cmp seed_cmp a.seed b.seed)
 

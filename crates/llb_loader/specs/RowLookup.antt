@@ -8,7 +8,9 @@ use Rattle.llb_loader.specs.declared.row.Row.{Row}
 use Rattle.llb_loader.specs.declared.fault.LoadFault.{LoadFault}
 use Rattle.llb_loader.specs.declared.fault.LoadFault.TheVariants.{Collision}
 use Rattle.std.specs.Borrow.{Bor}
-use Rattle.indexmap.specs.IndexMap.{IndexMap, get_by}
+use Rattle.std.specs.BTreeMap.{BTreeMap, get_by}
+use Rattle.std.specs.Cmp.Lexicographic.{slice_cmp}
+use Rattle.std.specs.Ordering.{nat_cmp}
 
 -- row k, an empty one past the end
 abbrev pub row_at : List Row → ℕ → Row
@@ -57,8 +59,8 @@ abbrev pub graph_of : List Row → ℕ → List Op → List (List ℕ)
 graph_of rows t ops = map (rows_named rows t) ops
 
 -- an index finds the first row of each digest text
-abbrev pub IsIndex : {S : Type 0} → List Row → IndexMap (Bor (List ℕ)) ℕ S → Type 0
-IsIndex rows index = (d : List ℕ) → get_by (λ q. bytes_eq d q.now) index ≡ first_with rows d
+abbrev pub IsIndex : List Row → BTreeMap (Bor (List ℕ)) ℕ → Type 0
+IsIndex rows index = (d : List ℕ) → get_by (λ q. slice_cmp nat_cmp d q.now) index ≡ first_with rows d
 
 -- the least row that collides
 abbrev pub RefusesCollision : List Row → LoadFault → Type 0

@@ -108,7 +108,7 @@ count_outputs outputs = count_by is_output outputs
 abbrev pub output_at : List ℤ → ℕ → ℤ
 output_at outputs a = slice_index_or outputs a none
 
--- of the m numbers other than -1, each is from 0 to m - 1, each occurs once, and each of 0 to m - 1 is there
+-- each of the m numbers other than -1 is from 0 to m - 1 and occurs once, and each of 0 to m - 1 is there
 pub record AreOutputs (outputs : List ℤ) : Type 0 where
   pub within : (a : ℕ) → output_at outputs a ≢ none → IsBelow (count_outputs outputs) (output_at outputs a)
   pub once : (a b : ℕ) → output_at outputs a ≢ none → output_at outputs a ≡ output_at outputs b → a ≡ b
@@ -136,7 +136,7 @@ IsKnownSharing None = ⊤
 abbrev pub IsShared : Mount → Type 0
 IsShared m = m.mount_type ≡ cache → IsKnownSharing m.cache_opt
 
--- only a mount that is neither a cache nor a tmpfs gives an output, and outputs are numbered from 0
+-- only a mount that is neither a cache nor a tmpfs has an output, and outputs are numbered from 0
 pub record AreMountOutputs (mounts : List Mount) : Type 0 where
   pub numbered : AreOutputs (mount_outputs mounts)
   pub caches : All (λ m. m.mount_type ≡ cache → m.output ≡ none) mounts

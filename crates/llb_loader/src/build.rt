@@ -17,7 +17,7 @@ use llb_wire::{Bytes, Many, Memory, Text};
 use std::alloc::{AllocError, Global};
 use std::mem;
 
-/// The vertices of the numbered rows, in the order of their numbers.
+/// Returns the vertices of the numbered rows, in the order of their numbers.
 pub(crate) fn vertices_of(
     alloc: Global,
     rows: &[Row],
@@ -139,7 +139,7 @@ fn edge(vertex: usize, input: &Input) -> Edge
     }
 }
 
-/// The edge of the op's first input.
+/// Returns the edge of the op's first input.
 pub(crate) fn first_edge(vertex: usize, op: &Op) -> Edge
     requires some { 0 < length op.now.inputs }
     requires vertex { vertex < 65_536 }

@@ -1,4 +1,4 @@
-//! What a cache is known by: its ID, the output with which a new instance begins, and the way in which it is shared. Keys borrow
+//! The key of a cache: its ID, the output with which a new instance begins, and the way in which it is shared. Keys borrow
 //! from the op, and are ordered by all three, so that a set finds one that it has.
 
 ghost use Rattle.std.specs.Prelude.{◌≡◌, Some};
@@ -11,7 +11,7 @@ use llb_ops::{Input, Mount};
 use std::cmp::Ordering;
 use std::marker::Model;
 
-/// The key of a cache. The seed is the input that stands for the output.
+/// The key of a cache. The seed is the input that names the output.
 #[derive(Drop)]
 pub(crate) struct Key<'a> {
     id: &'a str,
@@ -28,7 +28,7 @@ impl<'a> Model for Key<'a> {
     ghost view = { λ k. record { id = k.id.now; seed = seed_by (option_copied k.seed); mode = k.mode } };
 }
 
-/// The key of the cache that a mount shows, if it shows one.
+/// Returns the key of the cache that a mount shows, if it shows one.
 pub(crate) fn key_of<'a>(inputs: &'a [Input], mount: &'a Mount) -> Option<Key<'a>>
     ensures { result ≡ key_of inputs.now mount.now }
 {

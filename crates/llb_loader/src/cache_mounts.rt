@@ -9,7 +9,7 @@ use llb_wire::Memory;
 use std::alloc::Global;
 use std::collections::BTreeSet;
 
-/// Whether no two cache mounts have one key.
+/// Returns whether no two cache mounts have one key.
 pub(crate) fn caches_apart(
     alloc: Global,
     inputs: &[Input],

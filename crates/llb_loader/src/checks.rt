@@ -18,14 +18,14 @@ use crate::op_sizes::count_of;
 use crate::row::Row;
 use crate::row_lookup::row_of;
 use crate::rules::broken_rule;
-use indexmap::IndexMap;
 use llb_ops::{Input, Op};
 use std::alloc::{AllocError, Global};
+use std::collections::BTreeMap;
 
-/// Each input of a marked row names a row.
+/// Checks that each input of a marked row names a row.
 pub(crate) fn check_names(
     rows: &[Row],
-    index: &IndexMap<&str, usize>,
+    index: &BTreeMap<&str, usize>,
     terminal: usize,
     ops: &[Op],
     seen: &[bool],
@@ -52,7 +52,7 @@ pub(crate) fn check_names(
 // The first input that names no row.
 fn first_unknown(
     rows: &[Row],
-    index: &IndexMap<&str, usize>,
+    index: &BTreeMap<&str, usize>,
     terminal: usize,
     op: &Op,
 ) -> Option<usize>
@@ -67,7 +67,7 @@ fn first_unknown(
     None
 }
 
-/// No marked row has a feature that is not taken.
+/// Checks that no marked row has a feature that is not taken.
 pub(crate) fn check_features(ops: &[Op], seen: &[bool]) -> Result<(), LoadFault>
     requires len { length seen.now ≡ length ops.now }
     requires few { length ops.now ≤ 65_536 }
@@ -84,7 +84,7 @@ pub(crate) fn check_features(ops: &[Op], seen: &[bool]) -> Result<(), LoadFault>
     Ok(())
 }
 
-/// No marked row breaks a rule.
+/// Checks that no marked row breaks a rule.
 pub(crate) fn check_rules(alloc: Global, ops: &[Op], seen: &[bool]) -> Result<(), LoadFault>
     requires len { length seen.now ≡ length ops.now }
     requires few { length ops.now ≤ 65_536 }
@@ -103,7 +103,7 @@ pub(crate) fn check_rules(alloc: Global, ops: &[Op], seen: &[bool]) -> Result<()
     Ok(())
 }
 
-/// The number of outputs of each row.
+/// Returns the number of outputs of each row.
 pub(crate) fn counts_of(alloc: Global, ops: &[Op]) -> Result<Vec<usize>, AllocError>
     ensures { IfOk result (λ counts. counts.items ≡ map output_count ops.now) }
 {
@@ -114,7 +114,7 @@ pub(crate) fn counts_of(alloc: Global, ops: &[Op]) -> Result<Vec<usize>, AllocEr
     Ok(counts)
 }
 
-/// The inputs of the marked rows, and the terminal's first, have the indexes of outputs.
+/// Checks that the inputs of the marked rows, and the terminal's first, have the indexes of outputs.
 pub(crate) fn check_indexes(
     ops: &[Op],
     links: &[Vec<usize>],
@@ -154,7 +154,7 @@ fn asked_inputs(op: &Op, reached: bool, terminal: bool) -> usize
     if terminal { 1 } else { 0 }
 }
 
-// The first of that many inputs whose index is that of no output.
+// The first of `asked` inputs whose index is that of no output.
 fn first_bad(op: &Op, named: &[usize], counts: &[usize], asked: usize) -> Option<usize>
     requires named { asked ≤ length named.now }
     requires inputs { asked ≤ length op.now.inputs }

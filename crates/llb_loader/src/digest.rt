@@ -7,7 +7,7 @@ use llb_wire::{Memory, Text, text_of_digest};
 use sha2::{Digest, Sha256};
 use std::alloc::Global;
 
-/// `sha256:` and the 64 lower-case hexadecimal digits of SHA-256 of the bytes.
+/// Returns `sha256:` and the 64 lower-case hexadecimal digits of SHA-256 of the bytes.
 pub(crate) fn digest_of(alloc: Global, bytes: &[u8]) -> Result<Text, Memory>
     ensures { IfOk result (λ text. text ≡ digest_text bytes.now) }
 {

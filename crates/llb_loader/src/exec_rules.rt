@@ -1,4 +1,4 @@
-//! The rules on execs, in five groups: what is run, where the mounts are, what they show and give, their caches, and the script.
+//! The rules on execs, in five groups: what is run, where the mounts are, what they show and output, their caches, and the script.
 
 ghost use Rattle.std.specs.Prelude.{◌≡◌, ◌↔◌, Some, IsSome, IfOk, IsTrue, List};
 ghost use Rattle.std.specs.List.{All};
@@ -18,7 +18,7 @@ use llb_ops::{CacheOpt, ExecOp, Input, Mount};
 use llb_wire::Memory;
 use std::alloc::{AllocError, Global};
 
-/// The first of the rules on execs that the op on these inputs breaks.
+/// Returns the first of the rules on execs that the op on these inputs breaks.
 pub(crate) fn broken_in_exec(
     alloc: Global,
     inputs: &[Input],

@@ -1,4 +1,4 @@
-//! Why rows are no graph. A fault prints what stands after the word `fault` in a refusal: its number and
+//! Why rows are no graph. A fault prints what comes after the word `fault` in a refusal: its number and
 //! its arguments, features and rules by their names. Refusals of memory of any kind become `Memory` by `?`.
 
 ghost use Rattle.std.specs.Prelude.{Some};
@@ -197,14 +197,14 @@ impl From<AllocError> for Memory {
     }
 }
 
-/// Of a copy of a tree, which can only lack memory.
+/// Converts the fault of a copy of a tree, which can only lack memory.
 impl From<TreeFault> for Memory {
     fn from(_: TreeFault) -> Memory {
         Memory
     }
 }
 
-/// Of a copy of a text.
+/// Converts the fault of a copy of a text.
 impl From<llb_wire::Memory> for Memory {
     fn from(_: llb_wire::Memory) -> Memory {
         Memory

@@ -1,4 +1,4 @@
-//! What an op has that is not taken. Each test looks at the ops of one kind; the order of features is that of `features`.
+//! The features of an op that are not taken. Each test looks at the ops of one kind; the order of features is that of `features`.
 
 ghost use Rattle.std.specs.Prelude.{◌≡◌};
 ghost use Rattle.std.specs.List.{list_any, find};
@@ -15,7 +15,7 @@ use llb_ops::{
     UserOpt,
 };
 
-/// The first feature of the op that is not taken.
+/// Returns the first feature of the op that is not taken.
 pub(crate) fn first_feature(op: &Op) -> Option<Feature>
     ensures { result ≡ feature_of op.now }
 {

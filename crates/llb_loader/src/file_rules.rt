@@ -10,7 +10,7 @@ use crate::indices::{are_outputs, is_input};
 use llb_ops::{Action, ActionKind, FileOp, Input};
 use std::alloc::{AllocError, Global};
 
-/// The first of the rules on file ops that the op on these inputs breaks.
+/// Returns the first of the rules on file ops that the op on these inputs breaks.
 pub(crate) fn broken_in_file(
     alloc: Global,
     inputs: &[Input],
@@ -32,7 +32,7 @@ pub(crate) fn broken_in_file(
     Ok(None)
 }
 
-// Whether action a reads one of that many inputs, the result of an action before it, or nothing.
+// Whether each action reads one of `count` inputs, the result of an action before it, or nothing.
 fn take_inputs(count: usize, actions: &[Action]) -> bool
     ensures { IsTrue result ↔ TakeInputs count actions.now }
 {

@@ -49,7 +49,7 @@ impl Drop for Vertex {
 }
 
 impl Vertex {
-    /// The name of a local source: what stands after `local://`.
+    /// Returns the name of a local source: what follows `local://`.
     pub fn local_name(&self) -> Option<&str>
         ensures { option_map (λ t. t.now) result ≡ local_name self.now.op }
     {
@@ -104,7 +104,7 @@ impl Graph {
         })
     }
 
-    /// The vertices by number.
+    /// Returns the vertices by number.
     pub fn vertices(&self) -> &[Vertex]
         ensures all { result.now ≡ self.now.vertices }
         ensures graph { IsGraph self.now }
@@ -112,7 +112,7 @@ impl Graph {
         self.shared.as_slice()
     }
 
-    /// An equal second owner, which shares the vertices. `Memory` (92) where it is refused.
+    /// Returns an equal second owner, which shares the vertices. Fails with `Memory` (92) alone.
     pub fn copy(&self) -> Result<Graph, Memory>
         ensures { IfOk result (λ g. g ≡ self.now) }
     {
@@ -123,14 +123,14 @@ impl Graph {
         })
     }
 
-    /// What is true of every graph, for callers to cite.
+    /// A law: what is true of every graph, for callers to cite.
     pub fn is_graph(&self)
         ensures { IsGraph self.now }
     {
         let _ = &self.shared;
     }
 
-    /// The output that the definition names as its result.
+    /// Returns the output that the definition names as its result.
     pub fn result(&self) -> Edge
         ensures { result ≡ self.now.result }
     {

@@ -5,7 +5,7 @@ ghost use Rattle.llb_loader.specs.Rules.{IsInput, IsBelow, is_output, AreOutputs
 
 use std::alloc::{AllocError, Global};
 
-/// Whether the number is -1 or one below the count.
+/// Returns whether the number is -1 or one below the count.
 pub(crate) fn is_input(count: usize, number: i64) -> bool
     ensures { IsTrue result ↔ IsInput count number }
 {
@@ -15,7 +15,7 @@ pub(crate) fn is_input(count: usize, number: i64) -> bool
     (number as usize) < count
 }
 
-/// Whether the outputs other than -1 are numbered from 0, each once.
+/// Returns whether the outputs other than -1 are numbered from 0, each once.
 pub(crate) fn are_outputs(alloc: Global, outputs: &[i64]) -> Result<bool, AllocError>
     ensures { IfOk result (λ stand. IsTrue stand ↔ AreOutputs outputs.now) }
 {

@@ -19,14 +19,14 @@ use crate::reach::reached;
 use crate::reading::ops_of;
 use crate::row::Row;
 use crate::row_lookup::{all_same, index_of, links_of, row_of, terminal_of};
-use indexmap::IndexMap;
 use llb_ops::Op;
 use std::alloc::Global;
+use std::collections::BTreeMap;
 
-/// The graph of the rows. The last row given is the terminal; its first input is the result.
+/// Returns the graph of the rows. The last row given is the terminal; its first input is the result.
 ///
-/// The first fault is answered, of the least row and its least input: `Entry` (82), `TooFew` (83), `Collision` (84),
-/// `NoResult` (85), `UnknownDigest` (86), `Cycle` (87), `Unsupported` (88), `Invalid` (89), `BadIndex` (90). `Memory` (91)
+/// Fails with the first fault, of the least row and its least input: `Entry` (82), `TooFew` (83), `Collision` (84),
+/// `NoResult` (85), `UnknownDigest` (86), `Cycle` (87), `Unsupported` (88), `Invalid` (89), `BadIndex` (90). Fails with `Memory` (91)
 /// where memory is refused.
 pub fn link(alloc: Global, rows: &[Row]) -> Result<Graph, LoadFault>
     requires { length rows.now ≤ 65_536 }
@@ -46,7 +46,7 @@ pub fn link(alloc: Global, rows: &[Row]) -> Result<Graph, LoadFault>
 fn link_read(
     alloc: Global,
     rows: &[Row],
-    index: IndexMap<&str, usize>,
+    index: BTreeMap<&str, usize>,
     terminal: usize,
     ops: Vec<Op>,
 ) -> Result<Graph, LoadFault>

@@ -14,9 +14,9 @@ use llb_ops::{Entries, read_definition};
 use llb_wire::Memory;
 use std::alloc::Global;
 
-/// The graph of a definition's entries under their own digest texts.
+/// Returns the graph of a definition's entries under their own digest texts.
 ///
-/// `Definition` (81) where the definition is not readable; else what `link` answers. `Memory` (91) where memory is refused.
+/// Fails with `Definition` (81) where the definition is not readable, else as `link` does. Fails with `Memory` (91) where memory is refused.
 pub fn load(alloc: Global, bytes: &[u8]) -> Result<Graph, LoadFault>
     ensures graph { IfOk result (λ g. IsGraphIn bytes.now g) }
     ensures refused { IfErr result (λ e. is_memory e ≡ false → IsRefusalIn bytes.now e) }
@@ -25,7 +25,7 @@ pub fn load(alloc: Global, bytes: &[u8]) -> Result<Graph, LoadFault>
     linked(alloc, entries)
 }
 
-/// What `load` answers, of bytes that are given up: they are dropped once the entries are read.
+/// Returns what `load` returns, for bytes that are handed over: they are dropped once the entries are read.
 pub fn load_owned(alloc: Global, bytes: Vec<u8>) -> Result<Graph, LoadFault>
     ensures graph { IfOk result (λ g. IsGraphIn bytes.items g) }
     ensures refused { IfErr result (λ e. is_memory e ≡ false → IsRefusalIn bytes.items e) }

@@ -37,7 +37,7 @@ impl Model for Locals {
 }
 
 impl Locals {
-    /// No trees.
+    /// Makes an empty list of trees.
     #[tactic(auto, unfolding(crate::specs::Locals::locals_of))]
     pub fn new(alloc: Global) -> Locals
         ensures { result ≡ [] }
@@ -47,9 +47,9 @@ impl Locals {
         }
     }
 
-    /// Gives a tree under a name: in the place of the one that the name had, or else after all others.
+    /// Adds a tree under a name: in the place of the one that the name had, or else after all others.
     ///
-    /// `Memory` (92) where memory is refused.
+    /// Fails with `Memory` (92) alone.
     #[tactic(auto, using(crate::proofs::Trees::locals_added, crate::proofs::Trees::last_given))]
     pub fn add(&mut self, name: Text, tree: Tree) -> Result<(), Memory>
         ensures ok { OnOk result (self.new ≡ with_local self.old name tree) }
@@ -60,14 +60,14 @@ impl Locals {
         Ok(())
     }
 
-    /// The same names with second owners of their trees. `Memory` (92) where memory is refused.
+    /// Returns the same names with second owners of their trees. Fails with `Memory` (92) alone.
     pub fn copy(&self) -> Result<Locals, Memory>
         ensures { IfOk result (λ l. l ≡ self.now) }
     {
         copied(&self.trees)
     }
 
-    /// The tree of a name.
+    /// Returns the tree of a name.
     pub fn get(&self, name: &str) -> Option<&Tree>
         ensures { option_map (λ t. t.now) result ≡ tree_of_local self.now name.now }
     {

@@ -23,7 +23,7 @@ pub enum MountType {
 }
 
 impl MountType {
-    /// The number of the type in a definition. Takes no memory.
+    /// Returns the number of the type in a definition. Does not allocate.
     pub fn number(self) -> i32
         ensures { result ≡ number_of self }
     {
@@ -36,7 +36,7 @@ impl MountType {
         }
     }
 
-    /// Whether a mount has this type. Takes no memory.
+    /// Returns whether a mount has this type. Does not allocate.
     pub fn is_of(self, mount: &Mount) -> bool
         ensures { result ≡ has_type (number_of self) mount.now }
     {
@@ -44,7 +44,7 @@ impl MountType {
     }
 }
 
-/// The options of the cache that a mount shows, if it shows one. Takes no memory.
+/// Returns the options of the cache that a mount shows, if it shows one. Does not allocate.
 pub fn cache_in(mount: &Mount) -> Option<&CacheOpt>
     ensures { option_copied result ≡ cache_in mount.now }
 {

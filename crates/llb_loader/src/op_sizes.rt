@@ -7,7 +7,7 @@ ghost use Rattle.llb_loader.specs.Rules.{is_output, count_outputs, outputs_of, m
 use llb_applet::Script;
 use llb_ops::{Action, Kind, Mount, Op};
 
-/// The number of the micro-steps of the op that has this script.
+/// Returns the number of the micro-steps of the op that has this script.
 pub(crate) fn steps_of(op: &Op, script: &Option<Script>) -> usize
     requires { script.now ≡ script_in op.now }
     ensures { result ≡ step_count op.now }
@@ -32,7 +32,7 @@ fn commands_among(script: &Option<Script>) -> usize
     }
 }
 
-/// The number of the op's outputs.
+/// Returns the number of the op's outputs.
 pub(crate) fn count_of(op: &Op) -> usize
     ensures { result ≡ output_count op.now }
 {

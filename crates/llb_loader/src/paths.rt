@@ -21,7 +21,7 @@ fn path_in(alloc: Global, text: &Text) -> Result<Option<Path>, Memory>
     }
 }
 
-/// Where each mount is, if its dest is a path.
+/// Returns where each mount is, if its dest is a path.
 pub(crate) fn dests_of(alloc: Global, mounts: &[Mount]) -> Result<Vec<Option<Path>>, Memory>
     ensures { IfOk result (λ dests. dests.items ≡ dests_of mounts.now) }
 {
@@ -32,7 +32,7 @@ pub(crate) fn dests_of(alloc: Global, mounts: &[Mount]) -> Result<Vec<Option<Pat
     Ok(dests)
 }
 
-/// Whether one of them is the root.
+/// Returns whether one of them is the root.
 pub(crate) fn has_root(dests: &[Option<Path>]) -> bool
     ensures { IsTrue result ↔ Contains dests.now (Some []) }
 {
@@ -46,7 +46,7 @@ pub(crate) fn has_root(dests: &[Option<Path>]) -> bool
     false
 }
 
-/// Whether all of them are there.
+/// Returns whether all of them are there.
 pub(crate) fn all_there(dests: &[Option<Path>]) -> bool
     ensures { IsTrue result ↔ All IsSome dests.now }
 {
@@ -58,7 +58,7 @@ pub(crate) fn all_there(dests: &[Option<Path>]) -> bool
     true
 }
 
-/// Whether all selectors are paths.
+/// Returns whether all selectors are paths.
 pub(crate) fn selectors_read(alloc: Global, mounts: &[Mount]) -> Result<bool, Memory>
     ensures { IfOk result (λ read. IsTrue read ↔ All (λ m. IsSome (read_as m.selector)) mounts.now) }
 {
@@ -70,7 +70,7 @@ pub(crate) fn selectors_read(alloc: Global, mounts: &[Mount]) -> Result<bool, Me
     Ok(true)
 }
 
-/// Whether the directory in which the words are run is a path.
+/// Returns whether the directory in which the words are run is a path.
 pub(crate) fn cwd_reads(alloc: Global, meta: &Option<Meta>) -> Result<bool, Memory>
     ensures { IfOk result (λ read. IsTrue read ↔ ReadsCwd meta.now) }
 {
@@ -81,7 +81,7 @@ pub(crate) fn cwd_reads(alloc: Global, meta: &Option<Meta>) -> Result<bool, Memo
     Ok(path.is_some())
 }
 
-/// Whether no two of them are one path.
+/// Returns whether no two of them are one path.
 pub(crate) fn dests_apart(alloc: Global, dests: &[Option<Path>]) -> Result<bool, Memory>
     ensures { IfOk result (λ apart. IsTrue apart ↔ AreApart dests.now) }
 {

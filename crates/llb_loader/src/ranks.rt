@@ -7,7 +7,7 @@ ghost use Rattle.llb_loader.specs.Numbering.{IsNumbering};
 
 use std::alloc::{AllocError, Global};
 
-/// The vertex number of each row that is numbered.
+/// Returns the vertex number of each row that is numbered.
 pub(crate) fn ranks_of(
     alloc: Global,
     rows: &[Vec<usize>],

@@ -1,5 +1,5 @@
-//! Which rows are distinct, and which row a digest text names. Look-ups by digest go through an index; the terminal's own
-//! digest names nothing.
+//! Which rows are distinct, and which row a digest text names. Look-ups by digest go through an index in the order of the texts, so
+//! that no choice of entries makes them slow; the terminal's own digest names nothing.
 
 ghost use Rattle.std.specs.Prelude.{◌≡◌, ◌<◌, ◌≤◌, ◌↔◌, ℕ, false, length, map, IfOk, IfErr, IsTrue};
 ghost use Rattle.std.specs.List.{filter_map};
@@ -9,12 +9,12 @@ ghost use Rattle.llb_loader.specs.Rows.{lists};
 
 use crate::fault::LoadFault;
 use crate::row::Row;
-use indexmap::IndexMap;
 use llb_ops::Op;
 use llb_wire::{Same, Text};
 use std::alloc::{AllocError, Global};
+use std::collections::BTreeMap;
 
-/// Whether there are fewer than two distinct rows.
+/// Returns whether there are fewer than two distinct rows.
 pub(crate) fn all_same(rows: &[Row]) -> bool
     ensures { IsTrue result ↔ AllSame rows.now }
 {
@@ -32,17 +32,17 @@ fn same(row: &Row, other: &Row) -> bool
     row.digest.same(&other.digest) && row.bytes.same(&other.bytes)
 }
 
-/// The first row of each digest text, where no two rows of one digest differ.
+/// Returns the first row of each digest text, where no two rows of one digest differ.
 pub(crate) fn index_of<'a>(
     alloc: Global,
     rows: &'a [Row],
-) -> Result<IndexMap<&'a str, usize>, LoadFault>
+) -> Result<BTreeMap<&'a str, usize>, LoadFault>
     requires { length rows.now ≤ 65_536 }
     ensures index { IfOk result (λ index. IsIndex rows.now index) }
     ensures apart { IfOk result (λ index. (k : ℕ) → ¬ Collides rows.now k) }
     ensures refused { IfErr result (λ e. is_memory e ≡ false → RefusesCollision rows.now e) }
 {
-    let mut index: IndexMap<&'a str, usize> = IndexMap::new(alloc);
+    let mut index: BTreeMap<&'a str, usize> = BTreeMap::new(alloc);
     for (k, row) in rows.iter().enumerate() {
         let digest = row.digest.as_str();
         let Some(first) = index.get(digest) else {
@@ -56,8 +56,8 @@ pub(crate) fn index_of<'a>(
     Ok(index)
 }
 
-/// The terminal: the first row with the last row's digest text.
-pub(crate) fn terminal_of(rows: &[Row], index: &IndexMap<&str, usize>) -> usize
+/// Returns the terminal: the first row with the last row's digest text.
+pub(crate) fn terminal_of(rows: &[Row], index: &BTreeMap<&str, usize>) -> usize
     requires some { 0 < length rows.now }
     requires index { IsIndex rows.now index.now }
     requires apart { (k : ℕ) → ¬ Collides rows.now k }
@@ -70,10 +70,10 @@ pub(crate) fn terminal_of(rows: &[Row], index: &IndexMap<&str, usize>) -> usize
     }
 }
 
-/// The row that a digest text names, if it names one.
+/// Returns the row that a digest text names, if it names one.
 pub(crate) fn row_of(
     rows: &[Row],
-    index: &IndexMap<&str, usize>,
+    index: &BTreeMap<&str, usize>,
     terminal: usize,
     digest: &Text,
 ) -> Option<usize>
@@ -84,11 +84,11 @@ pub(crate) fn row_of(
     if row == terminal { None } else { Some(row) }
 }
 
-/// The rows that the op's inputs name.
+/// Returns the rows that the op's inputs name.
 pub(crate) fn rows_of(
     alloc: Global,
     rows: &[Row],
-    index: &IndexMap<&str, usize>,
+    index: &BTreeMap<&str, usize>,
     terminal: usize,
     op: &Op,
 ) -> Result<Vec<usize>, AllocError>
@@ -104,11 +104,11 @@ pub(crate) fn rows_of(
     Ok(named)
 }
 
-/// What each row names.
+/// Returns the rows that each row names.
 pub(crate) fn links_of(
     alloc: Global,
     rows: &[Row],
-    index: &IndexMap<&str, usize>,
+    index: &BTreeMap<&str, usize>,
     terminal: usize,
     ops: &[Op],
 ) -> Result<Vec<Vec<usize>>, AllocError>

@@ -15,7 +15,7 @@ use llb_ops::{Input, Kind, MergeInput, MergeOp, Op, SourceOp};
 use llb_wire::Memory;
 use std::alloc::Global;
 
-/// The first rule that the op breaks.
+/// Returns the first rule that the op breaks.
 pub(crate) fn broken_rule(alloc: Global, op: &Op) -> Result<Option<Rule>, Memory>
     ensures { IfOk result (λ broken. MatchOption broken (MeetsRules op.now) (BreaksFirst op.now)) }
 {

@@ -1,4 +1,4 @@
--- Laws of the laying, for whoever rests on it: what stands at each path, that it is a tree, and what the empty tree does.
+-- Laws of the laying, for whoever rests on it: the entry at each path, that it is a tree, and what the empty tree does.
 use Rattle.std.proofs.Common.{◌≡◌, ℕ, Bool, true, false, not, cond, ◌||◌, List, [], ◌∷◌, ◌++◌, map}
 use Rattle.std.proofs.Common.{Option, Some, None, IsSome, is_some, Ok, refl, sym, ap, ◌∙◌, true≢false}
 use Rattle.std.specs.Prelude.{unwrap_or}
@@ -16,7 +16,7 @@ use Rattle.llb_merge.specs.Laying.{is_file, below_file, or_else, lay_at, lay}
 abbrev Pair : Type 0
 Pair = List (List ℕ) × Entry
 
--- ---- what stands at each path
+-- ---- the entry at each path
 
 find_both : (q : List (List ℕ)) (es fs : List Pair) → finite.find path_cmp q (es ++ fs) ≡ or_else (finite.find path_cmp q es) (finite.find path_cmp q fs)
 find_both q [] fs = refl
@@ -41,11 +41,11 @@ get-lay a b q =
     ∙ ap (or_else (finite.get b q)) (cond-not (below_file (finite.get b) q) (finite.find path_cmp q (finite.entries a)) None
     ∙ ap (λ o. cond (below_file (finite.get b) q) None o) (sym (finite.get-entries a q)))
 
--- and nothing else has that
+-- and no other tree has at each path what the laying has
 pub lay_only : (a b t : TreeMap) → ((q : List (List ℕ)) → finite.get t q ≡ lay_at (finite.get a) (finite.get b) q) → t ≡ lay a b
 lay_only a b t is = finite.same_map path_cmp-IsTotalOrder path_cmp-IsAntisymmetric t (lay a b) (λ q. is q ∙ sym (get-lay a b q))
 
--- so a tree over another in the way that gives nothing, and keeps no directory of the lower one, is laid
+-- a tree over another in the way that changes no mode and no owner, and keeps no directory of the lower one, is the laying
 abbrev plain_way : WayValue
 plain_way = record { mode = None; uid = None; gid = None; keeps = false }
 
@@ -183,7 +183,7 @@ lay_over_empty t tree = sym (lay_only empty_tree t t there)
         sym (ap (λ o. or_else (finite.get t (n ∷ q)) (cond (below_file (finite.get t) (n ∷ q)) None o)) (get-empty_tree (n ∷ q))
         ∙ none_more (below_file (finite.get t) (n ∷ q)) (finite.get t (n ∷ q)))
 
--- no file stands in the empty tree, so none is above a path
+-- the empty tree has no file, so none is above a path
 below_none : (look : Look) → ((r : List (List ℕ)) → is_file (look r) ≡ false) → (p : List (List ℕ)) → below_file look p ≡ false
 below_none look none p = go (parents p)
   where

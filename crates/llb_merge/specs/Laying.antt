@@ -11,11 +11,11 @@ abbrev pub or_else : Option Entry → Option Entry → Option Entry
 or_else (Some e) other = Some e
 or_else None other = other
 
--- at a path, what the upper tree has; else what the lower one has, where no proper prefix of the path is a file of the upper one
+-- the entry at a path: what the upper tree has; else what the lower one has, where no proper prefix of the path is a file of the upper one
 abbrev pub lay_at : Look → Look → Look
 lay_at lower upper p = or_else (upper p) (if below_file upper p then None else lower p)
 
 -- the upper tree's entries, and those of the lower one that are below no file of the upper one; where both have a path, the
--- first entry stands
+-- upper tree's entry is kept
 unfoldable pub lay : TreeMap → TreeMap → TreeMap
 lay lower upper = finite.from_entries (finite.entries upper ++ where_key path_cmp (λ p. not (below_file (finite.get upper) p)) (finite.entries lower))

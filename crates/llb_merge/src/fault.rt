@@ -1,5 +1,5 @@
-//! Out of memory, the one refusal here. It prints what stands after the word `fault` in a refusal: its number.
-//! Of the refusals of a tree none but its *out of memory* can come, as the clauses of its calls say.
+//! The fault for refused memory, the only one here. It prints what comes after the word `fault` in a refusal: its number.
+//! Of the faults of a tree only `Memory` can come, as the clauses of its calls say.
 
 use llb_tree::TreeFault;
 use thiserror::Error;

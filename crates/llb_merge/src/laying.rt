@@ -1,5 +1,5 @@
-//! One tree laid over another: what the upper one has stands as it has it, and of the lower one what no file of the upper
-//! one is above.
+//! One tree laid over another: what the upper one has is kept as it has it, and of the lower one what is below no file of the
+//! upper one.
 
 ghost use Rattle.std.specs.Prelude.{◌≡◌, IfOk, OnOk, OnErr, Some, None, false};
 ghost use Rattle.llb_tree.specs.Overlay.{way_of};
@@ -16,15 +16,15 @@ fn plain() -> Way
     Way::new(None, None, None, false).unwrap()
 }
 
-/// The lower tree with the upper one laid over it: at a path stands what the upper tree has there, and else what the
-/// lower one has, where no file of the upper one is above the path. 55 `Memory`.
+/// Lays the upper tree over the lower one, and returns the result: at a path it has what the upper tree has there, and else what the
+/// lower one has, where no file of the upper one is above the path. Fails with 55 `Memory` alone.
 pub fn lay(_: Global, lower: &Tree, upper: &Tree) -> Result<Tree, Memory>
     ensures { IfOk result (λ t. t ≡ lay lower.now upper.now) }
 {
     lay_onto(lower.copy()?, upper)
 }
 
-/// As `lay`, onto a lower tree that is handed over, so that whoever lays several trees copies none. 55 `Memory`.
+/// Does as `lay`, onto a lower tree that is handed over, so that whoever lays several trees copies none. Fails with 55 `Memory` alone.
 pub fn lay_onto(lower: Tree, upper: &Tree) -> Result<Tree, Memory>
     ensures { IfOk result (λ t. t ≡ lay lower upper.now) }
 {
@@ -32,7 +32,7 @@ pub fn lay_onto(lower: Tree, upper: &Tree) -> Result<Tree, Memory>
     Ok(lower.overlaid(&way, upper)?)
 }
 
-/// As `lay`, over the lower tree in place; after a refusal that tree is unchanged. 55 `Memory`.
+/// Does as `lay`, over the lower tree in place. Fails with 55 `Memory` alone; then that tree is unchanged.
 pub fn lay_over(lower: &mut Tree, upper: &Tree) -> Result<(), Memory>
     ensures ok { OnOk result (lower.new ≡ lay lower.old upper.now) }
     ensures err { OnErr result (lower.new ≡ lower.old) }

@@ -1,4 +1,4 @@
-//! A tree is laid over another: what the upper one has stands, and of the lower one what no file of the upper one hides.
+//! A tree is laid over another: what the upper one has is kept, and of the lower one what no file of the upper one hides.
 //! It is a function on tree maps. Nothing here knows an operation.
 #![tactic(auto)]
 

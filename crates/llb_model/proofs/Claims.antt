@@ -48,7 +48,7 @@ free_by_mode ps k Shared alone shut h = absurd alone
 free_by_mode ps k Private alone shut h = free_found ps k 0 (above ps) (omega arith) h
 free_by_mode ps k Locked alone shut h = let both : true ≡ false = sym (has_in ps (place k 0) h) ∙ shut in cc
 
--- an instance that a granted claim has alone was held by nobody
+-- an instance that a granted claim holds exclusively was held by nobody
 pub places_free : (ps : List Place) (ns : List Need) → held_key ps ns ≡ None → (p : Place) → Has (places_for ps ns) p → IsExclusive p.key.mode → Has ps p → ⊥
 places_free ps ns granted p h alone there =
     let m = has_map (place_for ps) ns p h in

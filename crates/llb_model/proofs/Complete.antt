@@ -1,5 +1,5 @@
 -- While no vertex runs, the least vertex that is neither settled nor blocked is Ready. So an event is chosen exactly until the run is
--- complete; and then every vertex stands as its plain outcome tells.
+-- complete; and then the status of every vertex is that of its plain outcome.
 use Rattle.std.proofs.Common.{◌≡◌, ◌≢◌, ℕ, zero, suc, ◌+◌, ◌<◌, ◌≤◌, Bool, true, false, ◌||◌, ◌&&◌, cond, List, [], ◌∷◌, length, Option}
 use Rattle.std.proofs.Common.{Some, None, is_some, option_map, ◌⊎◌, inl, inr, refl, sym, ap, subst, ◌∙◌, arith}
 use Rattle.std.specs.Prelude.{slice_get}

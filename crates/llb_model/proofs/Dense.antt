@@ -74,7 +74,7 @@ holder_of (Runs x ∷ ws) p h = elim (split_has x.places (held ws) p h) [
   | inr k ↦ let r = holder_of ws p k in (suc r.0, r.1, r.2, r.3)
 ]
 
--- ---- what stands after writes
+-- ---- what is at places after writes
 
 abbrev Stands : Store → Place → Type 0
 Stands s p = is_some (content s p) ≡ true
@@ -114,7 +114,7 @@ record IsFilled (s : State) : Type 0 where
   dense : IsDense s.store
   there : (w : ℕ) (x : Execution) (p : Place) → slice_get s.workers w ≡ Some (Runs x) → Has x.places p → Stands s.store p
 
--- an instance stands there, or is the next one of its key
+-- there is an instance, or it is the next one of its key
 abbrev IsAtEnd : Store → Place → Type 0
 IsAtEnd store p = (n : ℕ) → n < p.number → Stands store (place p.key n)
 
@@ -123,7 +123,7 @@ at_end s f ns p h n lt =
     let r = holder_of s.workers (place p.key n) (below_held (held s.workers) ns p h n lt) in
     f.there r.0 r.1 (place p.key n) r.2 r.3
 
--- writes at places of which each stands there or comes next
+-- writes at places of which each has an instance or comes next
 dense_after : (store : Store) (ps : List Place) (ts : List TreeMap) → IsDense store → ((p : Place) → Has ps p → IsAtEnd store p) → IsDense (put_all store ps ts)
 dense_after store ps ts dense ends k n h = elim (stood store ps ts (place k (n + 1)) h) [
   | inl j ↦ stays store ps ts (place k n) (ends (place k (n + 1)) j n (omega arith))

@@ -1,4 +1,4 @@
--- Every worker that runs an exec stands by the last status, after any list of granted events.
+-- The state of every worker that runs an exec is by the last status, after any list of granted events.
 use Rattle.std.proofs.Common.{◌≡◌, ℕ, suc, ◌+◌, ◌-◌, ◌==◌, Bool, true, false, not, cond, ◌&&◌, ◌||◌, List, [], length, drop, ◌⊎◌, inl, inr, Option, Some}
 use Rattle.std.proofs.Common.{None, is_some, unwrap_or, refl, sym, ap, subst, ◌∙◌, add-one, arith}
 use Rattle.std.specs.Prelude.{slice_get, nat_le}

@@ -94,7 +94,7 @@ granted_ok : {E : Type 0} (r : Result Answer E) (a : Answer) → result_ok r ≡
 granted_ok (Ok x) a e = ap (λ y. Ok y) (inside e)
 granted_ok (Err f) a e = absurd cc
 
--- what a granted claim shows: the worker is idle, the vertex Ready, no locked key of it is held, and what the claim gives
+-- what a granted claim shows: the worker is idle, the vertex Ready, no locked key of it is held, and the claim's state and reply
 pub claim_is : (b : Build) (s : State) (w v : ℕ) (a : Answer) → table b s (Claim w v) ≡ Some a → IsClaim b s w v a
 unfolding table
 claim_is b s w v a e =
@@ -119,7 +119,7 @@ claim_is b s w v a e =
     by_worker (Some Idle) is (Some vertex) there e =
         by_ready is (start_from s.statuses (slice_get s.statuses v) (Some vertex)) (ap (start_from s.statuses (slice_get s.statuses v)) there) e
 
--- what a granted step shows: the worker runs something that has a next micro-step, and what the step gives
+-- what a granted step shows: the worker runs something that has a next micro-step, and the step's state and reply
 pub step_is : (b : Build) (s : State) (w : ℕ) (a : Answer) → table b s (Step w) ≡ Some a → IsStep b s w a
 unfolding table
 step_is b s w a e = by_worker (slice_get s.workers w) refl (granted_ok (stepped b s w (slice_get s.workers w)) a e)
@@ -137,7 +137,7 @@ step_is b s w a e = by_worker (slice_get s.workers w) refl (granted_ok (stepped 
 settle_if : Build → State → ℕ → Execution → Bool → Result Answer SettleCause
 settle_if b s w x fin = cond fin (Ok (settle_with s w x.vertex (ending_from (program_in b x) x))) (Err NotFinished)
 
--- what a granted settle shows: the worker runs something that is finished, and what the settle gives
+-- what a granted settle shows: the worker runs something that is finished, and the settle's state and reply
 pub settle_is : (b : Build) (s : State) (w : ℕ) (a : Answer) → table b s (Settle w) ≡ Some a → IsSettle b s w a
 unfolding table settle_if
 settle_is b s w a e = by_worker (slice_get s.workers w) refl (granted_ok (settled b s w (slice_get s.workers w)) a e)
@@ -152,7 +152,7 @@ settle_is b s w a e = by_worker (slice_get s.workers w) refl (granted_ok (settle
     by_worker (Some Idle) is e = absurd cc
     by_worker (Some (Runs x)) is e = by_test x is (is_finished (program_in b x).steps x) refl e
 
--- what a granted cancel shows: the worker runs something, and what the cancel gives
+-- what a granted cancel shows: the worker runs something, and the cancel's state and reply
 pub cancel_is : (b : Build) (s : State) (w : ℕ) (a : Answer) → table b s (Cancel w) ≡ Some a → IsCancel s w a
 unfolding table
 cancel_is b s w a e = by_worker (slice_get s.workers w) refl (granted_ok (cancelled s w (slice_get s.workers w)) a e)
@@ -162,7 +162,7 @@ cancel_is b s w a e = by_worker (slice_get s.workers w) refl (granted_ok (cancel
     by_worker (Some Idle) is e = absurd cc
     by_worker (Some (Runs x)) is e = record { x = x; there = is; gives = sym (inside_ok e) }
 
--- as many workers as before
+-- there are as many workers as before
 pub workers_stay : (b : Build) (s : State) (e : Event) (a : Answer) → table b s e ≡ Some a → length a.0.workers ≡ length s.workers
 workers_stay b s (Claim w v) a given =
     let c = claim_is b s w v a given in

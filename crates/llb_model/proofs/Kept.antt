@@ -1,4 +1,4 @@
--- A list of instances for each key stands for a map from places.
+-- A list of instances for each key represents a map from places.
 use Rattle.std.proofs.Common.{◌≡◌, ◌≢◌, ℕ, zero, suc, ◌+◌, ◌<◌, ◌≤◌, Bool, true, false, List, [], ◌∷◌, ◌++◌, length, Option, Some, None}
 use Rattle.std.proofs.Common.{unwrap_or, ◌⊎◌, inl, inr, refl, sym, ap, ◌∙◌, cond, arith}
 use Rattle.std.specs.Prelude.{slice_get, slice_set, is_some, nat_lt}
@@ -25,13 +25,13 @@ key_apart k l m n apart e = apart (ap (λ (p : Place). p.key) e)
 
 -- ---- the trees of one key
 
--- of another key, or below the first number
+-- the instances of another key, or below the first number, stay as they are
 other_key : (s : Store) (k l : Key) (n m : ℕ) (ts : List TreeMap) → l ≢ k → content (with_trees s k n ts) (place l m) ≡ content s (place l m)
 other_key s k l n m [] apart = refl
 other_key s k l n m (t ∷ ts) apart = content_other (with_trees s k (n + 1) ts) (place k n) t (place l m) (key_apart l k m n apart)
     ∙ other_key s k l (n + 1) m ts apart
 
--- where nothing of the key stood past the trees before
+-- where nothing of the key was past the trees before
 at_number : (s : Store) (k : Key) (n i : ℕ) (ts : List TreeMap) → ((j : ℕ) → slice_get ts j ≡ None → content s (place k (n + j)) ≡ None)
     → content (with_trees s k n ts) (place k (n + i)) ≡ slice_get ts i
 at_number s k n i [] none = none i refl
@@ -78,7 +78,7 @@ shown all (r ∷ rows) k n = go (same_key k r.0) refl (λ m. shown all rows k m)
     go false is rest =
         other_key (store_from all rows) r.0 k 0 n (trees_of all r.0) (λ e. let both : true ≡ false = sym (key_itself k) ∙ ap (same_key k) e ∙ is in cc) ∙ rest n
 
--- the store that rows stand for has at each place the instance of that number, and nothing where no row has the key
+-- the store that rows represent has at each place the instance of that number, and nothing where no row has the key
 pub shows_instances : (rows : List Row) → ShowsInstances rows
 unfolding store_of has_row
 shows_instances rows p = shown rows rows p.key p.number ∙ go (lookup (same_key p.key) rows)

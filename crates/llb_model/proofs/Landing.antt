@@ -19,7 +19,7 @@ use Rattle.llb_model.proofs.Runs.{run_one, run_on}
 
 -- ---- writes
 
--- what stands there is written again
+-- what is there is written again
 pub put_all_nothing : (s : Store) (ps : List Place) (ts : List TreeMap) → Distinct ps → Hold s ps ts → put_all s ps ts ≡ s
 put_all_nothing s ps ts apart hold = same_store (put_all s ps ts) s (λ q. elim (has_or ps q) [
   | inl h ↦ hold_same (put_all s ps ts) s ps ts (hold_all s ps ts apart (hold_length s ps ts hold)) hold q h
@@ -48,7 +48,7 @@ set_got (a ∷ xs) (suc i) x at = ap (λ ys. a ∷ ys) (set_got xs i x at)
 
 -- ---- further micro-steps
 
--- as many trees as before
+-- there are as many trees as before
 pub further_keeps : (steps : List MicroStep) (k : ℕ) (left : Left) (n : ℕ) → length (further steps k left n).work.trees ≡ length left.work.trees
 further_keeps steps k left zero = refl
 further_keeps steps k left (suc n) = further_keeps steps (k + 1) (go_on steps k left) n ∙ go_keeps steps k left

@@ -242,7 +242,7 @@ step_keeps_lease out workers ls w x z are at_w places = record {
   whose = are.whose;
 }
 
--- the lease that a worker gives back was its own, so the others keep theirs
+-- the lease that a worker releases was its own, so the others keep theirs
 pub end_gives_back : EndGivesBack
 end_gives_back out workers ls w l are at_w = record {
   count = length_set ls w None ∙ are.count ∙ sym (length_set workers w Idle);

@@ -1,4 +1,4 @@
--- What stands at a place of a list that is written, repeated or made longer.
+-- What is at a place of a list that is written, repeated or made longer.
 use Rattle.std.proofs.Common.{◌≡◌, ◌≢◌, ℕ, zero, suc, ◌<◌, Bool, true, ◌||◌, List, [], ◌∷◌, ◌++◌, length, map, take, Option, Some, ◌⊎◌, inl}
 use Rattle.std.proofs.Common.{inr, refl, sym, ap, ◌∙◌, arith}
 use Rattle.std.specs.Prelude.{slice_get, slice_set, replicate}
@@ -62,7 +62,7 @@ get_within [] i lt = absurd (omega arith)
 get_within (x ∷ xs) zero lt = (x, refl)
 get_within (x ∷ xs) (suc i) lt = get_within xs i (omega arith)
 
--- an item is found at the length of what stands before it
+-- an item is found at the length of what is before it
 pub get_middle : {A : Type 0} (xs : List A) (x : A) (ys : List A) → slice_get (xs ++ (x ∷ ys)) (length xs) ≡ Some x
 get_middle [] x ys = refl
 get_middle (y ∷ xs) x ys = get_middle xs x ys
@@ -111,7 +111,7 @@ some_with P Q R [] h each f = absurd h
 some_with P Q R (x ∷ xs) (inl h) each f = f x h each.0
 some_with P Q R (x ∷ xs) (inr h) each f = some_with P Q R xs h each.1 f
 
--- where one fact holds of some item, and another of each, what both give holds of some item
+-- where one fact holds of some item, and another of each, what both imply holds of some item
 pub some_as : {A : Type 0} (P Q R : A → Type 0) (xs : List A) → Some_of P xs → Each_of Q xs → ((x : A) → P x → Q x → R x) → Some_of R xs
 some_as P Q R [] h each f = absurd h
 some_as P Q R (x ∷ xs) (inl h) each f = inl (f x h each.0)

@@ -1,4 +1,4 @@
--- The caches that a vertex of a graph shows have different keys: mounts with equal keys are refused, and the loader's numbers stand for one
+-- The caches that a vertex of a graph shows have different keys: mounts with equal keys are refused, and the loader's numbers name one
 -- mode and one index each.
 use Rattle.std.proofs.Common.{◌≡◌, ℕ, zero, suc, ◌+◌, ◌<◌, ℤ, pos, negsuc, Bool, true, false, cond, List, [], ◌∷◌, length, map, Option}
 use Rattle.std.proofs.Common.{Some, None, option_map, inl, inr, refl, sym, ap, subst, ◌∙◌, arith}

@@ -1,4 +1,4 @@
--- What an event leaves of the instances that other workers have alone, and that it does not look at them.
+-- What an event leaves of the instances that other workers hold exclusively, and that it does not read them.
 use Rattle.std.proofs.Common.{◌≡◌, ℕ, Bool, true, false, List, [], ◌∷◌, Option, Some, None, option_map, unwrap_or, inl, inr, refl, sym, ap, subst, ◌∙◌, cond}
 use Rattle.std.specs.Prelude.{slice_get, slice_set, Result, Ok, Err}
 use Rattle.std.specs.Result.{result_ok}
@@ -24,7 +24,7 @@ use Rattle.llb_model.proofs.Separate.{alone, alone_free, reached_separate, held_
 
 -- ---- what stays
 
--- another worker's event writes only what it has or takes, so what a running worker has alone stays as it is
+-- another worker's event writes only what it has or takes, so what a running worker holds exclusively stays as it is
 pub others_keep : (b : Build) → OthersKeep b
 unfolding alone
 others_keep b s t (Claim u v) r reached given w x p there has exclusive other =
@@ -46,7 +46,7 @@ others_keep b s t (Cancel u) r reached given w x p there has exclusive other =
 
 -- ---- what is not looked at
 
--- what a claim begins with does not depend on what stands at a place that it does not take
+-- what a claim begins with does not depend on what is at a place that it does not take
 pub first_same : (s : Store) (p : Place) (t : TreeMap) (inputs : List TreeMap) (ps : List Place) (ns : List Need) → (Has ps p → ⊥)
     → first_trees (put s p t) inputs ps ns ≡ first_trees s inputs ps ns
 first_same s p t inputs [] ns apart = refl
@@ -139,7 +139,7 @@ cancel_ignores b s u p t = go (slice_get s.workers u)
     go (Some Idle) = refl
     go (Some (Runs x)) = refl
 
--- another worker's event does not look at what a running worker has alone: reply and effect are the same with any tree there
+-- another worker's event does not read what a running worker holds exclusively: reply and effect are the same with any tree there
 pub others_ignore : (b : Build) → OthersIgnore b
 unfolding Ignored alone
 others_ignore b s (Claim u v) t reached w x p there has exclusive other =

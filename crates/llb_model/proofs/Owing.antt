@@ -178,7 +178,7 @@ owed_few (y ∷ vs) (s ∷ ss) k rs = omega (arith, owed_few vs ss (k + 1) rs, f
     few (Running w) n = omega arith
     few (Settled e) n = omega arith
 
--- of a vertex that waits all events are to come, and they are owed after a cancel
+-- for a vertex that waits all events are to come, and they are owed after a cancel
 owed_apart : (vs : List Vertex) (ss : List Status) (k v : ℕ) (x : Vertex) (rs : List Reply) → slice_get vs v ≡ Some x → slice_get ss v ≡ Some Waiting
     → owed_from k vs ss rs + events_of x ≤ all_to_come vs ss + owed_by x Waiting (cancels_in (k + v) rs)
 owed_apart vs ss k v x rs there at =

@@ -17,7 +17,7 @@ use Rattle.llb_model.proofs.Views.{parts_count}
 
 -- ---- past the end, or a fault
 
--- that many micro-steps are all that are done
+-- no micro-step follows the first k: one of them has faulted, or there are no more
 abbrev pub is_over_at : List MicroStep → Left → ℕ → Bool
 is_over_at steps left k = is_some left.fault || nat_le (length steps) k
 
@@ -62,7 +62,7 @@ finished_whole steps work k over = elim (cases_lt k (length steps)) [
 
 -- ---- the next micro-step
 
--- a micro-step that comes next: none has faulted, and it stands at that place
+-- a micro-step that comes next: none has faulted, and it is at that place
 pub record IsNextStep (steps : List MicroStep) (x : Execution) (m : MicroStep) : Type 0 where
   pub unfinished : is_finished steps x ≡ false
   pub clean : x.fault ≡ None
@@ -120,7 +120,7 @@ command_keeps k setting command ends (Mounted mounts caches last) trees = by_run
     by_run true = by_view (run setting (filled mounts caches trees) command.command)
     by_run false = refl
 
--- as many trees as before
+-- there are as many trees as before
 own_keeps : (work : Work) (r : Result View VertexFault) → length (tried work r).work.trees ≡ length work.trees
 own_keeps work (Ok view) = refl
 own_keeps work (Err f) = refl

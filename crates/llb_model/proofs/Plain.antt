@@ -1,4 +1,4 @@
--- Whatever events were granted: where no cache is at or before a vertex, it stands by its plain outcome.
+-- Whatever events were granted: where no cache is at or before a vertex, its state is by its plain outcome.
 use Rattle.std.proofs.Common.{◌≡◌, ℕ, suc, ◌+◌, true, List, [], length, Option, Some, None, inl, inr, refl, sym, ap, subst, ◌∙◌, arith}
 use Rattle.std.specs.Prelude.{slice_get}
 use Rattle.std.proofs.lemmas.List.{nil_from_length}
@@ -26,7 +26,7 @@ opening_plain b o = record {
   working = λ w x is there. absurd (let h : Runs x ≡ Idle = got_replicate o.workers Idle w (Runs x) there in cc);
 }
 
--- what a status tells of an ending
+-- what a status says of an ending
 pub ending_settled : (o : Option Status) (e : Ending) → ending_of o ≡ Some e → o ≡ Some (Settled e)
 ending_settled None e h = absurd cc
 ending_settled (Some Waiting) e h = absurd cc
@@ -153,7 +153,7 @@ event_plain b graph s (Cancel w) a stands given =
       working = λ u x is there. elim (got_set s.workers w Idle u (Runs x) there) [ inl h ↦ absurd (cc (h.1)) | inr h ↦ stands.working u x is h.1 ];
     })
 
--- what stands by the plain outcomes still does after any list of granted events
+-- what is by the plain outcomes still is after any list of granted events
 pub run_plain : (b : Build) → IsGraph b.graph → (s t : State) (es : List Event) (rs : List Reply) → StandsByOutcomes b s
     → run b s es ≡ Some (t, rs) → StandsByOutcomes b t
 run_plain b graph = run_keeps b (StandsByOutcomes b) (event_plain b graph)

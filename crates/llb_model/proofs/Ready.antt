@@ -30,7 +30,7 @@ ready_by_inputs b statuses v x there = ap (λ o. is_some (start_from statuses (s
     by_status (Some (Running w)) = refl
     by_status (Some (Settled e)) = refl
 
--- in a graph: exactly where it waits and all vertices that its edges lead to are Done
+-- a vertex of a graph is Ready exactly where it waits and all vertices that its edges lead to are Done
 pub ready_law : (b : Build) → IsGraph b.graph → (s : State) → IsConsistent b s → (v : ℕ) (x : Vertex) → slice_get b.graph.vertices v ≡ Some x
     → is_ready b s.statuses v ≡ (is_waiting (slice_get s.statuses v) && list_all (λ (e : Edge). is_done (ending_at s.statuses e.vertex)) x.inputs)
 ready_law b graph s here v x there =

@@ -39,7 +39,7 @@ come_settled (y ∷ vs) [] v e = omega arith
 come_settled (y ∷ vs) (r ∷ ss) zero e = omega arith
 come_settled (y ∷ vs) (r ∷ ss) (suc v) e = omega (arith, come_settled vs ss v e)
 
--- of a vertex of the graph, if it is one
+-- the most events of a vertex of the graph, if it is one
 abbrev pub events_at : Option Vertex → ℕ
 events_at None = 0
 events_at (Some v) = events_of v
@@ -222,7 +222,7 @@ run_room b s t (e ∷ es) rs given =
     let all : most_events b rs ≡ most_events b (r.a.1 ∷ r.rest) = ap (most_events b) r.replies in
     omega (arith, all, event_spares b s e r.a r.rest r.given, run_room b r.a.0 t es r.rest r.goes_on)
 
--- a run from an opening state, with what is still to come, has at most that many events
+-- a run from an opening state, with what is still to come, has at most `most_events` events
 pub run_has_few : (b : Build) (o : Opening) (t : State) (es : List Event) (rs : List Reply) → run b (opening b o) es ≡ Some (t, rs)
     → still_to_come b t + length es ≤ most_events b rs
 run_has_few b o t es rs given = omega (arith, opening_room b o, run_room b (opening b o) t es rs given)

@@ -1,4 +1,4 @@
--- No two running workers have one instance that an execution has alone.
+-- No two running workers hold one instance exclusively.
 use Rattle.std.proofs.Common.{◌≡◌, ℕ, List, Option, Some, inl, inr, refl, sym, ap, subst, ◌∙◌}
 use Rattle.std.specs.Prelude.{slice_get, slice_set, replicate}
 use Rattle.llb_model.specs.Caches.{Place, Has, IsExclusive}
@@ -11,7 +11,7 @@ use Rattle.llb_model.proofs.Claims.{places_free, free_from}
 use Rattle.llb_model.proofs.Events.{Answer, IsClaim, claim_places, claim_is, step_is, settle_is, cancel_is}
 use Rattle.llb_model.proofs.Runs.{run_keeps}
 
--- of the places that count, no two workers have one
+-- no two workers have one of the places that count
 pub record IsSeparate (E : Place → Type 0) (ws : List At) : Type 0 where
   pub once : (w u : ℕ) (x y : Execution) (p : Place) → slice_get ws w ≡ Some (Runs x) → slice_get ws u ≡ Some (Runs y) → Has x.places p
       → Has y.places p → E p → w ≡ u

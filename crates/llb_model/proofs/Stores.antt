@@ -66,7 +66,7 @@ place_test p q e = place_antisymmetric p q ((Equal-is (place_cmp p q)).0 e)
 pub place_itself : (p : Place) → eq_by_cmp place_cmp p p ≡ true
 place_itself p = (eq_by_cmp_equiv place_total).refl p
 
--- of any two places it can be told whether they are the same
+-- for any two places it is decided whether they are the same
 pub place_or : (p q : Place) → (p ≡ q) ⊎ (p ≢ q)
 place_or p q = go (eq_by_cmp place_cmp p q) refl
   where
@@ -83,12 +83,12 @@ place_apart p q apart = go (eq_by_cmp place_cmp p q) refl
 
 -- ---- one write
 
--- the tree that is written stands at its place
+-- the tree that is written is at its place
 pub content_same : (s : Store) (p : Place) (t : TreeMap) → content (put s p t) p ≡ Some t
 unfolding content put
 content_same s p t = finite.get-insert place_total s p t p ∙ ap (λ b. cond b (Some t) (finite.get s p)) (place_itself p)
 
--- a write leaves what stands at every other place
+-- a write leaves what is at every other place
 pub content_other : (s : Store) (p : Place) (t : TreeMap) (q : Place) → q ≢ p → content (put s p t) q ≡ content s q
 unfolding content put
 content_other s p t q apart = finite.get-insert place_total s p t q ∙ ap (λ b. cond b (Some t) (finite.get s q)) (place_apart q p apart)
@@ -114,7 +114,7 @@ put_put s p q t u apart = same_store (put (put s p t) q u) (put (put s q u) p t)
 
 -- ---- membership
 
--- of any place it can be told whether it is in a list
+-- for any place it is decided whether it is in a list
 pub has_or : (ps : List Place) (p : Place) → Has ps p ⊎ (Has ps p → ⊥)
 has_or [] p = inr (λ h. h)
 has_or (q ∷ ps) p = elim (place_or p q) [
@@ -159,13 +159,13 @@ mapped_has f (a ∷ xs) x (inr h) = inr (mapped_has f xs x h)
 
 -- ---- writes at several places
 
--- writes at several places leave what stands at any that is not among them
+-- writes at several places leave what is at any that is not among them
 pub kept_all : (s : Store) (ps : List Place) (ts : List TreeMap) (q : Place) → (Has ps q → ⊥) → content (put_all s ps ts) q ≡ content s q
 kept_all s [] ts q apart = refl
 kept_all s (p ∷ ps) [] q apart = refl
 kept_all s (p ∷ ps) (t ∷ ts) q apart = kept_all (put s p t) ps ts q (λ h. apart (inr h)) ∙ content_other s p t q (λ e. apart (inl e))
 
--- trees that stand at places stand there in every store that has the same at these places
+-- trees that are at places are there in every store that has the same at these places
 pub hold_moved : (s r : Store) (ps : List Place) (ts : List TreeMap) → Hold s ps ts → ((p : Place) → Has ps p → content r p ≡ content s p) → Hold r ps ts
 hold_moved s r [] [] hold same = tt
 hold_moved s r [] (t ∷ ts) hold same = absurd hold
@@ -180,7 +180,7 @@ hold_all s (p ∷ ps) [] apart len = absurd (omega (arith, len))
 hold_all s (p ∷ ps) (t ∷ ts) apart len =
     (kept_all (put s p t) ps ts p apart.0 ∙ content_same s p t, hold_all (put s p t) ps ts apart.1 (omega (arith, len)))
 
--- trees that stand at places are the ones that are read there
+-- trees that are at places are the ones that are read there
 pub hold_trees : (s : Store) (ps : List Place) (ts : List TreeMap) → Hold s ps ts → trees_at s ps ≡ ts
 hold_trees s [] [] hold = refl
 hold_trees s [] (t ∷ ts) hold = absurd hold
@@ -188,14 +188,14 @@ hold_trees s (p ∷ ps) [] hold = absurd hold
 hold_trees s (p ∷ ps) (t ∷ ts) hold =
     ap (λ o. unwrap_or o empty_tree ∷ trees_at s ps) hold.0 ∙ ap (λ us. t ∷ us) (hold_trees s ps ts hold.1)
 
--- where trees stand at places, there is one for each
+-- where there are trees at places, there is one for each
 pub hold_length : (s : Store) (ps : List Place) (ts : List TreeMap) → Hold s ps ts → length ts ≡ length ps
 hold_length s [] [] hold = refl
 hold_length s [] (t ∷ ts) hold = absurd hold
 hold_length s (p ∷ ps) [] hold = absurd hold
 hold_length s (p ∷ ps) (t ∷ ts) hold = ap suc (hold_length s ps ts hold.1)
 
--- two stores in which the same trees stand at places have the same at each of them
+-- two stores that have the same trees at places have the same at each of them
 pub hold_same : (s r : Store) (ps : List Place) (ts : List TreeMap) → Hold s ps ts → Hold r ps ts → (p : Place) → Has ps p → content s p ≡ content r p
 hold_same s r [] ts a b p h = absurd h
 hold_same s r (q ∷ ps) [] a b p h = absurd a
@@ -217,7 +217,7 @@ trees_same s r (p ∷ ps) same =
     ap (λ o. unwrap_or o empty_tree ∷ trees_at r ps) (same p (inl refl))
     ∙ ap (λ us. unwrap_or (content s p) empty_tree ∷ us) (trees_same s r ps (λ q h. same q (inr h)))
 
--- what stands at a place still does, with this or another tree
+-- where there was a tree at a place there still is, this or another one
 pub put_holds : (s : Store) (ps : List Place) (ts : List TreeMap) (qs : List Place) (us : List TreeMap) → Hold s qs us
     → (vs : List TreeMap) × Hold (put_all s ps ts) qs vs
 put_holds s [] ts qs us hold = (us, hold)

@@ -1,4 +1,4 @@
--- What a running worker has are instances that differ, each with a tree.
+-- The instances that a running worker holds differ, and each has a tree.
 use Rattle.std.proofs.Common.{◌≡◌, ℕ, List, length, Some, inl, inr, sym, ap, subst, ◌∙◌}
 use Rattle.std.specs.Prelude.{slice_get, slice_set}
 use Rattle.llb_tree.specs.Tree.{TreeMap}

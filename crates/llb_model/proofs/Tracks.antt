@@ -1,5 +1,5 @@
 -- A run keeps step with its claim order: what runs has done the first micro-steps of what the order did at the claim. The order does as many of them as
--- the replies to come tell, so these are looked at too.
+-- the replies to come say, so these are read too.
 use Rattle.std.proofs.Common.{◌≡◌, ◌≢◌, ℕ, zero, suc, ◌+◌, Bool, true, false, List, [], ◌∷◌, length, map, Option, Some, None, unwrap_or, inl, inr, refl}
 use Rattle.std.proofs.Common.{sym, ap, subst, ◌∙◌, arith}
 use Rattle.std.specs.Prelude.{slice_get, slice_set, replicate}
@@ -37,8 +37,8 @@ at_work own trees = record { own = own; trees = trees }
 abbrev left_at : View → List TreeMap → Option VertexFault → Left
 left_at own trees fault = record { work = at_work own trees; fault = fault }
 
--- what a worker runs: that much of its program on what the order began it with, on its instances as they are now; and what the order did, where `cut`
--- tells of each vertex that runs how its claim ends
+-- what a worker runs: a part of its program on what the order began it with, on its instances as they are now; and what the order did, where `cut`
+-- says for each vertex that runs how its claim ends
 pub record IsWorking (b : Build) (s : State) (o : Order) (cut : ℕ → Option ℕ) (w : ℕ) (x : Execution) : Type 0 where
   pub vertex : Vertex
   pub there : slice_get b.graph.vertices x.vertex ≡ Some vertex
@@ -74,7 +74,7 @@ agree_settled a b e h is = subst (λ (x : Option Status). Agrees x b) is h
 pub agree_waiting : (a b : Option Status) → Agrees a b → a ≡ Some Waiting → b ≡ Some Waiting
 agree_waiting a b h is = subst (λ (x : Option Status). Agrees x b) is h
 
--- what stands after a write in both, and where only what runs is written over
+-- what is there after a write in both, and where only what runs is written over
 agree_written : (xs ys : List Status) (v : ℕ) (a b : Status) → Agrees (Some a) (Some b) → (x y : Status) → slice_get xs v ≡ Some x → slice_get ys v ≡ Some y
     → ((k : ℕ) → Agrees (slice_get xs k) (slice_get ys k)) → (k : ℕ) → Agrees (slice_get (slice_set xs v a) k) (slice_get (slice_set ys v b) k)
 agree_written [] ys v a b new x y at_x at_y old k = absurd cc

@@ -17,7 +17,7 @@ pub length_runs : (setting : Setting) (cs : List Joined) → length (runs_of set
 length_runs setting [] = refl
 length_runs setting (c ∷ cs) = ap suc (length_runs setting cs)
 
--- a vertex keeps the number of micro-steps that its kind and its script give
+-- a vertex keeps the number of micro-steps of its kind and its script
 pub counted_by : (v : Vertex) (k : Option Kind) → IsVertexOf v k → v.steps ≡ length (steps_of k v.script)
 counted_by v (Some (kind.Source s)) is = is.steps
 counted_by v (Some (kind.File f)) is = is.steps ∙ sym (length_map Act f.actions)

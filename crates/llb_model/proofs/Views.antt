@@ -31,7 +31,7 @@ past mounts m t (n ∷ ms) [] apart = refl
 past mounts m t (n ∷ ms) (u ∷ ts) apart =
     past (with_tree_of mounts n u) m t ms ts (λ h. apart (inr h)) ∙ ap (λ xs. filled xs ms ts) (swap mounts n m u t (λ e. apart (inl (sym e))))
 
--- the trees of caches that are taken out of a view and filled in again give the same view, where no mount is named twice
+-- the trees of caches that are taken out of a view and filled in again result in the same view, where no mount is named twice
 pub parts_meet : PartsMeet
 parts_meet [] ts mounts apart count = refl
 parts_meet (m ∷ ms) [] mounts apart count = refl

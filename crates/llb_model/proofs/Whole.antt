@@ -1,4 +1,4 @@
--- Whole runs stand as their claim order.
+-- Whole runs end as their claim order.
 use Rattle.std.proofs.Common.{◌≡◌, ℕ, suc, Bool, true, false, cond, List, [], ◌∷◌, Option, Some, None, inl, inr, refl, sym, ap, subst, ◌∙◌}
 use Rattle.std.specs.Prelude.{slice_get}
 use Rattle.llb_cache.specs.declared.key.Key.{Key}

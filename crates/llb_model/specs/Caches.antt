@@ -39,7 +39,7 @@ place_cmp = on name_of (slice_cmp (slice_cmp nat_cmp))
 abbrev pub is_in : List Place → Place → Bool
 is_in ps p = list_any (λ q. eq_by_cmp place_cmp p q) ps
 
--- an execution has it alone
+-- a way of sharing in which an execution holds its instance exclusively
 abbrev pub IsExclusive : Mode → Type 0
 IsExclusive Shared = ⊥
 IsExclusive Private = Unit {0}

@@ -6,7 +6,7 @@ use Rattle.llb_cache.specs.Caches.{Row, trees_of, tree_at}
 use Rattle.llb_tree.specs.Tree.{TreeMap}
 use Rattle.llb_model.specs.Caches.{Place, place, Store, content, put}
 
--- these trees, at the instances of a key from a number on
+-- the store with these trees at the instances of a key, from number n up
 abbrev pub with_trees : Store → Key → ℕ → List TreeMap → Store
 with_trees s k n [] = s
 with_trees s k n (t ∷ ts) = put (with_trees s k (n + 1) ts) (place k n) t

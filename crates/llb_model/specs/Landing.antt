@@ -24,16 +24,16 @@ abbrev pub further : List MicroStep → ℕ → Left → ℕ → Left
 further steps k left zero = left
 further steps k left (suc n) = further steps (k + 1) (go_on steps k left) n
 
--- after a fault, or where no micro-step has number k
+-- the micro-steps are over after a fault, or where none has number k
 abbrev pub is_over : List MicroStep → ℕ → Left → Bool
 is_over steps k left = is_some left.fault || nat_le (length steps) k
 
--- n further micro-steps are there
+-- there are n further micro-steps
 abbrev pub AreThere : List MicroStep → ℕ → Left → ℕ → Type 0
 AreThere steps k left zero = Unit {0}
 AreThere steps k left (suc n) = (is_over steps k left ≡ false) × AreThere steps (k + 1) (go_on steps k left) n
 
--- and no more
+-- there are n further micro-steps, and no more
 pub record AreLeft (steps : List MicroStep) (k : ℕ) (left : Left) (n : ℕ) : Type 0 where
   pub there : AreThere steps k left n
   pub over : is_over steps (k + n) (further steps k left n) ≡ true

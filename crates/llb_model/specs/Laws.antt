@@ -45,7 +45,7 @@ NoShared b = (k : ℕ) (v : Vertex) → slice_get b.graph.vertices k ≡ Some v 
 
 -- ---- exclusive instances
 
--- two running workers with one instance that an execution has alone are one worker
+-- two running workers that hold one instance, exclusively, are one worker
 abbrev pub IsHeldOnce : Build → Type 0
 IsHeldOnce b = (s : State) → IsReached b s → (w u : ℕ) (x y : Execution) (p : Place) → slice_get s.workers w ≡ Some (Runs x)
     → slice_get s.workers u ≡ Some (Runs y)
@@ -57,7 +57,7 @@ IsLockedOnce b = (s : State) → IsReached b s → (w u : ℕ) (x y : Execution)
     → slice_get s.workers u ≡ Some (Runs y)
     → Has x.places p → Has y.places q → p.key ≡ q.key → p.key.mode ≡ Locked → w ≡ u
 
--- an event of another worker leaves an instance that a running worker has alone
+-- another worker's event does not change an instance that a running worker holds exclusively
 abbrev pub OthersKeep : Build → Type 0
 OthersKeep b = (s t : State) (e : Event) (r : Reply) → IsReached b s → table b s e ≡ Some (t, r) → (w : ℕ) (x : Execution) (p : Place)
     → slice_get s.workers w ≡ Some (Runs x)
@@ -70,7 +70,7 @@ with_content p t s = record s { store = put s.store p t }
 abbrev pub with_content_after : Place → TreeMap → State × Reply → State × Reply
 with_content_after p t a = (with_content p t a.0, a.1)
 
--- and it has the same reply, and the same effect elsewhere, whatever tree is there
+-- nor does it read it: the event has the same reply, and the same effect elsewhere, whatever tree is there
 abbrev pub OthersIgnore : Build → Type 0
 OthersIgnore b = (s : State) (e : Event) (t : TreeMap) → IsReached b s → (w : ℕ) (x : Execution) (p : Place) → slice_get s.workers w ≡ Some (Runs x)
     → Has x.places p → IsExclusive p.key.mode → worker_of e ≢ w → table b (with_content p t s) e ≡ option_map (with_content_after p t) (table b s e)
@@ -114,20 +114,20 @@ IsDense store = (k : Key) (n : ℕ) → is_some (content store (place k (n + 1))
 abbrev pub StaysDense : Build → Type 0
 StaysDense b = (o : Opening) (es : List Event) (rs : List Reply) (s : State) → IsDense o.store → run b (opening b o) es ≡ Some (s, rs) → IsDense s.store
 
--- and it takes the least instance of a private key that no running worker has
+-- a claim takes the least instance of a private key that no running worker has
 abbrev pub ClaimsLeast : Build → Type 0
 ClaimsLeast b = (s t : State) (w v : ℕ) (vertex : Vertex) (job : Job) → slice_get b.graph.vertices v ≡ Some vertex
     → table b s (Claim w v) ≡ Some (t, Claimed job)
     → (p : Place) → Has (places_by (needs_of vertex) job.instances) p → (n : ℕ) → n < p.number → IsFree s.workers (place p.key n) → ⊥
 
--- what a running worker has are instances that differ, each with a tree
+-- the instances that a running worker holds differ, and each has a tree
 abbrev pub HeldAreThere : Build → Type 0
 HeldAreThere b = (s : State) → IsReached b s → (w : ℕ) (x : Execution) → slice_get s.workers w ≡ Some (Runs x)
     → Distinct x.places × ((trees : List TreeMap) × Hold s.store x.places trees)
 
 -- ---- scripts
 
--- of an exec before its first command: its mounts, and which of them show caches
+-- the work of an exec before its first command: its mounts, and which of them show caches
 abbrev pub at_start : List Shown → List ℕ → List TreeMap → Work
 at_start mounts caches trees = record { own = Mounted mounts caches 0; trees = trees }
 
@@ -179,7 +179,7 @@ are_ands (c ∷ cs) = is_run c.join 0 && all_and cs
 abbrev pub in_turn : Setting → Joined → MicroStep
 in_turn setting c = Run setting (record { join = Then; command = c.command }) true
 
--- its commands run one after the other, none of them skipped, and the first with a status other than 0 is the exec's fault
+-- the commands of such a script run one after the other, none of them skipped, and the first with a status other than 0 is the exec's fault
 pub record RunsInTurn (setting : Setting) (cs : List Joined) (work : Work) (k : ℕ) : Type 0 where
   pub leaves : part (runs_of setting cs) work k ≡ part (map (in_turn setting) cs) work k
   pub runs : (c : Joined) → (part (runs_of setting cs) work k).fault ≡ None → slice_get cs k ≡ Some c

@@ -30,12 +30,12 @@ abbrev pub RefusesAlike : Leases → List At → Type 0
 RefusesAlike out workers = (inputs : List TreeMap) (needs : List Need) → HoldsAs out workers
     → option_map (λ (n : cache_need.Need). n.key) (find (cache.is_shut out) (asked inputs needs)) ≡ held_key (held workers) needs
 
--- it takes the instances that a claim takes
+-- a lease takes the instances that a claim takes
 abbrev pub TakesAlike : Leases → List At → Type 0
 TakesAlike out workers = (inputs : List TreeMap) (needs : List Need) → HoldsAs out workers → AreApart out
     → map (λ (t : cache.Taken). t.0) (cache.taken out (asked inputs needs)) ≡ places_for (held workers) needs
 
--- and it leaves the contents that a claim leaves
+-- a lease leaves the contents that a claim leaves
 abbrev pub MakesAlike : List Row → Leases → List At → Type 0
 MakesAlike rows out workers = (inputs : List TreeMap) (needs : List Need) → HoldsAs out workers → AreApart out → AreThere rows out → Distinct (map key_of needs)
     → store_of (cache.made_all rows (cache.taken out (asked inputs needs)))
@@ -64,7 +64,7 @@ pub record AreLeased (out : Leases) (workers : List At) (ls : List (Option ℕ))
 abbrev pub LeasedHoldsAs : Type 0
 LeasedHoldsAs = (out : Leases) (workers : List At) (ls : List (Option ℕ)) → AreLeased out workers ls → HoldsAs out workers
 
--- a claim leases where it has instances, a step keeps its lease, a settle and a cancel give it back
+-- a claim leases where it has instances, a step keeps its lease, a settle and a cancel release it
 abbrev pub ClaimLeases : Type 0
 ClaimLeases = (out : Leases) (workers : List At) (ls : List (Option ℕ)) (w : ℕ) (z : Execution) → AreLeased out workers ls → slice_get workers w ≡ Some Idle
     → AreLeased (cache.with_lease out (cache.free_lease out) z.places) (slice_set workers w (Runs z)) (slice_set ls w (Some (cache.free_lease out)))

@@ -44,7 +44,7 @@ abbrev pub done_of : Option ℕ → List MicroStep → Work → Left
 done_of None steps work = whole steps work
 done_of (Some k) steps work = part steps work k
 
--- the status of its vertex after that: it has ended, or waits again
+-- the status of the vertex after its claim: it has ended, or waits again
 abbrev pub stands_after : Option ℕ → Program → Left → Status
 stands_after None p left = Settled (ending p left)
 stands_after (Some k) p left = Waiting

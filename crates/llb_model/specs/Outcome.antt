@@ -22,7 +22,7 @@ abbrev pub ended : Program → View → Option VertexFault → Ending
 ended p view None = Done (outputs_of p view)
 ended p view (Some f) = Failed f
 
--- from what its micro-steps left
+-- how a vertex ends, from what its micro-steps left
 abbrev pub ending : Program → Left → Ending
 ending p left = ended p left.work.own left.fault
 
@@ -36,7 +36,7 @@ both (Some x) (Some xs) = Some (x ∷ xs)
 both (Some x) None = None
 both None xs = None
 
--- all of them, where each is there
+-- all items of a list, where each is there
 abbrev pub all_there : {A : Type 0} → List (Option A) → Option (List A)
 all_there [] = Some []
 all_there (o ∷ os) = both o (all_there os)
@@ -45,7 +45,7 @@ all_there (o ∷ os) = both o (all_there os)
 unfoldable pub inputs_from : (ℕ → Option Ending) → List Edge → Option (List TreeMap)
 inputs_from ending_of edges = all_there (map (λ (e : Edge). output_in (ending_of e.vertex) e.index) edges)
 
--- the whole program on the trees of the inputs, with no instances of caches
+-- the outcome of a vertex: Blocked without the trees of its inputs, else what its whole program leaves on them, with no instances of caches
 abbrev pub outcome_on : Build → Vertex → Option (List TreeMap) → Outcome
 outcome_on b v None = Blocked
 outcome_on b v (Some trees) = Ended (ending (program_of v) (whole (program_of v).steps (begin b (start_with v trees) [])))
@@ -55,7 +55,7 @@ ending_in (Some (Ended e)) = Some e
 ending_in (Some Blocked) = None
 ending_in None = None
 
--- from the outcomes of the vertices below
+-- the outcome of a vertex, from those of the vertices below
 abbrev pub next_outcome : Build → List Outcome → Vertex → Outcome
 next_outcome b before v = outcome_on b v (inputs_from (λ k. ending_in (slice_get before k)) v.inputs)
 

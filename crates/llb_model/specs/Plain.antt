@@ -10,7 +10,7 @@ use Rattle.llb_model.specs.State.{Settled, Execution, Runs, State}
 abbrev pub left_of : Execution → Left
 left_of x = record { work = record { own = x.own; trees = [] }; fault = x.fault }
 
--- what is under way is that much of the vertex's program, on the inputs' plain outcomes, and holds no instances
+-- an execution under way has done a part of the vertex's program, on the inputs' plain outcomes, and holds no instances
 pub record IsUnderWay (b : Build) (x : Execution) : Type 0 where
   pub vertex : Vertex
   pub trees : List TreeMap

@@ -43,21 +43,21 @@ pub record Build : Type 0 where
   pub locals : List Local
 
 -- one micro-step: the read of a source, an action of a file op, the laying of a merge's input over those before it, a command of
--- an exec in its cwd and env; of a command whether every later one is joined by And
+-- an exec in its cwd and env, with whether every later command is joined by And
 pub data MicroStep : Type 0 where
   ReadLocal : MicroStep
   Act : Action → MicroStep
   LayInput : ℤ → MicroStep
   Run : Setting → Joined → Bool → MicroStep
 
--- the micro-steps of a vertex, how many outputs it has, and of an exec the number of the output that each mount gives
+-- the micro-steps of a vertex, how many outputs it has, and, for an exec, the output number of each mount
 pub record Program : Type 0 where
   pub steps : List MicroStep
   pub outputs : ℕ
   pub given : List ℤ
 
--- what a program has for itself: of a source its local tree, of a file op the trees of its inputs and the results so far, of
--- a merge the trees of its inputs and what is laid so far, of an exec its mounts, of which those that show caches, by number, are
+-- what a program has for itself: for a source its local tree, for a file op the trees of its inputs and the results so far, for
+-- a merge the trees of its inputs and what is laid so far, for an exec its mounts, of which those that show caches, by number, are
 -- empty, and the status of the last command that ran, 0 before any has run
 pub data View : Type 0 where
   LocalTree : TreeMap → View
@@ -116,12 +116,12 @@ seed_as s = record { digest = s.digest; index = index_of s.index }
 abbrev pub key_as : CacheKey → Key
 key_as k = record { id = k.id; seed = option_map seed_as k.seed; mode = mode_of k.mode }
 
--- of a mount that shows a cache, before the later ones
+-- the needs of a mount, before the later ones: one if it shows a cache
 abbrev pub with_need : ℕ → Mount → Option CacheKey → List Need → List Need
 with_need i m (Some k) needs = record { mount = i; key = key_as k; input = m.input } ∷ needs
 with_need i m None needs = needs
 
--- of mounts from a number on
+-- the needs of mounts that are numbered from i
 abbrev pub needs_from : List Input → ℕ → List Mount → List Need
 needs_from inputs i [] = []
 needs_from inputs i (m ∷ ms) = with_need i m (mounts.key_of inputs m) (needs_from inputs (i + 1) ms)
@@ -155,7 +155,7 @@ abbrev pub runs_of : Setting → List Joined → List MicroStep
 runs_of setting [] = []
 runs_of setting (c ∷ cs) = Run setting c (all_and cs) ∷ runs_of setting cs
 
--- the micro-steps of a kind; of an exec the commands of its script
+-- the micro-steps of a kind; those of an exec are the commands of its script
 abbrev pub steps_of : Option Kind → Option (List Joined) → List MicroStep
 steps_of (Some (kind.Source s)) script = ReadLocal ∷ []
 steps_of (Some (kind.File f)) script = map Act f.actions
@@ -168,7 +168,7 @@ steps_of None script = []
 abbrev pub program_of : Vertex → Program
 program_of v = record { steps = steps_of v.op.kind v.script; outputs = v.outputs; given = mount_outputs (kind_mounts v.op.kind) }
 
--- of a number that no vertex has: nothing to do
+-- a number that no vertex has has a program without steps
 abbrev pub program_at : Option Vertex → Program
 program_at (Some v) = program_of v
 program_at None = record { steps = []; outputs = 0; given = [] }
@@ -182,7 +182,7 @@ abbrev pub base_in : ℤ → List TreeMap → TreeMap
 base_in (pos n) trees = unwrap_or (slice_get trees n) empty_tree
 base_in (negsuc n) trees = empty_tree
 
--- the tree that a mount shows at first: a bind mount its input's, another one the empty tree
+-- the tree that a mount shows at first: a bind mount shows its input's, any other the empty tree
 abbrev pub tree_shown : List TreeMap → Mount → TreeMap
 tree_shown inputs m = if has_type bind m then base_in m.input inputs else empty_tree
 
@@ -193,7 +193,7 @@ selector_of m = if has_type tmpfs m then [] else path_in m.selector
 abbrev pub shown_of : List TreeMap → Mount → Shown
 shown_of inputs m = record { dest = path_in m.dest; selector = selector_of m; readonly = m.readonly; tree = tree_shown inputs m }
 
--- a view before the first micro-step
+-- the view before the first micro-step of a vertex
 abbrev pub view_on : List Local → Vertex → Option Kind → List TreeMap → View
 view_on locals v (Some (kind.Source s)) inputs = LocalTree (local_tree locals v)
 view_on locals v (Some (kind.File f)) inputs = Files inputs []
@@ -203,7 +203,7 @@ view_on locals v (Some (kind.Build b)) inputs = Files inputs []
 view_on locals v (Some (kind.Diff d)) inputs = Files inputs []
 view_on locals v None inputs = Files inputs []
 
--- a work before the first micro-step, with these trees of instances
+-- the work before the first micro-step of a vertex, with these trees of instances
 abbrev pub begin : Build → Start → List TreeMap → Work
 begin b start trees = record { own = view_on b.locals start.vertex start.vertex.op.kind start.inputs; trees = trees }
 
@@ -229,7 +229,7 @@ trees_in (LocalTree t) = []
 trees_in (Layers inputs t) = inputs
 trees_in (Mounted mounts caches last) = []
 
--- one result more of a file op
+-- the view of a file op with one result more
 abbrev pub with_tree : View → TreeMap → View
 with_tree (Files inputs results) t = Files inputs (results ++ t ∷ [])
 with_tree (LocalTree own) t = LocalTree own
@@ -255,19 +255,19 @@ lay_on i (LocalTree t) = LocalTree t
 lay_on i (Files inputs results) = Files inputs results
 lay_on i (Mounted mounts caches last) = Mounted mounts caches last
 
--- the mounts of these numbers with these trees
+-- the mounts, of which those with these numbers show these trees
 abbrev pub filled : List Shown → List ℕ → List TreeMap → List Shown
 filled mounts [] trees = mounts
 filled mounts (m ∷ ms) [] = mounts
 filled mounts (m ∷ ms) (t ∷ trees) = filled (with_tree_of mounts m t) ms trees
 
--- the trees that they show, as many as there were
+-- the trees that the mounts with these numbers show, as many as there were
 abbrev pub taken : List Shown → List ℕ → List TreeMap → List TreeMap
 taken mounts ms [] = []
 taken mounts [] (t ∷ trees) = t ∷ trees
 taken mounts (m ∷ ms) (t ∷ trees) = (mount_at mounts m).tree ∷ taken mounts ms trees
 
--- without them
+-- the mounts, of which those with these numbers show the empty tree
 abbrev pub blanked : List Shown → List ℕ → List TreeMap → List Shown
 blanked mounts ms trees = filled mounts ms (map (λ t. empty_tree) trees)
 
@@ -275,7 +275,7 @@ blanked mounts ms trees = filled mounts ms (map (λ t. empty_tree) trees)
 abbrev pub parted : List ℕ → List TreeMap → List Shown → Work
 parted caches trees mounts = record { own = Mounted (blanked mounts caches trees) caches 0; trees = taken mounts caches trees }
 
--- the last status; what is no exec has none but 0
+-- the last status; 0 for a view that is not an exec's
 abbrev pub last_of : View → ℕ
 last_of (Mounted mounts caches last) = last
 last_of (LocalTree t) = 0
@@ -333,7 +333,7 @@ abbrev pub unless_faulted : Option VertexFault → Left → Left → Left
 unless_faulted None left next = next
 unless_faulted (Some f) left next = left
 
--- after a fault no more are done
+-- what one micro-step more leaves; after a fault none is done
 abbrev pub go_on : List MicroStep → ℕ → Left → Left
 go_on steps k left = unless_faulted left.fault left (step_on k (slice_get steps k) left.work)
 
@@ -342,7 +342,7 @@ unfoldable pub part : List MicroStep → Work → ℕ → Left
 part steps work zero = record { work = work; fault = None }
 part steps work (suc k) = go_on steps k (part steps work k)
 
--- what all of them leave
+-- what all micro-steps leave of a work, and their first fault
 abbrev pub whole : List MicroStep → Work → Left
 whole steps work = part steps work (length steps)
 
@@ -359,13 +359,13 @@ result_for i (ReadLocal ∷ steps) (t ∷ results) = result_for i steps results
 result_for i (LayInput n ∷ steps) (t ∷ results) = result_for i steps results
 result_for i (Run setting command ends ∷ steps) (t ∷ results) = result_for i steps results
 
--- the whole tree of the mount that gives the output of number i
+-- the whole tree of the mount whose output has number i
 abbrev pub tree_for : ℕ → List ℤ → List Shown → TreeMap
 tree_for i [] mounts = empty_tree
 tree_for i (n ∷ given) [] = empty_tree
 tree_for i (n ∷ given) (m ∷ mounts) = if is_output i n then m.tree else tree_for i given mounts
 
--- output i of a view: of a file op the result of an action; of a source what is read, of a merge what is laid, their one output; of
+-- output i of a view: for a file op the result of an action; for a source what is read and for a merge what is laid, their one output; for
 -- an exec the tree of a mount
 abbrev pub output_from : Program → View → ℕ → TreeMap
 output_from p (Files inputs results) i = result_for i p.steps results

@@ -26,7 +26,7 @@ is_cancel_of v (Cancelled u k) = u == v
 abbrev pub cancels_in : ℕ → List Reply → ℕ
 cancels_in v rs = count_by (is_cancel_of v) rs
 
--- of each vertex, by number
+-- for each vertex, by number: how often it was cancelled
 abbrev pub counts_from : ℕ → List Vertex → List Reply → List ℕ
 counts_from k [] rs = []
 counts_from k (v ∷ vs) rs = cancels_in k rs ∷ counts_from (k + 1) vs rs
@@ -42,7 +42,7 @@ most_from k (v ∷ vs) rs = events_of v * (1 + cancels_in k rs) + most_from (k +
 abbrev pub most_events : Build → List Reply → ℕ
 most_events b rs = most_from 0 b.graph.vertices rs
 
--- of a vertex, before it is claimed
+-- the most events still to come for a vertex that is not claimed yet; 0 once it is
 abbrev pub to_come : Vertex → Status → ℕ
 to_come v Waiting = events_of v
 to_come v (Running w) = 0
@@ -53,7 +53,7 @@ all_to_come [] statuses = 0
 all_to_come (v ∷ vs) [] = 0
 all_to_come (v ∷ vs) (s ∷ statuses) = to_come v s + all_to_come vs statuses
 
--- of a worker: the rest of its micro-steps, and its settle
+-- the most events still to come for a worker: the rest of its micro-steps, and its settle
 abbrev pub left_by : Build → At → ℕ
 left_by b Idle = 0
 left_by b (Runs x) = (length (program_in b x).steps - x.done) + 1
@@ -79,7 +79,7 @@ owed_from k [] statuses rs = 0
 owed_from k (v ∷ vs) [] rs = 0
 owed_from k (v ∷ vs) (s ∷ statuses) rs = owed_by v s (cancels_in k rs) + owed_from (k + 1) vs statuses rs
 
--- of all vertices
+-- the room that the next claims of all vertices have still to take
 abbrev pub owed : Build → List Status → List Reply → ℕ
 owed b statuses rs = owed_from 0 b.graph.vertices statuses rs
 

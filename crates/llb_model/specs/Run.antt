@@ -6,7 +6,7 @@ use Rattle.llb_model.specs.Outcome.{Outcome, Ended, Blocked}
 use Rattle.llb_model.specs.State.{Status, Waiting, Running, Settled, At, Idle, Runs, State, is_ready, is_blocked, is_finished, program_in}
 use Rattle.llb_model.specs.Table.{Event, Claim, Step, Settle, Cancel, Reply, worker_of, table}
 
--- a run goes on from what an event gives, with its reply first
+-- a run goes on from the state after an event, with its reply first
 abbrev pub after : Option (State × Reply) → (State → Option (State × List Reply)) → Option (State × List Reply)
 after None go = None
 after (Some (s, r)) go = option_map (λ (t : State × List Reply). (t.0, r ∷ t.1)) (go s)
@@ -20,7 +20,7 @@ run b s (e ∷ es) = after (table b s e) (λ t. run b t es)
 abbrev pub events_by : ℕ → List Event → ℕ
 events_by w es = count_by (λ e. worker_of e == w) es
 
--- the next event of the lowest running worker, from a worker on
+-- the next event of the lowest running worker, where the workers of the list are numbered from w
 abbrev pub next_of : Build → ℕ → List At → Option Event
 next_of b w [] = None
 next_of b w (Idle ∷ workers) = next_of b (w + 1) workers
@@ -66,7 +66,7 @@ claims_of (Step w ∷ es) = claims_of es
 claims_of (Settle w ∷ es) = claims_of es
 claims_of (Cancel w ∷ es) = claims_of es
 
--- each of some numbers is above another
+-- each of some numbers is above n
 abbrev pub AllAbove : ℕ → List ℕ → Type 0
 AllAbove n [] = Unit {0}
 AllAbove n (m ∷ ms) = (n < m) × AllAbove n ms

@@ -15,13 +15,13 @@ use Rattle.llb_model.specs.Caches.{Place, place, Store, content, trees_at, is_in
 use Rattle.llb_model.specs.Program.{Build, MicroStep, Program, View, Work, Need, Start, start_with, program_at, needs_of, base_in, begin}
 use Rattle.llb_model.specs.Outcome.{Ending, Done, Failed, ended, inputs_from}
 
--- of a vertex
+-- the status of a vertex
 pub data Status : Type 0 where
   Waiting : Status
   Running : ℕ → Status
   Settled : Ending → Status
 
--- of a running worker: its vertex, the micro-steps done (one that faults is counted), their fault if any, its view, and the
+-- what a running worker holds: its vertex, the micro-steps done (one that faults is counted), their fault if any, its view, and the
 -- instances of caches that it has, in the order of the needs
 pub record Execution : Type 0 where
   pub vertex : ℕ
@@ -30,7 +30,7 @@ pub record Execution : Type 0 where
   pub own : View
   pub places : List Place
 
--- of a worker
+-- the state of a worker
 pub data At : Type 0 where
   Idle : At
   Runs : Execution → At
@@ -45,7 +45,7 @@ pub record Opening : Type 0 where
   pub workers : ℕ
   pub store : Store
 
--- the name of a source whose local tree is not there
+-- the name of a source, where it has no local tree
 abbrev pub lacks : List Local → Option (List ℕ) → Option (List ℕ)
 lacks locals None = None
 lacks locals (Some name) = if is_some (tree_of_local locals name) then None else Some name
@@ -54,7 +54,7 @@ abbrev pub first_of : {A : Type 0} → Option A → Option A → Option A
 first_of (Some x) later = Some x
 first_of None later = later
 
--- the first of the names that local trees are missing for, by vertex
+-- the first name of a local source, by vertex, that has no tree
 abbrev pub missing_local : List Local → List Vertex → Option (List ℕ)
 missing_local locals [] = None
 missing_local locals (v ∷ vs) = first_of (lacks locals (local_name v.op)) (missing_local locals vs)
@@ -107,7 +107,7 @@ abbrev pub next_stopped : List Status → List Bool → Vertex → Bool
 next_stopped statuses before v =
     is_failed (ending_at statuses (length before)) || list_any (λ (e : Edge). unwrap_or (slice_get before e.vertex) false) v.inputs
 
--- of each vertex, by number
+-- for each vertex, by number: whether it is stopped
 abbrev pub stopped : Build → List Status → List Bool
 stopped b statuses = by_number (next_stopped statuses) [] b.graph.vertices
 
@@ -131,7 +131,7 @@ program_in b x = program_at (slice_get b.graph.vertices x.vertex)
 abbrev pub work_of : State → Execution → Work
 work_of s x = record { own = x.own; trees = trees_at s.store x.places }
 
--- after its first fault, or the last of its micro-steps
+-- an execution is finished after its first fault, or after the last of its micro-steps
 abbrev pub is_finished : List MicroStep → Execution → Bool
 is_finished steps x = is_some x.fault || nat_le (length steps) x.done
 
@@ -145,17 +145,17 @@ ending_from p x = ended p x.own x.fault
 
 -- ---- the instances that claims take
 
--- those that the running workers have
+-- the instances that the running workers hold
 abbrev pub held : List At → List Place
 held [] = []
 held (Idle ∷ workers) = held workers
 held (Runs x ∷ workers) = x.places ++ held workers
 
--- no running worker has it
+-- no running worker holds the instance
 abbrev pub IsFree : List At → Place → Type 0
 IsFree workers p = (w : ℕ) (x : Execution) → slice_get workers w ≡ Some (Runs x) → Has x.places p → ⊥
 
--- above the number of each place
+-- a number above that of each place
 abbrev pub above : List Place → ℕ
 above [] = 0
 above (p ∷ ps) = p.number + 1 + above ps
@@ -165,7 +165,7 @@ abbrev pub first_free : List Place → Key → ℕ → ℕ → ℕ
 first_free ps k n zero = n
 first_free ps k n (suc tries) = if is_in ps (place k n) then first_free ps k (n + 1) tries else n
 
--- of a private cache the least that is not held; the others have one instance
+-- the number of the instance of a key: of a private cache the least that is not held; the others have one instance, 0
 abbrev pub number_for : List Place → Key → Mode → ℕ
 number_for ps k Shared = 0
 number_for ps k Locked = 0
@@ -178,7 +178,7 @@ place_for ps n = place n.key (number_for ps n.key n.key.mode)
 abbrev pub places_for : List Place → List Need → List Place
 places_for ps needs = map (place_for ps) needs
 
--- it is locked, and its instance is held
+-- a key is locked, and its instance is held
 abbrev pub is_shut : List Place → Key → Mode → Bool
 is_shut ps k Locked = is_in ps (place k 0)
 is_shut ps k Private = false

@@ -71,7 +71,7 @@ execution_on v work ps = record { vertex = v; done = 0; fault = None; own = work
 abbrev pub job_on : ℕ → ℕ → Vertex → Work → List Place → Job
 job_on w v vertex work ps = record { worker = w; vertex = v; program = program_of vertex; done = 0; work = work; instances = map (λ (p : Place). p.number) ps }
 
--- an instance that was not there is there now
+-- the state after a claim; an instance that was not there is there now
 abbrev pub after_claim : State → ℕ → ℕ → Work → List Place → State
 after_claim s w v work ps = record {
   statuses = slice_set s.statuses v (Running w);
@@ -86,7 +86,7 @@ claim_with s w v vertex work ps = (after_claim s w v work ps, Claimed (job_on w 
 abbrev pub claim_at : Build → State → ℕ → ℕ → Start → List Place → State × Reply
 claim_at b s w v start ps = claim_with s w v start.vertex (begin_at b s.store start ps) ps
 
--- where no locked key among the needs is held
+-- a claim where no locked key among the needs is held
 abbrev pub claim_unless : Build → State → ℕ → ℕ → Start → Option Key → Result (State × Reply) claim.ClaimCause
 claim_unless b s w v start (Some k) = Err (claim.Held k)
 claim_unless b s w v start None = Ok (claim_at b s w v start (places_for (held s.workers) (needs_of start.vertex)))
@@ -100,7 +100,7 @@ claim_grant b s w v = claimed b s w v (claim_start s.statuses v (slice_get s.wor
 
 -- ---- a step
 
--- one micro-step more is done
+-- an execution that has done one micro-step more
 abbrev pub with_step : Execution → Left → Execution
 with_step x left = record x { done = x.done + 1; fault = left.fault; own = left.work.own }
 
@@ -108,7 +108,7 @@ abbrev pub unless_failed : Option VertexFault → Reply → Reply
 unless_failed None reply = reply
 unless_failed (Some f) reply = Faulted f
 
--- by the micro-step that was done, the view before it, and what it left; the reply of a command that ran has its status, whatever it is
+-- the reply to a step, by the micro-step, the view before it, and what it left; that to a command that ran has its status, whatever it is
 abbrev pub step_reply : ℕ → MicroStep → View → Left → Reply
 step_reply k ReadLocal before left = unless_failed left.fault HasRead
 step_reply k (Act action) before left = unless_failed left.fault (Acted k)
@@ -116,7 +116,7 @@ step_reply k (LayInput i) before left = unless_failed left.fault (HasMerged k)
 step_reply k (Run setting command ends) before left =
     if is_run command.join (last_of before) then HasRun k (last_of left.work.own) else Skipped k
 
--- the trees are written back to the instances, also where a later micro-step fails
+-- the state after a step: the trees are written back to the instances, also where a later micro-step fails
 abbrev pub after_step : State → ℕ → Execution → Left → State
 after_step s w x left = record s { workers = slice_set s.workers w (Runs (with_step x left)); store = put_all s.store x.places left.work.trees }
 
@@ -138,7 +138,7 @@ step_grant b s w = stepped b s w (slice_get s.workers w)
 
 -- ---- an end
 
--- the vertex gets that status, and the instances of the worker are free again
+-- the state after an end: the vertex has that status, and the instances of the worker are free again
 abbrev pub after_end : State → ℕ → ℕ → Status → State
 after_end s w v status = record s { statuses = slice_set s.statuses v status; workers = slice_set s.workers w Idle }
 
@@ -166,7 +166,7 @@ settle_grant b s w = settled b s w (slice_get s.workers w)
 
 -- ---- a cancel
 
--- the vertex waits again, and the contents of caches stay as the micro-steps that were done have left them
+-- the state after a cancel, and its reply: the vertex waits again, and the contents of caches stay as the micro-steps that were done have left them
 abbrev pub cancel_with : State → ℕ → ℕ → ℕ → State × Reply
 cancel_with s w v k = (after_end s w v Waiting, Cancelled v k)
 

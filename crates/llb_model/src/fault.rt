@@ -1,4 +1,4 @@
-//! Why a vertex fails. A failure prints what stands after the vertex in its line.
+//! Why a vertex fails. A failure prints what comes after the vertex in its line.
 
 ghost use Rattle.std.specs.Prelude.{Some};
 ghost use Rattle.llb_model.specs.Failure.{failure_text};

@@ -23,7 +23,7 @@ not_taken mounts names i all none (k, below, is) =
 abbrev pub Differ : List Shown → Type 0
 Differ mounts = AllPairs (λ d e. d ≢ e) (dests mounts)
 
--- one more dest differs from those before it
+-- if the next dest is not taken before, the dests differ with it too
 pub one_more : (mounts : List Shown) (i : ℕ) (m : Shown) → i < length mounts → m ≡ get_or mounts i m → Differ (take i mounts)
     → (Contains (dests (take i mounts)) m.dest → ⊥) → Differ (take (i + 1) mounts)
 one_more mounts i m below read before free =
@@ -35,7 +35,7 @@ one_more mounts i m below read before free =
     subst All_differ (sym more) (all_pairs_push (λ d e. d ≢ e) (dests (take i mounts)) m.dest before
     (λ k d within same. free (k, within, get_or_default (dests (take i mounts)) k m.dest d within ∙ same)))
 
--- a dest that is taken before is there twice
+-- if a dest is taken before its mount, the dests do not differ
 pub twice : (mounts : List Shown) (i : ℕ) (m : Shown) → i < length mounts → m ≡ get_or mounts i m
     → Contains (dests (take i mounts)) m.dest → Differ mounts → ⊥
 twice mounts i m below read (k, within, same) differ =

@@ -6,7 +6,7 @@ use Rattle.std.specs.List.{Contains, AllPairs}
 use Rattle.llb_mount.specs.declared.shown.Shown.{Shown}
 use Rattle.llb_mount.specs.View.{dests, IsView}
 
--- a mount is written over the one that was read there, and its dest is the same
+-- a mount that is written over one with the same dest leaves a view
 pub exchanged_view : (mounts : List Shown) (number : ℕ) (m old : Shown) → old ≡ get_or mounts number old → m.dest ≡ old.dest → IsView mounts
     → IsView (set mounts number m)
 exchanged_view mounts number m old read same view =

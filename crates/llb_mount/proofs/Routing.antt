@@ -13,19 +13,19 @@ use Rattle.llb_mount.specs.declared.shown.Shown.{Shown}
 use Rattle.llb_mount.specs.View.{dests, IsView, mount_at, no_mount}
 use Rattle.llb_mount.specs.Route.{greatest_length, number_of, route, IsRoute}
 
--- none of the first mounts has a dest that is a prefix
+-- none of the first i mounts has a dest that is a prefix
 pub record HasNone (mounts : List Shown) (path : List (List ℕ)) (i dropped : ℕ) : Type 0 where
   pub zero_names : dropped ≡ 0
   pub none : (k : ℕ) → k < i → is_within (mount_at mounts k).dest path ≡ false
 
--- the mount has the longest of them
+-- among the first i mounts this one has the longest dest that is a prefix
 pub record IsBest (mounts : List Shown) (path : List (List ℕ)) (i number dropped : ℕ) : Type 0 where
   pub before : number < i
   pub prefix : is_within (mount_at mounts number).dest path ≡ true
   pub names : length (mount_at mounts number).dest ≡ dropped
   pub most : (k : ℕ) → k < i → is_within (mount_at mounts k).dest path ≡ true → length (mount_at mounts k).dest ≤ dropped
 
--- what is known after the first mounts
+-- what is known after the first i mounts
 abbrev pub SoFar : List Shown → List (List ℕ) → ℕ → ℕ → ℕ → Type 0
 SoFar mounts path i number dropped = HasNone mounts path i dropped ⊎ IsBest mounts path i number dropped
 

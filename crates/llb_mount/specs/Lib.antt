@@ -1,3 +1,3 @@
--- Read first View (a list of mounts, and the one change of it), then Route (the mount of a path).
+-- Read View first (a list of mounts, and its one change), then Route (the mount of a path).
 pub mod View
 pub mod Route

@@ -1,5 +1,5 @@
 -- Where a path is routed: to the mount with the longest dest that is a prefix of it. A dest is a prefix by names, so `/t`
--- is none of `/tx`.
+-- is not a prefix of `/tx`.
 use Rattle.std.specs.Prelude.{◌≡◌, ℕ, ◌<◌, ◌≤◌, nat_eq, max, true, if◌then◌else◌, List, [], ◌∷◌, ◌++◌, length, take, drop}
 use Rattle.std.specs.List.{All, position_or_len}
 use Rattle.std.specs.Cmp.Lexicographic.{pointwise}
@@ -7,12 +7,12 @@ use Rattle.llb_tree.specs.Path.{is_within}
 use Rattle.llb_mount.specs.declared.shown.Shown.{Shown}
 use Rattle.llb_mount.specs.View.{dests, mount_at}
 
--- the greatest length, in names, of the dests that are prefixes of a path
+-- the greatest length, in names, of the dests that are prefixes of a path; 0 if none is
 abbrev pub greatest_length : List (List (List ℕ)) → List (List ℕ) → ℕ
 greatest_length [] path = 0
 greatest_length (d ∷ ds) path = if is_within d path then max (length d) (greatest_length ds path) else greatest_length ds path
 
--- the place of the first of the dests that is this path
+-- the place of the first dest that is this path
 abbrev pub number_of : List (List (List ℕ)) → List (List ℕ) → ℕ
 number_of ds path = position_or_len (λ d. pointwise (pointwise nat_eq) d path) ds
 
@@ -20,13 +20,13 @@ number_of ds path = position_or_len (λ d. pointwise (pointwise nat_eq) d path) 
 abbrev pub route : List Shown → List (List ℕ) → ℕ × ℕ
 route mounts path = let n = greatest_length (dests mounts) path in (number_of (dests mounts) (take n path), n)
 
--- the mount's dest is a prefix of the path and has that many names, and no other that is a prefix has more
+-- `to` is a mount's number and a count of names: its dest is a prefix of the path and has as many names, and no dest that is a prefix has more
 pub record IsRoute (mounts : List Shown) (path : List (List ℕ)) (to : ℕ × ℕ) : Type 0 where
   pub there : to.0 < length mounts
   pub prefix : is_within (mount_at mounts to.0).dest path ≡ true
   pub dropped : length (mount_at mounts to.0).dest ≡ to.1
   pub longest : All (λ m. is_within m.dest path ≡ true → length m.dest ≤ to.1) mounts
 
--- the path that is meant in a mount's tree: what is left after that many names, below the selector
+-- the path that is meant in a mount's tree: the path without its first `dropped` names, below the selector
 abbrev pub place_in : List (List ℕ) → ℕ → List (List ℕ) → List (List ℕ)
 place_in selector dropped path = selector ++ drop dropped path

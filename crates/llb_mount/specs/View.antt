@@ -1,20 +1,20 @@
--- A view as the list of its mounts: what makes such a list a view, the mount of a number, and the one change of a view,
--- which is that of a mount's tree.
+-- A view as the list of its mounts: what makes such a list a view, the mount of a number, and the one change of a view:
+-- a mount gets another tree.
 use Rattle.std.specs.Prelude.{◌≢◌, ℕ, ◌<◌, ◌^◌, false, List, [], map, length, slice_index_or, slice_set, Contains, AllPairs}
 use Rattle.llb_tree.specs.Tree.{TreeMap, empty_tree}
 use Rattle.llb_mount.specs.declared.shown.Shown.{Shown}
 
--- where the mounts are, by number
+-- the dests of the mounts, by number
 abbrev pub dests : List Shown → List (List (List ℕ))
 dests mounts = map (λ m. m.dest) mounts
 
--- one mount is at the root, no two are at one dest, and the number of each has 32 bits
+-- one mount is at the root, no two have the same dest, and each mount's number fits into 32 bits
 pub record IsView (mounts : List Shown) : Type 0 where
   pub root : Contains (dests mounts) []
   pub differ : AllPairs (λ d e. d ≢ e) (dests mounts)
   pub few : length mounts < 2 ^ 32
 
--- what stands for a mount where there is none
+-- the mount that a number without a mount gives
 abbrev pub no_mount : Shown
 no_mount = record { dest = []; selector = []; readonly = false; tree = empty_tree }
 
@@ -22,6 +22,6 @@ no_mount = record { dest = []; selector = []; readonly = false; tree = empty_tre
 abbrev pub mount_at : List Shown → ℕ → Shown
 mount_at mounts number = slice_index_or mounts number no_mount
 
--- the mounts with another tree in the one of a number
+-- the mounts, where the one of a number has another tree
 abbrev pub with_tree_of : List Shown → ℕ → TreeMap → List Shown
 with_tree_of mounts number tree = slice_set mounts number (record (mount_at mounts number) { tree = tree })

@@ -1,4 +1,4 @@
-//! A mount as it is shown: a tree under a dest. Its dest and its selector are paths; a mount that shows its whole tree has
+//! A mount of a view: a tree that is shown under a dest. Its dest and its selector are paths; a mount that shows its whole tree has
 //! the root as its selector.
 
 ghost use Rattle.std.specs.Prelude.{◌≡◌, IfOk};
@@ -16,7 +16,7 @@ pub struct Shown {
     pub tree: Tree,
 }
 
-// Written out, so that what owns one drops it by this one function.
+// It is written out so that whatever owns one drops it by this one function.
 impl Drop for Shown {
     fn drop(self) {
         let Shown {
@@ -29,7 +29,7 @@ impl Drop for Shown {
 }
 
 impl Shown {
-    /// An equal second owner; 62 `Memory`.
+    /// Returns an equal second owner. Fails with 62 `Memory` alone.
     pub fn copy(&self) -> Result<Shown, Memory>
         ensures { IfOk result (λ m. m ≡ self.now) }
     {
@@ -45,7 +45,7 @@ impl Shown {
         })
     }
 
-    /// Gives the tree back.
+    /// Returns the tree.
     pub fn into_tree(self) -> Tree
         ensures { result ≡ self.tree }
     {

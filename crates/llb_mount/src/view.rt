@@ -1,5 +1,5 @@
 //! The view. Contracts see the list of its mounts, in the order in which they were given; a mount's number is its place in
-//! it. The dests never change, so that one of them is the root and no two are the same from `make` on.
+//! the list. The dests never change: from `make` on one of them is the root and no two are the same.
 
 ghost use Rattle.std.specs.Prelude.{◌≡◌, ◌≢◌, ◌↔◌, IsTrue, ℕ, ◌<◌, ◌≤◌, List, length, IfOk, IfErr, IsOk, OnOk, OnErr, is_err, Contains, AllPairs};
 ghost use Rattle.llb_mount.specs.View.{IsView, dests, mount_at, with_tree_of};
@@ -17,7 +17,7 @@ pub struct View {
     mounts: Vec<Shown>,
 }
 
-// Written out, so that the crates above drop one by this one function.
+// It is written out so that the crates above drop one by this one function.
 impl Drop for View {
     fn drop(self) {
         let View { mounts: _ } = self;
@@ -40,7 +40,7 @@ impl Model for View {
     ghost invariant = { λ v. IsView v.mounts.items };
 }
 
-// Whether a mount is at the dest of these names.
+// Returns whether a mount has the dest of these names.
 fn is_taken(mounts: &[Shown], names: &[Name]) -> bool
     ensures { IsTrue result ↔ Contains (dests mounts.now) names.now }
 {
@@ -52,7 +52,7 @@ fn is_taken(mounts: &[Shown], names: &[Name]) -> bool
     false
 }
 
-// Whether no two mounts are at one dest.
+// Returns whether no two mounts have the same dest.
 fn all_differ(mounts: &[Shown]) -> bool
     ensures { IsTrue result ↔ AllPairs (λ d e. d ≢ e) (dests mounts.now) }
 {
@@ -66,8 +66,8 @@ fn all_differ(mounts: &[Shown]) -> bool
 }
 
 impl View {
-    /// Whether a view can be made of these mounts: one dest is the root, no two are the same, and there are less than 2^32.
-    /// Takes no memory, and time in the square of their number.
+    /// Returns whether a view can be made of these mounts: one dest is the root, no two are the same, and there are fewer than 2^32.
+    /// Does not allocate; takes time in the square of their number.
     pub fn can_make(mounts: &[Shown]) -> bool
         ensures { IsTrue result ↔ IsView mounts.now }
     {
@@ -80,8 +80,8 @@ impl View {
         all_differ(mounts)
     }
 
-    /// The view of these mounts, of which it can be made (`can_make`), numbered from 0 in their order. It takes the mounts over, and so
-    /// no memory: 62 `Memory` is not answered.
+    /// Makes the view of mounts that `can_make` accepts, numbered from 0 in their order. It takes the mounts over and does not
+    /// allocate, so it never fails with 62 `Memory`.
     pub fn make(mounts: Many<Shown>) -> Result<View, Memory>
         requires { IsView mounts }
         ensures view { IfOk result (λ v. v ≡ mounts) }
@@ -91,7 +91,7 @@ impl View {
         Ok(View { mounts })
     }
 
-    /// The mounts, by number. Takes no memory.
+    /// Returns the mounts, by number. Does not allocate.
     pub fn mounts(&self) -> &[Shown]
         ensures all { result.now ≡ self.now }
         ensures view { IsView self.now }
@@ -99,8 +99,8 @@ impl View {
         self.mounts.as_slice()
     }
 
-    /// The number of the mount that has the longest dest that is a prefix of the path, by names, and how many names that
-    /// dest has, which are dropped of the path. Takes no memory, and time in the number of mounts.
+    /// Returns the number of the mount with the longest dest that is a prefix of the path, by names, and how many names that
+    /// dest has: they are dropped from the path. Does not allocate; takes time in the number of mounts.
     pub fn route(&self, path: &Path) -> (u32, u32)
         ensures route { result ≡ route self.now path.now }
         ensures longest { IsRoute self.now path.now result }
@@ -121,7 +121,7 @@ impl View {
         (number as u32, dropped as u32)
     }
 
-    /// Where a mount is. Takes no memory.
+    /// Returns a mount's dest. Does not allocate.
     pub fn dest(&self, mount: u32) -> &Path
         requires { mount < length self.now }
         ensures { result.now ≡ (mount_at self.now mount).dest }
@@ -129,7 +129,7 @@ impl View {
         &self.mounts[mount as usize].dest
     }
 
-    /// The path in a mount's tree that its dest shows; the root where it shows the whole tree. Takes no memory.
+    /// Returns the path in a mount's tree that its dest shows: the root if it shows the whole tree. Does not allocate.
     pub fn selector(&self, mount: u32) -> &Path
         requires { mount < length self.now }
         ensures { result.now ≡ (mount_at self.now mount).selector }
@@ -137,7 +137,7 @@ impl View {
         &self.mounts[mount as usize].selector
     }
 
-    /// Whether a mount's tree may not be set. Takes no memory.
+    /// Returns whether a mount is read-only: its tree may not be set. Does not allocate.
     pub fn is_read_only(&self, mount: u32) -> bool
         requires { mount < length self.now }
         ensures { result ≡ (mount_at self.now mount).readonly }
@@ -145,7 +145,7 @@ impl View {
         self.mounts[mount as usize].readonly
     }
 
-    /// A mount's tree. Takes no memory.
+    /// Returns a mount's tree. Does not allocate.
     pub fn tree_of(&self, mount: u32) -> &Tree
         requires { mount < length self.now }
         ensures { result.now ≡ (mount_at self.now mount).tree }
@@ -153,8 +153,8 @@ impl View {
         &self.mounts[mount as usize].tree
     }
 
-    /// Puts a tree in the place of a mount's; 61 `ReadOnly` where the mount is read-only, and then the tree comes back and
-    /// the view is unchanged. Takes no memory.
+    /// Replaces a mount's tree. Fails with 61 `ReadOnly` where the mount is read-only; then the fault holds the tree and the view is
+    /// unchanged. Does not allocate.
     pub fn set_tree(&mut self, mount: u32, tree: Tree) -> Result<(), ReadOnly>
         requires { mount < length self.old }
         ensures set { OnOk result (self.new ≡ with_tree_of self.old mount tree) }
@@ -170,7 +170,7 @@ impl View {
         Ok(())
     }
 
-    /// Puts a tree in the place of a mount's, a read-only one's too, and answers the tree that was there. Takes no memory.
+    /// Replaces a mount's tree, also that of a read-only mount, and returns the tree that was there. Does not allocate.
     pub fn swap_tree(&mut self, mount: u32, tree: Tree) -> Tree
         requires { mount < length self.old }
         ensures old { result ≡ (mount_at self.old mount).tree }
@@ -179,7 +179,7 @@ impl View {
         mem::replace(&mut self.mounts[mount as usize].tree, tree)
     }
 
-    /// Gives the mounts back, in their order. Takes no memory.
+    /// Returns the mounts, in their order. Does not allocate.
     pub fn into_mounts(self) -> Many<Shown>
         ensures all { result ≡ self }
         ensures view { IsView result }
@@ -188,7 +188,7 @@ impl View {
         Many::new(mounts)
     }
 
-    /// An equal second owner; 62 `Memory`.
+    /// Returns an equal second owner. Fails with 62 `Memory` alone.
     pub fn copy(&self) -> Result<View, Memory>
         ensures { IfOk result (λ v. v ≡ self.now) }
     {

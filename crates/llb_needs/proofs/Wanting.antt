@@ -36,7 +36,7 @@ first_suc s inputs zero (q ∷ ps) (m ∷ ns) p n at need =
 first_suc s inputs (suc i) (q ∷ ps) (m ∷ ns) p n at need =
     ap (λ ts. unwrap_or (content s q) (base_in m.input inputs) ∷ ts) (first_suc s inputs i ps ns p n at need)
 
--- one place more begins with the tree that stands there, or else with the one that its need takes from the inputs
+-- one place more begins with the tree that is there, or else with the one that its need takes from the inputs
 pub first_more : (s : Store) (inputs : List TreeMap) (i : ℕ) (ps : List Place) (ws : List Wanted) (p : Place) (w : Wanted)
     → slice_get ps i ≡ Some p → slice_get ws i ≡ Some w
     → first_trees s inputs (take i ps) (map need_of (take i ws)) ++ unwrap_or (content s p) (base_in w.input inputs) ∷ []

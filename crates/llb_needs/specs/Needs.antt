@@ -21,7 +21,7 @@ use Rattle.llb_needs.specs.declared.needs.Wanted.{Wanted}
 abbrev pub is_shut : Leases → Key → Bool
 is_shut out k = is_locked k.mode && is_held out (place k 0)
 
--- the first such key
+-- the first locked key among the needs that a lease has
 abbrev pub shut_key : Leases → List Need → Option Key
 shut_key out [] = None
 shut_key out (n ∷ needs) = if is_shut out n.key then Some n.key else shut_key out needs
@@ -31,7 +31,7 @@ abbrev pub unless_shut : List Need → Option Key → Result (List Need) ClaimFa
 unless_shut needs None = Ok needs
 unless_shut needs (Some k) = Err (claim.Held k)
 
--- the instances that a lease gives
+-- the instances that a lease takes
 abbrev pub places_taken : Leases → List Need → List Place
 places_taken out needs = map (λ (n : Need). cache.place_for out n.key) needs
 

@@ -40,8 +40,8 @@ pub struct Taking {
     pub needs: Vec<Need>,
 }
 
-/// The caches that a vertex shows, in the order of the mounts, or 135 with the first locked key that a lease has: then memory is taken
-/// for that key alone. 141 where memory is refused.
+/// Returns the caches that a vertex shows, in the order of the mounts, or fails with 135 with the first locked key that a lease has: then
+/// memory is taken for that key alone. Fails with 141 where memory is refused.
 pub fn wanted_by(alloc: Global, caches: &Caches, vertex: &Vertex) -> Result<Vec<Wanted>, ClaimFault>
     requires seeds { HasEdges vertex.now }
     requires few { length (kind_mounts vertex.now.op.kind) < 2 ^ 32 }
@@ -55,7 +55,7 @@ pub fn wanted_by(alloc: Global, caches: &Caches, vertex: &Vertex) -> Result<Vec<
     }
 }
 
-/// Whether a vertex shows a cache. No memory.
+/// Returns whether a vertex shows a cache. Does not allocate.
 pub fn shows_cache(vertex: &Vertex) -> bool
     requires { HasEdges vertex.now }
     ensures { result ≡ not (length (needs_of vertex.now) == 0) }
@@ -68,7 +68,7 @@ pub fn shows_cache(vertex: &Vertex) -> bool
     false
 }
 
-// The first locked key that a vertex shows and a lease has. No memory.
+// The first locked key that a vertex shows and a lease has. Does not allocate.
 fn first_shut<'a>(caches: &Caches, vertex: &'a Vertex) -> Option<KeyRef<'a>>
     requires { HasEdges vertex.now }
     ensures { result ≡ shut_key caches.now.out (needs_of vertex.now) }
@@ -102,7 +102,7 @@ fn wants(alloc: Global, vertex: &Vertex) -> Result<Vec<Wanted>, ClaimFault>
     Ok(wanted)
 }
 
-// The key of the cache that a mount of a vertex shows, if it shows one. No memory.
+// The key of the cache that a mount of a vertex shows, if it shows one. Does not allocate.
 fn key_shown<'a>(vertex: &'a Vertex, mount: &'a Mount) -> Option<KeyRef<'a>>
     requires { HasEdges vertex.now }
     ensures { result ≡ option_map key_as (key_of vertex.now.op.inputs mount.now) }
@@ -136,7 +136,7 @@ fn mode_of(sharing: i32) -> Mode
     }
 }
 
-/// The numbers of the mounts that show caches. 141 where memory is refused.
+/// Returns the numbers of the mounts that show caches. Fails with 141 alone, where memory is refused.
 pub fn mount_numbers(alloc: Global, wanted: &[Wanted]) -> Result<Vec<u32>, ClaimFault>
     ensures { GivesClaim (λ ns. ns.items) result (Ok (map mount_of (map need_of wanted.now))) }
 {
@@ -147,7 +147,7 @@ pub fn mount_numbers(alloc: Global, wanted: &[Wanted]) -> Result<Vec<u32>, Claim
     Ok(numbers)
 }
 
-/// What a claim of these caches takes, with the trees of the inputs. 141 where memory is refused, and nothing else.
+/// Returns what a claim of these caches takes, with the trees of the inputs. Fails with 141 alone, where memory is refused.
 pub fn taking_for(
     alloc: Global,
     caches: &Caches,

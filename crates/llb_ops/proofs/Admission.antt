@@ -83,7 +83,7 @@ fits bytes n small e few =
 
 -- ---- what was admitted
 
--- the faults of records are not *out of memory*
+-- the faults of records are not `Memory`
 first_named : (shape : Shape) (bytes : List ℕ) (r : Result Field WireFault) (e : OpFault)
     → (from_wire r >>= λ f. cond (wire_fits (form_of shape f.number) f.wire) (Ok f) (Err WrongWireType)) ≡ Err e → is_memory e ≡ false
 first_named shape bytes (Err d) e h = let is : Wire d ≡ e = cc in ap is_memory (sym is)
@@ -116,7 +116,7 @@ limit_named es e h = by (nat_lt entries_limit (length es)) (are_short es) h wher
   by false true h = absurd cc
   by false false h = let is : OverLimit ≡ e = cc in ap is_memory (sym is)
 
--- the rule of a definition never gives out of memory
+-- the rule of a definition never fails with `Memory`
 pub definition_named : (bytes : List ℕ) (e : OpFault) → definition_of bytes ≡ Err e → is_memory e ≡ false
 unfolding definition_of
 definition_named bytes e h = by (nat_lt definition_limit (length bytes)) h where

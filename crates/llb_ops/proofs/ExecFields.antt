@@ -35,7 +35,7 @@ merge_op_told =
     (is_repeated (next_is refl refl) (next_is refl refl) refl refl refl) refl refl refl)
     (told_end name.MergeOp 1 false) refl refl
 
--- the canonical bytes of a merge that was read are fields by the table, none of which stands too often
+-- the canonical bytes of a merge that was read are fields by the table, none of which occurs too often
 pub merge_op_has : HasFrom name.MergeOp merge_op_of merge_op_bytes merge_op_bytes
 unfolding message_of merge_op_in merge_op_bytes
 merge_op_has = has_by merge_op_told merge_op_made merge_op_of merge_op_bytes merge_op_bytes (λ entry. refl) (λ a more. refl) (λ a more. refl)
@@ -102,7 +102,7 @@ exec_op_told =
     (is_repeated (next_is refl refl) (next_is refl refl) refl refl refl) refl refl)
     (told_end name.ExecOp 5 false) refl refl) refl refl) refl refl) refl refl) refl refl
 
--- the canonical bytes of an execution that was read are fields by the table, none of which stands too often
+-- the canonical bytes of an execution that was read are fields by the table, none of which occurs too often
 pub exec_op_has : HasFrom name.ExecOp exec_op_of exec_op_bytes exec_op_bytes
 unfolding message_of exec_op_in exec_op_bytes
 exec_op_has = has_by exec_op_told exec_op_made exec_op_of exec_op_bytes exec_op_bytes (λ entry. refl) (λ a more. refl) (λ a more. refl)

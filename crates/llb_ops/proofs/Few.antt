@@ -1,4 +1,4 @@
--- How often a number stands among others, and fields of which none stands too often: counted after one another, or all together.
+-- How often a number occurs among others, and fields of which none occurs too often: counted after one another, or all together.
 use Rattle.std.proofs.Common.{◌≡◌, ℕ, ◌+◌, ◌≤◌, Bool, true, false, eqb, List, [], ◌∷◌, ◌++◌, length, map, refl, sym, ap, subst, ◌∙◌, eq-eqb, arith}
 use Rattle.std.specs.Prelude.{nat_le, ◌&&◌, ◌==◌, if◌then◌else◌}
 use Rattle.std.specs.List.{AllByRecursion}
@@ -11,12 +11,12 @@ use Rattle.llb_ops.specs.Fields.{Fields, extra, number, bytes, message, without_
 use Rattle.llb_ops.proofs.Picks.{has, apart, apart_left}
 use Rattle.llb_ops.proofs.Sorts.{same_number}
 
--- how often the number stands among these
+-- how often the number occurs among these
 abbrev pub stands : ℕ → List ℕ → ℕ
 stands n [] = 0
 stands n (k ∷ ks) = if k == n then stands n ks + 1 else stands n ks
 
--- no number stands too often
+-- no number occurs too often
 abbrev pub NoneOften : List ℕ → Type 0
 NoneOften ks = (n : ℕ) → stands n ks ≤ field_limit
 
@@ -27,7 +27,7 @@ numbers_of (number row v rest) = row.1.number ∷ numbers_of rest
 numbers_of (bytes row held rest) = row.1.number ∷ numbers_of rest
 numbers_of (message row inner rest) = row.1.number ∷ numbers_of rest
 
--- no number stands too often in a message among the fields
+-- no number occurs too often in a message among the fields
 abbrev pub AreInnerFew : Fields → Type 0
 AreInnerFew (extra more) = Unit {0}
 AreInnerFew (number row v rest) = AreInnerFew rest
@@ -36,7 +36,7 @@ AreInnerFew (message row inner rest) = NoneOften (numbers_of inner) × AreInnerF
 
 -- ---- what is counted together is counted after one another
 
--- no number stands too often among these and those before, where the last stands so often
+-- no number occurs too often among these and those before, where the last has occurred `count` times
 abbrev HasRoom : ℕ → ℕ → List ℕ → Type 0
 HasRoom last count ks = (n : ℕ) → (if last == n then count else 0) + stands n ks ≤ field_limit
 
@@ -85,7 +85,7 @@ few_behind last count (message row held rest) room (own, deep, inner) =
       few_behind k (one_more_of last count k) rest (room_behind last count k ks room) inner,
     )
 
--- where no number stands too often among fields, nor in the messages among them, none does as they are counted in order
+-- where no number occurs too often among fields, nor in the messages among them, none does as they are counted in order
 pub are_few : (fs : Fields) → NoneOften (numbers_of fs) → AreInnerFew fs → AreFew 0 0 fs
 are_few fs own inner = few_behind 0 0 fs (room_at_first (numbers_of fs) own) inner
 
@@ -134,7 +134,7 @@ are_few_without fs own inner = are_few (without_empty fs) (none_often_without fs
 abbrev pub numbered : List Record → List ℕ
 numbered rs = map (λ r. r.number) rs
 
--- a number stands no more often than there are numbers
+-- a number occurs no more often than there are numbers
 stands_at_most : (n : ℕ) (ks : List ℕ) → stands n ks ≤ length ks
 stands_at_most n [] = omega arith
 stands_at_most n (k ∷ ks) = go (eqb k n) (stands_at_most n ks) where
@@ -142,7 +142,7 @@ stands_at_most n (k ∷ ks) = go (eqb k n) (stands_at_most n ks) where
   go true h = omega (arith, h)
   go false h = omega (arith, h)
 
--- among no more records than a field may have, no number stands too often
+-- among no more records than a field may have, no number occurs too often
 pub none_often : (rs : List Record) → length rs ≤ field_limit → NoneOften (numbered rs)
 none_often rs few n = omega (arith, few, stands_at_most n (numbered rs), length-map rs (λ r. r.number))
 
@@ -174,7 +174,7 @@ stands_nowhere : (ns : List ℕ) (n : ℕ) (rs : List Record) → AllByRecursion
 stands_nowhere ns n [] h f = refl
 stands_nowhere ns n (r ∷ rs) h f = let e = is_other ns r.number n h.0 f in rw e (stands_nowhere ns n rs h.1 f)
 
--- where two fields share no number, and none stands too often in either's records, none does in both together
+-- where two fields share no number, and none occurs too often in either's records, none does in both together
 pub none_of_both : (ns ms : List ℕ) (xs ys : List Record) → apart ns ms ≡ true → AllByRecursion (λ r. is_member ns r ≡ true) xs
     → AllByRecursion (λ r. is_member ms r ≡ true) ys
     → NoneOften (numbered xs) → NoneOften (numbered ys) → NoneOften (numbered (xs ++ ys))

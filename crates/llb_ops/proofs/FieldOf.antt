@@ -78,7 +78,7 @@ and_both false b e = absurd cc
 abbrev pub ok_of : {A : Type 0} → A → Result A OpFault
 ok_of x = Ok x
 
--- two equal answers that succeed have the same value
+-- two equal results that succeed have the same value
 pub ok_is : {A : Type 0} (x y : A) → ok_of x ≡ ok_of y → x ≡ y
 ok_is x y e = cc
 
@@ -265,7 +265,7 @@ fields_again {shape} f make rs a named good e w small =
 abbrev pub message_run : {shape : Shape} {A M : Type 0} → FieldOf shape M A → (A → List ℕ → M) → List Record → Result M OpFault
 message_run {shape} f make rs = f.run rs (λ a. if f.within rs then Ok (make a (unnamed shape rs)) else Err OverLimit)
 
--- a message's fields read one after the other give what they give read together
+-- a message's fields read one after the other are what they are read together
 pub run_parts : {shape : Shape} {A M : Type 0} (f : FieldOf shape M A) (make : A → List ℕ → M) (r : Result (List Record) OpFault)
     → (r >>= message_run f make) ≡ (r >>= message_read f make)
 run_parts {shape} f make (Ok rs) = f.runs rs (λ a. if f.within rs then Ok (make a (unnamed shape rs)) else Err OverLimit)

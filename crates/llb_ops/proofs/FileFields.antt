@@ -37,7 +37,7 @@ input_told =
     (told_both (told_number name.Input 1 false (row_at name.Input 2) int64 from_signed int64_recodes int64_is (next_is refl refl) refl refl)
     (told_end name.Input 2 false) refl refl) refl refl
 
--- the canonical bytes of an input that was read are fields by the table, none of which stands too often
+-- the canonical bytes of an input that was read are fields by the table, none of which occurs too often
 pub input_has : HasFrom name.Input input_of input_bytes input_bytes
 unfolding message_of input_in input_bytes
 input_has = has_by input_told input_made input_of input_bytes input_bytes (λ entry. refl) (λ a more. refl) (λ a more. refl)
@@ -203,7 +203,7 @@ file_op_told =
     (is_repeated (next_is refl refl) (next_is refl refl) refl refl refl) refl refl refl)
     (told_end name.FileOp 2 false) refl refl
 
--- the canonical bytes of a file op that was read are fields by the table, none of which stands too often
+-- the canonical bytes of a file op that was read are fields by the table, none of which occurs too often
 pub file_op_has : HasFrom name.FileOp file_op_of file_op_bytes file_op_bytes
 unfolding message_of file_op_in file_op_bytes
 file_op_has = has_by file_op_told file_op_made file_op_of file_op_bytes file_op_bytes (λ entry. refl) (λ a more. refl) (λ a more. refl)

@@ -4,7 +4,7 @@ use Rattle.std.proofs.lemmas.List.{append-nil}
 use Rattle.llb_wire.specs.Records.{Record}
 use Rattle.llb_ops.specs.Records.{payload, joined}
 
--- of one record: its payload
+-- the joined payloads of one record are its payload
 pub of_one : (rs : List Record) → length rs ≡ 1 → payload rs ≡ joined rs
 of_one [] e = absurd (omega (arith, e))
 of_one (r ∷ []) e = sym (append-nil r.payload)

@@ -21,7 +21,7 @@ wire_ok (Err d) x e = absurd cc
 abbrev pub ok_of : List Record → Result (List Record) OpFault
 ok_of xs = Ok xs
 
--- two equal answers with records have the same records
+-- two equal results with records have the same records
 pub ok_list : (xs ys : List Record) → ok_of xs ≡ ok_of ys → xs ≡ ys
 ok_list xs ys e = cc
 

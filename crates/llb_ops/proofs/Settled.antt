@@ -1,4 +1,4 @@
--- The attributes that are held: no two have one key, so that their entries settle as they stand.
+-- The attributes that are held: no two have one key, so that their entries settle as they are.
 use Rattle.std.proofs.Common.{◌≡◌, ℕ, ◌+◌, ◌≤◌, Bool, true, false, List, [], ◌∷◌, ◌++◌, length, map, fold, nat_eq, refl, sym, ap, subst}
 use Rattle.std.proofs.Common.{◌∙◌, append_assoc, arith}
 use Rattle.std.specs.List.{AllByRecursion}
@@ -44,7 +44,7 @@ pub settled_apart : (es : List AttributeEntry) → Apart (settled es)
 unfolding settled
 settled_apart es = apart_fold [] es tt
 
--- a new key stands after all others
+-- a new key comes after all others
 insert_behind : (es : List Held) (k : List ℕ) (v : Attribute) → AllByRecursion (λ q. same k q.0 ≡ false) es → insert_entry same es k v ≡ es ++ (k, v) ∷ []
 insert_behind [] k v h = refl
 insert_behind (e ∷ es) k v h = let s = h.0 in rw s (ap (λ xs. e ∷ xs) (insert_behind es k v h.1))
@@ -68,7 +68,7 @@ fold_apart front (p ∷ ps) h a =
     ∙ fold_apart (front ++ p ∷ []) ps (All-append (λ f. AllByRecursion (λ q. same q.0 f.0 ≡ false) ps) front (p ∷ []) (tails front p ps h) (a.0, tt)) a.1
     ∙ append_assoc front (p ∷ []) ps
 
--- attributes with keys of their own settle as they stand
+-- attributes with keys of their own settle as they are
 pub settles_again : (ps : List Held) → Apart ps → settled (map entry_of ps) ≡ ps
 unfolding settled
 settles_again ps a = fold_apart [] ps tt a

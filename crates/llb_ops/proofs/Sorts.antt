@@ -26,7 +26,7 @@ pub record IsOf (shape : Shape) (n : ℕ) (r : Record) : Type 0 where
   pub good : IsGood shape r
   pub number : r.number ≡ n
 
--- of good records those of one field are good, and of its number
+-- among good records those of one field are good, and of its number
 pub of_all : (shape : Shape) (n : ℕ) (rs : List Record) → AllByRecursion (IsGood shape) rs → AllByRecursion (IsOf shape n) (all n rs)
 of_all shape n rs good =
     All-map (λ r. (r.number == n ≡ true) × IsGood shape r) (IsOf shape n) (all n rs) (λ r h. record { good = h.1; number = eqb-true r.number n h.0 })
@@ -203,7 +203,7 @@ set_string {shape} {M} n range fits empty =
 
 -- ---- messages
 
--- any bytes may stand in the field
+-- the field may hold any bytes
 abbrev pub HoldsBytes : Shape → ℕ → Type 0
 HoldsBytes shape n = form_of shape n ≡ Some form.Bytes
 
@@ -221,7 +221,7 @@ pub message_short : {M : Type 0} (read : List ℕ → Result M OpFault) (write :
     → ((bytes : List ℕ) × (read bytes ≡ Ok m)) → Returns read write → IsShort (bytes_part n (write m)) → read (write m) ≡ Ok m
 message_short read write n m from returns short = returns from.0 m from.1 (payload_short n (write m) short)
 
--- a message that stands once and is there was read of some bytes
+-- a message that occurs once and is there was read of some bytes
 pub one_from : {M : Type 0} (read : List ℕ → Result M OpFault) (xs : List Record) (m : M) (b : Bool) → eqb (length xs) 0 ≡ b
     → one read xs ≡ Ok (Some m) → (bytes : List ℕ) × (read bytes ≡ Ok m)
 unfolding one

@@ -1,4 +1,4 @@
--- Bytes that are fields by the table when fields stand after them: for one field of each sort, and one after the other.
+-- Bytes that are fields by the table when fields follow them: for one field of each sort, and one after the other.
 use Rattle.std.proofs.Common.{◌≡◌, ℕ, ◌≤◌, Bool, true, false, List, [], ◌∷◌, ◌++◌, length, refl, sym, ap, subst, ◌∙◌, append_assoc, arith}
 use Rattle.std.specs.Prelude.{nat_lt, not, ◌&&◌, ◌||◌, ◌==◌}
 use Rattle.llb_ops.specs.declared.table.MessageName.{MessageName}
@@ -17,7 +17,7 @@ pub record From (m : MessageName) (last : ℕ) (set : Bool) (ns full spare : Lis
   pub text : full ≡ bytes_of fields
   pub lean : spare ≡ bytes_of (without_empty fields)
 
--- bytes that are a message's fields, none of which stands too often
+-- bytes that are a message's fields, none of which occurs too often
 pub record IsMessage (m : MessageName) (full spare : List ℕ) : Type 0 where
   pub ns : List ℕ
   pub from : From m 0 false ns full spare
@@ -106,7 +106,7 @@ tells_then {m} {a} {b} {c} {s} {t} {u} {ns} {ms} {x} {x_spare} {y} {y_spare} fir
       (first.tells (ms ++ ks) (y ++ later) (y_spare ++ spare) (second.tells ks later spare z))));
 }
 
--- a number as its field spells it leads past the field, where it is not 0 or may stand as 0
+-- a number as its field spells it leads past the field, where it is not 0 or may be written as 0
 pub tells_number : (m : MessageName) (last : ℕ) (set : Bool) (row : Row) (v : ℕ) → IsNext m last set row → IsNumberOf row.1.kind v
     → not (v == 0) || may_be_empty row.1 ≡ true
     → Tells m last set row.1.number (set || row.1.member) (row.1.number ∷ []) (set_number row.1.number v) (set_number row.1.number v)

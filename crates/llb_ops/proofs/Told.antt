@@ -214,7 +214,7 @@ told_key m last set row holds next of may range fits empty = record {
 
 -- ---- fields that are repeated
 
--- a row that stands after others, and again after itself
+-- a row that follows others, and may follow itself again
 pub record IsRepeated (m : MessageName) (last : ℕ) (set : Bool) (row : Row) : Type 0 where
   pub first : IsNext m last set row
   pub again : IsNext m row.1.number set row
@@ -338,7 +338,7 @@ tells_member m last top ns read write lean rs (Some a) le good each e =
     let k = each f.0 f.1 a f.3 in
     rw (append-nil (write a).text, append-nil (lean a).text) (up_to k.1 refl k.2)
 
--- a oneof has one record at most, so no number stands too often in it
+-- a oneof has one record at most, so no number occurs too often in it
 pub few_members : {A : Type 0} (write : A → Record) (o : Option A) → NoneOften (numbered (a_member write o))
 few_members write None = none_often [] (omega arith)
 few_members write (Some a) = none_often (write a ∷ []) (omega arith)
@@ -360,7 +360,7 @@ no_fields m last set rs good = record {
   lean = refl;
 }
 
--- a message that is told by its fields
+-- a message that is given by its fields
 pub has_by : {m : MessageName} {W A : Type 0} {next : ℕ} {then_set : Bool} (t : Told m W A 0 false next then_set) (make : A → List ℕ → W)
     (read : List ℕ → Result W OpFault) (write lean : W → List ℕ)
     → ((bytes : List ℕ) → read bytes ≡ (parts (shape_of m) bytes >>= message_run t.field make))

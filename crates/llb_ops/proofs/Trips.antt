@@ -381,12 +381,12 @@ pub op_message_returns : Returns op_message_of op_bytes
 unfolding message_of op_in op_bytes
 op_message_returns = returns_by op_fields op_made op_message_of op_bytes refl (λ bytes. refl) (λ a extra. refl)
 
--- an entry that stands for an op is short enough
+-- an entry that is read as an op is short enough
 pub entry_cases : (b : Bool) (r : Result Op OpFault) (op : Op) → cond b (Err OverLimit) r ≡ Ok op → r ≡ Ok op
 entry_cases true r op e = absurd cc
 entry_cases false r op e = e
 
--- an op that an entry stands for is read again of its canonical bytes, where these are within the limit of an entry
+-- an op that an entry is read as is read again from its canonical bytes, where these are within the limit of an entry
 pub op_returns : (op : Op) → IsReadAgain op
 unfolding op_of
 op_returns op entry e short =

@@ -28,7 +28,7 @@ pub put_each_more : (n : ℕ) (items : List (List ℕ)) (i : ℕ) (d : List ℕ)
 unfolding each_field messages_field
 put_each_more n items i d before so_far after bytes lt old item put = put_more (λ bytes. bytes) n items i d before so_far after bytes lt old item put
 
--- of the messages that are left, the first is put after what was written
+-- the first of the messages that are left is put after what was written
 pub put_next : {A : Type 0} (write : A → List ℕ) (n : ℕ) (m : A) (ms rest : List A) (total so_far after bytes : List ℕ) → ms ≡ m ∷ rest
     → so_far ++ messages_field write n ms ≡ total → bytes ≡ write m → after ≡ so_far ++ set_bytes n bytes
     → after ++ messages_field write n rest ≡ total

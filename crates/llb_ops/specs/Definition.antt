@@ -40,12 +40,12 @@ admission (Err f) = Err f
 unfoldable pub entries_in : List ℕ → Result (List (List ℕ)) OpFault
 entries_in bytes = records_from definition_shape 0 bytes >>= λ rs. Ok (payloads (all 1 rs))
 
--- how many there are, and whether none is too long
+-- how many entries there are, and whether none is too long
 abbrev pub counted : Result (List (List ℕ)) OpFault → Result (ℕ × Bool) OpFault
 counted (Ok entries) = Ok (length entries, are_short entries)
 counted (Err f) = Err f
 
--- the same with one record more first
+-- the same with one record more in front
 abbrev pub one_more : ℕ × Bool → Record → ℕ × Bool
 one_more t r = if r.number == 1 then (t.0 + 1, t.1 && nat_le (length r.payload) entry_limit) else t
 

@@ -5,7 +5,7 @@ use Rattle.llb_wire.specs.Faults.{wire_text}
 use Rattle.llb_ops.specs.declared.fault.OpFault.{OpFault}
 use Rattle.llb_ops.specs.declared.fault.OpFault.TheVariants.{Wire, WrongWireType, NotUtf8, OverLimit, Memory}
 
--- refused memory, which no rule gives
+-- the fault for refused memory, which no rule returns
 abbrev pub is_memory : OpFault → Bool
 is_memory Memory = true
 is_memory (Wire f) = false
@@ -13,7 +13,7 @@ is_memory WrongWireType = false
 is_memory NotUtf8 = false
 is_memory OverLimit = false
 
--- the result of a call, seen by view, is what the rule gives
+-- the result of a call, seen by view, is the result of its rule
 abbrev pub Gives : {X Y : Type 0} → (X → Y) → Result X OpFault → Result Y OpFault → Type 0
 Gives = answer.Gives is_memory
 

@@ -75,7 +75,7 @@ pub record AreUnnamed (m : MessageName) (more : List ℕ) : Type 0 where
   pub read : parts (shape_of m) more ≡ Ok records
   pub unnamed : AllByRecursion (λ r. is_none (form_of (shape_of m) r.number) ≡ true) records
 
--- whether they are
+-- whether records that were read are all of fields that the message doesn't name
 abbrev pub only_unnamed : MessageName → Result (List Record) OpFault → Bool
 only_unnamed m (Ok records) = list_all (λ r. is_none (form_of (shape_of m) r.number)) records
 only_unnamed m (Err f) = false

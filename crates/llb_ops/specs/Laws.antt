@@ -1,4 +1,4 @@
--- What holds of reading and writing together.
+-- Laws that join reading and writing.
 use Rattle.std.specs.Prelude.{◌≡◌, ℕ, ◌≤◌, List, length, Ok}
 use Rattle.llb_wire.specs.Answer.{◌>>=◌}
 use Rattle.llb_wire.specs.Spelling.{AreBytes}

@@ -1,18 +1,18 @@
 -- The limits of a definition.
 use Rattle.std.specs.Prelude.{ℕ}
 
--- bytes of a definition
+-- the most bytes of a definition
 abbrev pub definition_limit : ℕ
 definition_limit = 67_108_864
 
--- entries of a definition
+-- the most entries of a definition
 abbrev pub entries_limit : ℕ
 entries_limit = 65_536
 
--- bytes of one entry
+-- the most bytes of one entry
 abbrev pub entry_limit : ℕ
 entry_limit = 16_777_216
 
--- records of one repeated field in a message
+-- the most records of one repeated field in a message
 abbrev pub field_limit : ℕ
 field_limit = 1_024

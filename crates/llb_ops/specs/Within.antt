@@ -1,4 +1,4 @@
--- What the limits leave: how many values a repeated field has, and how many entries of what length a definition.
+-- What is within the limits: how many values a repeated field has, how many entries a definition has, and how long they are.
 use Rattle.std.specs.Prelude.{ℕ, ◌≤◌, List, length, Option, Some, None}
 use Rattle.std.specs.List.{All}
 use Rattle.llb_ops.specs.declared.op.Op.{Op}

@@ -1,4 +1,4 @@
-//! What is done by a file action: each kind by what it is from its records, and its canonical bytes.
+//! What a file action does: each kind is made from its records, and has its canonical bytes.
 
 ghost use Rattle.std.specs.Prelude.{◌≡◌, IfOk, true};
 ghost use Rattle.llb_ops.specs.Records.{views, texts_fit};

@@ -59,7 +59,7 @@ impl Entries {
         self.entries.len()
     }
 
-    /// Gives the entries back.
+    /// Returns the entries as a vector.
     pub fn into_vec(self) -> Vec<Bytes>
         ensures { result.items ≡ self }
     {
@@ -140,10 +140,10 @@ fn admitted(bytes: &[u8]) -> Result<(), OpFault>
 
 /// Reads the entries of a definition.
 ///
-/// The first fault is answered: `OverLimit` (13) of a definition of more than 67,108,864 bytes; its
-/// records from left to right, `Wire` (1 to 4) or `WrongWireType` (11) of a field that it names;
+/// Fails with the first fault: `OverLimit` (13) of a definition of more than 67,108,864 bytes; then
+/// of its records from left to right, `Wire` (1 to 4) or `WrongWireType` (11) of a field that it names; then
 /// `OverLimit` (13) of more than 65,536 entries, then of an entry of more than 16,777,216 bytes.
-/// `Memory` (14) where memory is refused for entries that are there.
+/// Fails with `Memory` (14) where memory is refused for entries that are there.
 pub fn read_definition(alloc: Global, bytes: &[u8]) -> Result<Entries, OpFault>
     ensures gives { Gives (λ e. e) result (definition_of bytes.now) }
     ensures last { MemoryLast is_memory result (definition_of bytes.now) }
@@ -154,7 +154,7 @@ pub fn read_definition(alloc: Global, bytes: &[u8]) -> Result<Entries, OpFault>
     Ok(Entries::new(entries))
 }
 
-/// The canonical bytes of a definition with these entries. `Memory` (14) where memory is refused.
+/// Returns the canonical bytes of a definition with these entries. Fails with `Memory` (14) alone.
 pub fn write_definition(alloc: Global, entries: &Entries) -> Result<Bytes, OpFault>
     ensures { Gives (λ bytes. bytes) result (Ok (definition_bytes entries.now)) }
 {
@@ -163,7 +163,7 @@ pub fn write_definition(alloc: Global, entries: &Entries) -> Result<Bytes, OpFau
     Ok(Bytes::new(out))
 }
 
-/// The entries of a definition in bytes are read again of their canonical bytes.
+/// A law: the entries of a definition in bytes are read again from their canonical bytes.
 pub fn definition_is_read_again(entries: &Entries)
     ensures { AreReadAgain entries.now }
 {

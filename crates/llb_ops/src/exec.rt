@@ -93,7 +93,7 @@ impl Drop for Mount {
     }
 }
 
-/// Of a tmpfs mount: its size in bytes.
+/// The options of a tmpfs mount: its size in bytes.
 pub struct TmpfsOpt {
     pub size: i64,
     pub extra: Bytes,
@@ -106,7 +106,7 @@ impl Drop for TmpfsOpt {
     }
 }
 
-/// Of a cache mount.
+/// The options of a cache mount.
 pub struct CacheOpt {
     pub id: Text,
     /// 0 shared, 1 private, 2 locked.

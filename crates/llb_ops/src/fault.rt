@@ -1,4 +1,4 @@
-//! Why bytes are not read as a message. A fault prints what stands after the word `fault` in a refusal.
+//! Why bytes are not read as a message. A fault prints what comes after the word `fault` in a refusal.
 
 ghost use Rattle.std.specs.Prelude.{Some};
 ghost use Rattle.llb_ops.specs.Faults.{op_text};

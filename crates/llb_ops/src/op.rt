@@ -20,12 +20,12 @@ use crate::writing::{put_bytes, put_extra, put_messages, put_one_of, put_set_byt
 use llb_wire::{Boxed, Bytes, Many, Memory, Text};
 use std::alloc::Global;
 
-/// A vertex of the build graph as its entry tells it.
+/// A vertex of the build graph, as its entry has it.
 pub struct Op {
     pub inputs: Many<Input>,
     /// The member that is set, if any.
     pub kind: Option<Kind>,
-    /// The records of fields that the message doesn't name, as they stand.
+    /// The records of fields that the message doesn't name, as they are.
     pub extra: Bytes,
 }
 
@@ -186,11 +186,11 @@ impl Message for Op {
 
 /// Reads an entry as an op.
 ///
-/// The first fault is answered: `OverLimit` (13) of an entry of more than 16,777,216 bytes; then of
+/// Fails with the first fault: `OverLimit` (13) of an entry of more than 16,777,216 bytes; then of
 /// each message from the outermost on: its records from left to right, `Wire` (1 to 4) or
 /// `WrongWireType` (11) of a named field; `NotUtf8` (12) of a string; the faults of the messages in
 /// it by the numbers of their fields; `OverLimit` (13) of a field that is repeated more than 1,024
-/// times. `Memory` (14) where memory is refused.
+/// times. Fails with `Memory` (14) where memory is refused.
 #[tactic(auto, unfolding(crate::specs::Messages::op_of))]
 pub fn read_op(alloc: Global, bytes: &[u8]) -> Result<Op, OpFault>
     ensures gives { Gives (λ op. op) result (op_of bytes.now) }
@@ -202,7 +202,7 @@ pub fn read_op(alloc: Global, bytes: &[u8]) -> Result<Op, OpFault>
     read_message(alloc, bytes)
 }
 
-/// The canonical bytes of an op. `Memory` (14) where memory is refused.
+/// Returns the canonical bytes of an op. Fails with `Memory` (14) alone.
 pub fn write_op(alloc: Global, op: &Op) -> Result<Bytes, OpFault>
     ensures { Gives (λ bytes. bytes) result (Ok (op_bytes op.now)) }
 {
@@ -210,7 +210,7 @@ pub fn write_op(alloc: Global, op: &Op) -> Result<Bytes, OpFault>
     Ok(Bytes::new(bytes))
 }
 
-/// The records of a message are those that its bytes spell by the grammar of the wire, whatever the
+/// A law: the records of a message are those that its bytes spell by the grammar of the wire, whatever the
 /// message names; and an op is read of the records that its entry spells, and of nothing else.
 pub fn op_is_read_of_records(bytes: &[u8])
     ensures { IsReadOfRecords bytes.now }
@@ -218,7 +218,7 @@ pub fn op_is_read_of_records(bytes: &[u8])
     let _ = bytes;
 }
 
-/// What was read as an op is read as that op again of its canonical bytes, where these are within
+/// A law: what was read as an op is read as that op again from its canonical bytes, where these are within
 /// the limit of an entry.
 pub fn op_is_read_again(op: &Op)
     ensures { IsReadAgain op.now }

@@ -38,7 +38,7 @@ pub struct Front<'a> {
     pub after: &'a [u8],
 }
 
-/// The form of the field of that number, where the message names it.
+/// Returns the form of the field of that number, where the message names it.
 fn form(message: MessageName, number: u32) -> Option<Form>
     ensures { result ≡ form_of (shape_of message) number }
 {
@@ -48,7 +48,7 @@ fn form(message: MessageName, number: u32) -> Option<Form>
     }
 }
 
-/// The record has the wire type of its field, where the message names it.
+/// Returns whether the record has the wire type of its field, where the message names it.
 fn fits(message: MessageName, field: &Field) -> bool
     ensures { result ≡ wire_fits (form_of (shape_of message) field.now.number) field.now.wire }
 {
@@ -79,7 +79,7 @@ fn front_of<'a>(bytes: &'a [u8], field: &Field) -> Front<'a>
     Front { record, after }
 }
 
-/// The record at the start of a message's bytes, and the bytes after it: `None` at the end. A field that the message
+/// Returns the record at the start of a message's bytes, and the bytes after it: `None` at the end. A field that the message
 /// names has its wire type.
 pub fn next_part<'a>(message: MessageName, bytes: &'a [u8]) -> Result<Option<Front<'a>>, OpFault>
     ensures { Starts (shape_of message) bytes.now result }
@@ -93,7 +93,7 @@ pub fn next_part<'a>(message: MessageName, bytes: &'a [u8]) -> Result<Option<Fro
     Ok(Some(front_of(bytes, &field)))
 }
 
-/// The records of a message from left to right.
+/// Returns the records of a message from left to right.
 pub fn split<'a>(
     alloc: Global,
     message: MessageName,
@@ -140,7 +140,7 @@ fn texts_are_utf8(message: MessageName, records: &[Record<'_>]) -> bool
     true
 }
 
-/// The records of a message: each named field has its wire type, and texts are UTF-8.
+/// Returns the records of a message: each named field has its wire type, and texts are UTF-8.
 #[tactic(auto, unfolding(crate::specs::Records::parts))]
 pub fn parts<'a>(
     alloc: Global,
@@ -157,7 +157,7 @@ pub fn parts<'a>(
     Ok(records)
 }
 
-/// The last record of a field, which holds.
+/// Returns the last record of a field, which holds.
 fn last<'a>(records: &[Record<'a>], number: u32) -> Option<Record<'a>>
     ensures { option_map view result ≡ last_of (all_of number (views records.now)) }
 {
@@ -218,7 +218,7 @@ pub fn last_bytes(alloc: Global, records: &[Record<'_>], number: u32) -> Result<
     Bytes::from_slice(alloc, last_payload(records, number))
 }
 
-/// A text, which was found to be UTF-8 when the records were read.
+/// Returns a text, which was found to be UTF-8 when the records were read.
 pub fn last_text(
     alloc: Global,
     message: MessageName,
@@ -233,14 +233,14 @@ pub fn last_text(
     Text::from_str(alloc, unsafe { from_utf8_unchecked(payload) })
 }
 
-/// How many records a field has.
+/// Returns how many records a field has.
 pub fn count(records: &[Record<'_>], number: u32) -> usize
     ensures { result ≡ length (all_of number (views records.now)) }
 {
     records.iter().filter(|r| r.number == number).count()
 }
 
-/// A list with room for an item of each record of a field, up to as many as the limit lets it have.
+/// Makes a list with room for an item of each record of a field, up to as many as the limit lets it have.
 pub fn room_for<T: Drop>(
     alloc: Global,
     records: &[Record<'_>],
@@ -253,7 +253,7 @@ pub fn room_for<T: Drop>(
     Ok(items)
 }
 
-/// The texts of a field that is repeated, in order.
+/// Returns the texts of a field that is repeated, in order.
 pub fn each_text(
     alloc: Global,
     message: MessageName,
@@ -274,7 +274,7 @@ pub fn each_text(
     Ok(Many::new(items))
 }
 
-/// The payload of a field that has one record.
+/// Returns the payload of a field that has one record.
 #[tactic(auto, using(crate::proofs::Joined::of_one))]
 pub fn lone_payload<'a>(records: &[Record<'a>], number: u32) -> Option<&'a [u8]>
     ensures { IfSome result (λ payload. payload.now ≡ joined_of (all_of number (views records.now))) }
@@ -285,7 +285,7 @@ pub fn lone_payload<'a>(records: &[Record<'a>], number: u32) -> Option<&'a [u8]>
     Some(last_payload(records, number))
 }
 
-/// The payloads of a field, one after the other.
+/// Returns the payloads of a field, one after the other.
 pub fn joined(alloc: Global, records: &[Record<'_>], number: u32) -> Result<Vec<u8>, Memory>
     ensures { IfOk result (λ v. v.items ≡ joined_of (all_of number (views records.now))) }
 {
@@ -298,7 +298,7 @@ pub fn joined(alloc: Global, records: &[Record<'_>], number: u32) -> Result<Vec<
     Ok(out)
 }
 
-/// The byte strings of a field that is repeated, in order.
+/// Returns the byte strings of a field that is repeated, in order.
 pub fn each_bytes(alloc: Global, records: &[Record<'_>], number: u32) -> Result<Many<Bytes>, Memory>
     ensures { IfOk result (λ bs. bs ≡ payloads (all_of number (views records.now))) }
 {
@@ -312,7 +312,7 @@ pub fn each_bytes(alloc: Global, records: &[Record<'_>], number: u32) -> Result<
     Ok(Many::new(items))
 }
 
-/// No repeated field has too many records.
+/// Returns whether no repeated field has too many records.
 pub fn within_limits(repeated: &[u32], records: &[Record<'_>]) -> bool
     ensures { result ≡ within_limits_of repeated.now (views records.now) }
 {
@@ -324,7 +324,7 @@ pub fn within_limits(repeated: &[u32], records: &[Record<'_>]) -> bool
     true
 }
 
-/// The number of the member of a oneof that is set: that of the last record of any.
+/// Returns the number of the member of a oneof that is set: that of the last record of any.
 pub fn chosen(records: &[Record<'_>], members: &[u32]) -> Option<u32>
     ensures { result ≡ chosen_of members.now (views records.now) }
 {
@@ -343,7 +343,7 @@ fn is_other(members: &[u32], number: u32, part: &Record<'_>) -> bool
     members.contains(&part.number) && part.number != number
 }
 
-/// The records after the last one of another member of a oneof.
+/// Returns the records after the last one of another member of a oneof.
 pub fn since<'r, 'a>(records: &'r [Record<'a>], members: &[u32], number: u32) -> &'r [Record<'a>]
     ensures { views result.now ≡ since_of (is_other_of members.now number) (views records.now) }
 {
@@ -382,7 +382,7 @@ pub fn are_unnamed(message: MessageName, bytes: &[u8]) -> bool
     }
 }
 
-/// The fields that the message doesn't name, as they stand.
+/// Returns the fields that the message doesn't name, as they are.
 pub fn unnamed(alloc: Global, message: MessageName, records: &[Record<'_>]) -> Result<Bytes, Memory>
     ensures { IfOk result (λ b. b ≡ unnamed_of (shape_of message) (views records.now)) }
 {

@@ -1,4 +1,4 @@
-//! How the payloads of fields are read, and how much may stand in a definition.
+//! How the payloads of fields are read, and the limits of a definition.
 
 /// How the payload of a named field is read.
 #[derive(Clone, Copy)]

@@ -45,7 +45,7 @@ impl Drop for Attributes {
     }
 }
 
-/// What stands after a key.
+/// What follows a key.
 pub struct Attribute {
     pub value: Text,
     pub extra: Bytes,
@@ -90,7 +90,7 @@ impl Attributes {
         &self.held
     }
 
-    /// The last entry for each key, at the place of the first.
+    /// Returns the last entry for each key, at the place of the first.
     pub(crate) fn settled(
         alloc: Global,
         entries: Many<AttributeEntry>,

@@ -46,7 +46,7 @@ pub enum FieldKind {
 }
 
 impl FieldKind {
-    /// How the readers take a field of the kind.
+    /// Returns how the readers take a field of the kind.
     pub(crate) fn form(self) -> Form
         ensures { result ≡ form_of_kind self }
     {
@@ -70,7 +70,7 @@ pub struct NamedField {
     pub repeated: bool,
     /// One of the message's oneof.
     pub member: bool,
-    /// Of an entry of a map, whose key and value are written also where they are empty.
+    /// Whether the field is in an entry of a map, whose key and value are written also where they are empty.
     pub of_entry: bool,
 }
 
@@ -252,7 +252,7 @@ const MERGE_OP: [FieldRow; 1] = [each!("inputs", 1, FieldKind::Message(MessageNa
 
 const MERGE_INPUT: [FieldRow; 1] = [once!("input", 1, FieldKind::Int64)];
 
-/// The fields of a message, in ascending order of their numbers.
+/// Returns the fields of a message, in ascending order of their numbers.
 pub fn fields_of(message: MessageName) -> &'static [FieldRow]
     ensures { map row_seen result.now ≡ rows_of message }
 {
@@ -280,7 +280,7 @@ pub fn fields_of(message: MessageName) -> &'static [FieldRow]
     }
 }
 
-/// The field of that number.
+/// Returns the field of that number.
 #[tactic(auto, unfolding(crate::specs::Table::row_numbered))]
 pub fn field_numbered(message: MessageName, number: u32) -> Option<FieldRow>
     ensures { option_map row_seen result ≡ row_numbered message number }
@@ -293,7 +293,7 @@ pub fn field_numbered(message: MessageName, number: u32) -> Option<FieldRow>
     None
 }
 
-/// The field of that name.
+/// Returns the field of that name.
 #[tactic(auto, unfolding(crate::specs::Table::row_named))]
 pub fn field_named(message: MessageName, name: &[u8]) -> Option<FieldRow>
     ensures { option_map row_seen result ≡ row_named message name.now }
@@ -306,7 +306,7 @@ pub fn field_named(message: MessageName, name: &[u8]) -> Option<FieldRow>
     None
 }
 
-/// Each row is found by its number and by its name: no two of a message have one of them.
+/// A law: each row is found by its number and by its name: no two of a message have one of them.
 pub fn rows_are_apart(message: MessageName)
     ensures { IsTable message }
 {

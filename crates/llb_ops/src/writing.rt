@@ -8,7 +8,7 @@ use crate::message::{Member, Message};
 use llb_wire::{Bytes, Memory, Text, Wire, write_record};
 use std::alloc::Global;
 
-/// A number, also where it is 0.
+/// Writes a number, also where it is 0.
 #[tactic(auto, unfolding(crate::specs::Writing::set_number))]
 pub fn put_set_number(out: &mut Vec<u8>, number: u32, value: u64) -> Result<(), Memory>
     requires some { 0 < number }
@@ -19,7 +19,7 @@ pub fn put_set_number(out: &mut Vec<u8>, number: u32, value: u64) -> Result<(), 
     Ok(())
 }
 
-/// Bytes, also where there are none.
+/// Writes bytes, also where there are none.
 #[tactic(auto, unfolding(crate::specs::Writing::set_bytes))]
 pub fn put_set_bytes(out: &mut Vec<u8>, number: u32, bytes: &[u8]) -> Result<(), Memory>
     requires some { 0 < number }
@@ -105,7 +105,7 @@ pub fn put_messages<M: Message>(
     Ok(())
 }
 
-/// Byte strings that are repeated.
+/// Writes byte strings that are repeated.
 pub fn put_each_bytes(out: &mut Vec<u8>, number: u32, items: &[Bytes]) -> Result<(), Memory>
     requires some { 0 < number }
     requires small { number ≤ 536_870_911 }
@@ -143,7 +143,7 @@ pub fn put_one_of<M: Member>(
     Ok(())
 }
 
-/// The records of fields that the message doesn't name, as they stand.
+/// Writes the records of fields that the message doesn't name, as they are.
 pub fn put_extra(out: &mut Vec<u8>, extra: &Bytes) -> Result<(), Memory>
     ensures { OnOk result (out.new.items ≡ out.old.items ++ extra.now) }
 {

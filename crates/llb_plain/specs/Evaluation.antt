@@ -7,12 +7,12 @@ use Rattle.llb_model.specs.State.{missing_local}
 use Rattle.llb_plain.specs.declared.fault.PlainFault.{PlainFault}
 use Rattle.llb_plain.specs.declared.fault.PlainFault.TheVariants.{MissingLocal, HasCache}
 
--- the least vertex that mounts a cache, of vertices that are numbered from k on
+-- the least vertex that mounts a cache, of vertices that are numbered from k
 abbrev pub cache_from : ℕ → List Vertex → Option ℕ
 cache_from k [] = None
 cache_from k (v ∷ vs) = if has_cache v then Some k else cache_from (k + 1) vs
 
--- why an evaluation is refused, or what it gives
+-- why an evaluation is refused, or its outcomes
 abbrev pub unless_refused : Option (List ℕ) → Option ℕ → List Outcome → Result (List Outcome) PlainFault
 unless_refused (Some name) cache all = Err (MissingLocal name)
 unless_refused None (Some v) all = Err (HasCache v)

@@ -1,4 +1,4 @@
-//! Which vertices mount a cache. What a vertex leaves that has a cache at or before it can hang on the order in which vertices
+//! Which vertices mount a cache. What a vertex leaves that has a cache at or before it may depend on the order in which vertices
 //! run, so no graph with a cache is evaluated.
 
 ghost use Rattle.std.specs.Prelude.{◌≡◌};
@@ -10,7 +10,7 @@ ghost use Rattle.llb_plain.specs.Evaluation.{cache_from};
 use llb_loader::{Graph, MountType, Vertex};
 use llb_ops::{Kind, Mount};
 
-/// The least vertex that mounts a cache.
+/// Returns the least vertex that mounts a cache.
 pub(crate) fn first_with_cache(graph: &Graph) -> Option<u32>
     ensures { result ≡ cache_from 0 graph.now.vertices }
 {

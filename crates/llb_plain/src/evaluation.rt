@@ -19,9 +19,9 @@ use llb_loader::{Graph, Locals, Vertex};
 use llb_wire::Text;
 use std::alloc::Global;
 
-/// The plain outcome of every vertex: `Blocked` where an input of it is not done, else what its whole program leaves of its
-/// inputs' outputs, be it its outputs or its first fault. 101 `MissingLocal` with the name of the least vertex whose local
-/// source has no tree; then 102 `HasCache` with the least vertex that mounts a cache; 103 `Memory`, after those, but also in
+/// Returns the plain outcome of every vertex: `Blocked` where an input of it is not done, else what its whole program leaves of its
+/// inputs' outputs, either its outputs or its first fault. Fails with 101 `MissingLocal` with the name of the least vertex whose local
+/// source has no tree; then with 102 `HasCache` with the least vertex that mounts a cache; with 103 `Memory` after those, but also in
 /// place of 101 where the name can't be held.
 pub fn evaluate(alloc: Global, graph: &Graph, locals: &Locals) -> Result<Outcomes, PlainFault>
     ensures gives { Gives (λ o. o) result (evaluate_of (record { graph = graph.now; locals = locals.now })) }

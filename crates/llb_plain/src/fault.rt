@@ -6,7 +6,7 @@ use llb_wire::Text;
 use std::alloc::{AllocError, AllocFailed};
 use thiserror::Error;
 
-/// Why a graph is not evaluated: the first cause that stands.
+/// Why a graph is not evaluated: the first cause that applies.
 #[derive(Debug, Drop, Error)]
 pub enum PlainFault {
     /// 101: no tree is given for a local source, the least vertex's of those; its name.
@@ -53,7 +53,7 @@ impl From<llb_wire::Memory> for PlainFault {
     }
 }
 
-/// Of a call on a tree that can only lack memory, or of the read of a text that is a path.
+/// Converts the fault of a call on a tree that can only lack memory, or of the reading of a text that is a path.
 impl From<TreeFault> for PlainFault {
     ghost use Rattle.std.specs.Prelude.{◌≡◌};
     ghost use Rattle.llb_plain.specs.declared.fault.PlainFault.TheVariants as plain;

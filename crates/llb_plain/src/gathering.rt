@@ -21,7 +21,7 @@ fn output_at<'a>(before: &'a [Outcome], edge: Edge) -> Option<&'a Tree>
     }
 }
 
-/// The trees that the edges lead to, in their order; `None` where the vertex of one is not done.
+/// Returns the trees that the edges lead to, in their order; `None` where the vertex of one is not done.
 pub(crate) fn gathered(
     alloc: Global,
     before: &[Outcome],

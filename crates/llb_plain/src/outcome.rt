@@ -24,7 +24,7 @@ pub enum Outcome {
 }
 
 impl Outcome {
-    /// The output of that number, where the vertex is done.
+    /// Returns the output of that number, where the vertex is done.
     pub fn output(&self, index: u32) -> Option<&Tree>
         ensures { option_map (λ t. t.now) result ≡ output_in (ending_in (Some (outcome_of self.now))) index }
     {
@@ -62,7 +62,7 @@ impl Model for Outcomes {
 }
 
 impl Outcomes {
-    /// None yet.
+    /// Returns no outcomes yet.
     pub(crate) fn new(alloc: Global) -> Outcomes
         ensures { result ≡ [] }
     {
@@ -71,7 +71,7 @@ impl Outcomes {
         }
     }
 
-    /// One more, of the next vertex.
+    /// Appends the outcome of the next vertex.
     pub(crate) fn push(&mut self, outcome: Outcome) -> Result<(), PlainFault>
         ensures ok { OnOk result (self.new ≡ self.old ++ outcome_of outcome ∷ []) }
         ensures err { OnErr result (self.new ≡ self.old) }
@@ -81,28 +81,28 @@ impl Outcomes {
         Ok(())
     }
 
-    /// The outcomes, by number.
+    /// Returns the outcomes, by number.
     pub fn as_slice(&self) -> &[Outcome]
         ensures { map outcome_of result.now ≡ self.now }
     {
         self.items.as_slice()
     }
 
-    /// The outcome of a vertex; `None` where no vertex has that number.
+    /// Returns the outcome of a vertex; `None` where no vertex has that number.
     pub fn get(&self, vertex: u32) -> Option<&Outcome>
         ensures { option_map (λ o. outcome_of o.now) result ≡ slice_get self.now vertex }
     {
         self.items.get(vertex as usize)
     }
 
-    /// How many vertices there are.
+    /// Returns how many vertices there are.
     pub fn len(&self) -> usize
         ensures { result ≡ length self.now }
     {
         self.items.len()
     }
 
-    /// Whether there are none.
+    /// Returns whether there are none.
     pub fn is_empty(&self) -> bool
         ensures { result ≡ (length self.now == 0) }
     {

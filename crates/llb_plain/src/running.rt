@@ -18,7 +18,7 @@ use llb_tree::Tree;
 use llb_wire::Many;
 use std::alloc::Global;
 
-/// How a vertex that mounts no cache ends on the trees of its inputs.
+/// Returns how a vertex that mounts no cache ends on the trees of its inputs.
 pub(crate) fn run(
     alloc: Global,
     vertex: &Vertex,

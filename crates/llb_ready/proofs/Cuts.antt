@@ -1,4 +1,4 @@
--- The rule when a pass is cut in two, when two are joined, and when one comes to know of more room.
+-- The rule when a pass is cut in two, when two are joined, and when one learns of more room.
 use Rattle.std.proofs.Common.{◌≡◌, ◌≢◌, ℕ, ◌+◌, ◌<◌, ⊎_elim, List, [], ◌∷◌, ◌++◌, length, set, get_or, refl, sym, ap, ◌∙◌}
 use Rattle.std.proofs.Common.{subst, arith, length-append, length-set, get_or-set_same, get_or-set_other}
 use Rattle.std.specs.Prelude.{sum_by}
@@ -44,7 +44,7 @@ parts_at unit room ws views place a w low mine others j u e =
 pub first_has_all : (v : Hand) (room : ℕ) → v ≡ first_hand room → HasAll v
 first_has_all v room is = ap (λ (u : Hand). u.num) is ∙ sym (ap (λ (u : Hand). u.den) is)
 
--- the whole pass comes to know of room for one number more
+-- the whole pass learns of room for one number more
 pub widens : (place : ℕ) (v : Hand) → HasAll v → Forks IsBalanced place v (widened v) spent
 widens place v all items views b at =
     let a = get_or b.weights place 0 in

@@ -18,7 +18,7 @@ taken_all v all (items, len, knows) =
       λ x. omega (arith, conserved.each x, ap (times x) (no_items items len)),
     )
 
--- what a take tells the whole pass
+-- what the whole pass learns from a take
 pub took : (v w : Hand) (r : Option ℕ) → MatchOption r ((w ≡ v) × Held 0 (Knows v)) (λ x. GainsTaken v x w) → HasAll v
     → MatchOption r (HasTakenAll v) (HasLeft v)
 took v w None tells all = taken_all v all tells.1

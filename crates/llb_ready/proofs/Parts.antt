@@ -13,7 +13,7 @@ use Rattle.llb_ready.specs.Balance.{IsPart}
 abbrev pub AreParts : ℕ → ℕ → List ℕ → List Hand → Type 0
 AreParts unit room ws views = (j : ℕ) (u : Hand) → get_elem? views j ≡ some u → IsPart unit room (get_or ws j 0) u
 
--- what stands in a list with one more at its end
+-- the items of a list with one more at its end
 pub at_end : (l : List Hand) (a b : Hand) (j : ℕ) → get_elem? (l ++ a ∷ []) j ≡ some b → (get_elem? l j ≡ some b) ⊎ ((j ≡ length l) × (a ≡ b))
 at_end [] a b zero e = inr (refl, some-injective a b e)
 at_end [] a b (suc j) e = absurd (some-ne-none b (sym e))
@@ -43,7 +43,7 @@ part_spent unit room = record { whole = omega arith; is = omega arith; idle = λ
 pub part_none : (unit room other weight : ℕ) (v : Hand) → v.num ≡ 0 → IsPart unit room weight v → IsPart unit other weight v
 part_none unit room other weight v none p = record { whole = p.whole; is = p.is; idle = p.idle; same_room = λ pos. absurd (omega arith) }
 
--- a pass that comes to know of more room
+-- a pass that learns of more room
 pub part_widened : (unit room weight : ℕ) (v : Hand) → 0 < v.num → IsPart unit room weight v → IsPart unit (room + 1) weight (widened v)
 part_widened unit room weight v pos p =
     record { whole = p.whole; is = p.is; idle = p.idle; same_room = λ _. omega (arith, p.same_room pos) }

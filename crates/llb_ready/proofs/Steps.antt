@@ -101,7 +101,7 @@ puts n place v x some_part room items views short b at =
       (refl, λ all. let knows = learns place v items views b at all in omega (arith, knows.0.all, short, room)),
     )
 
--- of a number at the start, more were put than taken
+-- a number at the start was put more often than taken
 left : (v : Hand) (x : ℕ) (items : List ℕ) → IsConserved v (x ∷ items) → HasLeft v x
 left v x items known =
     let one : ℕ → ℕ = λ y. cond (y == x) 1 0 in

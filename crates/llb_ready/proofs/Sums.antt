@@ -5,7 +5,7 @@ use Rattle.std.proofs.lemmas.List.Sums.{sum_by-cons}
 use mathlib.Core.Option.{some, some-injective, some-ne-none}
 use lib.ListN.{get_elem?}
 
--- a place where something stands is within the list
+-- a place where there is something is within the list
 pub within : {X : Type 0} (xs : List X) (i : ℕ) (v : X) → get_elem? xs i ≡ some v → i < length xs
 within [] i v e = absurd (some-ne-none v (sym e))
 within (x ∷ xs) zero v e = omega arith

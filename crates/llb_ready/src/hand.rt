@@ -1,4 +1,4 @@
-//! What a pass knows. It lives in clauses alone.
+//! What a pass knows. It is in clauses alone.
 
 use std::collections::LinkedList;
 

@@ -30,8 +30,8 @@ pub struct ReadyPass {
 impl ReadyQueue {
     ghost use Rattle.llb_ready.specs.Passes.{hand_of, IsReadyPassOf, capacity_of, IsWhole};
 
-    /// A queue with room for `n` numbers, 1 to 65,536, and its whole pass: part 1/1, nothing put, nothing taken. 145: memory was
-    /// refused.
+    /// Makes a queue with room for `n` numbers, 1 to 65,536, and its whole pass: part 1/1, nothing put, nothing taken. Fails with 145 where memory
+    /// is refused.
     pub fn new(alloc: Global, n: u32) -> Result<(ReadyQueue, ReadyPass), ReadyFault>
         requires { (1 ≤ n) × (n ≤ 65536) }
         ensures capacity { IfOk result (λ r. capacity_of r.0 ≡ n) }
@@ -40,7 +40,7 @@ impl ReadyQueue {
     {
         let (queue, whole) = RuledArrayQueue::ruled(alloc, n as usize)?;
         let mut pass = whole;
-        // The rule comes to know the room, by one number at a time. This changes nothing in the queue.
+        // The rule gains the room, one number at a time. This changes nothing in the queue.
         for _i in 0..n {
             drop(queue.another::<Widens>(&mut pass));
         }

@@ -1,4 +1,4 @@
-//! The rule of the queue, and what each kind of step does to a pass and tells of the queue. Nothing here runs.
+//! The rule of the queue, and what each kind of step does to a pass and shows of the queue. Nothing here runs.
 
 use crate::hand::Hand;
 use crossbeam_queue::protocol::{Join, Lesson, Outcome, Protocol, Split};
@@ -15,7 +15,7 @@ impl Protocol<u32, Hand> for Fair {
     ghost first = { first_hand 0 };
 }
 
-/// The whole pass comes to know of room for one number more.
+/// The whole pass gains room for one more number.
 pub(crate) struct Widens;
 
 impl Split<Hand> for Widens {

@@ -74,17 +74,17 @@ pub some_left : (over : List ℕ) → false ≡ (length over == 0) → 0 < lengt
 some_left [] e = absurd cc
 some_left (b ∷ over) e = omega arith
 
--- of a piece nothing is left where the rest is tested to have no bytes
+-- nothing is left of a piece where the rest is tested to have no bytes
 pub none_left : (over : List ℕ) → true ≡ (length over == 0) → over ≡ []
 none_left over e = nil_from_length over (eqb-true (length over) 0 (sym e))
 
--- a read that gives nothing takes nothing
+-- a read that returns nothing takes nothing
 pub none_taken : (a b : Option (List ℕ)) (buffer : List ℕ) (n : ℕ) → n ≡ 0 → Consumes a b (take n buffer) → Consumes a b []
 none_taken a b buffer n none taken = let P : ℕ → Type 0 = λ k. Consumes a b (take k buffer) in subst P none taken
 
 -- ---- the bound on reads, and a read that failed
 
--- what is out where reading ends: all that was taken before was heard and answered
+-- what is written where reading ends: all that was taken before was heard and has its reply
 answered : (limit room : ℕ) (s : Stepping) (q : Standing) (a b o o' : Option (List ℕ)) (l : Listened limit room s q a b o o') → Answered (opening s) l.heard
     q.session o o'
 answered limit room s q a b o o' l = record { text = l.went.text; at = q; talked = l.went.talked; same = refl; printed = l.went.printed }

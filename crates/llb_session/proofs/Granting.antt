@@ -1,4 +1,4 @@
--- The chosen event is refused only where it is out of memory; and how this is told.
+-- The chosen event is refused only for want of memory; and how this is printed.
 use Rattle.std.proofs.Common.{◌≡◌, Bool, true, false, Option, Some, None, List, ℕ, codes, inr, refl, subst, sym}
 use Rattle.std.specs.Prelude.{Result, Ok, Err, Vec}
 use Rattle.std.specs.Global.{Global}
@@ -15,7 +15,7 @@ use Rattle.llb_session.specs.declared.request.Request.TheVariants as ask
 use Rattle.llb_session.specs.Request.{request_in}
 use Rattle.llb_session.specs.Answers.{Comes, GrantsNext, AnswersAs, Answers, Quits, Puts, Says}
 
--- `next` comes to what the chosen event comes to, which is refused only where it is out of memory
+-- `next` prints what the chosen event prints, which is refused only for want of memory
 pub chosen_comes : (s t : Stepping) (e : own.Event) (r : Result (Vec ℕ Global) StepperFault) → ChosenIsDone s
     → Some (event_of e) ≡ chosen s.board.build s.board.state
     → Comes (ask.Event e) s t r → Comes ask.Next s t r
@@ -25,13 +25,13 @@ chosen_comes s t e (Err fault) law is (same, refused) = (same, λ not. absurd (d
     differ : stepper_memory fault ≡ true → stepper_memory fault ≡ false → ⊥
     differ a b = cc
 
--- ---- out of memory for the line of a refusal
+-- ---- no memory for the line of a refusal
 
 want_as : (s t : Stepping) (n : ℕ) (o : Option Request) → t ≡ s → AnswersAs o s n (codes "fault 174\n") t
 want_as s t n None same = inr (record { fault = Memory; want = refl; told = refl; same = same })
 want_as s t n (Some r) same = inr (record { fault = Memory; refused = λ not. absurd cc; told = refl; same = same })
 
--- it is told as out of memory, whatever the line asks for
+-- it is printed as `fault 174`, whatever the line asks for
 pub wants : (s t : Stepping) (n : ℕ) (line : List ℕ) → ¬ Quits line → t ≡ s → Answers s n line (codes "fault 174\n") t
 wants s t n line goes_on same = record { goes_on = goes_on; answers = want_as s t n (request_in line) same }
 

@@ -25,7 +25,7 @@ quit_none p t o o' is (quits, same, keeps) = record {
   quits = quits;
 }
 
--- its answer is cut short
+-- its reply is cut short
 pub cut_none : (p : Standing) (t : Stepping) (o o' : Option (List ℕ)) → IsLine p.line → IsSaid p t o o' (Err Write) → CutShort p [] t o o'
 cut_none p t o o' is (said, answers, (front, rest, split, printed)) = record {
   text = [];
@@ -41,7 +41,7 @@ cut_none p t o o' is (said, answers, (front, rest, split, printed)) = record {
 
 -- ---- after bytes that were heard
 
--- the text of the lines that ended is out
+-- the text of the lines that ended is written
 pub went_none : (p : Standing) (o : Option (List ℕ)) → IsLine p.line → Went p [] p o o
 went_none p o is = record { text = []; talked = Talked-none p is; printed = Appends-nil o }
 
@@ -156,7 +156,7 @@ all_went p q bytes o o' w = record { heard = bytes; unheard = []; split = sym (a
 
 -- ---- one byte
 
--- it is no line end, and stands on the line that is begun
+-- it is no line end, and is added to the line that is begun
 pub byte_on_line : (p : Standing) (b : ℕ) (line : List ℕ) (o : Option (List ℕ)) → IsLine p.line → b ≢ 10 → line ≡ p.line ++ b ∷ []
     → Hears p (b ∷ []) (record p { line = line }) o o (Ok true)
 byte_on_line p b line o is other e =
@@ -173,7 +173,7 @@ byte_on_line p b line o is other e =
 pub byte_refused : (p : Standing) (b : ℕ) (line : List ℕ) (o : Option (List ℕ)) → IsLine p.line → Hears p (b ∷ []) (record p { line = line }) o o (Err Memory)
 byte_refused p b line o is = record { heard = []; unheard = b ∷ []; split = refl; comes = answered_none p o is }
 
--- the line that it ends was answered
+-- the line that it ends got its reply
 line_went : (p q : Standing) (text : List ℕ) → IsLine p.line → q.number ≡ p.number + 1 → q.line ≡ []
     → Answers p.session p.number p.line text q.session → Talked p (10 ∷ []) text q
 line_went p q text is next new a =
@@ -203,13 +203,13 @@ said_err p q o o' (Unending interrupted) is said = absurd said
 said_err p q o o' Memory is said = absurd said
 said_err p q o o' TooLong is said = absurd said
 
--- a line end is heard: its line is answered and a new one begun, or it ends the session
+-- a line end is heard: its line gets its reply and a new one is begun, or it ends the session
 pub byte_ends : (p q : Standing) (b : ℕ) (o o' : Option (List ℕ)) (goes_on : Bool) → IsLine p.line → b ≡ 10 → q.number ≡ p.number + 1 → q.line ≡ []
     → IsSaid p q.session o o' (Ok goes_on) → Hears p (b ∷ []) q o o' (Ok goes_on)
 byte_ends p q b o o' goes_on is end next new said =
     let P : ℕ → Type 0 = λ x. Hears p (x ∷ []) q o o' (Ok goes_on) in subst P (sym end) (said_ok p q o o' goes_on is next new said)
 
--- a line end is heard, and the answer to its line is not put out whole
+-- a line end is heard, and the reply to its line is not written whole
 pub byte_fails : (p q : Standing) (b : ℕ) (o o' : Option (List ℕ)) (e : SessionFault) → IsLine p.line → b ≡ 10
     → IsSaid p q.session o o' (Err e) → Hears p (b ∷ []) q o o' (Err e)
 byte_fails p q b o o' e is end said = let P : ℕ → Type 0 = λ x. Hears p (x ∷ []) q o o' (Err e) in subst P (sym end) (said_err p q o o' e is said)

@@ -1,4 +1,4 @@
--- What is said to lines, and to the bytes that spell them, one piece after the other.
+-- The replies to lines, and to the bytes that spell them, one piece after the other.
 use Rattle.std.proofs.Common.{◌≡◌, ℕ, ◌+◌, ◌≤◌, List, [], ◌∷◌, ◌++◌, length, refl, sym, ap, ◌∙◌, subst, append_assoc, append-nil, length-append, arith}
 use Rattle.llb_stepper.specs.Stepping.{Stepping}
 use Rattle.llb_session.specs.Answers.{Answers}

@@ -1,4 +1,4 @@
--- What each line of a session is answered, and where it leads.
+-- The reply to each line of a session, and the stepper after it.
 use Rattle.std.specs.Prelude.{◌≡◌, ◌⊎◌, ◌-◌, ◌++◌, ◌∷◌, ℕ, Bool, true, false, if◌then◌else◌, List, [], length, codes, Option, Some, None, Result, Ok, Err, Vec}
 use Rattle.std.specs.Global.{Global}
 use Rattle.std.specs.Io.KnownBytes.{Appends, Keeps}
@@ -98,13 +98,13 @@ pub record Answers (s : Stepping) (n : ℕ) (line text : List ℕ) (t : Stepping
   pub goes_on : ¬ Quits line
   pub answers : AnswersAs (request_in line) s n text t
 
--- bytes are out, and the session goes on; or a prefix of them is, where the writer failed
+-- bytes are written, and the session goes on; or a prefix of them is, where the writer failed
 abbrev pub Puts : List ℕ → Option (List ℕ) → Option (List ℕ) → Result Bool Failed → Type 0
 Puts bytes out out' (Ok true) = Appends out out' bytes
 Puts bytes out out' (Ok false) = ⊥
 Puts bytes out out' (Err e) = PartOut out out' bytes
 
--- what is out after a line: its answer, a prefix of it where the writer failed, or nothing where it ends the session
+-- what is written after a line: its reply, a prefix of it where the writer failed, or nothing where it ends the session
 abbrev pub Says : Stepping → ℕ → List ℕ → Stepping → Option (List ℕ) → Option (List ℕ) → Result Bool Failed → Type 0
 Says s n line t out out' (Ok true) = (text : List ℕ) × Answers s n line text t × Appends out out' text
 Says s n line t out out' (Ok false) = Quits line × (t ≡ s) × Keeps out out'

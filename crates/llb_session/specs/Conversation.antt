@@ -1,4 +1,4 @@
--- A session as a conversation: which lines bytes spell, what is said to them one after the other, and how it ends.
+-- A session as a conversation: which lines bytes spell, the replies to them one after the other, and how it ends.
 use Rattle.std.specs.Prelude.{◌≡◌, ◌≢◌, ◌≤◌, ◌<◌, ◌+◌, ◌⊎◌, ℕ, List, [], ◌∷◌, ◌++◌, length, All, Option, Result, Ok, Err}
 use Rattle.std.specs.Io.KnownBytes.{Appends, Consumes, IsAtEnd}
 use Rattle.std.specs.declared.io.ErrorKind.TheVariants.{Interrupted}
@@ -24,14 +24,14 @@ pub record Spelled (lines : List (List ℕ)) (rest bytes : List ℕ) : Type 0 wh
   pub each : All IsLine lines
   pub begun : IsLine rest
 
--- after the last line end: no line, or one without its end
+-- the lines after the last line end: none, or one without its end
 abbrev pub last_line : List ℕ → List (List ℕ)
 last_line [] = []
 last_line (b ∷ rest) = (b ∷ rest) ∷ []
 
--- ---- what is said to them
+-- ---- the replies to them
 
--- the lines, counted from n on, are answered one after the other: texts are appended, states handed on
+-- the lines, counted from n, get their replies one after the other: texts are appended, states handed on
 abbrev pub Talks : Stepping → ℕ → List (List ℕ) → List ℕ → Stepping → Type 0
 Talks s n [] text t = (text ≡ []) × (t ≡ s)
 Talks s n (line ∷ lines) text t =
@@ -46,16 +46,16 @@ pub record Standing : Type 0 where
 abbrev pub opening : Stepping → Standing
 opening s = record { session = s; number = 1; line = [] }
 
--- bytes were heard: the lines that end in them are answered, and the last one is begun
+-- bytes were heard: the lines that end in them get their replies, and the last one is begun
 pub record Talked (p : Standing) (bytes text : List ℕ) (q : Standing) : Type 0 where
   pub lines : List (List ℕ)
   pub spelled : Spelled lines q.line (p.line ++ bytes)
   pub talks : Talks p.session p.number lines text q.session
   pub count : q.number ≡ p.number + length lines
 
--- ---- what is out when it ends
+-- ---- what is written when it ends
 
--- the answers to the lines that ended in the bytes are out, and nothing else
+-- the replies to the lines that ended in the bytes are written, and nothing else
 pub record Answered (p : Standing) (bytes : List ℕ) (t : Stepping) (out out' : Option (List ℕ)) : Type 0 where
   pub text : List ℕ
   pub at : Standing
@@ -63,12 +63,12 @@ pub record Answered (p : Standing) (bytes : List ℕ) (t : Stepping) (out out' :
   pub same : t ≡ at.session
   pub printed : Appends out out' text
 
--- the same, and the line that is begun ends the session: nothing is said to it
+-- the same, and the line that is begun ends the session, without a reply
 pub record Quit (p : Standing) (bytes : List ℕ) (t : Stepping) (out out' : Option (List ℕ)) : Type 0 where
   pub before : Answered p bytes t out out'
   pub quits : Quits before.at.line
 
--- the line that is begun is answered too, and of its answer a prefix is out
+-- the line that is begun gets its reply too, of which a prefix is written
 pub record CutShort (p : Standing) (bytes : List ℕ) (t : Stepping) (out out' : Option (List ℕ)) : Type 0 where
   pub text : List ℕ
   pub at : Standing
@@ -84,7 +84,7 @@ pub record CutShort (p : Standing) (bytes : List ℕ) (t : Stepping) (out out' :
 abbrev pub AtLineEnd : List ℕ → (List ℕ → Type 0) → Type 0
 AtLineEnd heard P = (before : List ℕ) × (heard ≡ before ++ 10 ∷ []) × P before
 
--- all lines of an input are answered, a last one without its end too
+-- all lines of an input get their replies, a last one without its end too
 pub record Concluded (s : Stepping) (input : List ℕ) (t : Stepping) (out out' : Option (List ℕ)) : Type 0 where
   pub lines : List (List ℕ)
   pub rest : List ℕ
@@ -99,8 +99,8 @@ pub record Concluded (s : Stepping) (input : List ℕ) (t : Stepping) (out out' 
 abbrev pub AllHeard : Option (List ℕ) → List ℕ → Type 0
 AllHeard left' unheard = (unheard ≡ []) × IsAtEnd left'
 
--- By what was heard of the bytes that were taken, and what was not. A last line without its end is one where it is not empty. Where the bound on reads was met,
--- each read gave a byte or was interrupted.
+-- How a conversation ends, by what was heard of the bytes that were taken, and what was not. A last line without its end is one where it is not empty. Where
+-- the bound on reads was met, each read returned a byte or was interrupted.
 abbrev pub EndsSo : ℕ → ℕ → Stepping → List ℕ → List ℕ → Stepping → Option (List ℕ) → Option (List ℕ) → Option (List ℕ)
     → Result (Unit {0}) SessionFault → Type 0
 EndsSo limit reads s heard unheard t left' out out' (Ok u) =

@@ -13,7 +13,7 @@ use Rattle.llb_session.specs.Conversation.{Talks, Talked, Standing, Answered, Qu
 abbrev pub standing : Stepping → Pending → Standing
 standing s p = record { session = s; number = p.answered + 1; line = p.line.items }
 
--- what is said to the line that is begun, once it has ended
+-- the reply to the line that is begun, once it has ended
 abbrev pub IsSaid : Standing → Stepping → Option (List ℕ) → Option (List ℕ) → Result Bool SessionFault → Type 0
 IsSaid p t out out' (Ok true) = (text : List ℕ) × Answers p.session p.number p.line text t × Appends out out' text
 IsSaid p t out out' (Ok false) = Quits p.line × (t ≡ p.session) × Keeps out out'
@@ -23,7 +23,7 @@ IsSaid p t out out' (Err (Unending interrupted)) = ⊥
 IsSaid p t out out' (Err Memory) = ⊥
 IsSaid p t out out' (Err TooLong) = ⊥
 
--- what is said to it at the end of the input
+-- the reply to it at the end of the input
 abbrev pub IsLast : Standing → Stepping → Option (List ℕ) → Option (List ℕ) → Result (Unit {0}) SessionFault → Type 0
 IsLast p t out out' (Ok u) =
     ((text : List ℕ) × Talks p.session p.number (last_line p.line) text t × Appends out out' text)
@@ -34,13 +34,13 @@ IsLast p t out out' (Err (Unending interrupted)) = ⊥
 IsLast p t out out' (Err Memory) = ⊥
 IsLast p t out out' (Err TooLong) = ⊥
 
--- bytes were heard, and the text of the lines that ended in them is out
+-- bytes were heard, and the text of the lines that ended in them is written
 pub record Went (p : Standing) (bytes : List ℕ) (q : Standing) (out out' : Option (List ℕ)) : Type 0 where
   pub text : List ℕ
   pub talked : Talked p bytes text q
   pub printed : Appends out out' text
 
--- what comes of bytes that were heard, where some after them were not
+-- the result of bytes that were heard, where some after them were not
 abbrev pub Comes : Standing → List ℕ → List ℕ → Standing → Option (List ℕ) → Option (List ℕ) → Result Bool SessionFault → Type 0
 Comes p heard unheard q out out' (Ok true) = (unheard ≡ []) × Went p heard q out out'
 Comes p heard unheard q out out' (Ok false) = AtLineEnd heard (λ bytes. Quit p bytes q.session out out')

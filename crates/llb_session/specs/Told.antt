@@ -8,7 +8,7 @@ use Rattle.llb_stepper.specs.Stepping.{Stepping}
 use Rattle.llb_session.specs.Answers.{GrantsGo}
 use Rattle.llb_session.specs.Texts.{record_line}
 
--- After a `go` the record is a run from the board's opening to the board; and of each event that the `go` has added to it, the line is that of the event,
+-- After a `go` the record is a run from the board's opening to the board; and for each event that the `go` has added to it, the line is that of the event,
 -- with its number, and of its reply in this run.
 pub record LinesOfTheRun (s t : Stepping) : Type 0 where
   pub replies : List Reply

@@ -1,4 +1,4 @@
-//! A line of a session: what it asks for is done on the stepper, and told in a text.
+//! A line of a session: what it asks for is done on the stepper, and the reply is a text.
 
 ghost use Rattle.std.specs.Prelude.{◌≡◌, ◌++◌, ◌-◌, length, true, IfOk, IfErr, OnErr, string_bytes};
 ghost use Rattle.llb_session.specs.declared.request.Request.TheVariants as ask;
@@ -14,7 +14,7 @@ use llb_wire::{Failed, Over, write_all};
 use std::alloc::{AllocError, Global};
 use std::io::Write;
 
-// One breakpoint more.
+// Adds a breakpoint.
 fn breaks(alloc: Global, stepper: &mut Stepper, stop: Break) -> Result<Vec<u8>, StepperFault>
     ensures { Comes (ask.Break stop) stepper.old stepper.new result }
 {
@@ -22,7 +22,7 @@ fn breaks(alloc: Global, stepper: &mut Stepper, stop: Break) -> Result<Vec<u8>, 
     Ok(Vec::new(alloc))
 }
 
-// No breakpoint is left.
+// Removes all breakpoints.
 fn clears(alloc: Global, stepper: &mut Stepper) -> Result<Vec<u8>, StepperFault>
     ensures { Comes ask.Clear stepper.old stepper.new result }
 {
@@ -160,7 +160,7 @@ fn told(
     Ok(fault_line(alloc, &fault)?.into_bytes())
 }
 
-// Writes an answer, and the session goes on.
+// Writes a reply, and the session goes on.
 fn put<W: Write>(bytes: &[u8], out: &mut W) -> Result<bool, Failed>
     ensures { Puts bytes.now (W.contents out.old) (W.contents out.new) result }
 {
@@ -168,10 +168,10 @@ fn put<W: Write>(bytes: &[u8], out: &mut W) -> Result<bool, Failed>
     Ok(true)
 }
 
-/// Answers line `number` of a session, counted from 1, on the stepper, and writes the answer to `out`: no line where it is granted and
+/// Replies to line `number` of a session, counted from 1, on the stepper, and writes the reply to `out`: no line where it is granted and
 /// prints nothing; `fault 173` and its number where it asks for nothing; `fault` and 171, 172 or 174 where what it asks for is refused,
 /// and then nothing is changed. Where memory is refused for the line of a refusal itself it is `fault 174`. False where the line ends
-/// the session; nothing is written then. `Failed` where the writer failed, and a prefix of the answer is out.
+/// the session; nothing is written then. Fails with `Failed` where the writer failed, and a prefix of the reply is written.
 pub fn answer<W: Write>(
     alloc: Global,
     stepper: &mut Stepper,

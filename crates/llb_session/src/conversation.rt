@@ -1,4 +1,4 @@
-//! A session as a conversation: each line is answered, and the answer flushed, before the next bytes are waited for.
+//! A session as a conversation: each line gets its reply, and the reply is flushed, before the next bytes are waited for.
 
 ghost use Rattle.std.specs.Prelude.{◌≡◌, ◌≤◌, ◌<◌, ◌+◌, ◌∷◌, ◌^◌, [], length};
 ghost use Rattle.llb_session.specs.Conversation.{IsLine, Converses};
@@ -14,14 +14,14 @@ const PIECE: usize = 4096;
 
 const LINE_END: u8 = b'\n';
 
-// How many lines were answered, and what was heard of the next one.
+// How many lines got a reply, and what was heard of the next one.
 #[derive(Drop)]
 struct Pending {
     answered: u64,
     line: Vec<u8>,
 }
 
-// Answers the line that was heard, under its number, and flushes the answer. False where it ends the session.
+// Replies to the line that was heard, under its number, and flushes the reply. False where it ends the session.
 fn say<W: Write>(
     alloc: Global,
     session: &mut Stepper,
@@ -103,7 +103,7 @@ fn conclude<W: Write>(
     Ok(())
 }
 
-/// Answers the lines that are read from `commands`, each as soon as it has ended, under its number from 1, and flushes each answer before
+/// Replies to the lines that are read from `commands`, each as soon as it has ended, under its number from 1, and flushes each reply before
 /// more is read. A last line without its end counts; nothing after the last line end is no line. A line that says quit ends the session.
 /// No more than `limit` bytes are heard, and the end is met in `reads` reads; an interrupted read is done again, and counts.
 pub fn converse<R: Read, W: Write>(

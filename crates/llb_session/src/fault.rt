@@ -1,4 +1,4 @@
-//! Why a conversation ends before its end. A fault prints what stands after the word `fault`, and takes no memory for it.
+//! Why a conversation ends before its end. A fault prints what comes after the word `fault`, and does not allocate for it.
 
 use std::io::ErrorKind;
 use thiserror::Error;
@@ -9,7 +9,7 @@ pub enum SessionFault {
     /// 181: a read failed, in this way.
     #[error("181")]
     Failed(ErrorKind),
-    /// 181: the bound on reads was met, and that many of the reads were interrupted.
+    /// 181: the bound on reads was met; it holds how many reads were interrupted.
     #[error("181")]
     Unending(u64),
     /// 182: the writer failed.

@@ -1,4 +1,4 @@
-//! What holds of the answers of a session.
+//! Laws of the replies of a session.
 
 ghost use Rattle.llb_session.specs.Told.{GoTellsTheRun};
 

@@ -1,4 +1,4 @@
-//! A stepping session: each line of commands is answered on a stepper before the next one is waited for. It uses the
+//! A stepping session: each line of commands gets its reply from a stepper before the next one is waited for. It uses the
 //! stepper, the texts of trees, and the assembler's reader of decimal numbers.
 #![tactic(auto)]
 

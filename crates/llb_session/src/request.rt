@@ -88,7 +88,7 @@ fn break_at(word: &str, rest: &str) -> Option<Request>
     }
 }
 
-// What stands after `break`.
+// The text after `break`.
 fn break_in(rest: &str) -> Option<Request>
     ensures { result ≡ break_in rest.now }
 {
@@ -99,7 +99,7 @@ fn break_in(rest: &str) -> Option<Request>
     break_at(word, number)
 }
 
-// A line of a word and what stands after it.
+// A line of a word and the rest after it.
 fn behind(word: &str, rest: &str) -> Option<Request>
     ensures { result ≡ behind word.now rest.now }
 {
@@ -135,8 +135,8 @@ fn by_words(line: &str) -> Option<Request>
     }
 }
 
-/// What a line without its end asks for: `None` of any other line, an empty one and one that is not UTF-8 among them. Words are parted by
-/// exactly one space, and numbers are decimal digits below 2^32. No memory.
+/// Returns what a line without its end asks for: `None` for any other line, an empty one and one that is not UTF-8 among them. Words are parted by
+/// exactly one space, and numbers are decimal digits below 2^32. Does not allocate.
 pub fn request_in(line: &[u8]) -> Option<Request>
     ensures { result ≡ request_in line.now }
 {

@@ -27,7 +27,7 @@ fn push_status(text: &mut String, v: u32, status: Status) -> Result<(), StepperF
     Ok(())
 }
 
-/// A line for each vertex, by number.
+/// Returns a line for each vertex, by number.
 #[tactic(auto, unfolding(crate::specs::Texts::status_lines))]
 pub(crate) fn status_text(alloc: Global, board: &Board) -> Result<String, StepperFault>
     ensures lines { IfOk result (λ s. string_bytes s ≡ status_lines board.now (length board.now.build.graph.vertices)) }
@@ -54,7 +54,7 @@ fn push_record(text: &mut String, stepper: &Stepper, number: u64) -> Result<(), 
     Ok(())
 }
 
-/// The line of an event of the record; none past its end, at 0, and of events that the board had at first.
+/// Returns the line of an event of the record; `None` past its end, at 0, and for events that the board had at first.
 pub(crate) fn line_text(
     alloc: Global,
     stepper: &Stepper,
@@ -68,7 +68,7 @@ pub(crate) fn line_text(
     Ok(text)
 }
 
-/// The lines of the record after the first `from` events, up to that of event `to`.
+/// Returns the lines of the record after the first `from` events, up to that of event `to`.
 #[tactic(auto, unfolding(crate::specs::Texts::record_lines))]
 pub(crate) fn record_text(
     alloc: Global,
@@ -86,7 +86,7 @@ pub(crate) fn record_text(
     Ok(text)
 }
 
-/// The text of a tree, and a line that tells that there is none.
+/// Returns the text of a tree, and the line for no tree.
 pub(crate) fn tree_text(alloc: Global, tree: Option<&Tree>) -> Result<Vec<u8>, StepperFault>
     ensures lines { IfOk result (λ v. v.items ≡ tree_lines (option_map (λ t. t.now) tree.entry)) }
     ensures memory { IfErr result (λ e. stepper_memory e ≡ true) }
@@ -103,14 +103,14 @@ pub(crate) fn tree_text(alloc: Global, tree: Option<&Tree>) -> Result<Vec<u8>, S
     Ok(text)
 }
 
-/// The line of a refusal.
+/// Returns the line of a refusal.
 pub(crate) fn fault_line(alloc: Global, fault: &StepperFault) -> Result<String, AllocError>
     ensures { IfOk result (λ s. string_bytes s ≡ fault_line fault.now) }
 {
     format!(in alloc; "fault {fault}\n")
 }
 
-/// The line after an event that was taken back: how many are left.
+/// Returns the line after an event that was taken back: how many are left.
 pub(crate) fn back_line(alloc: Global, left: usize) -> Result<String, AllocError>
     ensures { IfOk result (λ s. string_bytes s ≡ back_line left) }
 {

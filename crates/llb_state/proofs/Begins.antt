@@ -64,7 +64,7 @@ pub record AreParts (b : Build) (c : CachesValue) (x : Vertex) (trees : List Tre
   pub taking : taken_with c trees (needs_of x) ≡ taking_of p
   pub outfit : outfit_of x ≡ p.outfit
 
--- a claim begins what its parts give together, where the inputs have trees and each part is the rule's
+-- a claim begins what its parts make together, where the inputs have trees and each part is the rule's
 pub begun_of : (b : Build) (c : CachesValue) (w v : ℕ) (x : Vertex) (o : Option (List TreeMap)) (trees : List TreeMap) (p : Parts)
     → or_not_ready o ≡ Ok trees → AreParts b c x trees p
     → begun b c w v x o ≡ Ok (put_together w v p)

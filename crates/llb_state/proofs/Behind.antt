@@ -74,7 +74,7 @@ below b graph v x at =
     (subst (λ (y : Vertex). All (LeadsBelow b.graph.vertices v) y.inputs) (get_or_from_slice_get b.graph.vertices v x x at)
     (graph.down v x (slice_get_within b.graph.vertices v x at)))
 
--- the counts tell which inputs are there
+-- the counts decide which inputs are there
 pub tells : (n : Seen) (l : Linked) → IsGraph n.build.graph → Replays n → IsLinked n.build.graph.vertices (done_in n.state.statuses) l
     → TellsInputs n.build n.state.statuses l
 tells n l graph replays so v x at =
@@ -163,7 +163,7 @@ no_users u k [] none = refl
 no_users u k (x ∷ xs) none =
     (λ i. if none 0 x refl i then k ∷ users_from u (k + 1) xs else users_from u (k + 1) xs) ∙ no_users u (k + 1) xs (λ i y at. none (suc i) y at)
 
--- the lists tell the users of every number: there are none past the last vertex
+-- the lists have the users of every number: there are none past the last vertex
 pub users_told : (b : Build) → IsGraph b.graph → (done : ℕ → Bool) (l : Linked) → IsLinked b.graph.vertices done l → (v : ℕ)
     → users_at l v ≡ users_of b.graph.vertices v
 users_told b graph done l so v = elim (cases_lt v (length b.graph.vertices)) [

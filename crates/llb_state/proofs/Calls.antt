@@ -58,22 +58,22 @@ granted fault (Err cause) a e = absurd cc
 
 -- ---- the table, by the grants
 
--- what the rule of a claim grants, the table gives
+-- what the rule of a claim grants, the table grants
 pub claim_done : (b : Build) (s : State) (w v : ℕ) (a : Answer) → claim_grant b s w v ≡ Ok a → table b s (Claim w v) ≡ Some a
 unfolding table
 claim_done b s w v a is = ap result_ok is
 
--- what the rule of a step grants, the table gives
+-- what the rule of a step grants, the table grants
 pub step_done : (b : Build) (s : State) (w : ℕ) (a : Answer) → step_grant b s w ≡ Ok a → table b s (Step w) ≡ Some a
 unfolding table
 step_done b s w a is = ap result_ok is
 
--- what the rule of a settle grants, the table gives
+-- what the rule of a settle grants, the table grants
 pub settle_done : (b : Build) (s : State) (w : ℕ) (a : Answer) → settle_grant b s w ≡ Ok a → table b s (Settle w) ≡ Some a
 unfolding table
 settle_done b s w a is = ap result_ok is
 
--- what the rule of a cancel grants, the table gives
+-- what the rule of a cancel grants, the table grants
 pub cancel_done : (b : Build) (s : State) (w : ℕ) (a : Answer) → cancel_grant s w ≡ Ok a → table b s (Cancel w) ≡ Some a
 unfolding table
 cancel_done b s w a is = ap result_ok is
@@ -162,7 +162,7 @@ claim_wants n w v x c can same =
     by_key None = refl
     by_key (Some k) = refl
 
--- the instances that a lease gives
+-- the instances that a lease takes
 pub taken_places : (out : Leases) (inputs : List TreeMap) (needs : List Need)
     → map (λ (t : Taken). t.0) (taken out (asked inputs needs)) ≡ places_taken out needs
 taken_places out inputs [] = refl
@@ -220,7 +220,7 @@ granted_of c new x trees l (n ∷ ns) are is = by_key (find (is_shut c.out) (n �
           );
         }
 
--- what is begun where no key is shut is what the table gives
+-- what is begun where no key is shut is the table's
 pub record Claims (b : Build) (s : State) (w v : ℕ) (x : Vertex) (c new : CachesValue) (z : Execution) (r : Reply) : Type 0 where
   pub grants : claim_grant b s w v ≡ Ok (
     record {
@@ -245,7 +245,7 @@ pub needs_asked : (b : Build) (c : CachesValue) (w v : ℕ) (x : Vertex) (trees 
     → begun_so.needs ≡ asked trees (needs_of x)
 needs_asked b c w v x trees o begun_so there is = ap (λ (g : Begun). g.needs) (sym (begun_is b c w v x trees o begun_so there is))
 
--- where no locked key is held, the table's claim gives the execution and the reply that were begun, and the contents that were leased
+-- where no locked key is held, the table's claim has the execution and the reply that were begun, and the contents that were leased
 pub claims : (b : Build) (s : State) (w v : ℕ) (x : Vertex) (c new : CachesValue) (l : Option ℕ) (begun_so : Begun) (ns : List Need)
     (can : CanClaim b s w v x) → s.store ≡ store_of c.rows → Leased c s.workers
     → Distinct (map key_of (needs_of x)) → unless_shut (needs_of x) (shut_key c.out (needs_of x)) ≡ Ok ns
@@ -287,7 +287,7 @@ abbrev pub with_statuses : List Status → Result Answer StepCause → Result An
 with_statuses statuses (Ok a) = Ok (record a.0 { statuses = statuses }, a.1)
 with_statuses statuses (Err cause) = Err cause
 
--- a micro-step does not look at what stands at the vertices
+-- a micro-step does not read the statuses of the vertices
 pub step_alone : (b : Build) (s : State) (w : ℕ) → step_grant b s w ≡ with_statuses s.statuses (step_grant b (record s { statuses = [] }) w)
 step_alone b s w = by_worker (slice_get s.workers w)
   where

@@ -30,7 +30,7 @@ least_later p n v here low is = sym (ap (λ b. if b then Some v else least p (v 
 pub each_next : (p : ℕ → Bool) (n v : ℕ) → v < n → each p v (n - v) ≡ (p v && each p (v + 1) (n - (v + 1)))
 each_next p n v low = ap (each p v) (less n v low)
 
--- past a number that passes, the rest tells whether all pass
+-- past a number that passes, the rest decides whether all pass
 pub each_later : (p : ℕ → Bool) (n v : ℕ) → each p v (n - v) ≡ each p 0 n → v < n → p v ≡ true → each p (v + 1) (n - (v + 1)) ≡ each p 0 n
 each_later p n v here low is = ap (λ b. b && each p (v + 1) (n - (v + 1))) (sym is) ∙ sym (each_next p n v low) ∙ here
 
@@ -81,12 +81,12 @@ next_drop : (b : Build) (ws : List At) (w : ℕ) (a : At) → slice_get ws w ≡
 next_drop b ws w a at =
     ap (next_of b w) (drop-cons ws w a (slice_get_within ws w a at) ∙ (λ i. get_or_from_slice_get ws w a a at i ∷ drop (sym (add-one w) i) ws))
 
--- past an idle worker, the workers that are left still give the next event of all
+-- past an idle worker, the next event of all is that of the workers that are left
 pub next_idle : (b : Build) (ws : List At) (w : ℕ) → next_of b w (drop w ws) ≡ next_of b 0 ws → slice_get ws w ≡ Some Idle
     → next_of b (w + 1) (drop (w + 1) ws) ≡ next_of b 0 ws
 next_idle b ws w here at = sym (next_drop b ws w Idle at) ∙ here
 
--- the first running worker gives the next event: its settle where it is finished, else its step
+-- the first running worker has the next event: its settle where it is finished, else its step
 pub next_runs : (b : Build) (ws : List At) (w : ℕ) (x : Execution) → next_of b w (drop w ws) ≡ next_of b 0 ws → slice_get ws w ≡ Some (Runs x)
     → next_of b 0 ws ≡ Some (if is_finished (program_in b x).steps x then Settle w else Step w)
 next_runs b ws w x here at = sym here ∙ next_drop b ws w (Runs x) at

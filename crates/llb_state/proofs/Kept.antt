@@ -41,7 +41,7 @@ use Rattle.llb_state.proofs.Sound.{consistent}
 use Rattle.llb_state.proofs.Marked.{marks_stay}
 use Rattle.llb_state.proofs.Spaces.{SpaceAfter}
 
--- a board's data: what stands at the vertices, what the workers do, the lists of instances, the leases, the marks
+-- a board's data: what is at the vertices, what the workers do, the lists of instances, the leases, the marks
 pub record Data : Type 0 where
   pub stands : List Stand
   pub desks : List Desk
@@ -330,12 +330,12 @@ supplies_settled b ds w kept =
     map_set ready_made ds w desk.Idle ∙ ap (λ l. slice_set l w (supplies_for None)) kept ∙ sym (map_set (needed b) (map at_of ds) w Idle)
     ∙ ap (map (needed b)) (sym (map_set at_of ds w desk.Idle))
 
--- the settle of a vertex with a fault is told as a failure
+-- the reply to the settle of a vertex with a fault says that it failed
 pub reply_failed : (v : ℕ) (e : Ending) → is_failed (Some e) ≡ true → settle_reply v e ≡ SettledFailed v
 reply_failed v (Done trees) is = absurd (cc)
 reply_failed v (Failed f) is = refl
 
--- the settle of a vertex without a fault is told as done
+-- the reply to the settle of a vertex without a fault says that it is done
 pub reply_done : (v : ℕ) (e : Ending) → is_failed (Some e) ≡ false → settle_reply v e ≡ SettledDone v
 reply_done v (Done trees) is = refl
 reply_done v (Failed f) is = absurd (cc)

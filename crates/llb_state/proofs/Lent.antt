@@ -43,7 +43,7 @@ put_none rows (p ∷ ps) = refl
 
 -- ---- a worker that leaves
 
--- a worker that leaves gives its lease back, if it had one, and the others keep theirs
+-- a worker that leaves releases its lease, if it had one, and the others keep theirs
 pub leased_settled : (c : CachesValue) (ds : List Desk) (w : ℕ) (l : Option ℕ) → AreLeased c.out (map at_of ds) (map leased_by ds)
     → slice_get (map leased_by ds) w ≡ Some l
     → AreLeased (given_back c l).out (map at_of (slice_set ds w desk.Idle)) (map leased_by (slice_set ds w desk.Idle))
@@ -75,7 +75,7 @@ lease_out out workers ls w (Some l) leased at =
 
 -- ---- workers that were sent away one after another
 
--- the first that many are idle
+-- the first n are idle
 abbrev pub idled : ℕ → List Desk → List Desk
 idled zero ds = ds
 idled (suc n) [] = []

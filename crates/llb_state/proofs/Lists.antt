@@ -8,7 +8,7 @@ use Rattle.std.specs.Prelude.{Option, Some, replicate, slice_get, slice_set, opt
 use Rattle.std.proofs.lemmas.Option.{slice_get-map, slice_get_within, get_or_from_slice_get}
 use Rattle.std.proofs.lemmas.List.{replicate-append-replicate}
 
--- that many equal items, and room for more
+-- n equal items, and room for more
 pub record Replicated {A : Type 0} (x : A) (n : ℕ) (xs : List A) (last capacity : ℕ) : Type 0 where
   pub all : xs ≡ replicate n x
   pub reserved : last ≤ capacity
@@ -46,7 +46,7 @@ map_set f [] i x = refl
 map_set f (y ∷ xs) zero x = refl
 map_set f (y ∷ xs) (suc i) x = ap (λ l. f y ∷ l) (map_set f xs i x)
 
--- a write of what stands at a place changes nothing
+-- a write of what is at a place changes nothing
 pub set_same : {A : Type 0} (xs : List A) (i : ℕ) (x : A) → slice_get xs i ≡ Some x → slice_set xs i x ≡ xs
 set_same [] i x e = refl
 set_same (y ∷ xs) zero x e = let same : x ≡ y = cc in ap (λ z. z ∷ xs) same

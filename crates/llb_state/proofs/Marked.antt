@@ -48,7 +48,7 @@ take_set [] k x low = absurd (omega arith)
 take_set (y ∷ xs) zero x low = refl
 take_set (y ∷ xs) (suc k) x low = ap (λ l. y ∷ l) (take_set xs k x (omega arith))
 
--- one vertex more has the mark that the rule gives it from the marks before
+-- one vertex more has the mark of the rule from the marks before
 pub marked_more : (statuses : List Status) (vs : List Vertex) (k : ℕ) (marks : List Bool) (v : Vertex) (mark : Bool)
     → MarkedSoFar statuses vs k marks → k < length vs
     → v ≡ get_or vs k v → mark ≡ next_stopped statuses (take k marks) v → MarkedSoFar statuses vs (k + 1) (set marks k mark)

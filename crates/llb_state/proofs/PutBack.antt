@@ -12,7 +12,7 @@ use Rattle.llb_state.specs.declared.stand.Desk.{Desk}
 use Rattle.llb_state.specs.declared.stand.Desk.TheVariants as desk
 use Rattle.llb_state.proofs.Lists.{map_set, get_map, length_map, set_same}
 
--- the leases of the first that many
+-- the leases of the first n
 pub record PutSoFar (ds ds' : List Desk) (ls : List (Option ℕ)) (n : ℕ) : Type 0 where
   pub workers : map at_of ds' ≡ map at_of ds
   pub made : map ready_made ds' ≡ map ready_made ds

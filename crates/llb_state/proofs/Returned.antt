@@ -58,7 +58,7 @@ pub none_out : (out : Leases) (workers : List At) (ls : List (Option ℕ)) → A
     → ((w : ℕ) (l : ℕ) → slice_get ls w ≡ Some (Some l) → ⊥) → leases out ≡ 0
 none_out out workers ls are idle = nothing_out out (λ l ps at. let w = are.whose l ps at in idle w.0 l w.1)
 
--- the number of a lease stands in a list
+-- the number of a lease is in a list
 abbrev Stands : List (Option ℕ) → ℕ → Type 0
 Stands ls l = (w : ℕ) × (slice_get ls w ≡ Some (Some l))
 

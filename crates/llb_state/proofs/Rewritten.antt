@@ -125,7 +125,7 @@ each_again rows (p ∷ ps) (t ∷ ts) (u ∷ us) apart within many count =
     ∙ ap (λ r. put_each r ps ts) (put_again rows p t u))
     ∙ each_again (cache.put rows p u) ps ts us apart.1 (put_within rows p u ps (λ q has. within q (inr has))) (omega (arith, many)) (omega (arith, count))
 
--- a write of the trees that stand at instances changes nothing
+-- a write of the trees that are at instances changes nothing
 pub each_there : (rows : List Row) (ps : List Place) (ts : List TreeMap) → AreWithin rows ps → Hold (store_of rows) ps ts → put_each rows ps ts ≡ rows
 each_there rows [] [] within hold = refl
 each_there rows [] (t ∷ ts) within hold = absurd hold

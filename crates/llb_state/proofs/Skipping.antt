@@ -80,14 +80,14 @@ skip_reply k (LayInput i) before left skips = absurd (false≢true skips)
 skip_reply k (Run s c ends) before left skips =
     sym (ap (λ b. cond b (table.HasRun k (last_of left.work.own)) (table.Skipped k)) (not_true (is_run c.join (last_of before)) skips))
 
--- and what ran tells its status
+-- and the reply to what ran is its status
 pub run_reply : (k : ℕ) (s : Setting) (c : Joined) (ends : Bool) (before : View) (left : Left) (last : ℕ) → is_skipped (Run s c ends) before ≡ false
     → last_of left.work.own ≡ last → table.HasRun k last ≡ table.step_reply k (Run s c ends) before left
 run_reply k s c ends before left last runs is =
     ap (table.HasRun k) (sym is)
     ∙ sym (ap (λ b. cond b (table.HasRun k (last_of left.work.own)) (table.Skipped k)) (not_false (is_run c.join (last_of before)) runs))
 
--- of another micro-step the reply is its fault, where it has one
+-- for another micro-step the reply is its fault, where it has one
 pub fault_reply : (f : Option VertexFault) (done : Stepped) → step_reply (fault_or f done) ≡ table.unless_failed f (step_reply done)
 fault_reply None done = refl
 fault_reply (Some f) done = refl

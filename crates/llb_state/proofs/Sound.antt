@@ -16,6 +16,6 @@ consistent b here = run_consistent b.build (opening b.build b.opening) b.state b
 pub reached : (b : Seen) → Replays b → IsReached b.build b.state
 reached b here = record { opened = b.opening; events = b.events; replies = here.replies; leads = here.leads }
 
--- vertices of a board with no cache at or before them stand by their plain outcomes
+-- the states of vertices of a board with no cache at or before them are by their plain outcomes
 pub plain : (b : Seen) → IsGraph b.build.graph → Replays b → StandsByOutcomes b.build b.state
 plain b graph here = run_plain b.build graph (opening b.build b.opening) b.state b.events here.replies (opening_plain b.build b.opening) here.leads

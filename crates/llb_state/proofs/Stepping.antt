@@ -37,7 +37,7 @@ inside_ok e = cc
 
 -- ---- what is not finished has a micro-step
 
--- where the rule has no refusal, any answer has out of memory last
+-- where the rule has no refusal, in any result `Memory` is last
 pub last_of : {A B : Type 0} (r : Result A StepFault) (rule : Result B StepFault) → is_ok rule ≡ true → MemoryLast step_memory r rule
 last_of (Ok x) rule ok = tt
 last_of (Err e) rule ok = λ memory. ok
@@ -61,7 +61,7 @@ there_by (m ∷ steps) false (suc k) is = there_by steps false k (less (length s
         by_test true at = let le : n ≤ k = leb-true n k at in absurd (let more : nat_le (suc n) (suc k) ≡ true =
             le-leb (suc n) (suc k) (omega (arith, le)) in cc)
 
--- what is not finished has a next micro-step, so that out of memory comes last
+-- what is not finished has a next micro-step, so that `Memory` is last
 pub goes_on : (b : Build) (rows : List Row) (x : Execution) {A : Type 0} (r : Result A StepFault)
     → is_finished (program_in b x).steps x ≡ false → MemoryLast step_memory r (worked_in b rows x)
 goes_on b rows x {A} r open_still =
@@ -90,7 +90,7 @@ places_are out (Some l) ps has = elim has [
   | inr h ↦ absurd (some_apart l (sym h.0))
 ]
 
--- as many trees are read as there are places
+-- there are as many trees read as there are places
 pub trees_count : (s : Store) (ps : List Place) (ts : List TreeMap) → ts ≡ trees_at s ps → length ts ≡ length ps
 trees_count s ps ts is = ap length is ∙ length_map (λ (p : Place). unwrap_or (content s p) _) ps
 
@@ -168,7 +168,7 @@ holding rows out ds w l x apart there leased at =
 
 -- ---- from the execution to the worker
 
--- where a call gives the rule's micro-step of a worker, it gives the table's step
+-- where a call returns the rule's micro-step of a worker, it returns the table's step
 pub gives_through : (ds : List Desk) (w : ℕ) (r : Result Stepped StepFault) (f : Stepped → Written) (rule : Result Written StepFault)
     (whole : Result (State × Reply) StepFault)
     → whole ≡ granted_by ds w rule → GivesStep f r rule
@@ -180,7 +180,7 @@ granted_ok : (ds : List Desk) (w : ℕ) (rule : Result Written StepFault) → is
 granted_ok ds w (Ok p) = refl
 granted_ok ds w (Err e) = refl
 
--- where out of memory comes last by the rule of a micro-step, so it does by the table
+-- where `Memory` is last by the rule of a micro-step, so it is by the table
 pub last_through : (ds : List Desk) (w : ℕ) (r : Result Stepped StepFault) (rule : Result Written StepFault) (whole : Result (State × Reply) StepFault)
     → whole ≡ granted_by ds w rule → MemoryLast step_memory r rule → MemoryLast step_memory r whole
 last_through ds w (Ok s) rule whole is last = tt

@@ -32,7 +32,7 @@ next_clean : (steps : List MicroStep) (x : Execution) → x.fault ≡ None → n
 next_clean steps x clean =
     ap (λ f. if is_some f || nat_le (length steps) x.done then None else slice_get steps x.done) clean ∙ next_at steps x.done
 
--- where nothing has faulted, and a micro-step stands at the number of those done, it is the one that is done
+-- where nothing has faulted, and there is a micro-step at the number of those done, it is the one that is done
 pub goes_to : (steps : List MicroStep) (x : Execution) (ts : List TreeMap) (m : MicroStep) → x.fault ≡ None → slice_get steps x.done ≡ Some m
     → worked steps x ts ≡ Ok (worked_to x m (step_on x.done (Some m) (work_with x.own ts)))
 goes_to steps x ts m clean at = ap (worked_by x ts) (next_clean steps x clean ∙ at)

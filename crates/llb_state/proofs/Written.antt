@@ -61,7 +61,7 @@ same_rows (r ∷ rows) k some = go (same_key k r.0) some (same_rows rows k)
     go true some rest = refl
     go false some rest = ap (λ rs. r ∷ rs) (rest some)
 
--- a write of what stands at a number changes nothing
+-- a write of what is at a number changes nothing
 pub set_got : (ts : List TreeMap) (n : ℕ) (t : TreeMap) → slice_get ts n ≡ Some t → slice_set ts n t ≡ ts
 set_got [] n t at = refl
 set_got (u ∷ ts) zero t at = let same : t ≡ u = ap (λ o. unwrap_or o u) (sym at) in ap (λ v. v ∷ ts) same

@@ -1,4 +1,4 @@
--- What a claim begins, as the code has it.
+-- What a claim begins, in the code's types.
 use Rattle.std.specs.Prelude.{List, replicate}
 use Rattle.llb_applet.specs.declared.setting.Setting.{Setting}
 use Rattle.llb_loader.specs.declared.graph.Vertex.{Vertex}

@@ -13,8 +13,8 @@ use Rattle.llb_model.specs.Table.{Event, Reply, worker_of, table}
 use Rattle.llb_model.specs.Run.{run, chosen}
 use Rattle.llb_state.specs.Caches.{rows_after}
 
--- the caches are seen as they were handed in and as they are now: their contents as the machine has them, and the lists of instances, in
--- the order of their keys
+-- a board; its caches are seen as they were handed in and as they are now: their contents as the machine has them, and the lists of instances,
+-- in the order of their keys
 pub record Seen : Type 0 where
   pub build : Build
   pub opening : Opening
@@ -23,21 +23,21 @@ pub record Seen : Type 0 where
   pub rows : List Row
   pub events : List Event
 
--- the number of workers, and the caches that are handed in
+-- the opening with this number of workers and the caches that are handed in
 abbrev pub opening_with : ℕ → List Row → Opening
 opening_with workers rows = record { workers = workers; store = store_of rows }
 
--- nothing has happened yet
+-- a board on which nothing has happened yet
 abbrev pub opened : Build → ℕ → List Row → Seen
 opened b workers rows =
     record { build = b; opening = opening_with workers rows; first = rows; state = opening b (opening_with workers rows); rows = rows; events = [] }
 
--- after an event that is granted: the state, and the lists of instances
+-- the state and the lists of instances after an event that is granted
 abbrev pub kept_next : Build → Option (State × List Row) → Event → Option (State × List Row)
 kept_next b None e = None
 kept_next b (Some (s, rows)) e = option_map (λ (a : State × Reply). (a.0, rows_after rows a.0 (worker_of e))) (table b s e)
 
--- and after events, each of which is granted
+-- the state and the lists of instances after events, each of which is granted
 abbrev pub kept_along : Build → State → List Row → List Event → Option (State × List Row)
 kept_along b s rows es = fold (kept_next b) (Some (s, rows)) es
 
@@ -51,7 +51,7 @@ pub record Replays (b : Seen) : Type 0 where
 abbrev pub after_event : Seen → Event → State → Seen
 after_event b e s = record b { state = s; rows = rows_after b.rows s (worker_of e); events = b.events ++ e ∷ [] }
 
--- what an event gives, with the event at the end of the record; where it is not granted, the cause as a fault
+-- the board and the reply after an event, with the event at the end of the record; where it is not granted, the cause as a fault
 abbrev pub recorded : {C F : Type 0} → Seen → Event → (C → F) → Result (State × Reply) C → Result (Seen × Reply) F
 recorded b e fault (Ok (s, r)) = Ok (after_event b e s, r)
 recorded b e fault (Err cause) = Err (fault cause)

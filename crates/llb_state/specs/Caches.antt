@@ -22,17 +22,17 @@ abbrev pub leased_places : Leases → Option ℕ → List Place
 leased_places out (Some l) = cache.places_of out l
 leased_places out None = []
 
--- it is out
+-- a lease is out, where there is one
 abbrev pub IsOutIf : Leases → Option ℕ → Type 0
 IsOutIf out (Some l) = cache.IsOut out l
 IsOutIf out None = Unit {0}
 
--- what is out where it is given back
+-- the leases without one that is given back
 abbrev pub out_without : Leases → Option ℕ → Leases
 out_without out (Some l) = cache.trimmed (slice_set out l None)
 out_without out None = out
 
--- the caches then
+-- the caches after a lease is given back
 abbrev pub given_back : cache.CachesValue → Option ℕ → cache.CachesValue
 given_back c l = record c { out = out_without c.out l }
 
@@ -52,7 +52,7 @@ abbrev pub showing : List Row → Place → TreeMap → List Row
 showing rows p t =
     with_trees rows p.key (if nat_lt p.number (length (trees_of rows p.key)) then slice_set (trees_of rows p.key) p.number t else trees_of rows p.key ++ t ∷ [])
 
--- these instances show what the contents of caches have there
+-- the lists of instances, where these instances show what the contents of caches have there
 abbrev pub written : Store → List Row → List Place → List Row
 written s rows [] = rows
 written s rows (p ∷ ps) = written s (showing rows p (unwrap_or (content s p) empty_tree)) ps
@@ -63,6 +63,6 @@ places_at (Some (Runs x)) = x.places
 places_at (Some Idle) = []
 places_at None = []
 
--- after an event of a worker: no other instances are written or made than those that it has then
+-- the lists of instances after an event of a worker: no other instances are written or made than those that it has then
 abbrev pub rows_after : List Row → State → ℕ → List Row
 rows_after rows s w = written s.store rows (places_at (slice_get s.workers w))

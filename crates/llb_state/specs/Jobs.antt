@@ -50,7 +50,7 @@ is_shared Locked = false
 abbrev pub has_shared : Execution → Bool
 has_shared x = list_any (λ (p : Place). is_shared p.key.mode) x.places
 
--- what is left to a worker to do: the job that a claim of it would hand out now
+-- what a worker has left to do: the job that a claim of it would hand out now
 abbrev pub job_now : Build → Store → ℕ → Execution → Job
 job_now b store w x = record {
   worker = w;

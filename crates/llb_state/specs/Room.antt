@@ -1,4 +1,4 @@
--- What a board keeps so that no event to come needs memory for the record but a claim after a cancel, nor a settle memory for its outputs,
+-- What a board keeps so that no event to come needs memory for the record but a claim after a cancel, and no settle needs memory for its outputs;
 -- that commands run where their exec says and see the caches that it shows, that each running worker has a lease of its instances, and that no
 -- search begins anew.
 use Rattle.std.specs.Prelude.{◌+◌, ◌≡◌, ℕ, ◌<◌, ◌≤◌, Bool, true, ◌||◌, List, [], map, replicate, length, Option, Some, None, slice_get}
@@ -77,7 +77,7 @@ abbrev pub needed : Build → At → Supplies
 needed b Idle = supplies_for None
 needed b (Runs x) = supplies_for (slice_get b.graph.vertices x.vertex)
 
--- over a build and the caches that were handed in
+-- a board as contracts see it, over a build and the caches that were handed in
 abbrev pub seen : Build → List Row → List Stand → List Desk → List Row → List Event → Seen
 seen b first stands desks rows events = record {
   build = b;
@@ -102,7 +102,7 @@ pub record IsKept (b : Seen) (desks : List Desk) (out : Leases) (stop_marks : Li
 abbrev pub AreOver : Build → List Status → ℕ → Type 0
 AreOver b statuses n = (v : ℕ) → v < n → (is_settled (slice_get statuses v) || is_blocked b statuses v) ≡ true
 
--- and from where on a Ready vertex is looked for, and how many inputs of each are open
+-- from where a Ready vertex is looked for, how many inputs of each are open, and what else a board keeps
 pub record IsTracked (b : Seen) (desks : List Desk) (out : Leases) (stop_marks : List Bool) (links : Linked) (space : Space) (first_open : ℕ) : Type 0 where
   pub kept : IsKept b desks out stop_marks space
   pub over : AreOver b.build b.state.statuses first_open

@@ -1,4 +1,4 @@
--- What each call returns: what the table gives, or the first cause of its refusal as a fault.
+-- What each call returns: the table's result, or the first cause of its refusal as a fault.
 use Rattle.std.specs.Prelude.{ℕ, Bool, true, false, List, Option, Some, None, Result, Ok, Err, if◌then◌else◌}
 use Rattle.llb_wire.specs.Answer as answer
 use Rattle.llb_loader.specs.declared.graph.Vertex.{Vertex}
@@ -32,7 +32,7 @@ use Rattle.llb_events.specs.declared.fault.SettleFault.TheVariants as settle
 use Rattle.llb_events.specs.declared.fault.CancelFault.{CancelFault}
 use Rattle.llb_events.specs.declared.fault.CancelFault.TheVariants as cancel
 
--- ---- the result of an event: what the table gives, with its cause as a fault
+-- ---- the result of an event: the table's, with its cause as a fault
 
 -- a cause as a fault
 abbrev pub faulted : {A C F : Type 0} → (C → F) → Result A C → Result A F
@@ -51,7 +51,7 @@ claim_fault (no_claim.Held key) = claim.Held key
 abbrev pub claim_of : Seen → ℕ → ℕ → Result (Seen × Reply) ClaimFault
 claim_of b w v = recorded b (Claim w v) claim_fault (claim_grant b.build b.state w v)
 
--- inputs that are not all there are no trees to begin with
+-- inputs that are not all there are refused as `NotReady`
 abbrev pub or_not_ready : {A : Type 0} → Option A → Result A ClaimFault
 or_not_ready (Some x) = Ok x
 or_not_ready None = Err claim.NotReady
@@ -62,7 +62,7 @@ pub record Begun : Type 0 where
   pub reply : Reply
   pub needs : List cache_need.Need
 
--- on the trees of the inputs, and these instances
+-- what a claim begins on the trees of the inputs, and these instances
 abbrev pub begun_at : Build → CachesValue → ℕ → ℕ → Vertex → List TreeMap → List Place → Begun
 begun_at b c w v vertex trees ps = record {
   execution = execution_on v (begin_at b (store_of c.rows) (start_with vertex trees) ps) ps;

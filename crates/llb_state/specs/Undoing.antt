@@ -12,7 +12,7 @@ use Rattle.llb_state.specs.declared.undoing.Before as before
 
 -- ---- what is kept
 
--- what a worker has that settles
+-- what a worker holds that settles
 pub record Left : Type 0 where
   pub execution : Execution
   pub supplies : Supplies
@@ -32,13 +32,13 @@ abbrev pub caches_in : Option before.Before → Option Before
 caches_in (Some c) = Some (before_in c)
 caches_in None = None
 
--- all but the last
+-- all items of a list but the last
 abbrev pub front : {A : Type 0} → List A → List A
 front xs = take (length xs - 1) xs
 
 -- ---- what is put back
 
--- one micro-step less is done, and none has faulted
+-- the desk before a micro-step: one micro-step less is done, and none has faulted
 abbrev pub desk_before : Mark → Option Desk → Desk
 desk_before mark (Some (desk.Runs l x)) = desk.Runs l (record x { done = x.done - 1; fault = None; view = put_back mark x.view })
 desk_before mark (Some desk.Idle) = desk.Idle
@@ -57,7 +57,7 @@ abbrev pub caches_before : Option Before → CachesValue → CachesValue
 caches_before (Some c) now = c.caches
 caches_before None now = now
 
--- there is a worker for each, one that runs for each that is a lease
+-- there is one slot per worker; only a running worker's slot holds a lease
 pub record HasPlaceFor (ls : List (Option ℕ)) (workers : List At) : Type 0 where
   pub count : length ls ≡ length workers
   pub idle : (w : ℕ) → slice_get workers w ≡ Some Idle → slice_get ls w ≡ Some None

@@ -1,4 +1,4 @@
-//! What a board is over: the graph, and the trees of local sources by name.
+//! What a board works on: the graph, and the trees of local sources by name.
 
 ghost use Rattle.std.specs.Prelude.{◌≡◌, ◌<◌, ◌^◌, length, option_map, slice_get, IfOk};
 ghost use Rattle.llb_loader.specs.Graph.{IsGraph};
@@ -30,14 +30,14 @@ impl Model for Build {
 }
 
 impl Build {
-    /// Of a graph and the trees of its local sources.
+    /// Makes a build of a graph and the trees of its local sources.
     pub fn new(graph: Graph, locals: Locals) -> Build
         ensures { result ≡ record { graph = graph; locals = locals } }
     {
         Build { graph, locals }
     }
 
-    /// A second owner: the graph and the trees are shared. 92 where memory is refused.
+    /// Returns an equal second owner, which shares the graph and the trees. Fails with 92 `Memory` alone.
     pub fn copy(&self) -> Result<Build, Memory>
         ensures { IfOk result (λ b. b ≡ self.now) }
     {
@@ -47,14 +47,14 @@ impl Build {
         })
     }
 
-    /// The graph.
+    /// Returns the graph.
     pub fn graph(&self) -> &Graph
         ensures { result.now ≡ self.now.graph }
     {
         &self.graph
     }
 
-    /// The vertices by number.
+    /// Returns the vertices, by number.
     pub fn vertices(&self) -> &[Vertex]
         ensures all { result.now ≡ self.now.graph.vertices }
         ensures graph { IsGraph self.now.graph }
@@ -62,7 +62,7 @@ impl Build {
         self.graph.vertices()
     }
 
-    /// The vertex of a number.
+    /// Returns the vertex of a number; `None` past the last vertex.
     pub fn vertex(&self, v: u32) -> Option<&Vertex>
         ensures there { option_map (λ x. x.now) result ≡ slice_get self.now.graph.vertices v }
         ensures few { length (program_at (slice_get self.now.graph.vertices v)).steps < 2 ^ 25 }
@@ -71,7 +71,7 @@ impl Build {
         self.vertices().get(v as usize)
     }
 
-    /// How many micro-steps a vertex has.
+    /// Returns how many micro-steps a vertex has: fewer than 2^25, and 0 past the last vertex.
     pub fn steps(&self, v: u32) -> u32
         ensures all { result ≡ length (program_at (slice_get self.now.graph.vertices v)).steps }
         ensures few { result < 2 ^ 25 }
@@ -82,21 +82,21 @@ impl Build {
         }
     }
 
-    /// The trees of local sources by name.
+    /// Returns the trees of local sources by name.
     pub fn locals(&self) -> &Locals
         ensures { result.now ≡ self.now.locals }
     {
         &self.locals
     }
 
-    /// The first name, by vertex, that no local tree is given for.
+    /// Returns the name of the first local source, by vertex, that has no tree; `None` where each has one.
     pub fn missing(&self) -> Option<&str>
         ensures { option_map (λ t. t.now) result ≡ missing_local self.now.locals self.now.graph.vertices }
     {
         missing_local(&self.graph, &self.locals)
     }
 
-    /// The graph and the trees come back.
+    /// Returns the graph and the trees.
     pub fn into_parts(self) -> (Graph, Locals)
         ensures graph { result.0 ≡ self.graph }
         ensures locals { result.1 ≡ self.locals }

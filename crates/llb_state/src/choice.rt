@@ -1,5 +1,5 @@
-//! The event that a driver chooses: the lowest running worker goes on, else worker 0 claims the least Ready vertex; and
-//! whether nothing is left to do.
+//! The event that a driver chooses: the lowest running worker goes on, else worker 0 claims the least Ready vertex. And whether
+//! nothing is left to do.
 
 ghost use Rattle.std.specs.Prelude.{◌≡◌, ◌<◌, ◌≤◌, ℕ, map, length, option_map, slice_get, false, unwrap_or, ◌||◌, ◌&&◌, []};
 ghost use Rattle.llb_model.specs.State.{stopped, is_waiting, is_blocked, is_ready};
@@ -15,7 +15,7 @@ use crate::step::is_finished;
 use llb_events::Event;
 use llb_links::Links;
 
-/// The next event of the lowest running worker.
+/// Returns the next event of the lowest running worker: a settle if what it runs is finished, else a step. `None` where no worker runs.
 pub fn next_event(build: &Build, desks: &[Desk]) -> Option<Event>
     requires { length desks.now ≤ 64 }
     ensures { option_map event_of result ≡ next_of build.now 0 (map at_of desks.now) }
@@ -34,7 +34,7 @@ pub fn next_event(build: &Build, desks: &[Desk]) -> Option<Event>
     None
 }
 
-/// The claim of the least Ready vertex, by worker 0. None is Ready below the first open one.
+/// Returns the claim of the least Ready vertex by worker 0; `None` where no vertex is Ready. No vertex below `first_open` is Ready.
 pub fn next_claim(build: &Build, stands: &[Stand], links: &Links, first_open: u32) -> Option<Event>
     requires tells { TellsInputs build.now (map status_of stands.now) links.now }
     requires none { (v : ℕ) → v < first_open → is_ready build.now (map status_of stands.now) v ≡ false }
@@ -48,7 +48,7 @@ pub fn next_claim(build: &Build, stands: &[Stand], links: &Links, first_open: u3
     None
 }
 
-/// Whether every vertex is done, failed or blocked. All are below the first open one.
+/// Returns whether every vertex is done, failed or blocked. Those below `first_open` are.
 pub fn all_settled(build: &Build, stands: &[Stand], stop_marks: &[bool], first_open: u32) -> bool
     requires marks { stop_marks.now ≡ stopped build.now (map status_of stands.now) }
     requires over { AreOver build.now (map status_of stands.now) first_open }
@@ -62,8 +62,8 @@ pub fn all_settled(build: &Build, stands: &[Stand], stop_marks: &[bool], first_o
     true
 }
 
-/// The first vertex from one on that is not done, failed or blocked; where there is none, the number after the last. All are below
-/// the one that the search begins at.
+/// Returns the first vertex at or after `from` that is not done, failed or blocked, or the number of vertices if there is none. Those
+/// below `from` are done, failed or blocked.
 pub fn first_open(build: &Build, stands: &[Stand], stop_marks: &[bool], from: u32) -> u32
     requires marks { stop_marks.now ≡ stopped build.now (map status_of stands.now) }
     requires over { AreOver build.now (map status_of stands.now) from }
@@ -80,7 +80,7 @@ pub fn first_open(build: &Build, stands: &[Stand], stop_marks: &[bool], from: u3
     count
 }
 
-// Whether a vertex is done, failed or blocked.
+// Returns whether a vertex is done, failed or blocked.
 fn is_over(stands: &[Stand], stop_marks: &[bool], v: u32) -> bool
     ensures { result ≡ (is_settled (slice_get (map status_of stands.now) v)
         || (is_waiting (slice_get (map status_of stands.now) v) && unwrap_or (slice_get stop_marks.now v) false)) }

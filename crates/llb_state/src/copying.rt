@@ -1,4 +1,4 @@
-//! Second owners of a state's parts: trees and views are shared as far as they can be.
+//! Second owners of a state's parts, which share trees and views as far as they can.
 
 ghost use Rattle.std.specs.Prelude.{◌≡◌, map, IfOk};
 ghost use Rattle.llb_state.specs.Room.{ready_made};
@@ -12,7 +12,7 @@ use llb_tree::Tree;
 use llb_wire::Many;
 use std::alloc::Global;
 
-/// The same at each vertex, in memory of its own. 141 where memory is refused.
+/// Returns a copy of the states of the vertices. Fails with 141 `Memory` alone.
 pub fn copied_stands(alloc: Global, stands: &[Stand]) -> Result<Vec<Stand>, Memory>
     ensures { IfOk result (λ s. s.items ≡ stands.now) }
 {
@@ -37,7 +37,7 @@ fn copied_stand(alloc: Global, stand: &Stand) -> Result<Stand, Memory>
     }
 }
 
-/// Second owners of trees. 141 where memory is refused.
+/// Returns second owners of trees. Fails with 141 `Memory` alone.
 pub fn copied_trees(alloc: Global, trees: &[Tree]) -> Result<Vec<Tree>, Memory>
     ensures { IfOk result (λ t. t.items ≡ trees.now) }
 {
@@ -48,7 +48,7 @@ pub fn copied_trees(alloc: Global, trees: &[Tree]) -> Result<Vec<Tree>, Memory>
     Ok(copies)
 }
 
-/// Workers that do the same, with the same leases. 141 where memory is refused.
+/// Returns workers that run the same, with the same leases. Fails with 141 `Memory` alone.
 pub fn copied_desks(alloc: Global, desks: &[Desk]) -> Result<Vec<Desk>, Memory>
     ensures workers { IfOk result (λ d. map at_of d.items ≡ map at_of desks.now) }
     ensures leases { IfOk result (λ d. map leased_by d.items ≡ map leased_by desks.now) }
@@ -72,7 +72,7 @@ fn copied_desk(alloc: Global, desk: &Desk) -> Result<Desk, Memory>
     }
 }
 
-/// What a running worker has, in memory of its own. 141 where memory is refused.
+/// Returns a copy of what a running worker has. Fails with 141 `Memory` alone.
 pub fn copied(alloc: Global, execution: &Execution) -> Result<Execution, Memory>
     ensures { IfOk result (λ x. left_in x ≡ left_in execution.now) }
 {
@@ -99,7 +99,7 @@ fn copied_places(alloc: Global, places: &[Place]) -> Result<Vec<Place>, Memory>
     Ok(copies)
 }
 
-/// The leases of all workers. 141 where memory is refused.
+/// Returns the lease of each worker, `None` for one without a lease. Fails with 141 `Memory` alone.
 pub fn copied_leases(alloc: Global, desks: &[Desk]) -> Result<Vec<Option<Lease>>, Memory>
     ensures { IfOk result (λ l. l.items ≡ map leased_by desks.now) }
 {
@@ -110,7 +110,7 @@ pub fn copied_leases(alloc: Global, desks: &[Desk]) -> Result<Vec<Option<Lease>>
     Ok(leases)
 }
 
-/// The lease of a worker that has one.
+/// Returns the lease of a worker, if it has one.
 pub fn lease_of(desk: &Desk) -> Option<Lease>
     ensures { result ≡ leased_by desk.now }
 {

@@ -1,4 +1,4 @@
-//! How an execution ends: its fault, or its outputs in the places of the empty trees that it has for them.
+//! How an execution ends: with its fault, or with its outputs, which replace the empty trees that it has for them.
 
 ghost use Rattle.std.specs.Prelude.{◌≡◌, map, option_map, replicate};
 ghost use Rattle.llb_tree.specs.Tree.{empty_tree};
@@ -13,7 +13,7 @@ use llb_loader::Vertex;
 use llb_tree::Tree;
 use llb_wire::Many;
 
-/// How an execution ends.
+/// Returns what a vertex is after its execution: failed if the execution has a fault, else done with its outputs.
 pub fn end(execution: Execution, vertex: Option<&Vertex>) -> Stand
     requires { execution.outputs.items ≡ replicate (program_at (option_map (λ v. v.now) vertex)).outputs empty_tree }
     ensures { status_of result ≡ Settled (ended (program_at (option_map (λ v. v.now) vertex.entry)) execution.view execution.fault) }
@@ -27,7 +27,7 @@ pub fn end(execution: Execution, vertex: Option<&Vertex>) -> Stand
     }
 }
 
-// The outputs of what all micro-steps left. Where there is no vertex there are none.
+// Returns the outputs, read from the view that the micro-steps left. Without a vertex there are none.
 fn outputs(view: View, outputs: Vec<Tree>, vertex: Option<&Vertex>) -> Vec<Tree>
     requires { outputs.items ≡ replicate (program_at (option_map (λ v. v.now) vertex)).outputs empty_tree }
     ensures { result.items ≡ outputs_of (program_at (option_map (λ v. v.now) vertex.entry)) view }

@@ -1,4 +1,4 @@
-//! The record of events: a list that grows by one event at a time, in room that was taken before.
+//! The record of events: a list that grows by one event at a time, in room that was reserved before.
 
 ghost use Rattle.std.specs.Prelude.{◌≡◌, ◌==◌, ◌≤◌, ◌<◌, ◌∷◌, ◌++◌, [], length, map, IfOk, OnOk, OnErr, ◌+◌};
 ghost use Rattle.llb_state.specs.Undoing.{front};
@@ -8,14 +8,14 @@ use llb_events::{Event, Memory};
 use std::alloc::{AllocError, Global};
 use std::marker::Model;
 
-/// Events in their order. Contracts see the list of them, and how many there is room for.
+/// Events in their order. Contracts see the list of events, and for how many events memory is reserved.
 pub struct Events {
     items: Vec<Event>,
-    // Up to how many memory is taken for.
+    // For how many events memory is reserved, at least.
     room: usize,
 }
 
-// Written out, so that the crates above drop one by this one function.
+// It is written out so that the crates above drop one by this one function.
 impl Drop for Events {
     fn drop(self) {
         let Events { items: _, room: _ } = self;
@@ -35,7 +35,7 @@ impl Model for Events {
 }
 
 impl Events {
-    /// None yet, with room for that many.
+    /// Makes an empty record with room for `room` events. Fails only for want of memory.
     pub fn with_room(alloc: Global, room: usize) -> Result<Events, AllocError>
         ensures none { IfOk result (λ e. e.list ≡ []) }
         ensures room { IfOk result (λ e. e.room ≡ room) }
@@ -46,7 +46,7 @@ impl Events {
         })
     }
 
-    /// One event more, for which there is room.
+    /// Appends an event, for which there is room.
     pub fn push_reserved(&mut self, event: Event)
         requires { length self.old.list < self.old.room }
         ensures list { self.new.list ≡ self.old.list ++ event_of event ∷ [] }
@@ -55,7 +55,7 @@ impl Events {
         self.items.push_reserved(event);
     }
 
-    /// All but the last.
+    /// Removes the last event, if there is one. The room stays.
     pub fn take_back(&mut self)
         ensures list { self.new.list ≡ front self.old.list }
         ensures room { self.new.room ≡ self.old.room }
@@ -63,7 +63,7 @@ impl Events {
         let _last = self.items.pop();
     }
 
-    /// Room for that many more. 141 where memory is refused; then there is as much as before.
+    /// Reserves room for `more` further events. Fails with 141 `Memory` alone; then the room is as it was.
     pub fn take_room(&mut self, more: usize) -> Result<(), Memory>
         ensures list { self.new.list ≡ self.old.list }
         ensures room { OnOk result (self.new.room ≡ self.old.room + more) }
@@ -77,7 +77,7 @@ impl Events {
         Ok(())
     }
 
-    /// Room for that many fewer.
+    /// Gives up room for `more` events.
     pub fn give_room(&mut self, more: usize)
         requires { more ≤ self.old.room }
         ensures list { self.new.list ≡ self.old.list }
@@ -86,7 +86,7 @@ impl Events {
         self.room -= more;
     }
 
-    /// The same events, with as much room. 141 where memory is refused.
+    /// Returns a copy of the events with as much room. Fails with 141 `Memory` alone.
     pub fn with_same(&self, alloc: Global) -> Result<Events, Memory>
         ensures list { IfOk result (λ e. e.list ≡ self.now.list) }
         ensures room { IfOk result (λ e. e.room ≡ self.now.room) }
@@ -99,28 +99,28 @@ impl Events {
         })
     }
 
-    /// The events in their order.
+    /// Returns the events in their order.
     pub fn as_slice(&self) -> &[Event]
         ensures { map event_of result.now ≡ self.now.list }
     {
         self.items.as_slice()
     }
 
-    /// How many there are.
+    /// Returns the number of events.
     pub fn len(&self) -> usize
         ensures { result ≡ length self.now.list }
     {
         self.items.len()
     }
 
-    /// Whether there are none.
+    /// Returns whether there are no events.
     pub fn is_empty(&self) -> bool
         ensures { result ≡ (length self.now.list == 0) }
     {
         self.items.is_empty()
     }
 
-    /// The same events in memory of their own; 141 where memory is refused.
+    /// Returns a copy of the events alone, without further room. Fails with 141 `Memory` alone.
     pub fn copy(&self) -> Result<Events, Memory>
         ensures { IfOk result (λ e. e.list ≡ self.now.list) }
     {

@@ -1,5 +1,5 @@
-//! What a board begins with: all vertices wait, all workers are idle, the caches are kept as they were handed in, and the record has
-//! room for every event.
+//! What a board begins with: all vertices wait, all workers are idle, a copy of the caches as they were handed in is kept, and the
+//! record has room for every event.
 
 ghost use Rattle.std.specs.Prelude.{◌≡◌, [], length, replicate, false, IfOk};
 ghost use Rattle.llb_model.specs.Room.{most_events};
@@ -27,7 +27,7 @@ pub struct Fresh {
     pub history: History,
 }
 
-/// For a graph, caches and that many workers. Out of memory alone refuses it.
+/// Makes the initial parts for a graph, caches and a number of workers. Fails with 141 `Memory` alone.
 pub fn opening(alloc: Global, build: &Build, caches: &Caches, workers: u32) -> Result<Fresh, Memory>
     ensures stands { IfOk result (λ f. f.stands.items ≡ replicate (length build.now.graph.vertices) stand.Waiting) }
     ensures desks { IfOk result (λ f. f.desks.items ≡ replicate workers desk.Idle) }
@@ -69,7 +69,7 @@ fn idle(alloc: Global, count: u32) -> Result<Vec<Desk>, AllocError>
     Ok(desks)
 }
 
-// How many events may come in all.
+// Returns how many events there can be if no vertex is cancelled.
 fn room(build: &Build) -> usize
     ensures { result ≡ most_events build.now [] }
 {

@@ -1,4 +1,4 @@
-//! The history of a board: the record of its events, in room that was taken before, and how often each vertex was cancelled.
+//! The history of a board: the record of its events, in room that was reserved before, and how often each vertex was cancelled.
 
 ghost use Rattle.std.specs.Prelude.{◌≡◌, ◌+◌, ◌<◌, ◌≤◌, ◌∷◌, ◌++◌, [], length, replicate, get_or, IfOk, OnOk, OnErr};
 ghost use Rattle.llb_model.specs.Landing.{steps_by};
@@ -12,13 +12,13 @@ use llb_events::{Event, Memory};
 use std::alloc::{AllocError, Global};
 use std::marker::Model;
 
-/// Events, and by number how often each vertex was cancelled. Contracts see the list of events, the room for them, and the counts.
+/// Events, and for each vertex, by number, how often it was cancelled. Contracts see the list of events, the room for them, and the counts.
 pub struct History {
     events: Events,
     cancels: Vec<usize>,
 }
 
-// Written out, so that the crates above drop one by this one function.
+// It is written out so that the crates above drop one by this one function.
 impl Drop for History {
     fn drop(self) {
         let History {
@@ -37,7 +37,7 @@ impl Model for History {
 }
 
 impl History {
-    /// No events yet, with room for that many, of that many vertices.
+    /// Makes a history without events, with room for `room` events and a count of 0 for each of `vertices` vertices. Fails only for want of memory.
     pub fn new(alloc: Global, room: usize, vertices: usize) -> Result<History, AllocError>
         ensures none { IfOk result (λ h. h.list ≡ []) }
         ensures room { IfOk result (λ h. h.space.room ≡ room) }
@@ -49,7 +49,7 @@ impl History {
         })
     }
 
-    /// The record.
+    /// Returns the record.
     pub fn events(&self) -> &Events
         ensures list { result.now.list ≡ self.now.list }
         ensures room { result.now.room ≡ self.now.space.room }
@@ -57,7 +57,7 @@ impl History {
         &self.events
     }
 
-    /// One event more, for which there is room.
+    /// Appends an event, for which there is room.
     pub fn push_reserved(&mut self, event: Event)
         requires { length self.old.list < self.old.space.room }
         ensures list { self.new.list ≡ self.old.list ++ event_of event ∷ [] }
@@ -66,7 +66,7 @@ impl History {
         self.events.push_reserved(event);
     }
 
-    /// A cancel, for which there is room, of a vertex that was cancelled at most once for each event so far.
+    /// Appends a cancel, for which there is room, and counts it for vertex v. So far v was cancelled at most as often as there are events.
     pub fn push_cancel(&mut self, w: u32, v: u32)
         requires room { length self.old.list < self.old.space.room }
         requires low { v < length self.old.space.cancels }
@@ -80,7 +80,7 @@ impl History {
         self.cancels[v as usize] = count + 1;
     }
 
-    /// That many micro-steps of a worker, for which there is room.
+    /// Appends `count` micro-steps of a worker, for which there is room.
     pub fn record_steps(&mut self, w: u32, count: u32)
         requires { length self.old.list + count ≤ self.old.space.room }
         ensures list { self.new.list ≡ self.old.list ++ steps_by w count }
@@ -91,7 +91,7 @@ impl History {
         }
     }
 
-    /// All events but the last.
+    /// Removes the last event, if there is one.
     pub fn take_back(&mut self)
         ensures list { self.new.list ≡ front self.old.list }
         ensures space { self.new.space ≡ self.old.space }
@@ -99,7 +99,7 @@ impl History {
         self.events.take_back();
     }
 
-    /// All events but the last, which was a cancel of a vertex.
+    /// Removes the last event, a cancel of vertex v, and no longer counts it.
     pub fn take_back_cancel(&mut self, v: u32)
         requires { v < length self.old.space.cancels }
         ensures list { self.new.list ≡ front self.old.list }
@@ -110,7 +110,7 @@ impl History {
         self.cancels[v as usize] = count.saturating_sub(1);
     }
 
-    /// Room for the events of a vertex that is claimed, where it was cancelled before. 141 where memory is refused.
+    /// Reserves room for the events of a claimed vertex if it was cancelled before. Fails with 141 `Memory` alone; then the room is as it was.
     pub fn take_room(&mut self, v: u32, events: usize) -> Result<(), Memory>
         requires { v < length self.old.space.cancels }
         ensures list { self.new.list ≡ self.old.list }
@@ -121,7 +121,7 @@ impl History {
         self.events.take_room(more)
     }
 
-    /// That room is given back.
+    /// Gives up the room that `take_room` reserved for the vertex.
     pub fn give_room(&mut self, v: u32, events: usize)
         requires low { v < length self.old.space.cancels }
         requires there { taken_by v events self.old.space ≤ self.old.space.room }
@@ -132,7 +132,7 @@ impl History {
         self.events.give_room(less);
     }
 
-    // How much room a claim takes.
+    // Returns for how many events a claim of a vertex reserves room: none if the vertex was never cancelled.
     fn claim_takes(&self, v: u32, events: usize) -> usize
         requires { v < length self.now.space.cancels }
         ensures { result ≡ taken_by v events self.now.space }
@@ -144,7 +144,7 @@ impl History {
         }
     }
 
-    /// The same history, with as much room. 141 where memory is refused.
+    /// Returns an equal copy, with as much room. Fails with 141 `Memory` alone.
     pub fn copy(&self, alloc: Global) -> Result<History, Memory>
         ensures { IfOk result (λ h. h ≡ self.now) }
     {

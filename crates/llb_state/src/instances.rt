@@ -1,5 +1,5 @@
-//! The instances of caches that a worker has: their lease, their trees for a micro-step and after it, and the lease given back. A
-//! worker whose vertex shows no cache has no lease.
+//! The cache instances of a worker: it leases them, reads their trees for a micro-step, writes them after it, and gives the lease
+//! back. A worker whose vertex shows no cache has no lease.
 
 ghost use Rattle.std.specs.Prelude.{◌≡◌, ◌≢◌, ◌<◌, ◌^◌, map, length, AllPairs, IfOk, IfErr, OnOk, OnErr, Ok, true};
 ghost use Rattle.llb_events.specs.declared.fault.ClaimFault.TheVariants as claim;
@@ -21,7 +21,7 @@ use llb_tree::Tree;
 use llb_wire::Many;
 use std::alloc::Global;
 
-/// Copies of the trees of instances; of one that is not there the empty tree. 141 where memory is refused.
+/// Returns copies of the trees of instances; an instance that is not there has the empty tree. Fails with 141 `Memory` alone.
 pub fn contents(alloc: Global, caches: &Caches, places: &[Place]) -> Result<Vec<Tree>, StepFault>
     ensures trees { IfOk result (λ ts. ts.items ≡ trees_at (store_of caches.now.rows) places.now) }
     ensures memory { IfErr result (λ e. step_memory e ≡ true) }
@@ -43,8 +43,8 @@ fn content(alloc: Global, caches: &Caches, place: &Place) -> Result<Tree, StepFa
     }
 }
 
-// A lease of these needs, none where there are none. Their keys differ. 111 with the first locked key that is held, 112 where memory is
-// refused; then the caches are as they were.
+// Leases instances for these needs, whose keys differ; `None` if there are no needs. Fails with 111 and the first locked key that is
+// held, or with 112 `Memory`; then the caches are as they were.
 fn lease_for(caches: &mut Caches, needs: Vec<Need>) -> Result<Option<Lease>, LeaseFault>
     requires differ { AllPairs (λ n m. n.key ≢ m.key) needs.items }
     requires few { leases caches.old.out < 65536 }
@@ -57,8 +57,8 @@ fn lease_for(caches: &mut Caches, needs: Vec<Need>) -> Result<Option<Lease>, Lea
     Ok(Some(caches.lease(Many::new(needs))?))
 }
 
-/// A lease of these needs, none where there are none, and room for the events of the vertex that is claimed with them, where it was
-/// cancelled before: both, or neither. Want of memory alone refuses it; then caches and history are as they were.
+/// Leases instances for these needs (`None` if there are none) and reserves room for the events of the claimed vertex if it was cancelled
+/// before: both or neither. Fails with 141 `Memory` alone; then caches and history are as they were.
 pub fn lease_with_room(
     caches: &mut Caches,
     history: &mut History,
@@ -84,7 +84,7 @@ pub fn lease_with_room(
     Err(ClaimFault::Memory)
 }
 
-/// A lease that is out is given back, where there is one.
+/// Gives back a lease that is out, if there is one.
 pub fn give_back(caches: &mut Caches, lease: Option<Lease>)
     requires { IsOutIf caches.old.out lease }
     ensures { caches.new ≡ given_back caches.old lease }
@@ -94,7 +94,7 @@ pub fn give_back(caches: &mut Caches, lease: Option<Lease>)
     }
 }
 
-/// These trees take the places of those of a lease's instances; there are none without one.
+/// Replaces the trees of a lease's instances by these. Without a lease there are no trees.
 pub fn write_back(caches: &mut Caches, lease: Option<Lease>, trees: Vec<Tree>)
     requires count { length trees.items ≡ length (leased_places caches.old.out lease) }
     requires few { length trees.items < 2 ^ 32 }
@@ -106,7 +106,7 @@ pub fn write_back(caches: &mut Caches, lease: Option<Lease>, trees: Vec<Tree>)
     }
 }
 
-// These trees take the places of those of a lease's instances.
+// Replaces the trees of a lease's instances by these.
 fn write_all(caches: &mut Caches, lease: Lease, trees: Vec<Tree>)
     requires count { length trees.items ≡ length (places_of caches.old.out lease) }
     requires few { length trees.items < 2 ^ 32 }
@@ -120,7 +120,7 @@ fn write_all(caches: &mut Caches, lease: Lease, trees: Vec<Tree>)
     }
 }
 
-/// The leases of all workers are given back.
+/// Gives back the leases of all workers.
 pub fn give_all_back(caches: &mut Caches, desks: &[Desk])
     requires { AreLeased caches.old.out (map at_of desks.now) (map leased_by desks.now) }
     ensures rows { caches.new.rows ≡ caches.old.rows }

@@ -1,5 +1,5 @@
-//! What a worker is to do: a vertex's program, and what it works on. All parts own their data. Only the beginning of a claim makes one,
-//! and its type keeps that its micro-steps can be done.
+//! A job is what a worker has to do: a vertex's program, and what it works on. All parts own their data. Only the beginning of a claim
+//! makes one, and by the type's invariant its micro-steps can be done.
 
 ghost use Rattle.std.specs.Prelude.{◌≡◌};
 
@@ -8,7 +8,7 @@ use llb_tree::Tree;
 use llb_wire::Many;
 use std::marker::Model;
 
-/// A job: everything that is needed for it, and by whom. Contracts see it as the machine's.
+/// A job: who does it, and everything that it needs. Contracts see it as the model's `Job`.
 pub struct Job {
     pub(crate) worker: u32,
     pub(crate) vertex: u32,
@@ -19,7 +19,7 @@ pub struct Job {
     pub(crate) instances: Many<u32>,
 }
 
-// Written out, so that the crates above drop one by this one function.
+// It is written out so that the crates above drop one by this one function.
 impl Drop for Job {
     fn drop(self) {
         let Job {
@@ -58,49 +58,49 @@ impl Model for Job {
 }
 
 impl Job {
-    /// Who is to do it.
+    /// Returns the number of the worker that does it.
     pub fn worker(&self) -> u32
         ensures { result ≡ self.now.worker }
     {
         self.worker
     }
 
-    /// The vertex by number.
+    /// Returns the number of the vertex.
     pub fn vertex(&self) -> u32
         ensures { result ≡ self.now.vertex }
     {
         self.vertex
     }
 
-    /// The vertex's micro-steps and outputs.
+    /// Returns the vertex's program: its micro-steps and outputs.
     pub fn program(&self) -> &Program
         ensures { result.now ≡ self.now.program }
     {
         &self.program
     }
 
-    /// The micro-steps that are done.
+    /// Returns how many micro-steps are done.
     pub fn done(&self) -> u32
         ensures { result ≡ self.now.done }
     {
         self.done
     }
 
-    /// What it works on, the mounts of caches empty.
+    /// Returns the view that it works on, in which the mounts of caches are empty.
     pub fn view(&self) -> &View
         ensures { result.now ≡ self.now.work.own }
     {
         &self.view
     }
 
-    /// The trees of the instances of caches as they are at the claim, in the order of the mounts that show them.
+    /// Returns the trees of the cache instances as they are at the claim, in the order of the mounts that show them.
     pub fn trees(&self) -> &[Tree]
         ensures { result.now ≡ self.now.work.trees }
     {
         self.trees.as_slice()
     }
 
-    /// The numbers of these instances.
+    /// Returns the numbers of these instances.
     pub fn instances(&self) -> &[u32]
         ensures { result.now ≡ self.now.instances }
     {

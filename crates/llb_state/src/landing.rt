@@ -1,4 +1,4 @@
-//! Whether a job is what a worker runs now, by value, and what its micro-steps left put in the place of what the worker had.
+//! Compares a job with what a worker runs now, by value, and replaces what the worker had by what the job's micro-steps left.
 
 ghost use Rattle.std.specs.Prelude.{◌≡◌, ◌↔◌, ◌<◌, ◌+◌, ◌^◌, ℕ, Option, length, map, true, Some, slice_get, slice_set, is_some, IsTrue};
 ghost use Rattle.std.specs.List.{list_any};
@@ -24,7 +24,7 @@ use llb_model::VertexFault;
 use llb_tree::Tree;
 use llb_wire::Same;
 
-/// Whether an instance is one of a shared cache. Takes no memory.
+/// Returns whether one of the instances belongs to a shared cache. Does not allocate.
 pub fn has_shared(places: &[Place]) -> bool
     ensures { result ≡ list_any (λ (p : model.Place). is_shared p.key.mode) places.now }
 {
@@ -36,7 +36,7 @@ pub fn has_shared(places: &[Place]) -> bool
     false
 }
 
-/// Whether a job is what a worker's execution has left to do, with the caches as they are now. Takes no memory.
+/// Returns whether a job is what a worker's execution has left to do, with the caches as they are now. Does not allocate.
 pub fn is_run_of(build: &Build, caches: &Caches, w: u32, execution: &Execution, job: &Job) -> bool
     requires vertex { is_some (slice_get build.now.graph.vertices execution.now.vertex) ≡ true }
     requires within { (p : model.Place) → Has execution.now.places.items p → p.number < length (trees_of caches.now.rows p.key) }
@@ -49,7 +49,7 @@ pub fn is_run_of(build: &Build, caches: &Caches, w: u32, execution: &Execution, 
         && has_numbers(&execution.places, job.instances.as_slice())
 }
 
-// Whether a job is a worker's, of this vertex and with that many micro-steps done, none of which has faulted.
+// Returns whether a job has this worker and the execution's vertex, as many micro-steps are done, and none of them has faulted.
 fn is_begun(w: u32, execution: &Execution, job: &Job) -> bool
     ensures { IsTrue result ↔ IsBegun w (execution_of execution.now) job.now }
 {
@@ -59,7 +59,7 @@ fn is_begun(w: u32, execution: &Execution, job: &Job) -> bool
         && execution.fault.is_none()
 }
 
-// Whether it is the program of a vertex, which is there.
+// Returns whether it is the program of a vertex of the graph.
 fn has_program(build: &Build, v: u32, program: &Program) -> bool
     requires { is_some (slice_get build.now.graph.vertices v) ≡ true }
     ensures { IsTrue result ↔ (program.now ≡ program_at (slice_get build.now.graph.vertices v)) }
@@ -70,7 +70,7 @@ fn has_program(build: &Build, v: u32, program: &Program) -> bool
     }
 }
 
-// Whether instances, which are there, have these trees.
+// Returns whether instances, which are there, have these trees.
 fn has_trees(caches: &Caches, places: &[Place], trees: &[Tree]) -> bool
     requires { (p : model.Place) → Has places.now p → p.number < length (trees_of caches.now.rows p.key) }
     ensures { IsTrue result ↔ (trees.now ≡ trees_at (store_of caches.now.rows) places.now) }
@@ -86,7 +86,7 @@ fn has_trees(caches: &Caches, places: &[Place], trees: &[Tree]) -> bool
     true
 }
 
-// Whether an instance, which is there, has this tree.
+// Returns whether an instance, which is there, has this tree.
 fn has_tree(caches: &Caches, place: &Place, tree: &Tree) -> bool
     requires { place.now.number < length (trees_of caches.now.rows place.now.key) }
     ensures { IsTrue result ↔ (tree.now ≡ tree_of (store_of caches.now.rows) place.now) }
@@ -97,7 +97,7 @@ fn has_tree(caches: &Caches, place: &Place, tree: &Tree) -> bool
     }
 }
 
-// Whether instances have these numbers.
+// Returns whether instances have these numbers.
 fn has_numbers(places: &[Place], numbers: &[u32]) -> bool
     ensures { IsTrue result ↔ (numbers.now ≡ map number_of places.now) }
 {
@@ -112,7 +112,8 @@ fn has_numbers(places: &[Place], numbers: &[u32]) -> bool
     true
 }
 
-/// A worker has done that many micro-steps more, and this is what they left; its lease. Takes no memory.
+/// Adds to a running worker's execution the micro-steps that are done, with the fault and the view that they left, and returns its
+/// lease. Does not allocate.
 pub fn put_left(
     desks: &mut Vec<Desk>,
     w: u32,

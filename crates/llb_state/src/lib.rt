@@ -1,5 +1,5 @@
-//! The parts of a board's state and what changes one of them: what stands at each vertex, what each worker runs, its instances of caches,
-//! the record, jobs and what their work comes to. `llb_board` keeps these parts together; the definitions of a whole board are in `specs/` here.
+//! The parts of a board's state and what changes one of them: the state of each vertex, what each worker runs, its cache instances,
+//! the record, jobs and the outcomes of their work. `llb_board` keeps these parts together; the definitions of a whole board are in `specs/` here.
 #![tactic(auto)]
 
 mod build;

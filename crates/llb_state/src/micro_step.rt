@@ -1,4 +1,4 @@
-//! One micro-step of an execution, on its own view and the instances of caches that it has.
+//! One micro-step of an execution, on its own view and its cache instances.
 
 ghost use Rattle.std.specs.Prelude.{◌≡◌, ◌<◌, ◌^◌, List, map, option_map, length, Some, None, Ok, OnErr, IfNone, IfSome};
 ghost use Rattle.llb_wire.specs.Answer.{MemoryLast};
@@ -19,7 +19,8 @@ use llb_model::VertexFault;
 use llb_tree::Tree;
 use std::alloc::Global;
 
-/// The next micro-step of an execution, where it is a command that is skipped: it is counted, and nothing else changes. Takes no memory.
+/// Does the next micro-step of an execution if it is a command that is skipped: it is counted, and nothing else changes. Otherwise returns
+/// `None` and changes nothing. Does not allocate.
 pub fn skip(execution: &mut Execution, vertex: Option<&Vertex>) -> Option<Stepped>
     requires few { length (program_at (option_map (λ v. v.now) vertex)).steps < 2 ^ 32 }
     requires supplies { supplies_of execution.old ≡ supplies_for (option_map (λ v. v.now) vertex) }
@@ -39,7 +40,7 @@ pub fn skip(execution: &mut Execution, vertex: Option<&Vertex>) -> Option<Steppe
     }
 }
 
-// The next micro-step of an execution that has not faulted, where it is skipped.
+// Does the next micro-step of an execution that has not faulted if it is skipped; otherwise returns `None` and changes nothing.
 fn skip_next(execution: &mut Execution, vertex: &Vertex) -> Option<Stepped>
     requires clean { execution.old.fault ≡ None }
     requires few { length (program_of vertex.now).steps < 2 ^ 32 }
@@ -61,8 +62,8 @@ fn skip_next(execution: &mut Execution, vertex: &Vertex) -> Option<Stepped>
     Some(Stepped::Skipped(done))
 }
 
-/// The next micro-step of an execution, whose instances of caches have these trees: it leaves others of them. 137 where none is left,
-/// 141 where memory is refused; then the execution is as it was.
+/// Does the next micro-step of an execution on these trees of its cache instances, and leaves as many trees. Fails with 137 `NothingLeft`
+/// where no micro-step is left, with 141 `Memory`; then the execution is as it was.
 pub fn step(
     alloc: Global,
     execution: &mut Execution,
@@ -90,7 +91,7 @@ pub fn step(
     }
 }
 
-// The next micro-step of an execution that has not faulted.
+// Does the next micro-step of an execution that has not faulted.
 fn next_step(
     alloc: Global,
     execution: &mut Execution,
@@ -120,7 +121,7 @@ fn next_step(
     Ok(told(next, done, skipped, execution.view.last(), fault))
 }
 
-// What a micro-step of that number answers, which was skipped or not, and left this last status and fault.
+// Returns the reply of the micro-step of number `done`, given whether it was skipped, and the last status and the fault that it left.
 fn told(
     step: MicroStep<'_>,
     done: u32,
@@ -144,7 +145,7 @@ fn told(
     }
 }
 
-// A fault, or where there is none what was done.
+// Returns the fault as a reply, or `done` if there is no fault.
 fn unless_faulted(fault: Option<VertexFault>, done: Stepped) -> Stepped
     ensures { result ≡ fault_or fault done }
 {

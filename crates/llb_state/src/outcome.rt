@@ -1,4 +1,4 @@
-//! The work of a job, away from every board: what all micro-steps that are left to it leave. It stands on the job alone.
+//! The work of a job, away from every board: all micro-steps that it has left are done. It depends on the job alone.
 
 ghost use Rattle.std.specs.Prelude.{◌≡◌, IfOk, IsTrue, Err};
 ghost use Rattle.llb_execution.specs.Parts.{left_with};
@@ -14,8 +14,8 @@ use llb_tree::Tree;
 use std::alloc::Global;
 use std::marker::Model;
 
-/// What a job has come to: how many micro-steps were left to it, and the view, the trees of the instances of caches and the fault that
-/// they leave. Its type keeps that they are what the job's program leaves, so that no board has to ask.
+/// The outcome of a job: how many micro-steps it had left, and the view, the trees of the cache instances and the fault that they
+/// leave. By the type's invariant they are what the job's program leaves, so no board has to check it.
 #[derive(Drop)]
 pub struct Outcome {
     pub(crate) job: Job,
@@ -41,35 +41,35 @@ impl Model for Outcome {
 }
 
 impl Outcome {
-    /// The job as it was handed out.
+    /// Returns the job as it was handed out.
     pub fn job(&self) -> &Job
         ensures { result.now ≡ self.now.job }
     {
         &self.job
     }
 
-    /// It is what all micro-steps that are left to its job leave.
+    /// Recalls the type's invariant: the outcome is what all micro-steps that its job has left leave.
     pub fn is_whole(&self)
         ensures { IsOutcome self.now.job self.now.count self.now.left }
     {
         let _ = &self.fault;
     }
 
-    /// How many micro-steps were left to it.
+    /// Returns how many micro-steps the job had left.
     pub fn count(&self) -> u32
         ensures { result ≡ self.now.count }
     {
         self.count
     }
 
-    /// The fault of the last of them, where it had one.
+    /// Returns the fault of the last of them, if it had one.
     pub fn fault(&self) -> Option<VertexFault>
         ensures { result ≡ self.now.left.fault }
     {
         self.fault
     }
 
-    /// What they left: how many they were, the view, the trees of the instances of caches, and the fault of the last of them.
+    /// Returns how many micro-steps the job had left, and what they leave: the view, the trees of the cache instances, and the fault of the last.
     pub fn into_left(self) -> (u32, View, Vec<Tree>, Option<VertexFault>)
         ensures count { result.0 ≡ self.count }
         ensures left { left_with result.1 result.2.items result.3 ≡ self.left }
@@ -85,8 +85,8 @@ impl Outcome {
     }
 }
 
-/// Does all micro-steps that are left to a job, behind a gate. 143 where the gate stops the worker, which it does only where it may; 142
-/// where memory is refused. Then the job is gone. The view and the trees that are worked on are second owners of the job's.
+/// Does all micro-steps that a job has left, behind a gate. Fails with 143 `Stopped` where the gate stops the worker, which it does only
+/// where it may, and with 142 `Memory`; then the job is gone. It works on second owners of the job's view and trees.
 pub fn work<G: Gate>(alloc: Global, job: Job, gate: &G) -> Result<Outcome, WorkFault>
     ensures job { IfOk result (λ o. o.job ≡ job) }
     ensures stopped { result ≡ Err work.Stopped → IsTrue (G.may_stop job.worker job.vertex) }
@@ -95,7 +95,7 @@ pub fn work<G: Gate>(alloc: Global, job: Job, gate: &G) -> Result<Outcome, WorkF
     Ok(worked(alloc, job)?)
 }
 
-// All micro-steps that are left to a job.
+// Does all micro-steps that a job has left.
 fn worked(alloc: Global, job: Job) -> Result<Outcome, Memory>
     ensures { IfOk result (λ o. o.job ≡ job) }
 {

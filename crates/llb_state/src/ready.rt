@@ -1,5 +1,4 @@
-//! Looks on what stands at the vertices: which vertices are ready, and which are after one that
-//! has failed.
+//! Queries on the states of the vertices: which vertices are ready, and which are downstream of one that has failed.
 
 ghost use Rattle.std.specs.Prelude.{◌≡◌, [], map, length, option_map, slice_get, false, unwrap_or, ◌&&◌};
 ghost use Rattle.std.specs.List.{list_any};
@@ -20,14 +19,14 @@ use llb_tree::Tree;
 use llb_wire::Many;
 use std::alloc::Global;
 
-/// What stands at a vertex.
+/// Returns the state of a vertex; `None` past the last vertex.
 pub fn stand_at(stands: &[Stand], v: u32) -> Option<&Stand>
     ensures { option_map (λ s. status_of s.now) result ≡ slice_get (map status_of stands.now) v }
 {
     stands.get(v as usize)
 }
 
-/// An output of a vertex that is done.
+/// Returns an output of a vertex that is done; `None` where there is no such vertex or output.
 pub fn output_at(stands: &[Stand], v: u32, i: u32) -> Option<&Tree>
     ensures { option_map (λ t. t.now) result ≡ output_in (ending_at (map status_of stands.now) v) i }
 {
@@ -37,7 +36,7 @@ pub fn output_at(stands: &[Stand], v: u32, i: u32) -> Option<&Tree>
     }
 }
 
-/// Whether a vertex waits and no input of it is open.
+/// Returns whether a vertex waits and has no open input.
 pub fn is_ready(stands: &[Stand], links: &Links, v: u32) -> bool
     ensures { result ≡ (is_waiting (slice_get (map status_of stands.now) v) && has_inputs links.now v) }
 {
@@ -47,7 +46,7 @@ pub fn is_ready(stands: &[Stand], links: &Links, v: u32) -> bool
     }
 }
 
-/// Copies of the trees that the edges lead to; 134 where one is not there, 141 where memory is refused.
+/// Returns copies of the trees that the edges lead to. Fails with 134 `NotReady` where one is not there, with 141 `Memory`.
 pub fn gathered(alloc: Global, stands: &[Stand], inputs: &[Edge]) -> Result<Vec<Tree>, ClaimFault>
     ensures { GivesClaim (λ trees. trees.items) result (or_not_ready (inputs_from (ending_at (map status_of stands.now)) inputs.now)) }
 {
@@ -61,7 +60,7 @@ pub fn gathered(alloc: Global, stands: &[Stand], inputs: &[Edge]) -> Result<Vec<
     Ok(trees)
 }
 
-/// Marks each vertex that has failed, or is after one that has.
+/// Marks each vertex that has failed or is downstream of one that has, and no other.
 pub fn mark_stopped(stop_marks: &mut [bool], stands: &[Stand], vertices: &[Vertex])
     requires { length stop_marks.old ≡ length vertices.now }
     ensures { stop_marks.new ≡ by_number (next_stopped (map status_of stands.now)) [] vertices.now }
@@ -71,7 +70,7 @@ pub fn mark_stopped(stop_marks: &mut [bool], stands: &[Stand], vertices: &[Verte
     }
 }
 
-// Whether vertex v has failed, or an input of it is marked.
+// Returns whether vertex v has failed or an input of it is marked.
 fn is_stopped(before: &[bool], stands: &[Stand], v: usize, vertex: &Vertex) -> bool
     requires { length before.now ≡ v }
     ensures { result ≡ next_stopped (map status_of stands.now) before.now vertex.now }
@@ -90,7 +89,7 @@ fn is_behind(before: &[bool], inputs: &[Edge]) -> bool
     false
 }
 
-/// Whether a vertex is marked; one past the marks is not.
+/// Returns whether a vertex is marked; one past the marks is not.
 pub fn is_marked(before: &[bool], v: u32) -> bool
     ensures { result ≡ unwrap_or (slice_get before.now v) false }
 {

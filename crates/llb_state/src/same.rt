@@ -1,4 +1,4 @@
-//! Whether the parts of two states are the same by value. The numbers of leases are not compared. Nothing here takes memory.
+//! Whether the parts of two states are the same by value. The numbers of leases are not compared. Nothing here allocates.
 
 ghost use Rattle.std.specs.Prelude.{◌≡◌, ◌↔◌, IsTrue, map};
 ghost use Rattle.llb_state.specs.Views.{status_of, execution_of, at_of, event_of};
@@ -7,7 +7,7 @@ use crate::stand::{Desk, Execution, Stand};
 use llb_events::Event;
 use llb_wire::{Same, all_same};
 
-/// Whether the same stands at each vertex, by value. Takes no memory.
+/// Returns whether the vertices have the same states, by value. Does not allocate.
 pub fn same_stands(stands: &[Stand], others: &[Stand]) -> bool
     ensures { IsTrue result ↔ (map status_of stands.now ≡ map status_of others.now) }
 {
@@ -34,7 +34,7 @@ fn same_stand(stand: &Stand, other: &Stand) -> bool
     }
 }
 
-/// Whether each worker does the same, by value; the numbers of leases are not compared. Takes no memory.
+/// Returns whether each worker runs the same, by value; the numbers of leases are not compared. Does not allocate.
 pub fn same_desks(desks: &[Desk], others: &[Desk]) -> bool
     ensures { IsTrue result ↔ (map at_of desks.now ≡ map at_of others.now) }
 {
@@ -59,7 +59,7 @@ fn same_desk(desk: &Desk, other: &Desk) -> bool
     }
 }
 
-// Whether the same vertex is run with the same view and instances, and has come as far.
+// Returns whether both run the same vertex with the same view and instances, the same count of micro-steps done and the same fault.
 fn same_execution(execution: &Execution, other: &Execution) -> bool
     ensures { IsTrue result ↔ (execution_of execution.now ≡ execution_of other.now) }
 {
@@ -70,7 +70,7 @@ fn same_execution(execution: &Execution, other: &Execution) -> bool
         && all_same(execution.places.as_slice(), other.places.as_slice())
 }
 
-/// Whether both are the same events in the same order. Takes no memory.
+/// Returns whether both are the same events in the same order. Does not allocate.
 pub fn same_events(events: &[Event], others: &[Event]) -> bool
     ensures { IsTrue result ↔ (map event_of events.now ≡ map event_of others.now) }
 {

@@ -1,4 +1,4 @@
-//! Of each vertex what stands there, and of each worker what it runs, with what it needs until its end. A board hands out none of these.
+//! The state of each vertex, and what each worker runs, with what that needs until its end. A board hands out none of these.
 
 ghost use Rattle.std.specs.Prelude.{◌≡◌, Some};
 ghost use Rattle.llb_model.specs.State.{ending_of, is_done, is_failed};
@@ -11,7 +11,7 @@ use llb_model::VertexFault;
 use llb_tree::Tree;
 use llb_wire::Many;
 
-/// What stands at a vertex.
+/// The state of a vertex.
 #[derive(Drop)]
 pub enum Stand {
     Waiting,
@@ -21,7 +21,7 @@ pub enum Stand {
 }
 
 impl Stand {
-    /// Whether its vertex has failed.
+    /// Returns whether the vertex has failed.
     pub fn has_failed(&self) -> bool
         ensures { result ≡ is_failed (ending_of (Some (status_of self.now))) }
     {
@@ -31,7 +31,7 @@ impl Stand {
         }
     }
 
-    /// Whether its vertex is done.
+    /// Returns whether the vertex is done.
     pub fn is_done(&self) -> bool
         ensures { result ≡ is_done (ending_of (Some (status_of self.now))) }
     {
@@ -42,20 +42,20 @@ impl Stand {
     }
 }
 
-/// What a worker does.
+/// The state of a worker.
 #[derive(Drop)]
 pub enum Desk {
     Idle,
-    /// The lease of its instances of caches, where it has some, and what it has else.
+    /// The lease of its cache instances, if any, and everything else it holds.
     Runs(Option<Lease>, Execution),
 }
 
-/// What a running worker has. In `places` are the instances of caches that it has leased, in `outputs` an empty tree for each
-/// output of its vertex, and `setting` is where its commands run.
+/// What a running worker holds: in `places` the cache instances that it has leased, in `outputs` an empty tree for each
+/// output of its vertex; its commands run in `setting`.
 #[derive(Drop)]
 pub struct Execution {
     pub vertex: u32,
-    /// The micro-steps done; one that faults is counted.
+    /// How many micro-steps are done; one that faults is counted.
     pub done: u32,
     pub fault: Option<VertexFault>,
     pub view: View,

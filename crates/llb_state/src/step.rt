@@ -1,4 +1,4 @@
-//! One worker's execution of a vertex: how it begins, a micro-step of it, and how it ends.
+//! One worker's execution of a vertex: how it begins, one micro-step of it, and how it ends.
 
 ghost use Rattle.std.specs.Prelude.{◌≡◌, ◌<◌, ◌^◌, [], length, map, option_map, slice_get, slice_set, is_ok, is_some, nat_le, ◌||◌, true, Some, Err};
 ghost use Rattle.std.specs.Prelude.{Ok, OnErr, OnOk, IfOk, MatchResult};
@@ -39,14 +39,15 @@ use llb_wire::Many;
 use std::alloc::Global;
 use std::mem;
 
-/// What a worker does, where there is one of that number.
+/// Returns the state of the worker of a number; `None` where there is no such worker.
 pub fn desk_at(desks: &[Desk], w: u32) -> Option<&Desk>
     ensures { option_map (λ d. at_of d.now) result ≡ slice_get (map at_of desks.now) w }
 {
     desks.get(w as usize)
 }
 
-/// The vertex that a worker may claim, or the first cause of a refusal: 131, 132, 133, 134. No memory.
+/// Returns the vertex that a worker may claim. Fails with the first of 131 `NoWorker`, 132 `Busy`, 133 `NoVertex` and 134 `NotReady`
+/// that applies. Does not allocate.
 pub fn claimable<'a>(
     build: &'a Build,
     stands: &[Stand],
@@ -79,7 +80,7 @@ pub fn claimable<'a>(
     Ok(vertex)
 }
 
-// What a vertex's execution has beside its view: the program, an empty tree for each output, and where its commands run.
+// What a vertex's execution holds besides its view: the program, an empty tree for each output, and where its commands run.
 #[derive(Drop)]
 struct Outfit {
     program: Program,
@@ -100,7 +101,7 @@ fn outfit_for(alloc: Global, vertex: &Vertex) -> Result<Outfit, ClaimFault>
     })
 }
 
-/// What a claim begins: the job, the worker's own part, and what is to be leased.
+/// What a claim begins with: the job, the worker's own execution, and the needs that it has to lease.
 #[derive(Drop)]
 pub struct Begun {
     pub job: Job,
@@ -108,9 +109,9 @@ pub struct Begun {
     pub needs: Vec<Need>,
 }
 
-/// The job and the execution of a vertex before its first micro-step, which needs these caches: each has the trees of the inputs and
-/// the instances of caches that a lease will give, and the execution an empty tree for each output and where its commands run. 134 where
-/// an input is not there, 141 where memory is refused.
+/// Makes the job and the execution of a vertex, before its first micro-step, with the caches that it wants: both have the trees of the
+/// inputs and the cache instances that a lease will give; the execution also has an empty tree for each output, and where its commands
+/// run. Fails with 134 `NotReady` where an input is not there, with 141 `Memory`.
 pub fn begin(
     alloc: Global,
     build: &Build,
@@ -159,14 +160,14 @@ pub fn begin(
     })
 }
 
-/// Whether all micro-steps are done, or one has faulted.
+/// Returns whether all micro-steps are done, or one has faulted.
 pub fn is_finished(execution: &Execution, steps: u32) -> bool
     ensures { result ≡ (is_some execution.now.fault || nat_le steps execution.now.done) }
 {
     execution.fault.is_some() || steps <= execution.done
 }
 
-// The next micro-step of an execution, on the instances of its lease as they are now, which are written back.
+// Does the next micro-step of an execution on the instances of its lease as they are now, and writes them back.
 fn step_of(
     alloc: Global,
     build: &Build,
@@ -198,8 +199,8 @@ fn step_of(
     Ok(stepped)
 }
 
-/// The next micro-step of what a worker runs, on its instances of caches as they are, which are written at once. 131, 136, 137, 141; then
-/// nothing has changed.
+/// Does the next micro-step of what a worker runs on its cache instances as they are, and writes them at once. Fails with 131 `NoWorker`,
+/// 136 `NotRunning`, 137 `NothingLeft` or 141 `Memory`; then nothing has changed.
 pub fn step_at(
     alloc: Global,
     build: &Build,
@@ -227,8 +228,8 @@ pub fn step_at(
     }
 }
 
-/// A worker leaves what it runs, which is finished: the vertex, what stands there then, and the lease of its instances, where it has
-/// one. 131, 136, 138; no memory.
+/// Makes a worker leave what it runs, which is finished. Returns the vertex, its state then, and the lease of the worker's instances, if it
+/// has one. Fails with 131 `NoWorker`, 136 `NotRunning` or 138 `NotFinished`. Does not allocate.
 pub fn leave(
     build: &Build,
     desks: &mut [Desk],
@@ -260,8 +261,8 @@ pub fn leave(
     }
 }
 
-/// A worker gives up what it runs, finished or not: the vertex with the micro-steps done, and the lease of its instances, where it has
-/// one. 131, 136; no memory.
+/// Makes a worker give up what it runs, finished or not. Returns the vertex with its count of micro-steps done, and the lease of the
+/// worker's instances, if it has one. Fails with 131 `NoWorker` or 136 `NotRunning`. Does not allocate.
 pub fn give_up(desks: &mut [Desk], w: u32) -> Result<(Cancelled, Option<Lease>), CancelFault>
     ensures gives { GivesCancel (λ p. (p.0.vertex, p.0.done)) result (given_up_at (slice_get (map at_of desks.old) w)) }
     ensures leased { IfOk result (λ p. slice_get (map leased_by desks.old) w ≡ Some p.1) }

@@ -1,4 +1,4 @@
-//! What an event changed, put back: what a worker has, the leases of all workers, the marks and the counts of open inputs.
+//! Puts back what an event changed: what a worker has, the leases of all workers, the marks and the counts of open inputs.
 
 ghost use Rattle.std.specs.Prelude.{◌≡◌, ◌<◌, ◌+◌, ◌^◌, ℕ, get_or, [], Some, length, map, slice_get, slice_set};
 ghost use Rattle.std.specs.Bool.{OnTrue, OnFalse};
@@ -21,14 +21,14 @@ use llb_execution::Mark;
 use llb_links::Links;
 use llb_loader::Vertex;
 
-/// Caches as they were, and the leases of all workers.
+/// The caches before an event, and the leases of all workers then.
 #[derive(Drop)]
 pub struct Before {
     pub caches: Caches,
     pub leases: Vec<Option<Lease>>,
 }
 
-/// A worker has nothing to do; the lease that it had comes out.
+/// Makes a worker idle, and returns the lease that it had, if any.
 pub fn make_idle(desks: &mut Vec<Desk>, w: u32) -> Option<Lease>
     requires { w < length desks.old.items }
     ensures idle { desks.new.items ≡ slice_set desks.old.items w desk.Idle }
@@ -39,7 +39,7 @@ pub fn make_idle(desks: &mut Vec<Desk>, w: u32) -> Option<Lease>
     lease
 }
 
-/// A worker has done one micro-step less, and its view is as it was.
+/// Takes one micro-step back from what a worker runs: the count, the fault and the view are as they were.
 pub fn step_back(desks: &mut Vec<Desk>, w: u32, mark: Mark)
     requires { w < length desks.old.items }
     ensures { desks.new.items ≡ slice_set desks.old.items w (desk_before mark (slice_get desks.old.items w)) }
@@ -54,7 +54,7 @@ pub fn step_back(desks: &mut Vec<Desk>, w: u32, mark: Mark)
     }
 }
 
-/// The caches are as they were, where they were kept, and each worker has the lease that it had.
+/// Puts the caches back as they were, and each worker's lease, if they were kept.
 pub fn put_caches(desks: &mut Vec<Desk>, caches: &mut Caches, before: Option<Before>)
     requires { ForSome before (λ c. HasPlaceFor c.leases.items (map at_of desks.old.items)) }
     ensures workers { map at_of desks.new.items ≡ map at_of desks.old.items }
@@ -68,7 +68,7 @@ pub fn put_caches(desks: &mut Vec<Desk>, caches: &mut Caches, before: Option<Bef
     }
 }
 
-// Each worker has its lease.
+// Gives each worker its lease.
 fn put_leases(desks: &mut Vec<Desk>, leases: &[Option<Lease>])
     requires { HasPlaceFor leases.now (map at_of desks.old.items) }
     ensures workers { map at_of desks.new.items ≡ map at_of desks.old.items }
@@ -80,7 +80,7 @@ fn put_leases(desks: &mut Vec<Desk>, leases: &[Option<Lease>])
     }
 }
 
-// A worker that runs has this lease.
+// Gives a running worker this lease.
 fn put_lease(desk: &mut Desk, lease: Option<Lease>)
     ensures { desk.new ≡ desk_leased lease desk.old }
 {
@@ -90,7 +90,7 @@ fn put_lease(desk: &mut Desk, lease: Option<Lease>)
     }
 }
 
-/// Marks each vertex that has failed or is after one that has, where the marks may have changed.
+/// Marks each vertex that has failed or is downstream of one that has, and no other, if the marks may have changed.
 pub fn mark_anew(stop_marks: &mut Vec<bool>, stands: &[Stand], vertices: &[Vertex], changed: bool)
     requires { length stop_marks.old.items ≡ length vertices.now }
     ensures anew { OnTrue changed (stop_marks.new.items ≡ by_number (next_stopped (map status_of stands.now)) [] vertices.now) }
@@ -101,7 +101,7 @@ pub fn mark_anew(stop_marks: &mut Vec<bool>, stands: &[Stand], vertices: &[Verte
     }
 }
 
-/// Each vertex that has an edge to one has an open input more, where that one was done.
+/// Increments the count of open inputs of each user of a vertex, if the vertex was done.
 pub fn open_anew(links: &mut Links, v: u32, was_done: bool)
     requires low { v < length links.old.users }
     requires below { All (λ x. x < length links.old.counts) (users_at links.old v) }

@@ -32,7 +32,7 @@ pub shifted : (xs : List Event) (e : Event) (es : List Event) → (xs ++ e ∷ [
 shifted [] e es = refl
 shifted (x ∷ xs) e es = ap (λ l. x ∷ l) (shifted xs e es)
 
--- what goes on from an answer that there is
+-- what goes on from a result that there is
 pub went : (o : Option (Seen × Reply)) (go : Seen → Option Seen) (c : Seen) → then_on o go ≡ Some c → (p : Seen × Reply) × (o ≡ Some p) × (go p.0 ≡ Some c)
 went None go c e = absurd cc
 went (Some p) go c e = (p, refl, e)

@@ -1,4 +1,4 @@
--- The replies that a stepper tells of its record are those of the run of the record, since the boards before are those of the record.
+-- The replies that a stepper has for its record are those of the run of the record, since the boards before are those of the record.
 use Rattle.std.proofs.Common.{◌≡◌, ℕ, zero, suc, ◌+◌, ◌-◌, ◌<◌, ◌≤◌, ◌&&◌, Bool, true, false, cond, List, [], ◌∷◌, ◌++◌, length, take, get_or}
 use Rattle.std.proofs.Common.{Option, Some, None, option_map, refl, sym, ap, ◌∙◌, arith}
 use Rattle.std.proofs.lemmas.Bool.{leb-true}

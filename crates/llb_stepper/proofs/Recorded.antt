@@ -35,7 +35,7 @@ last_of before b e r given = by_table (table before.build before.state e) given
     by_table (Some a) is =
         let same : (let p : Seen × Reply = (after_event before e a.0, a.1) in p) ≡ (b, r) = cc in ap (λ (p : Seen × Reply). p.0.events) (sym same)
 
--- the event of which that many are after it
+-- the event that k events follow
 pub record IsRecorded (b : Seen) (us : List Walked) (k : ℕ) (q : short.Reply) : Type 0 where
   pub event : Event
   pub reply : Reply
@@ -104,7 +104,7 @@ done_here s i e r low high at given =
     ap (λ t. cond t (replied (slice_get s.past (length s.board.events - i)) (slice_get s.board.events (i - 1))) None) test
     ∙ ap (replied (slice_get s.past (length s.board.events - i))) at ∙ given
 
--- what was done is told by the place of its undo
+-- what was done is found by the place of its undo
 pub told_here : (b : Seen) (ws : List Walked) (d : Walked) (s : Stepping) (i : ℕ) (e : Event) → AreWalked b (reverse ws) → b ≡ s.board
     → past_of b (reverse ws) ≡ s.past
     → 1 ≤ i → i ≤ length b.events → length b.events - i < length ws → slice_get b.events (i - 1) ≡ Some e
@@ -127,7 +127,7 @@ told_here b ws d s i e are board past low high inside at =
     ∙ at) given in
     ap (λ q. Some (e, q)) r.same ∙ sym (ap (option_map told_pair) here)
 
--- it is looked up at a place that is told otherwise
+-- it is looked up at a place that is given otherwise
 pub told_as : (b : Seen) (ws : List Walked) (d : Walked) (s : Stepping) (i : ℕ) (e : Event) (x : Walked) (j : ℕ) → x ≡ get_or ws j d → j
     ≡ length ws - 1 - (length b.events - i)
     → AreWalked b (reverse ws) → b ≡ s.board → past_of b (reverse ws) ≡ s.past → 1 ≤ i → i ≤ length b.events → length b.events - i < length ws

@@ -65,7 +65,7 @@ along (e ∷ es) x t rs rows ran keeps =
 pub replayed : (b : Seen) → Replays b → run_on (at_first b) b.events ≡ Some b
 replayed b here = along b.events (at_first b) b.state here.replies b.rows here.leads here.keeps
 
--- of a record without its last event, what is taken of the record before
+-- the events taken of a record without its last event are those taken of the record
 taken : (xs : List Event) (e : Event) (n : ℕ) → n ≤ length xs → take n (xs ++ e ∷ []) ≡ take n xs
 taken xs e zero le = refl
 taken [] e (suc n) le = absurd (omega (arith, le))

@@ -1,4 +1,4 @@
--- What a walk of the board tells of the table: the board after the event, and the reply.
+-- What a walk of the board says of the table: the board after the event, and the reply.
 use Rattle.std.proofs.Common.{◌≡◌, suc, ◌+◌, Bool, true, false, List, [], ◌∷◌, ◌++◌, length, reverse, Option, Some, None, option_map}
 use Rattle.std.proofs.Common.{is_some, refl, sym, ap, ◌∙◌, subst}
 use Rattle.std.proofs.lemmas.List.{reverse-append, length-reverse, length-append}
@@ -30,7 +30,7 @@ Walk = Result (Seen × short.Reply) WalkFault
 inside : {x y : Seen × short.Reply} → ◌≡◌ {A = Walk} (Ok x) (Ok y) → x ≡ y
 inside e = cc
 
--- an event that is granted: the board after it, and the reply that is told
+-- an event that is granted: the board after it, and its reply in short
 by_grant : {C F : Type 0} (b n : Seen) (e : Event) (q : short.Reply) (fault : C → F) (out : F → WalkFault) (o : Result (State × Reply) C)
     → told_as out (recorded b e fault o) ≡ Ok (n, q) → (r : Reply) × (option_map {U = Seen × Reply} (λ a. (after_event b e a.0, a.1)) (result_ok o)
     ≡ Some (n, r)) × (q ≡ told r)
@@ -59,7 +59,7 @@ not_refused b (Step w) f granted is = grants_by b (Step w) step_fault walk.Step 
 not_refused b (Settle w) f granted is = grants_by b (Settle w) settle_fault walk.Settle (settle_grant b.build b.state w) f granted is
 not_refused b (Cancel w) f granted is = grants_by b (Cancel w) cancel_fault walk.Cancel (cancel_grant b.state w) f granted is
 
--- a breakpoint is met by what is told of a reply as by the reply
+-- a breakpoint is met by a reply in short as by the reply
 met_told : (e : Event) (r : Reply) (k : Break) → meets_told e (told r) k ≡ meets e r k
 met_told e r (stop.Claims v) = refl
 met_told e (Claimed job) (stop.Settles v) = refl
@@ -86,12 +86,12 @@ met_told e (Cancelled u k) stop.Fails = refl
 pub any_told : (e : Event) (r : Reply) (ks : List Break) → list_any (meets_told e (told r)) ks ≡ list_any (meets e r) ks
 any_told e r ks = ap (λ test. list_any test ks) (λ i k. met_told e r k i)
 
--- as many boards are before as events were done
+-- there are as many boards before as events were done
 depth : (ws : List Walked) (b : Seen) → length (past_of b ws) ≡ length ws
 depth [] b = refl
 depth (w ∷ ws) b = ap suc (depth ws (undone w.undo b))
 
--- as many boards are before a stepper's as events were done
+-- there are as many boards before a stepper's as events were done
 pub depth_of : (ws : List Walked) (b : Seen) → length ws ≡ length (past_of b (reverse ws))
 depth_of ws b = sym (length-reverse ws) ∙ sym (depth (reverse ws) b)
 
@@ -114,7 +114,7 @@ module _ (b n : Seen) (e : Event) (ws : List Walked) (w : Walked) (back : undone
       ap (λ us. record { board = n; past = past_of n us; breaks = breaks }) turned
       ∙ ap (λ x. record { board = n; past = x ∷ past_of x (reverse ws); breaks = breaks }) back
 
-  -- the reply tells whether the event meets a breakpoint, and the stepper is one event on
+  -- the reply decides whether the event meets a breakpoint, and the stepper is one event on
   pub meets_more : (s : Stepping) (ks : List Break) (us : List Walked) (met : Bool) → us ≡ ws ++ w ∷ [] → stepping b ws ks ≡ s
       → met ≡ list_any (meets_told e w.reply) ks → MeetsOn s e (stepping n us ks) met
   meets_more s ks us met more view is =
@@ -128,13 +128,13 @@ module _ (b n : Seen) (e : Event) (ws : List Walked) (w : Walked) (back : undone
         told_by ∙ any_told e a.0 ks ∙ ap (list_any (meets e a.0)) breaks,
       )
 
--- ---- a chosen event is refused only where it is out of memory
+-- ---- a chosen event is refused only for want of memory
 
 refused_by : (s : Stepping) (o : Walk) (f : StepperFault) → done_by s o ≡ Err f → (g : WalkFault) × (o ≡ Err g)
 refused_by s (Ok p) f is = absurd cc
 refused_by s (Err g) f is = (g, refl)
 
--- an event that the table grants is refused only where it is out of memory
+-- an event that the table grants is refused only for want of memory
 pub memory_alone : (s : Stepping) (e : Event) (f : StepperFault) → is_some (table s.board.build s.board.state e) ≡ true
     → (stepper_memory f ≡ false → done_of s e ≡ Err f) → stepper_memory f ≡ true
 memory_alone s e f granted refused = by_test (stepper_memory f) refl
@@ -148,7 +148,7 @@ pub chosen_granted : (b : Seen) (s : Stepping) (e : Event) → b ≡ s.board →
     → is_some (table s.board.build s.board.state e) ≡ true
 chosen_granted b s e same law is = ap (λ (x : Seen). is_some (table x.build x.state e)) (sym same) ∙ law e is
 
--- the chosen event is granted by the table, so it is refused only where it is out of memory
+-- the chosen event is granted by the table, so it is refused only for want of memory
 pub chosen_done : (b : Seen) (s : Stepping) → b ≡ s.board → ChosenIsGranted b → (e : Event) (f : StepperFault) → chosen s.board.build s.board.state ≡ Some e
     → done_of s e ≡ Err f → stepper_memory f ≡ true
 chosen_done b s same law e f is refused =

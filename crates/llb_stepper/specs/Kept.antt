@@ -8,7 +8,7 @@ use Rattle.llb_board.specs.declared.walk.Walked.{Walked}
 use Rattle.llb_stepper.specs.declared.stop.Break.{Break}
 use Rattle.llb_stepper.specs.Stepping.{Stepping, answered}
 
--- where taking back one event after another leads, the last first
+-- the boards to which taking back one event after another leads, the last event first
 abbrev pub past_of : Seen → List Walked → List Seen
 past_of b [] = []
 past_of b (w ∷ ws) = undone w.undo b ∷ past_of (undone w.undo b) ws
@@ -16,7 +16,7 @@ past_of b (w ∷ ws) = undone w.undo b ∷ past_of (undone w.undo b) ws
 abbrev pub stepping : Seen → List Walked → List Break → Stepping
 stepping b walked breaks = record { board = b; past = past_of b (reverse walked); breaks = breaks }
 
--- a board is what an event leaves of one before it, and that is the reply
+-- a board is what some event leaves of the board before, with this reply
 pub record Follows (before b : Seen) (r : short.Reply) : Type 0 where
   pub event : Event
   pub reply : Reply

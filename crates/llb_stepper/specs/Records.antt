@@ -77,12 +77,12 @@ replied None e = None
 replied (Some b) None = None
 replied (Some b) (Some e) = option_map (λ (p : Seen × Reply). (e, p.1)) (answered b e)
 
--- event i of the board's record, counted from 1, with its reply: of those alone that were done here
+-- event i of the board's record, counted from 1, with its reply; only events that were done here have one
 abbrev pub record_at : Stepping → ℕ → Option (Event × Reply)
 record_at s i =
     if nat_le 1 i && nat_le i (length s.board.events) then replied (slice_get s.past (length s.board.events - i)) (slice_get s.board.events (i - 1)) else None
 
--- What a stepper tells of the record is the run of the whole record from the board's opening: event i and its reply there; and it tells of each event that
+-- What `record_at` returns agrees with the run of the whole record from the board's opening: event i and its reply there; and it returns each event that
 -- was done here.
 pub record TellsTheRun (s : Stepping) : Type 0 where
   pub tells : (i : ℕ) (e : Event) (r : Reply) (t : State) (replies : List Reply)

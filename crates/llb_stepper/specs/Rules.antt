@@ -30,11 +30,11 @@ done_by s (Err e) = Err (fault.Board e)
 abbrev pub done_of : Stepping → Event → Result Stepping StepperFault
 done_of s e = done_by s (walk_of s.board e)
 
--- the chosen event is refused only where memory is refused
+-- the chosen event is refused only for want of memory
 abbrev pub ChosenIsDone : Stepping → Type 0
 ChosenIsDone s = (e : Event) (fault : StepperFault) → chosen s.board.build s.board.state ≡ Some e → done_of s e ≡ Err fault → stepper_memory fault ≡ true
 
--- an event, and back, is nothing, whatever the event
+-- doing any event and taking it back restores the stepper
 abbrev pub ThereAndBack : Stepping → Type 0
 ThereAndBack s = (e : Event) (t u : Stepping) → done_of s e ≡ Ok t → GoesBack t u → u ≡ s
 

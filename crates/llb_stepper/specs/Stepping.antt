@@ -30,7 +30,7 @@ onward s b = record s { board = b; past = s.board ∷ s.past }
 abbrev pub lesser : ℕ → ℕ → ℕ
 lesser a b = if nat_lt a b then a else b
 
--- one event fewer, over the same build, and breakpoints as they were
+-- the stepper after an event is taken back: one event fewer, over the same build, and breakpoints as they were
 pub record GoesBack (s t : Stepping) : Type 0 where
   pub past : s.past ≡ t.board ∷ t.past
   pub build : t.board.build ≡ s.board.build
@@ -84,7 +84,7 @@ meets_any breaks b e = meets_by breaks e (answered b e)
 
 -- ---- lists of events
 
--- the board that goes on from what an event gives
+-- the board that goes on from the board after an event
 abbrev pub then_on : Option (Seen × Reply) → (Seen → Option Seen) → Option Seen
 then_on None go = None
 then_on (Some p) go = go p.0
@@ -126,7 +126,7 @@ abbrev pub EndsAt : Bool → List Break → Seen → List Event → ℕ → Type
 EndsAt true breaks b es n = (k : ℕ) × ((n ≡ k + 1) × (meets_at breaks b es k ≡ true))
 EndsAt false breaks b es n = (n ≡ length es) × ((k : ℕ) → k < n → meets_at breaks b es k ≡ false)
 
--- of a list of events the shortest prefix that is not empty and whose last event meets a breakpoint was done, or the whole list where there is none
+-- the stepper did the shortest non-empty prefix of a list of events whose last event meets a breakpoint, or the whole list where no event meets one
 pub record IsStop (s : Stepping) (es : List Event) (t : Stepping) (p : Stop) : Type 0 where
   pub leads : run_on s.board (take p.events es) ≡ Some t.board
   pub past : drop p.events (line t) ≡ line s

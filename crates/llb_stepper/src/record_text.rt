@@ -1,4 +1,4 @@
-//! The lines of a record as text: an event by its number, and what it was answered.
+//! The lines of a record as text: an event by its number, and the reply to it.
 
 ghost use Rattle.std.specs.Prelude.{◌≡◌, IfOk, option_map, string_bytes};
 ghost use Rattle.llb_state.specs.Views.{event_of};
@@ -11,7 +11,7 @@ use llb_model::VertexFault;
 use llb_ops::{Kind, Op};
 use std::alloc::{AllocError, Global};
 
-/// The name of an op's kind. No graph has an op of the last two, or of none.
+/// Returns the name of an op's kind. No graph has an op of the last two, or of none.
 pub fn kind_name(op: &Op) -> &'static str
     ensures { result.now ≡ kind_text op.now.kind }
 {
@@ -118,7 +118,7 @@ fn reply_text(
     }
 }
 
-/// The line of an event under its number, with its reply, and without its end.
+/// Returns the line of an event under its number, with its reply, and without its end.
 pub(crate) fn line_text(
     alloc: Global,
     vertices: &[Vertex],

@@ -58,7 +58,7 @@ impl Model for Stepper {
 }
 
 impl Stepper {
-    /// Over a board, without breakpoints. What the board has done before is not taken back. No memory.
+    /// Makes a stepper over a board, without breakpoints. What the board has done before is not taken back. Does not allocate.
     pub fn new(alloc: Global, board: Board) -> Stepper
         ensures { result ≡ record { board = board; past = []; breaks = [] } }
     {
@@ -70,14 +70,14 @@ impl Stepper {
         }
     }
 
-    /// The board as it is now. No memory.
+    /// Returns the board as it is now. Does not allocate.
     pub fn board(&self) -> &Board
         ensures { result.now ≡ self.now.board }
     {
         &self.board
     }
 
-    /// One breakpoint more. 174.
+    /// Adds a breakpoint. Fails with 174 alone.
     pub fn break_at(&mut self, stop: Break) -> Result<(), StepperFault>
         ensures ok { OnOk result (self.new ≡ record self.old { breaks = self.old.breaks ++ stop ∷ [] }) }
         ensures memory { IfErr result (λ e. e ≡ fault.Memory) }
@@ -87,14 +87,14 @@ impl Stepper {
         Ok(())
     }
 
-    /// No breakpoint is left. No memory.
+    /// Removes all breakpoints. Does not allocate.
     pub fn clear(&mut self)
         ensures { self.new ≡ record self.old { breaks = [] } }
     {
         self.breaks.clear();
     }
 
-    /// One event: 171 with the board's refusal, or 174. Out of memory, 171 141 or 174, may come at any growth.
+    /// Does one event. Fails with 171 and the board's refusal, or with 174. Memory may be refused, 171 141 or 174, at any growth.
     pub fn do_event(&mut self, event: Event) -> Result<(), StepperFault>
         ensures gives { GivesEvent (λ _. self.new) result (done_of self.old (event_of event)) }
         ensures err { OnErr result (self.new ≡ self.old) }
@@ -103,14 +103,14 @@ impl Stepper {
         Ok(())
     }
 
-    /// The chosen event, which is not done: none where the board is complete. No memory.
+    /// Returns the chosen event, without doing it: `None` where the board is complete. Does not allocate.
     pub fn next(&self) -> Option<Event>
         ensures { option_map event_of result ≡ chosen self.now.board.build self.now.board.state }
     {
         self.board.chosen()
     }
 
-    /// Back to the board before the last event; breakpoints stay. 172 where no event was done here, or all were taken back. No memory.
+    /// Goes back to the board before the last event; breakpoints stay. Fails with 172 where no event was done here, or all were taken back. Does not allocate.
     pub fn back(&mut self) -> Result<(), StepperFault>
         ensures ok { OnOk result (GoesBack self.old self.new) }
         ensures fewer { OnOk result (length self.old.board.events ≡ length self.new.board.events + 1) }
@@ -127,8 +127,8 @@ impl Stepper {
         }
     }
 
-    /// The line of event i of the board's record, counted from 1, with its reply: none past the end, at 0, and of events that the board had
-    /// at first. 174.
+    /// Returns the line of event i of the board's record, counted from 1, with its reply: `None` past the end, at 0, and for events that the board
+    /// had at first. Fails with 174 alone.
     pub fn record_line(&self, i: u64) -> Result<Option<Text>, StepperFault>
         ensures line { IfOk result (λ o. option_map (λ t. t) o ≡ option_map (record_text self.now.board.build.graph.vertices i) (record_at self.now i)) }
         ensures memory { IfErr result (λ e. e ≡ fault.Memory) }
@@ -182,7 +182,7 @@ impl Stepper {
         }
     }
 
-    // So many events are taken back. No memory.
+    // Takes `count` events back. Does not allocate.
     fn back_by(&mut self, count: usize)
         requires { count ≤ length self.old.past }
         ensures line { line self.new ≡ drop count (line self.old) }
@@ -194,7 +194,7 @@ impl Stepper {
         }
     }
 
-    /// So many of the last events are taken back, or all that were done here where they are fewer; breakpoints stay. No memory.
+    /// Takes back `count` of the last events, or all that were done here where they are fewer; breakpoints stay. Does not allocate.
     pub fn back_many(&mut self, count: usize)
         ensures line { line self.new ≡ drop (lesser count (length self.old.past)) (line self.old) }
         ensures build { self.new.board.build ≡ self.old.board.build }
@@ -204,8 +204,8 @@ impl Stepper {
         self.back_by(if count < depth { count } else { depth });
     }
 
-    /// The chosen events, up to the first that meets a breakpoint, or to where none is chosen; at least one where there is one. 171 141 and
-    /// 174 alone: then all that it did is taken back.
+    /// Does the chosen events, up to the first that meets a breakpoint, or to where none is chosen; at least one where there is one. Fails with
+    /// 171 141 and 174 alone: then all that it did is taken back.
     pub fn go(&mut self) -> Result<Stop, StepperFault>
         ensures goes { IfOk result (IsGo self.old self.new) }
         ensures refused { IfErr result (λ e. stepper_memory e ≡ true) }
@@ -236,7 +236,7 @@ impl Stepper {
         })
     }
 
-    /// The events that are given, up to the first that meets a breakpoint. Where one is refused, 171 or 174, all that it did is taken back.
+    /// Does the given events, up to the first that meets a breakpoint. Where one is refused, 171 or 174, all that it did is taken back.
     pub fn replay(&mut self, events: &[Event]) -> Result<Stop, StepperFault>
         ensures stops { IfOk result (IsStop self.old (map event_of events.now) self.new) }
         ensures refused { IfErr result (IsRefusedAt self.old (map event_of events.now)) }
@@ -267,14 +267,14 @@ impl Stepper {
     }
 }
 
-/// A law: the chosen event is refused only where it is out of memory.
+/// A law: the chosen event is refused only for want of memory.
 pub fn chosen_is_done(stepper: &Stepper)
     ensures { ChosenIsDone stepper.now }
 {
     chosen_is_granted(&stepper.board);
 }
 
-/// A law: an event, and back, is nothing, whatever the event.
+/// A law: doing any event and taking it back restores the board.
 pub fn there_and_back(stepper: &Stepper)
     ensures { ThereAndBack stepper.now }
 {
@@ -288,7 +288,7 @@ pub fn past_is_the_records(stepper: &Stepper)
     let _ = &stepper.board;
 }
 
-/// A law: the events and replies that the lines of a record tell are those of the run of the whole record from the board's opening.
+/// A law: the events and replies in the lines of a record are those of the run of the whole record from the board's opening.
 pub fn tells_the_run(stepper: &Stepper)
     ensures { TellsTheRun stepper.now }
 {

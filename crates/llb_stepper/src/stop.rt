@@ -26,7 +26,7 @@ pub struct Stop {
 }
 
 impl Break {
-    /// Whether an event that was done, with its reply, meets it.
+    /// Returns whether an event that was done, with its reply, meets it.
     pub(crate) fn is_met_by(self, event: Event, reply: Reply) -> bool
         ensures { result ≡ meets_told (event_of event) reply self }
     {
@@ -47,7 +47,7 @@ impl Break {
     }
 }
 
-/// Whether an event that was done meets one of the breakpoints.
+/// Returns whether an event that was done meets one of the breakpoints.
 pub(crate) fn meets_any(breaks: &[Break], event: Event, reply: Reply) -> bool
     ensures { result ≡ list_any (meets_told (event_of event) reply) breaks.now }
 {

@@ -8,7 +8,7 @@ use llb_board::Board;
 use std::alloc::Global;
 use std::process::Abort;
 
-// A board: what it was opened on, for that many workers, and the events that were done on it, a line each.
+// A board: what it was opened on, for how many workers, and the events that were done on it, a line each.
 type Side = (&'static str, u32, &'static str);
 
 const OPENED: Side = (TWO_FILES, 2, "");

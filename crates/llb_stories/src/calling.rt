@@ -1,9 +1,9 @@
-//! The callers that docs/CALLING.md shows.
+//! The callers that docs/CALLING.md shows, word for word, and a test of each.
 
 use super::told::{is_same, is_so};
 use super::written::{board_of, graph_from};
 use llb_asm::assemble;
-use llb_board::{Board, Settled};
+use llb_board::{Board, Gate, Settled, Stopped};
 use llb_cache::Caches;
 use llb_loader::{Graph, LoadFault, Locals, load};
 use llb_ops::write_definition;
@@ -11,8 +11,10 @@ use llb_stepper::{Break, Stepper, kind_name};
 use llb_tree::Tree;
 use llb_treetext::{print_tree, read_tree};
 use llb_wire::{Bytes, Over, Text};
-use llb_work::run_alone;
+use llb_work::{RunFault, run_alone, run_workers};
 use std::alloc::{AllocError, Global};
+use std::sync::Wait;
+use std::thread::Threads;
 
 // The kinds of a graph's vertices, by number, a line each.
 fn kinds(alloc: Global, graph: &Graph) -> Result<String, AllocError> {
@@ -24,13 +26,13 @@ fn kinds(alloc: Global, graph: &Graph) -> Result<String, AllocError> {
     Ok(text)
 }
 
-// The same of a definition, or why it is refused.
+// The same for a definition, or why it is refused.
 fn kinds_in(alloc: Global, definition: &[u8]) -> Result<String, LoadFault> {
     let graph = load(alloc, definition)?;
     Ok(kinds(alloc, &graph)?)
 }
 
-// The text of the result of a graph, of which one local source has a tree.
+// The text of a graph's result, with a tree for one local source.
 fn result_text(alloc: Global, graph: Graph, name: Text, tree: Tree) -> Option<Vec<u8>> {
     let mut locals = Locals::new(alloc);
     locals.add(name, tree).ok()?;
@@ -43,14 +45,33 @@ fn result_text(alloc: Global, graph: Graph, name: Text, tree: Tree) -> Option<Ve
     Some(text)
 }
 
-// A vertex of one micro-step, by worker 0.
+// Lets every worker begin every vertex but vertex 0.
+struct AllButTheFirst;
+
+impl Gate for AllButTheFirst {
+    ghost use Rattle.std.specs.Prelude.{◌==◌};
+
+    ghost may_stop = { λ _ v. v == 0 };
+
+    fn pass(&self, _w: u32, v: u32) -> Result<(), Stopped> {
+        if v == 0 { Err(Stopped) } else { Ok(()) }
+    }
+}
+
+// Whether a run in threads, one for each worker of the board, was stopped by the gate.
+fn is_stopped<R: Threads + Wait + Sync>(rt: &R, alloc: Global, board: Board) -> bool {
+    let end = run_workers(rt, alloc, board, &AllButTheFirst);
+    matches!(&end.fault, Some(RunFault::Stopped))
+}
+
+// Runs a vertex of one micro-step by worker 0.
 fn by_hand(board: &mut Board, vertex: u32) -> Option<Settled> {
     board.claim(0, vertex).ok()?;
     board.step(0).ok()?;
     board.settle(0).ok()
 }
 
-// Goes to the first failure or to the end, and takes the last event back: how many events are left.
+// Goes to the first failure or to the end, takes the last event back, and counts the events that are left.
 fn looked_at(stepper: &mut Stepper) -> Option<usize> {
     stepper.break_at(Break::Fails).ok()?;
     stepper.go().ok()?;
@@ -58,7 +79,7 @@ fn looked_at(stepper: &mut Stepper) -> Option<usize> {
     Some(stepper.board().events().len())
 }
 
-// The definition of the entries that a text stands for.
+// The definition that a text is read as.
 fn assembled(alloc: Global, text: &[u8]) -> Option<Bytes> {
     let entries = assemble(alloc, text).ok()?;
     write_definition(alloc, &entries).ok()
@@ -87,6 +108,12 @@ fn the_text_of_a_result_is_that_of_the_local_tree(rt: HostRuntime) {
     let graph = graph_from(&rt, rt.alloc(), DEFINITION);
     let text = result_text(rt.alloc(), graph, name, tree).expect(&rt, "a result");
     is_so(&rt, text.as_slice() == TREE.as_bytes());
+}
+
+#[test]
+fn a_gate_stops_a_run_in_threads(rt: HostRuntime) {
+    let board = board_of(&rt, rt.alloc(), DEFINITION, LOCAL, 4);
+    is_so(&rt, is_stopped(&rt, rt.alloc(), board));
 }
 
 #[test]

@@ -1,5 +1,5 @@
 //! Sessions as conversations: the lines that are commands and those that are none, the end of a session, its bounds, and that each line is
-//! answered before the next is waited for.
+//! gets its reply before the next is waited for.
 
 use super::runs::ONE_FILE;
 use super::sessions::{LIMIT, READS};
@@ -104,7 +104,7 @@ fn lines_within_the_bounds_are_answered(rt: HostRuntime) {
     }
 }
 
-// A reader that gives a byte a read, and those of a line only once the lines before it are answered.
+// A reader that returns a byte a read, and those of a line only once the lines before it have their replies.
 #[derive(Drop)]
 struct Waits<'a> {
     bytes: &'a [u8],
@@ -131,7 +131,7 @@ impl Read for Waits<'_> {
     }
 }
 
-// A writer that counts the answers that are out.
+// A writer that counts the replies that are written.
 #[derive(Drop)]
 struct Counts<'a> {
     text: Vec<u8>,
@@ -149,7 +149,7 @@ impl Write for Counts<'_> {
     }
 }
 
-// Whether each line is answered before the next is waited for.
+// Whether each line gets its reply before the next is waited for.
 fn is_conversation(alloc: Global, stepper: &mut Stepper, commands: &str, wanted: &str) -> bool {
     let answered = Cell::new(0);
     let mut lines = Waits {

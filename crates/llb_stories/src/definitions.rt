@@ -1,5 +1,5 @@
 //! The entries of the definitions that the stories are about, in the assembler's text, each after a line with its name and what it is. An
-//! entry is named by its place in its definition, `%0` for the first, so each stands at the places that its name or its line tells.
+//! entry is named by its place in its definition, `%0` for the first, so each is at the places that its name or its line says.
 
 pub(crate) const ENTRIES: &str = r#"
 == MAKES_A: a file `/a` with the content `hi` on nothing

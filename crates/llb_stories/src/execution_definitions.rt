@@ -80,7 +80,7 @@ op {
         }
     }
 }
-== MAKES_OUT: a directory `/out` on nothing (the graph of `examples/execution.text`)
+== MAKES_OUT: a directory `/out` on nothing (the graph of `examples/tour.text`)
 op {
     file {
         actions {

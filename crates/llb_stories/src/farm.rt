@@ -1,8 +1,9 @@
 //! Many workers, each in a thread of its own, that take their vertices from one queue.
 
 use super::calls::{are_same, breaks_at, goes_back, replayed};
+use super::gates::{Counting, Open};
 use super::runs::TWO_FILES;
-use super::told::{is_so, row_holds};
+use super::told::{is_answered, is_so, row_holds};
 use super::written::{board_from, board_of, push_entries};
 use llb_board::{Board, Event, Gate, Stopped};
 use llb_stepper::{Break, Stepper, Stop};
@@ -16,20 +17,7 @@ use std::sync::atomic::{AtomicU64, Ordering};
 use std::thread;
 use std::thread::Threads;
 
-// Lets everybody pass.
-struct Open;
-
-impl Gate for Open {
-    ghost use Rattle.std.specs.Prelude.{false};
-
-    ghost may_stop = { λ _ _. false };
-
-    fn pass(&self, _w: u32, _v: u32) -> Result<(), Stopped> {
-        Ok(())
-    }
-}
-
-// Holds each of the first vertices until that many have arrived, at most 1,000,000 turns.
+// Holds each of the first vertices until `count` have arrived, at most 1,000,000 turns.
 #[derive(Drop)]
 struct Gather {
     count: u64,
@@ -56,7 +44,7 @@ impl Gate for Gather {
     }
 }
 
-// That many entries that make the files `/00`, `/01` and so on.
+// `count` entries that make the files `/00`, `/01` and so on.
 fn push_files(rt: &impl Abort, text: &mut String, count: u32) {
     for i in 0..count {
         let entry = write!(
@@ -79,7 +67,7 @@ fn push_layers(rt: &impl Abort, text: &mut String, count: u32) {
     }
 }
 
-// The merge of that many entries, which is the result.
+// The merge of `count` entries, which is the result.
 fn push_merge(rt: &impl Abort, text: &mut String, count: u32) {
     text.push_str("op {\n").expect(rt, "memory");
     push_digests(rt, text, count);
@@ -90,7 +78,7 @@ fn push_merge(rt: &impl Abort, text: &mut String, count: u32) {
 
 // How many events were made in all, and by the worker that made the fewest of the first ones; none where there is a fault, or something is
 // left to do.
-fn counts(end: &RunEnd, workers: usize) -> Option<(u64, u64)> {
+pub(crate) fn counts(end: &RunEnd, workers: usize) -> Option<(u64, u64)> {
     if end.fault.is_some() || !end.board.is_complete() {
         return None;
     }
@@ -131,15 +119,15 @@ fn users_are_those_that_have_an_edge_to_a_vertex(rt: HostRuntime) {
     is_so(&rt, have_users(&board));
 }
 
-// Whether two boards have one tree as the result.
-fn have_one_tree(one: &Board, other: &Board) -> bool {
-    match (one.output(2, 0), other.output(2, 0)) {
+// Whether two boards have one tree as the first output of a vertex.
+pub(crate) fn have_one_tree(one: &Board, other: &Board, v: u32) -> bool {
+    match (one.output(v, 0), other.output(v, 0)) {
         (Some(tree), Some(wanted)) => tree.same(wanted),
         _ => false,
     }
 }
 
-// How many events a run of that many workers has, where its result is that of the board given.
+// How many events a run of a number of workers has, where its result is that of the board given.
 fn made_by<R: Abort + Threads + Wait + Sync>(
     rt: &R,
     alloc: Global,
@@ -149,7 +137,7 @@ fn made_by<R: Abort + Threads + Wait + Sync>(
     let board = board_of(rt, alloc, TWO_FILES, "", workers);
     let end = run_workers(rt, alloc, board, &Open);
     match counts(&end, 64) {
-        Some((all, _)) if have_one_tree(&end.board, wanted) => Some(all),
+        Some((all, _)) if have_one_tree(&end.board, wanted, 2) => Some(all),
         _ => None,
     }
 }
@@ -194,12 +182,23 @@ const ON_CACHES: &str =
     "locked: write /c/a x; locked: write /c/b y; private: write /c/a x; private: write /c/b y; \
     shared: append /c/l a && append /c/l b; shared: append /c/l c && append /c/l d";
 
-// Executions on a cache that is shared in each of the three ways, two of each, and the merge of what they give.
-fn on_caches(rt: &impl Abort, alloc: Global) -> Board {
+// The merge of the outputs of a number of entries.
+pub(crate) fn merge_on(
+    rt: &impl Abort,
+    alloc: Global,
+    entries: &str,
+    count: u32,
+    workers: u32,
+) -> Board {
     let mut text = String::new(alloc);
-    push_entries(rt, &mut text, ON_CACHES);
-    push_merge(rt, &mut text, 6);
-    board_from(rt, alloc, text.as_str(), 64)
+    push_entries(rt, &mut text, entries);
+    push_merge(rt, &mut text, count);
+    board_from(rt, alloc, text.as_str(), workers)
+}
+
+// Executions on a cache that is shared in each of the three ways, two of each, and the merge of their outputs.
+fn on_caches(rt: &impl Abort, alloc: Global) -> Board {
+    merge_on(rt, alloc, ON_CACHES, 6, 64)
 }
 
 #[test]
@@ -210,4 +209,37 @@ fn a_record_of_threads_on_caches_is_replayed(rt: HostRuntime) {
     let mut stepper = Stepper::new(alloc, on_caches(&rt, alloc));
     let stop = replayed(&mut stepper, end.board.events().as_slice());
     is_so(&rt, stop.is_some() && are_same(stepper.board(), &end.board));
+}
+
+// The vertices with a shared cache have numbers after the first four.
+#[test]
+fn each_vertex_passes_the_gate_once(rt: HostRuntime) {
+    let gate = Counting::new(4);
+    let end = run_workers(&rt, rt.alloc(), on_caches(&rt, rt.alloc()), &gate);
+    is_so(&rt, matches!(counts(&end, 64), Some((28, _))));
+    is_so(&rt, gate.passed() == (4, 3));
+}
+
+const ON_ONE_CACHE: &str = "locked: write /c/a x; locked: write /c/b y; locked: write /c/d z";
+
+const WRITTEN: &str = "
+    > instance locked 0
+    d 0755 0 0 /
+    f 0644 0 0 780a /a
+    f 0644 0 0 790a /b
+    f 0644 0 0 7a0a /d
+    > leases
+    0
+    ";
+
+// While one worker has the cache and waits, the other finds it held, and has to put the vertex back.
+#[test]
+fn a_vertex_whose_cache_is_held_is_taken_later(rt: HostRuntime) {
+    let alloc = rt.alloc();
+    let gate = Counting::new(3);
+    let board = merge_on(&rt, alloc, ON_ONE_CACHE, 3, 2);
+    let mut end = run_workers(&rt, alloc, board, &gate);
+    is_so(&rt, matches!(counts(&end, 2), Some((14, _))));
+    is_so(&rt, gate.passed() == (3, 1));
+    is_so(&rt, is_answered(&rt, alloc, &mut end.board, WRITTEN));
 }

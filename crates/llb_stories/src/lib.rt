@@ -11,9 +11,12 @@ mod calling;
 #[cfg(test)]
 mod calls;
 #[cfg(test)]
+mod chain;
+#[cfg(test)]
 mod conversations;
 #[cfg(test)]
 mod crew;
+mod crowds;
 #[cfg(test)]
 mod definitions;
 #[cfg(test)]
@@ -25,17 +28,23 @@ mod farm;
 #[cfg(test)]
 mod faults;
 #[cfg(test)]
+mod gates;
+#[cfg(test)]
 mod instances;
 #[cfg(test)]
 mod landings;
 #[cfg(test)]
 mod local_trees;
 #[cfg(test)]
+mod midway;
+#[cfg(test)]
 mod openings;
 #[cfg(test)]
 mod plain;
 #[cfg(test)]
 mod queue;
+#[cfg(test)]
+mod records;
 #[cfg(test)]
 mod runs;
 #[cfg(test)]

@@ -21,7 +21,7 @@ d 0755 0 0 /sub
 f 0644 0 0 6869 /sub/f
 ";
 
-// The tree of `examples/source.tree`.
+// The tree of `examples/tour.tree`.
 pub(crate) const SOURCE_TREE: &str = "== source
 d 0755 0 0 /
 d 0755 0 0 /text

@@ -1,5 +1,5 @@
-//! What the opening of a board takes and gives back, and what a board that is left gives to the next. Which local tree is missing the program
-//! tells (`run` in `llbm`).
+//! What the opening of a board takes and gives back, and what a board that is left hands to the next. The program prints which local tree is
+//! missing (`run` in `llbm`).
 
 use super::calls::{are_done, opened};
 use super::instances::{K_LOCKED, K_SHARED};
@@ -109,7 +109,7 @@ fn keys_stand_in_the_order_of_the_first_claims(rt: HostRuntime) {
     );
 }
 
-// What is answered on a board with the caches of one that was left in the middle.
+// The results on a board with the caches of one that was left in the middle.
 const BEHIND: &str = "
     > worker 0
     idle

@@ -1,5 +1,5 @@
-//! Plain outcomes: what an evaluation without a board answers. A line with `@ ` first has the name of the local trees and the entries of the
-//! definition (`written`); the lines after it are what is answered: of each vertex how it ended, and of one that is done the trees of its
+//! Plain outcomes: what an evaluation without a board returns. A line with `@ ` first has the name of the local trees and the entries of the
+//! definition (`written`); the lines after it are the result: for each vertex how it ended, and for one that is done the trees of its
 //! outputs; or the refusal.
 
 use super::sessions::{Way, are_stories, wanted};
@@ -159,7 +159,7 @@ fn told(rt: &impl Abort, alloc: Global, head: &str) -> String {
     text
 }
 
-// Whether what is answered of the local trees and the definition of a story's first line is what stands after it.
+// Whether the result for the local trees and the definition of a story's first line is what comes after it.
 pub(crate) fn are_outcomes(rt: &impl Abort, alloc: Global, head: &str, lines: &str) -> bool {
     told(rt, alloc, head).as_str() == wanted(rt, alloc, lines).as_str()
 }

@@ -1,4 +1,4 @@
-//! A ready queue with room for one number or two, on one thread: what it answers, and what its faults print.
+//! A ready queue with room for one number or two, on one thread: what it returns, and what its faults print.
 
 ghost use Rattle.llb_ready.specs.Hands.{SamePart};
 ghost use Rattle.llb_ready.specs.Passes.{IsReadyPassOf, hand_of};
@@ -7,7 +7,7 @@ use super::told::{is_same, is_so};
 use llb_ready::{Full, ReadyFault, ReadyPass, ReadyQueue};
 use std::sync::Wait;
 
-// What a put and a take answer. Of what they promise a story needs that the pass stays one of the queue, and of the same part.
+// The results of a put and a take. Of what they promise a story needs that the pass stays one of the queue, and of the same part.
 fn put<R: Wait>(rt: &R, queue: &ReadyQueue, pass: &mut ReadyPass, v: u32) -> Result<(), Full>
     requires { IsReadyPassOf queue.now pass.old }
     ensures pass { IsReadyPassOf queue.now pass.new }

@@ -1,5 +1,5 @@
 //! Stories as transcripts, most of them of sessions on boards. A line with `@ ` first opens a board (`written`); one with `> ` first is a
-//! command, and the lines after it are what it prints; one with `# ` first says what the story shows. Each line is read without what stands
+//! command, and the lines after it are what it prints; one with `# ` first says what the story shows. Each line is read without the spaces
 //! before and after it. Stories of calls (`told`) and of plain outcomes (`plain`) have the same form.
 
 use super::plain::are_outcomes;
@@ -14,7 +14,7 @@ pub(crate) const LIMIT: usize = 1 << 20;
 
 pub(crate) const READS: u64 = 1 << 20;
 
-// The lines of a transcript that are told, without what stands before and after each.
+// The expected lines of a transcript, without the spaces before and after each.
 pub(crate) fn wanted(rt: &impl Abort, alloc: Global, told: &str) -> String {
     let mut text = String::new(alloc);
     for line in told.lines() {
@@ -27,7 +27,7 @@ pub(crate) fn wanted(rt: &impl Abort, alloc: Global, told: &str) -> String {
     text
 }
 
-// A command as it stands in a transcript, and what it prints; nothing of a line that is no command.
+// A command as a transcript has it, and what it prints; nothing for a line that is no command.
 fn say(rt: &impl Abort, alloc: Global, stepper: &mut Stepper, line: &str, out: &mut Vec<u8>) {
     if let Some(command) = line.strip_prefix("> ") {
         out.extend_from_slice(line.as_bytes()).expect(rt, "memory");
@@ -37,7 +37,7 @@ fn say(rt: &impl Abort, alloc: Global, stepper: &mut Stepper, line: &str, out: &
     }
 }
 
-// Whether the commands of a transcript print what stands after them.
+// Whether the commands of a transcript print what comes after them.
 pub(crate) fn is_told(rt: &impl Abort, alloc: Global, stepper: &mut Stepper, told: &str) -> bool {
     let mut out = Vec::new(alloc);
     for line in told.lines() {
@@ -46,7 +46,7 @@ pub(crate) fn is_told(rt: &impl Abort, alloc: Global, stepper: &mut Stepper, tol
     out.as_slice() == wanted(rt, alloc, told).as_bytes()
 }
 
-// How a story is told: by the commands of a session, by calls on a board, or by its plain outcomes.
+// How a story is written: by the commands of a session, by calls on a board, or by its plain outcomes.
 #[derive(Clone, Copy)]
 pub(crate) enum Way {
     Session,
@@ -72,7 +72,7 @@ fn is_story(rt: &impl Abort, alloc: Global, way: Way, head: &str, lines: &str) -
     }
 }
 
-// Ends the test at the first story that goes otherwise than it is told.
+// Ends the test at the first story that goes otherwise than it is written.
 pub(crate) fn are_stories(rt: &impl Abort, alloc: Global, way: Way, told: &str) {
     let (_, stories) = told.split_once("@ ").expect(rt, "a story");
     for story in stories.split("@ ") {

@@ -1,6 +1,6 @@
 //! What a session doesn't say of a board: where its workers are, and which instances of caches there are. Such a story is a transcript of the
-//! form of a session's: a line with `> ` first is a call, and the lines after it are what it answers. The calls are a session's events, of
-//! which nothing is told where they are done; `job W V`, a claim that is told by its job and by the instances of caches that it takes;
+//! form of a session's: a line with `> ` first is a call, and the lines after it are its result. The calls are a session's events, which
+//! print nothing where they are done; `job W V`, a claim that prints its job and the instances of caches that it takes;
 //! `worker W`; `instance WAY I`, the tree of an instance of the cache `k` that is shared in that way; and `leases`.
 
 use super::calls::{event_in, is_event_done};
@@ -119,7 +119,7 @@ fn law(board: &Board) {
     headline(board);
 }
 
-// A call as it stands in a transcript, and what it answers; nothing of a line that is no call.
+// A call as a transcript has it, and its result; nothing for a line that is no call.
 fn say_line(rt: &impl Abort, text: &mut String, board: &mut Board, line: &str) {
     if let Some(call) = line.strip_prefix("> ") {
         say(rt, text, line);
@@ -150,7 +150,7 @@ pub(crate) fn row_holds(rt: &impl Abort, row: usize, is_so: bool) {
     assert!(rt; is_so, "row {row}");
 }
 
-// Ends the test where what is told is not what is wanted; the failure shows both.
+// Ends the test where a text is not the expected one; the failure shows both.
 pub(crate) fn is_same(rt: &impl Abort, told: &str, wanted: &str) {
     assert_eq!(rt; told, wanted);
 }
@@ -162,7 +162,7 @@ pub(crate) fn prints<E: Display>(rt: &impl Abort, alloc: Global, fault: &E, want
     is_same(rt, text.as_str(), wanted);
 }
 
-// Whether the calls of a transcript answer on a board what stands after them.
+// Whether the calls of a transcript on a board have the results that come after them.
 pub(crate) fn is_answered(rt: &impl Abort, alloc: Global, board: &mut Board, told: &str) -> bool {
     let text = transcript(rt, alloc, board, told);
     text.as_str() == wanted(rt, alloc, told).as_str()

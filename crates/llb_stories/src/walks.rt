@@ -12,7 +12,7 @@ use llb_stepper::{Break, Stepper, Stop};
 use std::alloc::Global;
 use std::process::Abort;
 
-// Walks the chosen events, at most that many, and takes them back: whether the board was complete in between.
+// Walks the chosen events, at most `most` of them, and takes them back: whether the board was complete in between.
 fn there_and_back(board: &mut Board, most: u32) -> bool
     ensures { board.new ≡ board.old }
 {
@@ -41,7 +41,7 @@ fn finish(board: &mut Board) -> bool {
     board.is_complete()
 }
 
-// Definitions, and what is then answered on the complete board.
+// Definitions, and the results then on the complete board.
 const WALKED: &[(&str, &str)] = &[
     (FAILS_FIRST, "> leases\n0"),
     (IN_A_ROW, "> worker 0\nidle"),
@@ -59,7 +59,7 @@ const WALKED: &[(&str, &str)] = &[
     ),
 ];
 
-// Whether a run that is walked and taken back leaves a board as its copy, and both go on to the same end, where this is answered.
+// Whether a run that is walked and taken back leaves a board as its copy, and both go on to the same end, with these results.
 fn is_walked(rt: &impl Abort, alloc: Global, definition: &str, ended: &str) -> [bool; 4] {
     let mut board = board_of(rt, alloc, definition, "", 2);
     let mut fresh = copy_of(&board).expect(rt, "memory");

@@ -23,7 +23,7 @@ const EVENTS: [Event; 10] = [
     Event::Settle(1),
 ];
 
-// What the end of each run tells: it is complete, and its result has both files.
+// What the end of each run prints: it is complete, and its result has both files.
 const END: &str = "
     > next
     end
@@ -39,7 +39,7 @@ const END: &str = "
     f 0644 0 0 686f /b
     ";
 
-// How many runs lead on from here to an end, and how many of the ends tell what they should. No run is longer than that many events.
+// How many runs lead on from here to an end, and how many of the ends print what they should. No run is longer than `most` events.
 fn ends(rt: &impl Abort, alloc: Global, stepper: &mut Stepper, most: u32) -> [u32; 2] {
     let mut all = 0u32;
     let mut right = 0u32;

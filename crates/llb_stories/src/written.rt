@@ -2,7 +2,7 @@
 //!
 //! Entries are separated by `; `. One is a name of `definitions` or `execution_definitions`, or a script on the empty tree at `/` and the
 //! cache `k` at `/c`, after the way in which the cache is shared: `locked: SCRIPT`, `private: SCRIPT` or `shared: SCRIPT`. A new instance
-//! begins empty, or, where the way is followed by ` on 0`, with what the first entry gives. `sh: SCRIPT` has no cache. A `;` of a script
+//! begins empty, or, where the way is followed by ` on 0`, with the output of the first entry. `sh: SCRIPT` has no cache. A `;` of a script
 //! is written as `\x3b`.
 
 use super::definitions::ENTRIES;
@@ -157,7 +157,7 @@ pub(crate) fn board_of(
     board_on(rt, alloc, graph, locals_of(rt, alloc, given), workers)
 }
 
-/// The text of the local trees of that name; none where there is none.
+/// Returns the text of the local trees of that name; none where there is none.
 pub(crate) fn locals_named(name: &str) -> &'static str {
     match name {
         "EMPTY_P" => EMPTY_P,
@@ -168,7 +168,7 @@ pub(crate) fn locals_named(name: &str) -> &'static str {
     }
 }
 
-/// The board of a story by its first line: the number of workers, after ` on ` the name of its local trees where it has some, and after `: `
+/// Returns the board of a story by its first line: the number of workers, after ` on ` the name of its local trees where it has some, and after `: `
 /// the entries of its definition.
 pub(crate) fn board_in(rt: &impl Abort, alloc: Global, head: &str) -> Board {
     let (opened, definition) = head.split_once(": ").expect(rt, "a definition");

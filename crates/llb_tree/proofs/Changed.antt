@@ -29,7 +29,7 @@ by_place p C in' out q = by_test (is_within p q) refl
     by_test true is = subst C (sym (within_split p q is)) (in' _)
     by_test false is = out q is
 
--- at and below the path that is set stands what the new tree has, or nothing where there is none
+-- at and below the path that is set is what the new tree has, or nothing where there is none
 pub set_inside : (p q : List (List ℕ)) (t : Option TreeMap) (old : Look) → set_look p t old (p ++ q) ≡ look_in t q
 set_inside [] q t old = refl
 set_inside (n ∷ p) q t old = ap (λ o. cond (is_eq o) (set_look p t (λ r. old (n ∷ r)) (p ++ q)) (old (n ∷ (p ++ q)))) (tied n)

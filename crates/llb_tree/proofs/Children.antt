@@ -48,11 +48,11 @@ look_child n q (k ∷ ks) h =
 pub get-child : (k : Kind) (n : List ℕ) (q : List (List ℕ)) → AreSorted (kids_of k) → finite.get (map_of k) (n ∷ q) ≡ look_in (child n (kids_of k)) q
 get-child k n q h = get-below k n q ∙ look_child n q (kids_of k) h
 
--- what stands at the root of a node's map is the node's own entry
+-- the entry at the root of a node's map is the node's own entry
 pub read_root : (k : Kind) (v : TreeMap) → map_of k ≡ v → Some (own_entry k) ≡ finite.get v []
 read_root k v view = sym (get-root k) ∙ ap (λ t. finite.get t []) view
 
--- below a node without children nothing stands
+-- below a node without children there is nothing
 pub read_file : (k : Kind) (v : TreeMap) (n : List ℕ) (q : List (List ℕ)) → map_of k ≡ v → kids_of k ≡ [] → None ≡ finite.get v (n ∷ q)
 read_file k v n q view none = sym (ap (λ t. finite.get t (n ∷ q)) (sym view) ∙ get-below k n q ∙ ap (λ ks. look_kids ks n q) none)
 
@@ -90,7 +90,7 @@ pub dir_kept : (k : Kind) (old : Kind) (v : TreeMap) (m : MetaValue) → own_ent
 dir_kept k old v m own kids view [] = get-root k ∙ ap Some own
 dir_kept k old v m own kids view (n ∷ q) = get-below k n q ∙ ap (λ ks. look_kids ks n q) kids ∙ sym (get-below old n q) ∙ ap (λ t. finite.get t (n ∷ q)) view
 
--- a node is what stands at it and what is found in its children
+-- a node is the entry at it and what is found in its children
 pub node_is : (k : Kind) (t : TreeMap) → AreSorted (kids_of k) → finite.get t [] ≡ Some (own_entry k)
     → ((n : List ℕ) (q : List (List ℕ)) → finite.get t (n ∷ q) ≡ look_in (child n (kids_of k)) q) → map_of k ≡ t
 node_is k t h root below = finite.same_map path_cmp-IsTotalOrder path_cmp-IsAntisymmetric (map_of k) t by_path

@@ -1,4 +1,4 @@
--- Two nodes have equal maps where the same stands at both and the same is found below them; and what the first children in
+-- Two nodes have equal maps where both have the same entry and the same is found below them; and what the first children in
 -- order say of that.
 use Rattle.std.proofs.Common.{◌≡◌, ◌↔◌, ℕ, zero, suc, ◌+◌, ◌<◌, ◌≤◌, List, [], ◌∷◌, length, drop, get_or, map, Option, Some, None, is_some}
 use Rattle.std.proofs.Common.{cond, Bool, true, false, not, nat_eq, IsTrue, T, refl, sym, ap, subst, ◌∙◌, true≢false, arith, add-one, drop-cons}
@@ -156,7 +156,7 @@ module _ (a b : Kind) (v w : TreeMap) (view : map_of a ≡ v) (view2 : map_of b 
 
 -- ---- what the children so far say
 
--- that many children on both sides are the same, and the rest decides
+-- the first i children on both sides are the same, and the rest decides
 pub record SoFar (ks ls : List Child) (i : ℕ) : Type 0 where
   pub rest : Alike ks ls ↔ Alike (drop i ks) (drop i ls)
   pub sorted : AreSorted (drop i ks)
@@ -224,11 +224,11 @@ module _ (ks ls : List Child) (i : ℕ) (so : SoFar ks ls i) where
           sorted2 = and_second _ _ sorted_here2;
         })
 
--- a test that says false tells of a fact that can't hold
+-- a test that is false shows that a fact can't hold
 pub differ : {A : Type 0} → (A → ⊥) → (IsTrue false → A) × (A → IsTrue false)
 differ never = (λ h. absurd (true≢false (sym h)), λ a. absurd (never a))
 
--- a test that says true tells of a fact that holds
+-- a test that is true shows that a fact holds
 pub agree : {A : Type 0} → A → (IsTrue true → A) × (A → IsTrue true)
 agree always = (λ _. always, λ _. refl)
 

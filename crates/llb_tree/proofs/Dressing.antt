@@ -1,4 +1,4 @@
--- Nodes and children in the mode and the owner that a way gives.
+-- Nodes and children in the mode and the owner of a way.
 use Rattle.std.proofs.Common.{◌≡◌, ℕ, zero, suc, arith, add-one, ◌+◌, ◌≤◌, Result, Ok, Err, IfOk, ◌<◌, List, [], ◌∷◌, ◌++◌, length, map, take, get_or}
 use Rattle.std.proofs.Common.{option_map, Option, Some, None, Bool, true, false, cond, ◌&&◌, T, refl, sym, ap, subst, ◌∙◌}
 use Rattle.std.proofs.lemmas.List.{map-append, take_all}
@@ -40,12 +40,13 @@ get-dress w t q =
     finite.get-from_entries path_cmp-IsTotalOrder (map (λ (e : Pair). (e.0, worn w e.1)) (finite.entries t)) q
     ∙ find_mapped path_cmp (worn w) q (finite.entries t) ∙ ap (option_map (worn w)) (sym (finite.get-entries t q))
 
--- a way that gives nothing changes nothing
+-- a way without modes and owners changes nothing
 worn_same : (w : WayValue) (e : Entry) → ((m : MetaValue) → given w m ≡ m) → worn w e ≡ e
 worn_same w (Dir m) same = ap Dir (same m)
 worn_same w (File m b) same = ap (λ x. File x b) (same m)
 
-worn_all : (w : WayValue) (o : Option Entry) → ((m : MetaValue) → given w m ≡ m) → option_map (worn w) o ≡ o
+-- and none of what is there, if anything is
+pub worn_all : (w : WayValue) (o : Option Entry) → ((m : MetaValue) → given w m ≡ m) → option_map (worn w) o ≡ o
 worn_all w None same = refl
 worn_all w (Some e) same = ap (λ x. Some x) (worn_same w e same)
 
@@ -73,7 +74,7 @@ AreSorted-dressed w old new is h = subst T (sym (ap (is_sorted name_cmp) is ∙ 
 
 -- ---- a node
 
--- a node whose own entry and whose children are dressed stands for the dressed tree
+-- a node whose own entry and whose children are dressed represents the dressed tree
 pub node_dressed : (w : WayValue) (k j : Kind) → AreSorted (kids_of k) → own_entry j ≡ worn w (own_entry k)
     → map pair_of (kids_of j) ≡ map (dress_pair w) (map pair_of (kids_of k)) → map_of j ≡ dress w (map_of k)
 node_dressed w k j h own kids = node_is j (dress w (map_of k)) (AreSorted-dressed w (kids_of k) (kids_of j) kids h)
@@ -110,7 +111,7 @@ module _ (w : WayValue) where
   pub pairs_taken : (ks new : List Child) (i : ℕ) → length ks ≤ i → map pair_of new ≡ take i (worn_pairs ks) → map pair_of new ≡ worn_pairs ks
   pairs_taken ks new i h is = is ∙ take_all i (worn_pairs ks) (omega (arith, h, lengths ks))
 
--- a fact of the value that a call gives, if it gives one, yields what follows from it
+-- a fact of the value that a call returns, if it returns one, yields what follows from it
 pub if_ok : {A E : Type 0} {P Q : A → Type 0} (r : Result A E) → ((x : A) → P x → Q x) → IfOk r P → IfOk r Q
 if_ok (Ok x) f h = f x h
 if_ok (Err e) f h = tt

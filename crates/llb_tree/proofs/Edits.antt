@@ -1,4 +1,4 @@
--- What each edit answers: the tree that its rule gives, whole again.
+-- The result of each edit: the tree of its rule, whole again.
 use Rattle.std.proofs.Common.{◌≡◌, ◌≢◌, ℕ, ◌+◌, ◌-◌, ◌≤◌, List, [], ◌∷◌, ◌++◌, length, Some, None, is_some, true, Option, Ok, refl, sym, ap}
 use Rattle.std.proofs.Common.{subst, ◌∙◌, arith, length-append}
 use Rattle.std.specs.FinMap as finite
@@ -49,7 +49,7 @@ module _ (t new one : TreeMap) (d n : ℕ) (p : List (List ℕ)) (m : MetaValue)
       below long le made (x ∷ q) there = let h = deep_from t d whole.deep (p ++ (x ∷ q)) (sym (ap is_some (made (x ∷ q))) ∙ there) in
           omega (arith, h, length-append p (x ∷ q))
 
--- a tree with nothing set at a path that was there, and was not the root, is whole and what the removal gives
+-- a tree with nothing set at a path that was there, and was not the root, is whole and the result of the removal
 pub removal : (t new : TreeMap) (d : ℕ) (p : List (List ℕ)) → IsWhole t d → p ≢ [] → found (finite.get t p) ≡ Ok tt
     → ((q : List (List ℕ)) → finite.get new q ≡ set_look p None (finite.get t) q) → IsWhole new d × (remove t p ≡ Ok new)
 removal t new d p whole named there set =

@@ -91,7 +91,7 @@ root_below_flat (k ∷ ks) = below-append path_cmp-IsTotalOrder [] (below k) (fl
 pub entries-map_of : (k : Kind) → AreSorted (kids_of k) → finite.entries (map_of k) ≡ entries_of k
 entries-map_of k h = entries-from_entries path_cmp-IsTotalOrder (entries_of k) (and_both _ _ (root_below_flat (kids_of k)) (sorted_flat (kids_of k) h))
 
--- what is at a node is its own entry, and its children give the others
+-- what is at a node is its own entry, and the others are in its children
 pub node_entries : (k : Kind) (m : TreeMap) (ks : List Child) → map_of k ≡ m → AreSorted (kids_of k) → kids_of k ≡ ks → (e : Entry)
     → finite.get m [] ≡ Some e → finite.entries m ≡ ([], e) ∷ flat ks
 node_entries k m ks view sorted kids e is =
@@ -109,6 +109,6 @@ root_first e ((n ∷ q, x) ∷ es) sorted is = absurd (found_none
     found_none : finite.find path_cmp [] es ≡ None → finite.find path_cmp [] es ≡ Some e → ⊥
     found_none none some = cc
 
--- what stands at the root is the first of a tree's entries
+-- the entry at the root is the first of a tree's entries
 pub entries-root : (m : TreeMap) (e : Entry) → finite.get m [] ≡ Some e → (rest : List Pair) × (finite.entries m ≡ ([], e) ∷ rest)
 entries-root m e is = root_first e (finite.entries m) (finite.entries_sorted m) (sym (finite.get-entries m []) ∙ is)

@@ -32,7 +32,7 @@ kid_below (kind.Dir m kids) j d lt =
     let all = falls (kind.Dir m kids) in
     omega (arith, kid, all)
 
--- the first that many children go no deeper than that
+-- the first i children go no deeper than n
 abbrev pub AllWithin : List Child → ℕ → ℕ → Type 0
 AllWithin ks i n = (j : ℕ) (d : Child) → j < i → height (get_or ks j d).node ≤ n
 
@@ -86,7 +86,7 @@ fits_none p (e ∷ es) short lt = by_test (fits_none p es short) (nat_lt 128 (le
     by_test rest true is = refl
     by_test rest false is = let le = ltb-false 128 (length p + length e.0) is in rest (omega (arith, le, lt))
 
--- a path of as many names as leave room for a tree's longest path lets each place of the tree stand below it
+-- a path of as many names as leave room for a tree's longest path has room below it for each place of the tree
 pub fit_all : (p : List (List ℕ)) (t : TreeMap) → length p + height t ≤ 129 → Ok tt ≡ places_fit p (finite.keys t)
 fit_all p t le = sym (fits_all p (finite.entries t) le)
 

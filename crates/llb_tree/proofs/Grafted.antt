@@ -42,7 +42,7 @@ find_front : (q : List (List ℕ)) (xs ys : List Pair) → finite.find path_cmp 
 find_front q [] ys none = none
 find_front q (e ∷ xs) ys none = ap (λ o. cond (eq_by_cmp path_cmp q e.0) (Some e.1) o) (find_front q xs ys none)
 
--- a path is not found where a test tells them all apart from it
+-- a path is not found where a test separates all of them from it
 find_apart : (p q : List (List ℕ)) (b : Bool) (es : List Pair) → (is_within p q ≡ b → ⊥) → All (λ (e : Pair). is_within p e.0 ≡ b) es
     → finite.find path_cmp q es ≡ None
 find_apart p q b [] apart all = refl
@@ -173,7 +173,7 @@ module _ (t : TreeMap) (tree : IsTree t) (p : List (List ℕ)) (path : IsPath p)
         (λ q out is. tree.stands q e (sym (get_outside t p other q out) ∙ is)) q;
   }
 
--- a graft with directories all the way to its path, and with room for all its places, gives the tree with the other in it
+-- a graft with directories all the way to its path, and with room for all its places, results in the tree with the other in it
 pub graft-Ok : (t : TreeMap) (p : List (List ℕ)) (other : TreeMap) → walk (finite.get t) p ≡ Ok tt
     → places_fit p (finite.keys other) ≡ Ok tt → graft t p other ≡ Ok (with_tree t p other)
 graft-Ok t p other walks fit = ap (λ r. r >>= λ _. places_fit p (finite.keys other) >>= λ _. Ok (with_tree t p other)) walks

@@ -74,7 +74,7 @@ find_puts m (k ∷ ks) es h =
     ] refl
 
 -- what is found after the made ones are put in
-found_made : (w : WayValue) (old upper made : List Child) (m : List ℕ) (q : List (List ℕ)) → AreLaid w old upper made
+pub found_made : (w : WayValue) (old upper made : List Child) (m : List ℕ) (q : List (List ℕ)) → AreLaid w old upper made
     → look_in (option_or (child m made) (child m old)) q ≡ over_at w (look_in (child m old)) (look_in (child m upper)) q
 found_made w old [] [] m q laid = sym (none_over w (look_in (child m old)) (look_in None) q (λ r. refl))
 found_made w old [] (k ∷ made) m q laid = absurd laid

@@ -1,21 +1,16 @@
--- One node over another, and children over children, one at a time.
-use Rattle.std.proofs.Common.{◌≡◌, ℕ, zero, suc, ◌+◌, ◌<◌, ◌==◌, arith, add-one, List, [], ◌∷◌, ◌++◌, length, map, take, get_or, set, option_map, Option}
-use Rattle.std.proofs.Common.{Some, None, Result, Ok, Err, OnOk, Global, Bool, true, false, cond, ◌||◌, T, refl, sym, ap, subst, ◌∙◌}
+-- One node over another, and none over children.
+use Rattle.std.proofs.Common.{◌≡◌, ℕ, ◌==◌, arith, List, [], ◌∷◌, length, map, get_or, set, option_map, Option, Some, None, Result, Ok, Err, OnOk, Global}
+use Rattle.std.proofs.Common.{Bool, true, false, ◌||◌, refl, sym, ap, ◌∙◌}
 use Rattle.std.proofs.lemmas.Bool.Decides.{nat_tests}
-use Rattle.std.specs.declared.cmp.Ordering.{Ordering}
-use Rattle.std.specs.declared.cmp.Ordering.TheVariants.{Less, Equal, Greater}
-use Rattle.std.specs.Ordering.{eq_by_cmp, is_eq, ordering_reverse}
-use Rattle.std.specs.List.{insert, list_any}
-use Rattle.std.specs.Cmp.Lexicographic.{nat_list_cmp_total}
+use Rattle.std.specs.List.{list_any}
 use Rattle.std.specs.FinMap as finite
-use Rattle.std.specs.FinMap.Entries.{find, put, find-put, find-append, is_sorted-put}
+use Rattle.std.specs.FinMap.Entries.{put}
 use Rattle.llb_tree.specs.Meta.{MetaValue}
 use Rattle.llb_tree.specs.Path.{name_cmp}
-use Rattle.llb_tree.specs.PathOrder.{name_cmp-IsAntisymmetric}
 use Rattle.llb_tree.specs.Tree.{TreeMap, Entry, Dir, File, Look, parents}
 use Rattle.llb_tree.specs.Nodes.{name_of, own_entry, kids_of, map_of, pair_of, place, AreSorted, child, look_in}
 use Rattle.llb_tree.specs.Overlay.{is_file, below_file, WayValue, given, over, laid_over, over_at}
-use Rattle.llb_tree.specs.Laying.{dress, Lays}
+use Rattle.llb_tree.specs.Laying.{Lays}
 use Rattle.llb_tree.specs.Looks.{look_kids, get-below, get-root}
 use Rattle.std.specs.Arc.{arc_value}
 use Rattle.std.specs.declared.sync.Arc.{Arc}
@@ -23,12 +18,9 @@ use Rattle.llb_wire.specs.declared.bytes.Bytes.{Bytes}
 use Rattle.llb_tree.specs.declared.node.Kind.{Kind}
 use Rattle.llb_tree.specs.declared.node.Kind.TheVariants as kind
 use Rattle.llb_tree.specs.declared.node.Child.{Child}
-use Rattle.llb_tree.proofs.Searching.{below_later}
-use Rattle.llb_tree.proofs.Orders.{and_first, and_second}
-use Rattle.llb_tree.proofs.Placed.{is_found, is_gap}
+use Rattle.llb_tree.proofs.Placed.{is_found}
 use Rattle.llb_tree.proofs.Overlaid.{below_file-cons}
 use Rattle.llb_tree.proofs.Children.{get-child}
-use Rattle.llb_tree.proofs.Dressing.{get-dress}
 
 below_none : (g : Look) (ps : List (List (List ℕ))) → ((r : List (List ℕ)) → g r ≡ None) → list_any is_file (map g ps) ≡ false
 below_none g [] none = refl
@@ -87,7 +79,7 @@ lone_file k m c t view is = record {
 pub root_there : (k : Kind) (t : TreeMap) → map_of k ≡ t → finite.get t [] ≡ Some (own_entry k)
 root_there k t view = ap (λ x. finite.get x []) (sym view) ∙ get-root k
 
--- a directory with its entry over another's and its children laid over the other's stands for one tree over the other
+-- a directory with its entry over another's and its children laid over the other's represents one tree over the other
 pub node_laid : (w : WayValue) (k u j : Kind) (m l : MetaValue) → AreSorted (kids_of k) → AreSorted (kids_of u) → own_entry k ≡ Dir m → own_entry u ≡ Dir l
     → own_entry j ≡ over w (Some (Dir m)) (Dir l) → Lays w (kids_of u) (kids_of k) (kids_of j)
     → (q : List (List ℕ)) → finite.get (map_of j) q ≡ over_at w (finite.get (map_of k)) (finite.get (map_of u)) q
@@ -105,7 +97,7 @@ node_laid w k u j m l sk su ek eu ej lays (n ∷ q) =
 -- ---- children over children
 
 -- no children laid over others leave those as they are
-pub lays_none : (w : WayValue) (ks : List Child) → AreSorted ks → Lays w [] ks ks
+lays_none : (w : WayValue) (ks : List Child) → AreSorted ks → Lays w [] ks ks
 lays_none w ks h = record { sorted = h; children = λ m q. sym (none_over w (look_in (child m ks)) (look_in None) q (λ r. refl)) }
 
 -- children that are none by their count leave those that they are laid over as they are
@@ -113,97 +105,12 @@ pub lays_nothing : (w : WayValue) (upper ks : List Child) → (length upper == 0
 lays_nothing w [] ks is h = lays_none w ks h
 lays_nothing w (k ∷ upper) ks is h = absurd (grind (arith, nat_tests, is))
 
-pub sorted_put : (n : List ℕ) (ks new : List Child) (t : TreeMap) → AreSorted ks → map pair_of new ≡ put name_cmp n t (map pair_of ks) → AreSorted new
-sorted_put n ks new t h is = subst (λ es. T (finite.is_sorted name_cmp es)) (sym is) (is_sorted-put name_cmp nat_list_cmp_total n t (map pair_of ks) h)
-
-lays_put : (w : WayValue) (kid : Child) (ks new : List Child) (t : TreeMap) → AreSorted ks → map pair_of new ≡ put name_cmp (name_of kid) t (map pair_of ks)
-    → ((q : List (List ℕ)) → finite.get t q ≡ over_at w (look_in (child (name_of kid) ks)) (finite.get kid.node) q) → Lays w (kid ∷ []) ks new
-lays_put w kid ks new t h is laid = record {
-  sorted = sorted_put (name_of kid) ks new t h is;
-  children = λ m q.
-      ap (λ o. look_in o q) (ap (find name_cmp m) is ∙ find-put name_cmp nat_list_cmp_total m (name_of kid) t (map pair_of ks))
-      ∙ by_name m q (name_cmp m (name_of kid)) refl;
-}
-  where
-    by_name : (m : List ℕ) (q : List (List ℕ)) (o : Ordering) → name_cmp m (name_of kid) ≡ o
-        → look_in (cond (is_eq o) (Some t) (child m ks)) q ≡ over_at w (look_in (child m ks)) (look_in (cond (is_eq o) (Some kid.node) None)) q
-    by_name m q Less is = sym (none_over w (look_in (child m ks)) (look_in None) q (λ r. refl))
-    by_name m q Equal is = laid q ∙ ap (λ n. over_at w (look_in (child n ks)) (finite.get kid.node) q) (sym (name_cmp-IsAntisymmetric m (name_of kid) is))
-    by_name m q Greater is = sym (none_over w (look_in (child m ks)) (look_in None) q (λ r. refl))
-
 -- over the child of the name
 module _ (kid : Child) (ks : List Child) (i : ℕ) (there new : Child) (h : AreSorted ks) (at : Ok i ≡ place (name_of kid) ks) (is : there ≡ get_or ks i there)
     (same : name_of new ≡ name_of there) where
   -- to write over the child of that name is to put the new node under the name
   pub put_found : map pair_of (set ks i new) ≡ put name_cmp (name_of kid) new.node (map pair_of ks)
   put_found = (is_found (name_of kid) ks i (sym at)).written there new (same ∙ ap name_of is)
-
-  -- the names stay in order
-  pub sorted_found : AreSorted (set ks i new)
-  sorted_found = sorted_put (name_of kid) ks (set ks i new) new.node h put_found
-
-  -- a new node that is the child's node laid over the one there is the child laid over the list
-  pub lays_found : (w : WayValue)
-      → ((q : List (List ℕ)) → finite.get new.node q ≡ over_at w (finite.get there.node) (finite.get kid.node) q) → Lays w (kid ∷ []) ks (set ks i new)
-  lays_found w laid =
-      let found : child (name_of kid) ks ≡ Some there.node = (is_found (name_of kid) ks i (sym at)).found there ∙ ap (λ (k : Child). Some k.node) (sym is) in
-      lays_put w kid ks (set ks i new) new.node h put_found (λ q. laid q ∙ ap (λ o. over_at w (look_in o) (finite.get kid.node) q) (sym found))
-
--- or where there is none
-pub lays_gap : (w : WayValue) (kid : Child) (ks new : List Child) (i : ℕ) (made : Child) → AreSorted ks → Err i ≡ place (name_of kid) ks
-    → new ≡ insert ks i made → name_of made ≡ name_of kid → made.node ≡ dress w kid.node → Lays w (kid ∷ []) ks new
-lays_gap w kid ks new i made h at is same worn =
-    lays_put w kid ks new made.node h (ap (map pair_of) is ∙ (is_gap (name_of kid) ks i (sym at)).written made same)
-    (λ q. ap (λ t. finite.get t q) worn ∙ get-dress w kid.node q ∙ sym (over_none w (finite.get kid.node q) (below_file (finite.get kid.node) q))
-    ∙ ap (λ o. over_at w (look_in o) (finite.get kid.node) q) (sym ((is_gap (name_of kid) ks i (sym at)).none h)))
-
--- ---- one child after another
-
-none_taken : (ks : List Child) (i : ℕ) (d : Child) → AreSorted ks → i < length ks → find name_cmp (name_of (get_or ks i d)) (map pair_of (take i ks)) ≡ None
-none_taken [] i d h lt = absurd (omega arith)
-none_taken (k ∷ ks) zero d h lt = refl
-none_taken (k ∷ ks) (suc i) d h lt =
-    let n = name_of (get_or ks i d) in
-    let before : name_cmp (name_of k) n ≡ Less = below_later (name_of k) ks i d (and_first _ _ h) (omega arith) in
-    let after : name_cmp n (name_of k) ≡ Greater = nat_list_cmp_total.antisymm n (name_of k) ∙ ap ordering_reverse before in
-    ap (λ o. cond (is_eq o) (Some k.node) (find name_cmp n (map pair_of (take i ks)))) after ∙ none_taken ks i d (and_second _ _ h) (omega arith)
-
-taken_more : (ks : List Child) (i : ℕ) (d : Child) → i < length ks → map pair_of (take (suc i) ks) ≡ map pair_of (take i ks) ++ pair_of (get_or ks i d) ∷ []
-taken_more [] i d lt = absurd (omega arith)
-taken_more (k ∷ ks) zero d lt = refl
-taken_more (k ∷ ks) (suc i) d lt = ap (λ es. pair_of k ∷ es) (taken_more ks i d (omega arith))
-
--- laying the first i upper children over others, and then the next one, lays the first i + 1
-pub lays_more : (w : WayValue) (upper a b c : List Child) (i : ℕ) (kid : Child) → AreSorted upper → i < length upper → kid ≡ get_or upper i kid
-    → Lays w (take i upper) a b → Lays w (kid ∷ []) b c → Lays w (take (i + 1) upper) a c
-lays_more w upper a b c i kid h lt is first second = record {
-  sorted = second.sorted;
-  children = λ m q. second.children m q ∙ by_name m q (name_cmp m n) refl ∙ ap (λ o. over_at w (look_in (child m a)) (look_in o) q) (sym (found m));
-}
-  where
-    n : List ℕ
-    n = name_of kid
-
-    none : find name_cmp n (map pair_of (take i upper)) ≡ None
-    none = ap (λ (k : Child). find name_cmp (name_of k) (map pair_of (take i upper))) is ∙ none_taken upper i kid h lt
-
-    found : (m : List ℕ) → child m (take (i + 1) upper) ≡ cond (eq_by_cmp name_cmp m n) (Some kid.node) (child m (take i upper))
-    found m =
-        ap (λ j. child m (take j upper)) (add-one i)
-        ∙ ap (find name_cmp m) (taken_more upper i kid lt ∙ ap (λ k. map pair_of (take i upper) ++ pair_of k ∷ []) (sym is))
-        ∙ find-append name_cmp nat_list_cmp_total (map pair_of (take i upper)) n kid.node m none
-
-    by_name : (m : List ℕ) (q : List (List ℕ)) (o : Ordering) → name_cmp m n ≡ o
-        → over_at w (look_in (child m b)) (look_in (cond (is_eq o) (Some kid.node) None)) q
-        ≡ over_at w (look_in (child m a)) (look_in (cond (is_eq o) (Some kid.node) (child m (take i upper)))) q
-    by_name m q Less _ = none_over w (look_in (child m b)) (look_in None) q (λ r. refl) ∙ first.children m q
-    by_name m q Greater _ = none_over w (look_in (child m b)) (look_in None) q (λ r. refl) ∙ first.children m q
-    by_name m q Equal tie =
-        let none_yet : child m (take i upper) ≡ None = ap (λ x. child x (take i upper)) (name_cmp-IsAntisymmetric m n tie) ∙ none in
-        let as_before = λ (r : List (List ℕ)).
-        first.children m r ∙ ap (λ o. over_at w (look_in (child m a)) (look_in o) r) none_yet
-        ∙ none_over w (look_in (child m a)) (look_in None) r (λ r. refl) in
-        ap (λ f. over_at w f (look_in (Some kid.node)) q) (λ j r. as_before r j)
 
 -- a fact that holds where a call succeeds yields there what follows from it
 pub on_ok : {A E P Q : Type 0} (r : Result A E) → (P → Q) → OnOk r P → OnOk r Q

@@ -20,7 +20,11 @@ pub mod Dressing
 pub mod Laying
 pub mod InPlace
 pub mod Merging
+pub mod Covered
 pub mod Compared
 pub mod Fitting
 pub mod Walked
 pub mod Sharing
+pub mod Thinning
+pub mod Thinned
+pub mod Found

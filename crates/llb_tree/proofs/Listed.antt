@@ -20,7 +20,7 @@ use Rattle.llb_tree.specs.Within.{within_split, cmp-append}
 use Rattle.llb_tree.specs.Inside.{Pair, inside, get-tree_at}
 use Rattle.llb_tree.proofs.Entries.{entries-from_entries}
 
--- where a directory stands at a path, the list is the last names of the paths that are one name below it
+-- where there is a directory at a path, the list is the last names of the paths that are one name below it
 pub list-Ok : (t : TreeMap) (p : List (List ℕ)) → dir_there t p ≡ Ok tt → list t p ≡ Ok (flat_map (name_below p) (finite.keys t))
 list-Ok t p there = ap (λ r. r >>= λ _. Ok (flat_map (name_below p) (finite.keys t))) there
 
@@ -28,7 +28,7 @@ list-Ok t p there = ap (λ r. r >>= λ _. Ok (flat_map (name_below p) (finite.ke
 abbrev pub tops : List Pair → List (List ℕ)
 tops es = flat_map (name_below []) (map (λ e. e.0) es)
 
--- what is not below a path gives no name, and what is gives that after the path
+-- what is not below a path adds no name, and what is adds that after the path
 names_inside : (p : List (List ℕ)) (es : List Pair) → flat_map (name_below p) (map (λ e. e.0) es) ≡ tops (inside p es)
 names_inside p [] = refl
 names_inside p (e ∷ es) = by_test (is_within p e.0) refl (names_inside p es)
@@ -103,6 +103,6 @@ pub listed : (t m : TreeMap) (p : List (List ℕ)) (e : Entry) (kids : List Chil
     → finite.entries m ≡ ([], e) ∷ flat kids → flat_map (name_below p) (finite.keys t) ≡ tops (flat kids)
 listed t m p e kids is es = names_inside p (finite.entries t) ∙ ap tops (sym (entries-inside t m p is) ∙ es)
 
--- where nothing stands at a path, the list is refused as not found
+-- where there is nothing at a path, the list is refused as not found
 pub list-none : (t : TreeMap) (p : List (List ℕ)) → finite.get t p ≡ None → list t p ≡ Err NotFound
 list-none t p none = ap (λ o. all_dirs (o ∷ []) >>= λ _. Ok (flat_map (name_below p) (finite.keys t))) none

@@ -72,7 +72,7 @@ pushed list new kid es is =
     ap (λ ks. map pair_of ks ++ es) is ∙ ap (λ ks. ks ++ es) (map_push pair_of list kid) ∙ append_assoc (map pair_of list) (pair_of kid ∷ []) es
 
 module _ (child : Child) (first others list rest after new : List Child) (so_far : Passes child first others list rest) where
-  -- a child of the rest that is below the child to be put goes to the list, and the same comes of all
+  -- a child of the rest that is below the child to be put goes to the list, and the whole stays the same
   pub one_passes : (kid : Child) → rest ≡ kid ∷ after → name_cmp (name_of kid) (name_of child) ≡ Less → new ≡ list ++ kid ∷ []
       → Passes child first others new after
   one_passes kid is lt more ks h =

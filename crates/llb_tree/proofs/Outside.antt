@@ -14,7 +14,7 @@ use Rattle.llb_tree.specs.Inside.{walk-cons}
 pub alike : (p q x : List (List ℕ)) → path_cmp q x ≡ Equal → not (is_within p x) ≡ not (is_within p q)
 alike p q x tie = ap (λ y. not (is_within p y)) (sym (path_cmp-IsAntisymmetric q x tie))
 
--- without what is at or below a path, nothing stands there, and all else is as it was
+-- without what is at or below a path, nothing is there, and all else is as it was
 pub get-without : (t : TreeMap) (p q : List (List ℕ)) → finite.get (without t p) q ≡ cond (not (is_within p q)) (finite.get t q) None
 get-without t p q = finite.get-retain_keys t (λ x. not (is_within p x)) q (alike p q)
 

@@ -24,7 +24,7 @@ dir_at w None k = (given w k, refl)
 dir_at w (Some (File m b)) k = (given w k, refl)
 dir_at w (Some (Dir m)) k = (cond w.keeps m (given w k), refl)
 
--- an entry of the whole stands for the upper tree's, or is the lower one's that nothing hides
+-- an entry of the whole is the upper tree's over what the lower one has there, or is the lower one's that nothing hides
 laid_cases : (C : Type 0) (w : WayValue) (f g : Look) (q : List (List ℕ)) (e : Entry) → ((d : Entry) → g q ≡ Some d → over w (f q) d ≡ e → C)
     → (g q ≡ None → below_file g q ≡ false → f q ≡ Some e → C) → over_at w f g q ≡ Some e → C
 laid_cases C w f g q e up low is = by_upper (g q) refl is

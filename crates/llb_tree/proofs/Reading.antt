@@ -13,11 +13,11 @@ module _ (path : List (List ℕ)) (parts : List (List ℕ)) (i : ℕ) (part : Li
       let here : drop i parts ≡ part ∷ drop (i + 1) parts = drop-cons parts i part lt ∙ ap (λ x. x ∷ drop (suc i) parts) (sym is) ∙ ap (λ ps. part ∷ ps) rest in
       ap (follow path) (sym here) ∙ so_far
 
-  -- the part is entered, and the parts after it lead on to the same answer
+  -- the part is entered, and the parts after it lead on to the same result
   pub follow_more : (next : List (List ℕ)) → enter path part ≡ Ok next → follow next (drop (i + 1) parts) ≡ r
   follow_more next enters = ap (λ s. s >>= λ q. follow q (drop (i + 1) parts)) (sym enters) ∙ at_part
 
-  -- the part is refused, and that is the answer
+  -- the part is refused, and that is the result
   pub follow_stops : (e : TreeFault) → enter path part ≡ Err e → r ≡ Err e
   follow_stops e refuses = sym at_part ∙ ap (λ s. s >>= λ q. follow q (drop (i + 1) parts)) refuses
 

@@ -1,5 +1,5 @@
 -- A binary search over the children of a directory finds the place of a name: the place is where the search says, and the
--- children stand in the order that the search asks for.
+-- children are in the order that the search asks for.
 use Rattle.std.proofs.Common.{◌≡◌, ℕ, zero, suc, ◌<◌, ◌≤◌, List, [], ◌∷◌, length, get_or, map, Result, Ok, Err, T, sym, ap, ◌∙◌, arith, add-one}
 use Rattle.std.specs.declared.cmp.Ordering.TheVariants.{Less, Equal, Greater}
 use Rattle.std.specs.List.{AllWithin}
@@ -63,7 +63,7 @@ searchable p rows sorted = searchable_from_sorted nat_list_cmp_total (λ (r : Ch
     (λ k d low high. ap (λ j. is_lt (name_cmp (name_of (get_or rows j d)) (name_of (get_or rows k d)))) (add-one k)
     ∙ ap is_lt (turned (name_of (get_or rows k d)) (name_of (get_or rows (suc k) d)) Less (rises rows k d sorted (omega arith))))
 
--- what a binary search answers is the place
+-- the result of a binary search is the place
 pub place_searched : (p : List ℕ) (rows : List Child) (r : Result ℕ ℕ) → AreSorted rows → IsSearchInRange r (length rows)
     → IsBinarySearchResult (λ (row : Child). name_cmp (name_of row) p) rows r → r ≡ place p rows
 place_searched p rows (Ok i) sorted within is = sym (place_found p rows i sorted within is)

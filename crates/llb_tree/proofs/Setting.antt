@@ -116,7 +116,7 @@ dir_set k m n p t own h g (x ∷ q) =
     get-child m x q g.sorted ∙ g.children x q
     ∙ (λ i. cond (is_eq (name_cmp x n)) (set_look p t (λ r. sym (get-child k n r h) i) q) (sym (get-child k x q h) i))
 
--- what a directory has is told by the names of its children and what they stand for
+-- the entries of a directory, by the names of its children and the trees that they represent
 abbrev flat_pairs : Pairs → List Pair
 flat_pairs es = flat_map (λ (k : List ℕ × TreeMap). map (λ (e : Pair). (k.0 ∷ e.0, e.1)) (finite.entries k.1)) es
 
@@ -124,7 +124,7 @@ flat_by : (ks : List Child) → flat ks ≡ flat_pairs (map pair_of ks)
 flat_by [] = refl
 flat_by (k ∷ ks) = ap (λ es. map (λ (e : Pair). (name_of k ∷ e.0, e.1)) (finite.entries k.node) ++ es) (flat_by ks)
 
--- nodes with the same own entry, and children of the same names that stand for the same trees, have the same map
+-- nodes with the same own entry, and children of the same names that represent the same trees, have the same map
 pub same_dir : (k m : Kind) → own_entry m ≡ own_entry k → map pair_of (kids_of m) ≡ map pair_of (kids_of k) → map_of m ≡ map_of k
 same_dir k m own is = λ i. finite.from_entries (([], own i) ∷ (flat_by (kids_of m) ∙ ap flat_pairs is ∙ sym (flat_by (kids_of k))) i)
 
@@ -157,11 +157,11 @@ pub node_set : (k m : Kind) (v : TreeMap) (names : List (List ℕ)) (n : List �
     → finite.get (map_of m) q ≡ set_look names t (finite.get v) q
 node_set k m v names n t view own h some is g q = dir_set k m _ _ t own h g q ∙ (λ i. set_look (sym (split_names names n some is) i) t (finite.get (view i)) q)
 
--- two equal answers that succeed have the same value
+-- two equal results that succeed have the same value
 pub same_Ok : {X : Type 0} (x y : X) → ◌≡◌ {A = Result X TreeFault} (Ok x) (Ok y) → x ≡ y
 same_Ok x y e = cc
 
--- a fact of the value that a call gives, if it gives one, yields what follows from it
+-- a fact of the value that a call returns, if it returns one, yields what follows from it
 pub if_ok : {A E : Type 0} {P Q : A → Type 0} (r : Result A E) → ((x : A) → P x → Q x) → IfOk r P → IfOk r Q
 if_ok (Ok x) f h = f x h
 if_ok (Err e) f h = tt

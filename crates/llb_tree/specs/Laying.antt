@@ -1,12 +1,14 @@
 -- What the steps of laying one tree over another make of nodes and of their children.
-use Rattle.std.specs.Prelude.{◌≡◌, ◌≢◌, ◌<◌, ◌^◌, ℕ, true, T, List, [], ◌∷◌, ◌++◌, map, Option, Some, None}
+use Rattle.std.specs.Prelude.{◌≡◌, ◌≢◌, ◌<◌, ◌^◌, ℕ, zero, suc, true, false, T, List, [], ◌∷◌, ◌++◌, map, Option, Some, None, is_some, Vec}
+use Rattle.std.proofs.Common.{Global}
 use Rattle.std.specs.declared.cmp.Ordering.{Ordering}
 use Rattle.std.specs.FinMap as finite
 use Rattle.std.specs.FinMap.Entries.{below_all}
 use Rattle.llb_tree.specs.Path.{name_cmp}
 use Rattle.llb_tree.specs.Tree.{TreeMap, Entry}
 use Rattle.llb_tree.specs.Nodes.{AreSorted, Pairs, child, look_in, name_of, pair_of}
-use Rattle.llb_tree.specs.Overlay.{WayValue, is_mode, over, over_at}
+use Rattle.llb_tree.specs.Meta.{MetaValue}
+use Rattle.llb_tree.specs.Overlay.{WayValue, is_mode, given, over, over_at}
 use Rattle.llb_tree.specs.declared.node.Child.{Child}
 
 -- each entry in the mode and the owner that are given
@@ -21,6 +23,10 @@ pub record Lays (w : WayValue) (upper old new : List Child) : Type 0 where
   pub sorted : AreSorted new
   pub children : (m : List ℕ) (q : List (List ℕ)) → look_in (child m new) q ≡ over_at w (look_in (child m old)) (look_in (child m upper)) q
 
+-- the tree in the place of an upper child: it laid over the lower one of its name, if there is one
+abbrev pub IsOver : WayValue → List Child → Child → TreeMap → Type 0
+IsOver w old upper t = (q : List (List ℕ)) → finite.get t q ≡ over_at w (look_in (child (name_of upper) old)) (finite.get upper.node) q
+
 -- a child made of the upper one and of the lower one of its name, if there is one
 pub record IsLaid (w : WayValue) (old : List Child) (upper made : Child) : Type 0 where
   pub named : name_of made ≡ name_of upper
@@ -31,6 +37,36 @@ AreLaid w old [] [] = Unit {0}
 AreLaid w old [] (k ∷ made) = ⊥
 AreLaid w old (u ∷ upper) [] = ⊥
 AreLaid w old (u ∷ upper) (k ∷ made) = IsLaid w old u k × AreLaid w old upper made
+
+-- an entry that is laid stays as it is, whatever was there
+pub record TakesWhole (w : WayValue) : Type 0 where
+  pub own : (m : MetaValue) → given w m ≡ m
+  pub upper : w.keeps ≡ false
+
+-- children are laid without change
+pub record StandWhole (w : WayValue) (upper new : List Child) : Type 0 where
+  pub way : TakesWhole w
+  pub same : map pair_of new ≡ map pair_of upper
+
+-- each name of the lower children is one of the upper ones'
+abbrev pub Covers : List Child → List Child → Type 0
+Covers upper lower = (n : List ℕ) → is_some (child n lower) ≡ true → is_some (child n upper) ≡ true
+
+-- one of the children has the name, and theirs are the names of those after it
+pub record HasLater (n : List ℕ) (kids more : List Child) : Type 0 where
+  pub here : is_some (child n kids) ≡ true
+  pub later : Covers kids more
+
+-- the children that were made, or the given ones where none were
+abbrev pub those : Option (Vec Child Global) → List Child → List Child
+those None ks = ks
+those (Some made) ks = made.items
+
+-- the children with another tree under the name at a place
+abbrev pub written : ℕ → TreeMap → Pairs → Pairs
+written i t [] = []
+written zero t (k ∷ ks) = (k.0, t) ∷ ks
+written (suc i) t (k ∷ ks) = k ∷ written i t ks
 
 -- children after others are put in one by one, each in the place of the one of its name
 abbrev pub puts : Pairs → Pairs → Pairs
@@ -47,8 +83,8 @@ abbrev pub TakesFirst : List ℕ → Ordering → List Child → Option Child �
 TakesFirst n o old None new = (new ≡ old) × IsNotFirst n o old
 TakesFirst n o old (Some k) new = (old ≡ k ∷ new) × (name_cmp (name_of k) n ≡ o)
 
--- What a step of one pass keeps, which puts a child in and moves others from the rest to the list: whatever is put in after
--- it, of names above the child's, the list and then the rest come to what they would if the child were put in with it.
+-- What a step of one pass keeps, which puts a child in and moves others from the rest to the list. After it, the list and then the
+-- rest, with any children of names above the child's put in, are what they would be if the child were put in together with those.
 abbrev pub PutsNext : Child → List Child → List Child → List Child → List Child → Type 0
 PutsNext child list rest list_after rest_after = (ks : Pairs) → T (below_all name_cmp (name_of child) ks)
     → map pair_of list_after ++ puts ks (map pair_of rest_after) ≡ map pair_of list ++ puts (pair_of child ∷ ks) (map pair_of rest)
@@ -58,7 +94,7 @@ abbrev pub owner_fits : Option ℕ → Type 0
 owner_fits None = Unit {0}
 owner_fits (Some owner) = owner < 2 ^ 32
 
--- the mode is one, and so are the owners
+-- the mode of a way is a mode, and its owners are owners
 pub record IsWay (w : WayValue) : Type 0 where
   pub mode : is_mode w.mode ≡ true
   pub uid : owner_fits w.uid

@@ -17,3 +17,4 @@ pub mod Overlay
 pub mod Laying
 pub mod Walks
 pub mod Shared
+pub mod Tested

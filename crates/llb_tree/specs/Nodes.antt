@@ -1,4 +1,4 @@
--- What the nodes of a tree stand for: a file alone, or a directory with its children in the order of their names. Only this
+-- What the nodes of a tree represent: a file alone, or a directory with its children in the order of their names. Only this
 -- file and the proofs know how a tree is kept; the clauses of the calls on a tree speak of its map.
 use Rattle.std.specs.Prelude.{cond, ◌≡◌, ℕ, ◌+◌, ◌≤◌, List, [], ◌∷◌, ◌++◌, map, T, Option, Some, None, Result, Ok, Err}
 use denote.Ref.{Bor}
@@ -41,7 +41,7 @@ abbrev pub kids_of : Kind → List Child
 kids_of (kind.File m c) = []
 kids_of (kind.Dir m kids) = (arc_value kids).items
 
--- what stands at the node itself
+-- the entry at the node itself
 abbrev pub own_entry : Kind → base.Entry
 own_entry (kind.File m c) = base.File m (arc_value c)
 own_entry (kind.Dir m kids) = base.Dir m
@@ -55,7 +55,7 @@ map_of k = finite.from_entries (entries_of k)
 abbrev pub pair_of : Child → List ℕ × TreeMap
 pair_of k = (name_of k, k.node)
 
--- by name, each once
+-- children are sorted by name, each once
 abbrev pub AreSorted : List Child → Type 0
 AreSorted ks = T (finite.is_sorted name_cmp (map pair_of ks))
 
@@ -63,12 +63,12 @@ AreSorted ks = T (finite.is_sorted name_cmp (map pair_of ks))
 abbrev pub child : List ℕ → List Child → Option TreeMap
 child n ks = finite.find name_cmp n (map pair_of ks)
 
--- what stands at a path in a tree, if there is one
+-- the entry at a path in a tree, if there is one
 abbrev pub look_in : Option TreeMap → Look
 look_in None q = None
 look_in (Some t) q = finite.get t q
 
--- one place further
+-- the result for one place further
 abbrev pub later : Result ℕ ℕ → Result ℕ ℕ
 later (Ok i) = Ok (i + 1)
 later (Err i) = Err (i + 1)
@@ -78,7 +78,7 @@ abbrev pub place : List ℕ → List Child → Result ℕ ℕ
 place p [] = Err 0
 place p (r ∷ rows) = by_order (name_cmp p (name_of r)) (Err 0) (Ok 0) (later (place p rows))
 
--- what stands at a path after a tree, or nothing, is set at another
+-- the entry at a path after a tree, or nothing, is set at another
 abbrev pub set_look : List (List ℕ) → Option TreeMap → Look → Look
 set_look [] t old q = look_in t q
 set_look (n ∷ p) t old [] = old []
@@ -93,7 +93,7 @@ abbrev pub file_look : base.MetaValue → List ℕ → Look
 file_look m b [] = Some (base.File m b)
 file_look m b (n ∷ q) = None
 
--- children as their names and what they stand for
+-- children as their names and the trees that they represent
 abbrev pub Pairs : Type 0
 Pairs = List (List ℕ × TreeMap)
 
@@ -103,7 +103,7 @@ pub record Sets (n : List ℕ) (p : List (List ℕ)) (t : Option TreeMap) (old n
   pub children : (m : List ℕ) (q : List (List ℕ)) → look_in (finite.find name_cmp m new) q
       ≡ cond (is_eq (name_cmp m n)) (set_look p t (look_in (finite.find name_cmp n old)) q) (look_in (finite.find name_cmp m old) q)
 
--- a node that is a tree, whose paths have at most that many names
+-- a node that is a tree, whose paths have at most `depth` names
 pub record IsWhole (root : TreeMap) (depth : ℕ) : Type 0 where
   pub tree : base.IsTree root
   pub deep : base.height root ≤ depth + 1

@@ -1,5 +1,5 @@
--- One tree over another, path by path. What the upper tree has stands, in the mode and the owner that are given for it; of the
--- lower one what no file of the upper one is above.
+-- One tree over another, path by path. The upper tree's entries are kept, in the mode and the owner that are given for them; of the
+-- lower tree's entries those are kept that are below no file of the upper one.
 use Rattle.std.specs.Prelude.{ℕ, Bool, true, false, List, map, Option, Some, None, unwrap_or, nat_lt, if◌then◌else◌}
 use Rattle.std.specs.List.{list_any}
 use Rattle.llb_tree.specs.Meta.{MetaValue}
@@ -28,7 +28,7 @@ is_mode (Some mode) = if nat_lt 4095 mode then false else true
 abbrev pub way_of : Option ℕ → Option ℕ → Option ℕ → Bool → Option WayValue
 way_of mode uid gid keeps = if is_mode mode then Some (record { mode = mode; uid = uid; gid = gid; keeps = keeps }) else None
 
--- its own where none is given
+-- the mode and the owner that are given, and an entry's own where none is
 abbrev pub given : WayValue → MetaValue → MetaValue
 given w m = record { mode = unwrap_or w.mode m.mode; uid = unwrap_or w.uid m.uid; gid = unwrap_or w.gid m.gid }
 
@@ -39,7 +39,7 @@ over w (Some (File m b)) (Dir k) = Dir (given w k)
 over w None (Dir k) = Dir (given w k)
 over w there (File k c) = File (given w k) c
 
--- what stands where the lower tree has this, and the upper one that, or nothing, with a file above it or not
+-- the entry at a path where the lower tree has this, and the upper one that, or nothing, with a file above it or not
 abbrev pub laid_over : WayValue → Option Entry → Option Entry → Bool → Option Entry
 laid_over w there (Some e) hidden = Some (over w there e)
 laid_over w there None hidden = if hidden then None else there

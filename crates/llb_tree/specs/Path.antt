@@ -11,11 +11,11 @@ use Rattle.llb_wire.specs.Answer.{◌>>=◌}
 use Rattle.llb_tree.specs.declared.fault.TreeFault.{TreeFault}
 use Rattle.llb_tree.specs.declared.fault.TreeFault.TheVariants.{BadName}
 
--- names by bytes
+-- the order of names, by their bytes
 abbrev pub name_cmp : List ℕ → List ℕ → Ordering
 name_cmp = slice_cmp nat_cmp
 
--- paths as lists of names
+-- the order of paths, as lists of names
 abbrev pub path_cmp : List (List ℕ) → List (List ℕ) → Ordering
 path_cmp = slice_cmp name_cmp
 
@@ -27,20 +27,20 @@ is_dot part = pointwise nat_eq part (46 ∷ [])
 abbrev pub is_dots : List ℕ → Bool
 is_dots part = pointwise nat_eq part (46 ∷ 46 ∷ [])
 
--- no control byte, no 0x7F and no `/`
+-- a byte of a name is no control byte, not 0x7F and not `/`
 abbrev pub is_name_byte : ℕ → Bool
 is_name_byte b = nat_le 32 b && not (b == 127) && not (b == 47)
 
--- 1 to 255 such bytes of UTF-8, and neither `.` nor `..`
+-- a name is 1 to 255 such bytes of UTF-8, and neither `.` nor `..`
 abbrev pub is_name : List ℕ → Bool
 is_name part = not (length part == 0) && nat_le (length part) 255 && not (is_dot part) && not (is_dots part) && list_all is_name_byte part && is_utf8 part
 
--- at most 128 names
+-- a path has at most 128 names
 pub record IsPath (path : List (List ℕ)) : Type 0 where
   pub short : length path ≤ 128
   pub named : All (λ name. IsTrue (is_name name)) path
 
--- a part as a name
+-- the name that a part is, or its refusal
 abbrev pub name_of : List ℕ → Result (List ℕ) TreeFault
 name_of part = if is_name part then Ok part else Err BadName
 
@@ -59,7 +59,7 @@ abbrev pub follow : List (List ℕ) → List (List ℕ) → Result (List (List �
 follow path [] = Ok path
 follow path (part ∷ parts) = enter path part >>= λ next. follow next parts
 
--- what stands between the `/` of a text
+-- the parts of a text between its `/`
 abbrev pub parts_of : List ℕ → List (List ℕ)
 parts_of = slice_split (λ b. b == 47)
 

@@ -16,12 +16,12 @@ pub use Rattle.llb_tree.specs.Faults.{is_memory, Gives, MemoryLast}
 use Rattle.llb_tree.specs.declared.fault.TreeFault.{TreeFault}
 use Rattle.llb_tree.specs.declared.fault.TreeFault.TheVariants.{NotFound, NotDir, IsDir, Conflict, Root, BadName}
 
--- what stands at a path
+-- the entry at a path
 pub data Entry : Type 0 where
   Dir : MetaValue → Entry
   File : MetaValue → List ℕ → Entry
 
--- its mode and its owner
+-- the mode and the owner of an entry
 abbrev pub meta_in : Entry → MetaValue
 meta_in (Dir m) = m
 meta_in (File m bytes) = m
@@ -50,7 +50,7 @@ TreeMap = FinMap path_cmp Entry
 abbrev pub coded_tree : Coded TreeMap
 coded_tree = finite.code (coded_list (coded_list coded_ℕ)) coded_entry
 
--- one more than the names of the longest path
+-- the height of a tree: one more than the names of its longest path
 abbrev pub height : TreeMap → ℕ
 height t = most (λ (e : List (List ℕ) × Entry). length e.0 + 1) (finite.entries t)
 
@@ -73,13 +73,13 @@ all_dirs (Some (Dir m) ∷ es) = all_dirs es
 abbrev pub walk : Look → List (List ℕ) → Result (Unit {0}) TreeFault
 walk look p = all_dirs (map look (parents p))
 
--- a file may be put where nothing or a file stands
+-- a file may be put where there is nothing or a file
 abbrev pub file_fits : Option Entry → Result (Unit {0}) TreeFault
 file_fits (Some (Dir m)) = Err IsDir
 file_fits (Some (File m b)) = Ok tt
 file_fits None = Ok tt
 
--- a directory where nothing or a directory stands
+-- a directory where there is nothing or a directory
 abbrev pub dir_fits : Option Entry → Result (Unit {0}) TreeFault
 dir_fits (Some (File m b)) = Err Conflict
 dir_fits (Some (Dir m)) = Ok tt
@@ -96,7 +96,7 @@ put_file t p m bytes = not_root p >>= λ _. walk (finite.get t) p >>= λ _. file
 abbrev pub put_dir : TreeMap → List (List ℕ) → MetaValue → Result TreeMap TreeFault
 put_dir t p m = walk (finite.get t) p >>= λ _. dir_fits (finite.get t p) >>= λ _. Ok (finite.insert t p (Dir m))
 
--- something stands at the path
+-- there is something at the path
 abbrev pub found : Option Entry → Result (Unit {0}) TreeFault
 found (Some e) = Ok tt
 found None = Err NotFound
@@ -105,7 +105,7 @@ found None = Err NotFound
 abbrev pub without : TreeMap → List (List ℕ) → TreeMap
 without t p = finite.retain_keys t (λ q. not (is_within p q))
 
--- the tree after what is at or below a path goes, or why it stays
+-- the tree after what is at or below a path is removed, or why it is not
 abbrev pub remove : TreeMap → List (List ℕ) → Result TreeMap TreeFault
 remove t p = not_root p >>= λ _. found (finite.get t p) >>= λ _. Ok (without t p)
 
@@ -113,11 +113,11 @@ remove t p = not_root p >>= λ _. found (finite.get t p) >>= λ _. Ok (without t
 abbrev pub dir_there : TreeMap → List (List ℕ) → Result (Unit {0}) TreeFault
 dir_there t p = all_dirs (finite.get t p ∷ [])
 
--- an entry with other names before its path in place of that many
+-- an entry with other names before its path in place of the first n
 abbrev pub moved : ℕ → List (List ℕ) → List (List ℕ) × Entry → List (List ℕ) × Entry
 moved n front e = (front ++ drop n e.0, e.1)
 
--- the tree of what is at or below a path: what is at p ++ q stands at q
+-- the tree of what is at or below a path: what is at p ++ q is then at q
 abbrev pub tree_at : TreeMap → List (List ℕ) → TreeMap
 tree_at t p = finite.from_entries (map (moved (length p) []) (where_key path_cmp (is_within p) (finite.entries t)))
 
@@ -132,7 +132,7 @@ name_below p q = if is_within p q && (length (drop (length p) q) == 1) then drop
 abbrev pub list : TreeMap → List (List ℕ) → Result (List (List ℕ)) TreeFault
 list t p = dir_there t p >>= λ _. Ok (flat_map (name_below p) (finite.keys t))
 
--- each of the paths can stand below a path: there is no 129th name
+-- each of the paths has room below a path: there is no 129th name
 abbrev pub places_fit : List (List ℕ) → List (List (List ℕ)) → Result (Unit {0}) TreeFault
 places_fit p [] = Ok tt
 places_fit p (q ∷ qs) = if nat_lt 128 (length p + length q) then Err BadName else places_fit p qs
@@ -148,13 +148,19 @@ graft t p other = walk (finite.get t) p >>= λ _. places_fit p (finite.keys othe
 abbrev pub empty_tree : TreeMap
 empty_tree = finite.insert finite.empty [] (Dir new_dir_meta)
 
--- whether what stands at a path is a directory
+-- whether the entry at a path is a directory
 abbrev pub is_dir : Option Entry → Bool
 is_dir None = false
 is_dir (Some (Dir m)) = true
 is_dir (Some (File m content)) = false
 
--- a directory stands at the path
+-- the content of the entry at a path, if that is a file
+abbrev pub content_of : Option Entry → Option (List ℕ)
+content_of None = None
+content_of (Some (Dir m)) = None
+content_of (Some (File m content)) = Some content
+
+-- there is a directory at the path
 abbrev pub IsDirAt : Look → List (List ℕ) → Type 0
 IsDirAt look p = (m : MetaValue) × (look p ≡ Some (Dir m))
 
@@ -163,13 +169,13 @@ abbrev pub HasBytes : Entry → Type 0
 HasBytes (Dir m) = Unit {0}
 HasBytes (File m content) = AreBytes content
 
--- an entry that can stand at a path: this is a path, at most 128 names, the entry has a mode and owners, and bytes as content
+-- an entry that is allowed at a path: this is a path, at most 128 names, the entry has a mode and owners, and bytes as content
 pub record CanStand (p : List (List ℕ)) (e : Entry) : Type 0 where
   pub path : IsPath p
   pub meta : IsMeta (meta_in e)
   pub bytes : HasBytes e
 
--- the root is a directory, and so is each proper prefix of a path that is there; and what is there can stand there
+-- the root is a directory, and so is each proper prefix of a path that is there; and what is there is allowed there
 pub record IsTree (t : TreeMap) : Type 0 where
   pub root : IsDirAt (finite.get t) []
   pub closed : (p : List (List ℕ)) → IsSome (finite.get t p) → walk (finite.get t) p ≡ Ok tt

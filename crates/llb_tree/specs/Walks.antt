@@ -10,7 +10,7 @@ use Rattle.llb_tree.specs.Nodes.{flat, pair_of, AreSorted}
 use Rattle.llb_tree.specs.declared.node.Child.{Child}
 use Rattle.llb_tree.specs.declared.node.Node.{Node}
 
--- after the first, and after all that is below it
+-- the entries after the first and after all that is below it
 abbrev pub past : List (List (List ℕ) × Entry) → List (List (List ℕ) × Entry)
 past [] = []
 past (e ∷ es) = where_key path_cmp (λ q. not (is_within e.0 q)) es
@@ -19,7 +19,7 @@ past (e ∷ es) = where_key path_cmp (λ q. not (is_within e.0 q)) es
 abbrev pub levels_of : List (Bor (List Child)) → List (List Child)
 levels_of = map (λ l. l.now)
 
--- their entries, the deepest first
+-- the entries of these children, the deepest first
 abbrev pub behind : List (List ℕ) → List (List Child) → List (List (List ℕ) × Entry)
 behind [] ls = []
 behind (n ∷ p) [] = []

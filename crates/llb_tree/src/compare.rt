@@ -15,7 +15,7 @@ impl Same for Tree {
 }
 
 impl Node {
-    // Whether both have the same entries at the same paths. The entry of a child says that something stands there, so a child
+    // Whether both have the same entries at the same paths. The entry of a child says that there is something, so a child
     // that the other lacks makes a difference.
     pub(crate) fn same(&self, other: &Node) -> bool
         ensures { IsTrue result ↔ (self.now ≡ other.now) }

@@ -1,5 +1,5 @@
 //! Edits of nodes that may be shared. A directory is made its own before it is changed: where it has other owners, a fresh
-//! vector of second owners of its children takes its place, which leaves what it stands for as it is. So an edit copies the
+//! vector of second owners of its children takes its place, which leaves the tree that it represents as it is. So an edit copies the
 //! width of the directories on its path, and nothing else.
 
 ghost use Rattle.std.specs.Prelude.{[], Ok, Err, ◌≡◌, ◌<◌, ◌≤◌, ℕ, List, length, map, option_map, IfOk, OnOk, OnErr};
@@ -13,7 +13,7 @@ use std::alloc::{AllocError, Global};
 use std::sync::Arc;
 
 // Second owners of the same children.
-fn copies(alloc: Global, kids: &[Child]) -> Result<Vec<Child>, AllocError>
+pub(crate) fn copies(alloc: Global, kids: &[Child]) -> Result<Vec<Child>, AllocError>
     ensures { IfOk result (λ v. map pair_of v.items ≡ map pair_of kids.now) }
 {
     let mut copied = Vec::new(alloc);
@@ -24,7 +24,7 @@ fn copies(alloc: Global, kids: &[Child]) -> Result<Vec<Child>, AllocError>
     Ok(copied)
 }
 
-// Makes children that are shared its own; what they stand for stays.
+// Makes children that are shared its own; the trees that they represent stay.
 pub(crate) fn own(alloc: Global, kids: &mut Arc<Vec<Child>>) -> Result<(), AllocError>
     ensures { map pair_of (arc_value kids.new).items ≡ map pair_of (arc_value kids.old).items }
 {
@@ -67,7 +67,7 @@ fn set_in(
     }
 }
 
-// The same where the children may be shared: makes them its own first.
+// Does the same where the children may be shared: makes them its own first.
 #[cycle(set)]
 fn set_below(
     kids: &mut Arc<Vec<Child>>,

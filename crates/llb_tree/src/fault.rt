@@ -1,4 +1,4 @@
-//! Why a call on a tree or a path is refused. A fault prints what stands after the word `fault` in a
+//! Why a call on a tree or a path is refused. A fault prints what comes after the word `fault` in a
 //! refusal: its number. Refusals of memory of any kind become `Memory` by `?`.
 
 use std::alloc::{AllocError, AllocFailed};
@@ -13,10 +13,10 @@ pub enum TreeFault {
     /// 22: a parent is a file, or a file is where a directory is needed.
     #[error("22")]
     NotDir,
-    /// 23: a directory is where a file is to stand.
+    /// 23: a directory is where a file is to be.
     #[error("23")]
     IsDir,
-    /// 24: a file is where a directory is to stand.
+    /// 24: a file is where a directory is to be.
     #[error("24")]
     Conflict,
     /// 25: the root is where this can't be done.

@@ -1,4 +1,4 @@
-//! Whether the entries of a tree can stand at and below a path. The bound of the tree's depth says it of most trees; of the
+//! Whether the entries of a tree have room at and below a path. The bound of the tree's depth says it of most trees; of the
 //! others the nodes do.
 
 ghost use Rattle.std.specs.Prelude.{◌≡◌, ◌↔◌, ◌≤◌, IsTrue, IfErr, false};
@@ -11,8 +11,8 @@ use crate::path::Path;
 use crate::tree::Tree;
 
 impl Tree {
-    /// Whether the entries can stand at and below a path: 26 `BadName` where a path would have more than 128 names. Takes no
-    /// memory.
+    /// Checks that the entries have room at and below a path. Fails with 26 `BadName` where a path would have more than 128 names. Does not
+    /// allocate.
     pub fn fits(&self, path: &Path) -> Result<(), TreeFault>
         ensures fit { result ≡ places_fit path.now (finite.keys self.now) }
         ensures known { IfErr result (λ e. is_memory e ≡ false) }
@@ -29,7 +29,7 @@ impl Tree {
 }
 
 impl Node {
-    // Whether what is at and below this is on at most that many levels. A file and an empty directory are on one.
+    // Whether what is at and below this is on at most this number of levels. A file and an empty directory are on one.
     pub(crate) fn is_within(&self, levels: usize) -> bool
         ensures { IsTrue result ↔ (height self.now ≤ levels) }
     {

@@ -4,6 +4,8 @@
 #![tactic(auto)]
 
 mod compare;
+mod content;
+mod covering;
 mod edit;
 mod fault;
 mod fits;
@@ -14,13 +16,16 @@ mod name;
 mod names;
 mod node;
 mod overlay;
-mod overlay_in_place;
+mod passing;
 mod path;
+mod putting;
 mod reads;
+mod tested;
 mod tree;
 mod walk;
 mod way;
 
+pub use content::Content;
 pub use fault::TreeFault;
 pub use llb_wire::{Bytes, Text};
 pub use meta::Meta;
@@ -29,6 +34,7 @@ pub use name::Name;
 pub use names::Names;
 pub use node::{Child, Entry, Node};
 pub use path::Path;
+pub use tested::NameTest;
 pub use tree::Tree;
 pub use walk::Walk;
 pub use way::Way;

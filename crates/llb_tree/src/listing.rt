@@ -1,4 +1,4 @@
-//! What is in a directory: its children, and their names.
+//! The contents of a directory: its children, and their names.
 
 ghost use Rattle.std.specs.Prelude.{◌≡◌, [], ◌∷◌, map, Some, Ok};
 ghost use Rattle.std.specs.List.{flat_map};
@@ -16,14 +16,14 @@ use crate::tree::Tree;
 use std::alloc::Global;
 
 impl Child {
-    /// The name. Takes no memory.
+    /// Returns the name. Does not allocate.
     pub fn name(&self) -> &Name
         ensures { result.now ≡ name_of self.now }
     {
         &self.name
     }
 
-    /// What stands there, with what is below it. Takes no memory.
+    /// Returns the node at the name, with what is below it. Does not allocate.
     pub fn node(&self) -> &Node
         ensures { result.now ≡ self.now.node }
     {
@@ -32,8 +32,8 @@ impl Child {
 }
 
 impl Node {
-    /// The children in the order of their names; a file has none. After a node's own entry come those of its children, child
-    /// by child, each with the child's name before its path. Takes no memory.
+    /// Returns the children in the order of their names; a file has none. After a node's own entry come those of its children, child
+    /// by child, each with the child's name before its path. Does not allocate.
     pub fn children(&self) -> &[Child]
         ensures entries { (e : base.Entry) → finite.get self.now [] ≡ Some e → finite.entries self.now ≡ ([], e) ∷ flat result.now }
         ensures order { AreSorted result.now }
@@ -58,8 +58,8 @@ fn names_of(alloc: Global, kids: &[Child]) -> Result<Vec<Name>, TreeFault>
 }
 
 impl Tree {
-    /// The names one below a path, in order. 21 `NotFound` where nothing is there, also below a file, 22 `NotDir` where a
-    /// file is; 27 `Memory`.
+    /// Returns the names one below a path, in order. Fails with 21 `NotFound` where nothing is there, also below a file, with 22 `NotDir` where a
+    /// file is, with 27 `Memory`.
     pub fn list(&self, path: &Path) -> Result<Names, TreeFault>
         ensures gives { Gives (λ n. n) result (list self.now path.now) }
         ensures last { MemoryLast result (list self.now path.now) }

@@ -1,5 +1,5 @@
 //! The mode and the owner of an entry. A value has a mode of at most 4095 by its type, and contracts see
-//! its three numbers. Nothing here takes memory.
+//! its three numbers. Nothing here allocates.
 
 ghost use Rattle.std.specs.Prelude.{◌≡◌, ◌≤◌};
 ghost use Rattle.llb_tree.specs.Meta.{IsMeta, meta_of, new_dir_meta};
@@ -29,7 +29,7 @@ impl Model for Meta {
 }
 
 impl Meta {
-    /// The mode and the owner of an entry; `None` exactly where `mode` is above 4095.
+    /// Makes the mode and the owner of an entry; `None` exactly where `mode` is above 4095.
     pub fn new(mode: u16, uid: u32, gid: u32) -> Option<Meta>
         ensures { result ≡ meta_of mode uid gid }
     {
@@ -40,7 +40,7 @@ impl Meta {
         }
     }
 
-    /// Those of a directory that is made where none are given: 0755 0:0.
+    /// Returns the mode and the owner of a directory that is made where none are given: 0755 0:0.
     pub fn new_dir() -> Meta
         ensures { result ≡ new_dir_meta }
     {
@@ -59,7 +59,7 @@ impl Meta {
         let _gid = self.gid;
     }
 
-    /// The mode, at most 4095.
+    /// Returns the mode, at most 4095.
     pub fn mode(&self) -> u16
         ensures value { result ≡ self.now.mode }
         ensures small { result ≤ 4095 }
@@ -67,14 +67,14 @@ impl Meta {
         self.mode
     }
 
-    /// The number of the user that owns the entry.
+    /// Returns the number of the user that owns the entry.
     pub fn uid(&self) -> u32
         ensures { result ≡ self.now.uid }
     {
         self.uid
     }
 
-    /// The number of the group that owns the entry.
+    /// Returns the number of the group that owns the entry.
     pub fn gid(&self) -> u32
         ensures { result ≡ self.now.gid }
     {

@@ -25,7 +25,7 @@ impl Model for Mode {
 }
 
 impl Mode {
-    /// The mode that one to four octal digits spell; `None` where the word is none.
+    /// Reads the mode that one to four octal digits spell; returns `None` where the word is none.
     pub fn read(word: &str) -> Option<Mode>
         ensures { result ≡ mode_of word.now }
     {
@@ -46,7 +46,7 @@ impl Mode {
         Some(Mode { bits })
     }
 
-    /// The mode as a number.
+    /// Returns the mode as a number.
     pub fn bits(&self) -> u16
         ensures value { result ≡ self.now }
         ensures small { result ≤ 4095 }

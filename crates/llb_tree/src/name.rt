@@ -37,7 +37,7 @@ impl Model for Name {
 }
 
 impl Name {
-    /// Whether a text is a name.
+    /// Returns whether a text is a name.
     pub fn is_name(text: &str) -> bool
         ensures { result ≡ is_name text.now }
     {
@@ -57,7 +57,7 @@ impl Name {
         is_plain(bytes)
     }
 
-    /// The name that a text is; 26 `BadName` where it is none, else 27 `Memory`.
+    /// Reads a text as a name. Fails with 26 `BadName` where it is none, else with 27 `Memory`.
     pub fn new(alloc: Global, text: &str) -> Result<Name, TreeFault>
         ensures gives { Gives (λ n. n) result (name_of text.now) }
         ensures last { MemoryLast result (name_of text.now) }
@@ -69,7 +69,7 @@ impl Name {
         Ok(Name { text })
     }
 
-    /// The name as a text.
+    /// Returns the name as a text.
     pub fn as_str(&self) -> &str
         ensures value { result.now ≡ self.now }
         ensures name { IsTrue (is_name self.now) }
@@ -78,7 +78,7 @@ impl Name {
         self.text.as_str()
     }
 
-    /// An equal second owner; 27 `Memory`.
+    /// Returns an equal second owner. Fails with 27 `Memory` alone.
     pub fn copy(&self) -> Result<Name, TreeFault>
         ensures { Gives (λ n. n) result (Ok self.now) }
     {

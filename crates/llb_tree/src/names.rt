@@ -32,7 +32,7 @@ impl Names {
         Names { names }
     }
 
-    /// The names, one after another.
+    /// Returns the names, one after another.
     pub fn as_slice(&self) -> &[Name]
         ensures { result.now ≡ self.now }
     {

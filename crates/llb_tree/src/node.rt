@@ -1,6 +1,6 @@
 //! The nodes of a tree: a file with its content, or a directory with its children in the order of their names. Nodes are
 //! shared: a second owner of a node costs no copy of what is below it. A path has at most 128 names, so what recurses over
-//! nodes, their drop too, goes at most that deep.
+//! nodes, their drop too, goes at most 128 deep.
 
 ghost use Rattle.std.specs.Prelude.{◌≡◌, ℕ, [], ◌∷◌, ◌++◌, ◌<◌, ◌≤◌, List, length, IfOk, IfErr, Some, false, option_map};
 ghost use Rattle.std.specs.FinMap as finite;
@@ -15,7 +15,7 @@ use std::alloc::{AllocError, Global};
 use std::marker::Model;
 use std::sync::Arc;
 
-/// What stands at a path: a directory, or a file with its content.
+/// The entry at a path: a directory, or a file with its content.
 #[derive(Clone, Copy)]
 pub enum Entry<'a> {
     Dir(Meta),
@@ -36,7 +36,7 @@ pub(crate) enum Kind {
     Dir(Meta, Arc<Vec<Child>>),
 }
 
-/// A child of a directory: its name, and what stands there.
+/// A child of a directory: its name, and its node.
 #[cycle(node)]
 #[derive(Drop)]
 pub struct Child {
@@ -75,7 +75,7 @@ pub(crate) fn place_of(kids: &[Child], name: &Name) -> Result<usize, usize>
 }
 
 impl Node {
-    /// What stands here. Takes no memory.
+    /// Returns the node's own entry. Does not allocate.
     pub fn entry(&self) -> Entry<'_>
         ensures { Some (seen result) ≡ finite.get self.now [] }
     {
@@ -112,7 +112,7 @@ impl Node {
         Some(node)
     }
 
-    // What stands at the names below this.
+    // The entry at the names below this.
     pub(crate) fn get(&self, names: &[Name]) -> Option<Entry<'_>>
         ensures { option_map seen result ≡ finite.get self.now names.now }
     {

@@ -1,25 +1,30 @@
 //! One tree laid over another. It goes down both at once and touches only what both have: what only one of them has is shared.
+//! At each level the upper children are put among the lower ones by one pass over both, and where they have every name of the
+//! lower ones they are taken as they are, but for the directories that both have, which are laid in turn. A refusal leaves
+//! what it is laid over as it was: first all that can be refused makes the new children, and then they are put in.
 
-ghost use Rattle.std.specs.Prelude.{◌≡◌, ℕ, List, [], ◌∷◌, IfOk, IfErr, OnOk, map, true};
+ghost use Rattle.std.specs.Prelude.{◌≡◌, ℕ, List, IfOk, IfErr, OnOk, OnErr, map, true, unwrap_or};
 ghost use Rattle.std.specs.Arc.{arc_value};
 ghost use Rattle.std.specs.FinMap as finite;
 ghost use Rattle.llb_tree.specs.Tree.{is_memory};
 ghost use Rattle.llb_tree.specs.Nodes.{AreSorted, pair_of};
 ghost use Rattle.llb_tree.specs.Overlay.{over_at};
-ghost use Rattle.llb_tree.specs.Laying.{Lays, dress, dress_pair};
+ghost use Rattle.llb_tree.specs.Laying.{Lays, IsLaid, AreLaid, IsOver, TakesWhole, StandWhole, Covers, those, dress, dress_pair};
 
+use crate::covering::{covers, with_node};
 use crate::edit::own;
 use crate::fault::TreeFault;
 use crate::node::{Child, Kind, Node, place_of};
+use crate::putting::put_all;
 use crate::tree::Tree;
 use crate::way::Way;
 use std::alloc::{AllocError, Global};
 use std::sync::Arc;
 
-// The node, and all that is below it, in the mode and the owner that the way gives; the contents are shared, and so is the
-// whole node where the way gives nothing.
+// The node, and all that is below it, in the mode and the owner of the way; the contents are shared, and so is the
+// whole node where the way has neither.
 #[cycle(dress)]
-pub(crate) fn dressed(node: &Node, alloc: Global, way: &Way) -> Result<Node, AllocError>
+fn dressed(node: &Node, alloc: Global, way: &Way) -> Result<Node, AllocError>
     ensures { IfOk result (λ n. n ≡ dress way.now node.now) }
 {
     if way.gives_nothing() {
@@ -49,31 +54,128 @@ fn all_dressed(kids: &[Child], alloc: Global, way: &Way) -> Result<Vec<Child>, A
     Ok(list)
 }
 
-// Lays a node over another, which it changes.
+// Lays a node over another, which it changes; a refusal leaves that as it was. Returns whether the upper node is
+// there unchanged.
 #[cycle(lay)]
-pub(crate) fn lay_node(
-    lower: &mut Node,
-    alloc: Global,
-    way: &Way,
-    upper: &Node,
-) -> Result<(), AllocError>
-    ensures { OnOk result ((q : List (List ℕ)) → finite.get lower.new q ≡ over_at way.now (finite.get lower.old) (finite.get upper.now) q) }
+fn lay_node(lower: &mut Node, alloc: Global, way: &Way, upper: &Node) -> Result<bool, AllocError>
+    ensures ok { OnOk result ((q : List (List ℕ)) → finite.get lower.new q ≡ over_at way.now (finite.get lower.old) (finite.get upper.now) q) }
+    ensures whole { IfOk result (λ whole. whole ≡ true → lower.new ≡ upper.now) }
+    ensures err { OnErr result (lower.new ≡ lower.old) }
 {
     match (&mut lower.kind, &upper.kind) {
         (Kind::Dir(meta, kids), Kind::Dir(laid, list)) => {
+            let whole = lay_children(kids, alloc, way, list)?;
             *meta = way.met(*meta, *laid);
-            lay_children(kids, alloc, way, list.as_slice())
+            Ok(whole)
         }
         _ => {
             *lower = dressed(upper, alloc, way)?;
-            Ok(())
+            Ok(way.gives_nothing())
         }
     }
 }
 
-// Lays children over others that may be shared: makes them its own first.
+// Lays children over others. Where the upper ones have every name of the lower ones, none of the lower ones is copied.
+// Returns whether the upper ones are there unchanged.
 #[cycle(lay)]
 fn lay_children(
+    kids: &mut Arc<Vec<Child>>,
+    alloc: Global,
+    way: &Way,
+    upper: &Arc<Vec<Child>>,
+) -> Result<bool, AllocError>
+    requires lower { AreSorted (arc_value kids.old).items }
+    requires upper { AreSorted (arc_value upper.now).items }
+    ensures ok { OnOk result (Lays way.now (arc_value upper.now).items (arc_value kids.old).items (arc_value kids.new).items) }
+    ensures whole { IfOk result (λ whole. whole ≡ true → StandWhole way.now (arc_value upper.now).items (arc_value kids.new).items) }
+    ensures err { OnErr result (map pair_of (arc_value kids.new).items ≡ map pair_of (arc_value kids.old).items) }
+{
+    if way.takes_whole() && covers(upper.as_slice(), kids.as_slice()) {
+        return lay_all(kids, alloc, way, upper);
+    }
+    lay_each(kids, alloc, way, upper.as_slice())?;
+    Ok(false)
+}
+
+// Lays children over others that have no other names. Returns whether the upper ones are there unchanged.
+#[cycle(lay)]
+fn lay_all(
+    kids: &mut Arc<Vec<Child>>,
+    alloc: Global,
+    way: &Way,
+    upper: &Arc<Vec<Child>>,
+) -> Result<bool, AllocError>
+    requires lower { AreSorted (arc_value kids.old).items }
+    requires upper { AreSorted (arc_value upper.now).items }
+    requires way { TakesWhole way.now }
+    requires covers { Covers (arc_value upper.now).items (arc_value kids.old).items }
+    ensures ok { OnOk result (Lays way.now (arc_value upper.now).items (arc_value kids.old).items (arc_value kids.new).items) }
+    ensures whole { IfOk result (λ whole. whole ≡ true → StandWhole way.now (arc_value upper.now).items (arc_value kids.new).items) }
+    ensures err { OnErr result (map pair_of (arc_value kids.new).items ≡ map pair_of (arc_value kids.old).items) }
+{
+    match laid_all(kids.as_slice(), alloc, way, upper.as_slice())? {
+        None => {
+            *kids = Arc::try_clone(upper)?;
+            Ok(true)
+        }
+        Some(list) => {
+            *kids = Arc::new(alloc, list)?;
+            Ok(false)
+        }
+    }
+}
+
+// The upper children with what is laid in place of those that are changed; `None` where none is.
+#[cycle(lay)]
+fn laid_all(
+    kids: &[Child],
+    alloc: Global,
+    way: &Way,
+    upper: &[Child],
+) -> Result<Option<Vec<Child>>, AllocError>
+    requires lower { AreSorted kids.now }
+    requires way { TakesWhole way.now }
+    ensures { IfOk result (λ made. AreLaid way.now kids.now upper.now (those made upper.now)) }
+{
+    let mut made = None;
+    for (i, kid) in upper.iter().enumerate() {
+        if let Some(node) = laid_over(kids, alloc, way, kid)? {
+            made = Some(with_node(made, alloc, upper, i, node)?);
+        }
+    }
+    Ok(made)
+}
+
+// An upper child, laid over the one of its name; `None` where it is unchanged.
+#[cycle(lay)]
+fn laid_over(
+    kids: &[Child],
+    alloc: Global,
+    way: &Way,
+    upper: &Child,
+) -> Result<Option<Node>, AllocError>
+    requires lower { AreSorted kids.now }
+    requires way { TakesWhole way.now }
+    ensures { IfOk result (λ made. IsOver way.now kids.now upper.now (unwrap_or made upper.now.node)) }
+{
+    match &upper.node.kind {
+        Kind::File(..) => Ok(None),
+        Kind::Dir(..) => match place_of(kids, &upper.name) {
+            Err(_) => Ok(None),
+            Ok(i) => {
+                let mut node = kids[i].node.copy()?;
+                if lay_node(&mut node, alloc, way, &upper.node)? {
+                    return Ok(None);
+                }
+                Ok(Some(node))
+            }
+        },
+    }
+}
+
+// Lays children over others one by one: all that is laid is made before the first is put in.
+#[cycle(lay)]
+fn lay_each(
     kids: &mut Arc<Vec<Child>>,
     alloc: Global,
     way: &Way,
@@ -81,73 +183,85 @@ fn lay_children(
 ) -> Result<(), AllocError>
     requires lower { AreSorted (arc_value kids.old).items }
     requires upper { AreSorted upper.now }
-    ensures sorted { AreSorted (arc_value kids.new).items }
     ensures ok { OnOk result (Lays way.now upper.now (arc_value kids.old).items (arc_value kids.new).items) }
+    ensures err { OnErr result (map pair_of (arc_value kids.new).items ≡ map pair_of (arc_value kids.old).items) }
 {
     if upper.is_empty() {
         return Ok(());
     }
+    let ready = laid_children(kids.as_slice(), alloc, way, upper)?;
     own(alloc, kids)?;
     match Arc::get_mut(kids) {
         None => Err(AllocError),
-        Some(list) => lay_list(list, alloc, way, upper),
+        Some(list) => put_all(list, alloc, ready),
     }
 }
 
 #[cycle(lay)]
-fn lay_list(
-    list: &mut Vec<Child>,
+fn laid_children(
+    kids: &[Child],
     alloc: Global,
     way: &Way,
     upper: &[Child],
-) -> Result<(), AllocError>
-    requires lower { AreSorted list.old.items }
-    requires upper { AreSorted upper.now }
-    ensures sorted { AreSorted list.new.items }
-    ensures ok { OnOk result (Lays way.now upper.now list.old.items list.new.items) }
+) -> Result<Vec<Child>, AllocError>
+    requires { AreSorted kids.now }
+    ensures { IfOk result (λ v. AreLaid way.now kids.now upper.now v.items) }
 {
+    let mut ready = Vec::new(alloc);
+    ready.reserve(upper.len())?;
     for kid in upper {
-        lay_child(list, alloc, way, kid)?;
+        ready.push(laid_child(kids, alloc, way, kid)?)?;
     }
-    Ok(())
+    Ok(ready)
 }
 
-// Lays a child over the one of its name, or puts it where there is none.
+// A child laid over a copy of the one of its name, or dressed where there is none.
 #[cycle(lay)]
-fn lay_child(list: &mut Vec<Child>, alloc: Global, way: &Way, kid: &Child) -> Result<(), AllocError>
-    requires { AreSorted list.old.items }
-    ensures sorted { AreSorted list.new.items }
-    ensures ok { OnOk result (Lays way.now (kid.now ∷ []) list.old.items list.new.items) }
+fn laid_child(kids: &[Child], alloc: Global, way: &Way, upper: &Child) -> Result<Child, AllocError>
+    requires { AreSorted kids.now }
+    ensures { IfOk result (λ k. IsLaid way.now kids.now upper.now k) }
 {
-    match place_of(list.as_slice(), &kid.name) {
+    let name = Arc::try_clone(&upper.name)?;
+    match place_of(kids, &upper.name) {
         Ok(i) => {
-            let there = &mut list[i];
-            lay_node(&mut there.node, alloc, way, &kid.node)
+            let mut node = kids[i].node.copy()?;
+            lay_node(&mut node, alloc, way, &upper.node)?;
+            Ok(Child { name, node })
         }
-        Err(i) => {
-            let name = Arc::try_clone(&kid.name)?;
-            let node = dressed(&kid.node, alloc, way)?;
-            list.insert(i, Child { name, node })?;
-            Ok(())
+        Err(_) => {
+            let node = dressed(&upper.node, alloc, way)?;
+            Ok(Child { name, node })
         }
     }
 }
 
 impl Tree {
-    /// The tree with another one laid over it: what the other has at a path stands there, in the mode and the owner that the
-    /// way gives, and of this tree what no file of the other is above. A directory that both have is the other's, or stays as
-    /// it is where the way keeps it. 27 `Memory`. It goes down both trees at once and touches only what both have; what only
-    /// one has is shared, not copied. Only where the way gives a mode or an owner does what is laid get nodes of its own, and
+    /// Lays another tree over this one, and returns the result: at a path it has what the other has there, in the mode and the owner of the
+    /// way, and else what this tree has there, unless a file of the other is above. A directory that both have is the other's, or stays as
+    /// it is where the way keeps it. Fails with 27 `Memory` alone. It goes down both trees at once and touches only what both have; what only
+    /// one has is shared, not copied. Only where the way has a mode or an owner does what is laid get nodes of its own, and
     /// even then its contents are shared.
     pub fn overlaid(self, way: &Way, upper: &Tree) -> Result<Tree, TreeFault>
         ensures paths { IfOk result (λ t. (q : List (List ℕ)) → finite.get t q ≡ over_at way.now (finite.get self) (finite.get upper.now) q) }
         ensures memory { IfErr result (λ e. is_memory e ≡ true) }
     {
+        let mut laid = self;
+        laid.overlay(way, upper)?;
+        Ok(laid)
+    }
+
+    /// Lays another tree over this one, as `overlaid` does. Fails with 27 `Memory` alone; then the tree is unchanged. The children
+    /// of the root are put in place, and what both trees have below them is laid on a copy of it, which shares what only one
+    /// of them has.
+    pub fn overlay(&mut self, way: &Way, upper: &Tree) -> Result<(), TreeFault>
+        ensures paths { OnOk result ((q : List (List ℕ)) → finite.get self.new q ≡ over_at way.now (finite.get self.old) (finite.get upper.now) q) }
+        ensures memory { IfErr result (λ e. is_memory e ≡ true) }
+        ensures err { OnErr result (self.new ≡ self.old) }
+    {
         way.is_way();
         let depth = self.depth.max(upper.depth);
-        let alloc = self.alloc;
-        let mut root = self.into_root();
-        lay_node(&mut root, alloc, way, &upper.root)?;
-        Ok(Tree { root, depth, alloc })
+        lay_node(&mut self.root, self.alloc, way, &upper.root)?;
+        self.depth = depth;
+        Ok(())
     }
 }

@@ -38,7 +38,7 @@ impl Model for Path {
 }
 
 impl Path {
-    /// The root.
+    /// Returns the root.
     pub fn root(alloc: Global) -> Path
         ensures { result ≡ [] }
     {
@@ -47,9 +47,9 @@ impl Path {
         }
     }
 
-    /// The path that a text reads as, from the root: the text is split at `/`, empty parts and `.` are dropped, and
-    /// `..` removes the last name and stops at the root. 26 `BadName` at the first part that is no name or is the
-    /// 129th name, also where a later `..` would remove it; 27 `Memory` only where the text reads as a path.
+    /// Reads a text as a path from the root: the text is split at `/`, empty parts and `.` are dropped, and
+    /// `..` removes the last name and stops at the root. Fails with 26 `BadName` at the first part that is no name or is the
+    /// 129th name, also where a later `..` would remove it; with 27 `Memory` only where the text reads as a path.
     pub fn read(alloc: Global, text: &str) -> Result<Path, TreeFault>
         ensures gives { Gives (λ p. p) result (path_of text.now) }
         ensures last { MemoryLast result (path_of text.now) }
@@ -60,8 +60,8 @@ impl Path {
         Ok(path)
     }
 
-    /// The path that a text reads as from another one: a text that begins with `/` is read as by `read`, and any other
-    /// from `start`, in the same way. 26 `BadName` and 27 `Memory` as there.
+    /// Reads a text as a path from another one: a text that begins with `/` is read as by `read`, and any other
+    /// from `start`, in the same way. Fails with 26 `BadName` and 27 `Memory` as `read` does.
     pub fn read_from(alloc: Global, start: &Path, text: &str) -> Result<Path, TreeFault>
         ensures gives { Gives (λ p. p) result (path_from start.now text.now) }
         ensures last { MemoryLast result (path_from start.now text.now) }
@@ -116,7 +116,7 @@ impl Path {
         Ok(Path { names })
     }
 
-    /// The names from the root down, at most 128.
+    /// Returns the names from the root down, at most 128.
     pub fn names(&self) -> &[Name]
         ensures all { result.now ≡ self.now }
         ensures short { length self.now ≤ 128 }
@@ -125,14 +125,14 @@ impl Path {
         self.names.as_slice()
     }
 
-    /// Whether this is the root.
+    /// Returns whether this is the root.
     pub fn is_root(&self) -> bool
         ensures { IsTrue result ↔ (self.now ≡ []) }
     {
         self.names.is_empty()
     }
 
-    /// Goes down to a name; 26 `BadName` where it would be the 129th, else 27 `Memory`.
+    /// Goes down to a name. Fails with 26 `BadName` where it would be the 129th, else with 27 `Memory`.
     pub fn push(&mut self, name: Name) -> Result<(), TreeFault>
         ensures gives { Gives (λ _. self.new) result (below self.old name) }
         ensures last { MemoryLast result (below self.old name) }
@@ -153,7 +153,7 @@ impl Path {
         self.names.pop();
     }
 
-    /// An equal second owner; 27 `Memory`.
+    /// Returns an equal second owner. Fails with 27 `Memory` alone.
     pub fn copy(&self) -> Result<Path, TreeFault>
         ensures { Gives (λ p. p) result (Ok self.now) }
     {
@@ -182,7 +182,7 @@ pub(crate) fn push_names(names: &mut Vec<Name>, more: &[Name]) -> Result<(), Tre
     Ok(())
 }
 
-// How many names there are where a text leads from a path of that many, or why it leads nowhere. Takes no memory.
+// How many names a text leads to from a path of `start` names, or why it leads nowhere. Does not allocate.
 fn depth_of(start: usize, text: &str) -> Result<usize, TreeFault>
     ensures depth { (path : List (List ℕ)) → length path ≡ start → result ≡ depth (follow path (parts_of text.now)) }
     ensures known { IfErr result (λ e. is_memory e ≡ false) }
@@ -194,7 +194,7 @@ fn depth_of(start: usize, text: &str) -> Result<usize, TreeFault>
     Ok(names)
 }
 
-/// How many names there are after a part, where that many are before it.
+/// Returns how many names there are after a part, where there are `names` before it.
 pub(crate) fn depth_after(names: usize, part: &str) -> Result<usize, TreeFault>
     ensures depth { (path : List (List ℕ)) → length path ≡ names → result ≡ depth (enter path part.now) }
     ensures known { IfErr result (λ e. is_memory e ≡ false) }

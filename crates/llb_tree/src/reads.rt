@@ -1,5 +1,5 @@
-//! Whether a text reads as a path that is there. Of the path that the text's parts lead to only two numbers are kept: how
-//! many names it has, and how many of its first names are those of the other path. Nothing here takes memory.
+//! Whether a text reads as a path that is there. For the path that the text's parts lead to only two numbers are kept: how
+//! many names it has, and how many of its first names are those of the other path. Nothing here allocates.
 
 ghost use Rattle.std.specs.Prelude.{◌≡◌, ℕ, List, ◌↔◌, IsTrue, IfOk, IfErr, length, Ok, Err, Some, slice_get};
 ghost use Rattle.llb_tree.specs.Path.{enter, path_of};
@@ -10,7 +10,7 @@ use crate::name::Name;
 use crate::path::{Path, depth_after};
 
 impl Path {
-    /// Whether this is the path that a text reads as by `read`; 26 `BadName` where the text reads as none. Takes no memory.
+    /// Returns whether this is the path that a text reads as by `read`. Fails with 26 `BadName` where the text reads as none. Does not allocate.
     pub fn is_read_of(&self, text: &str) -> Result<bool, TreeFault>
         ensures ok { IfOk result (λ is. (path : List (List ℕ)) × (path_of text.now ≡ Ok path) × (IsTrue is ↔ (self.now ≡ path))) }
         ensures err { IfErr result (λ e. path_of text.now ≡ Err e) }
@@ -27,7 +27,7 @@ impl Path {
     }
 }
 
-// How many first names are shared after a part, with that many names there.
+// How many first names are shared after a part, where there are then `next` names.
 fn shared_after(names: &[Name], depth: usize, same: usize, part: &str, next: usize) -> usize
     ensures { (path after : List (List ℕ)) → length path ≡ depth → shared names.now path ≡ same → enter path part.now ≡ Ok after → length after ≡ next
         → result ≡ shared names.now after }

@@ -1,4 +1,4 @@
-//! The tree: a root directory, how deep its paths go at most, and where its memory comes from. What a call answers is said of
+//! The tree: a root directory, how deep its paths go at most, and where its memory comes from. Contracts state results by
 //! the map from paths to entries alone. A copy shares all that it copies; an edit makes the directories on its path its own
 //! before it changes the last of them. Tests that can refuse come first, on what is there.
 
@@ -50,7 +50,7 @@ impl Model for Tree {
 }
 
 // Whether a file may be put at the names.
-fn file_may_stand(root: &Node, names: &[Name]) -> Result<(), TreeFault>
+pub(crate) fn file_may_stand(root: &Node, names: &[Name]) -> Result<(), TreeFault>
     ensures { result ≡ file_fits (finite.get root.now names.now) }
 {
     match root.get(names) {
@@ -71,7 +71,7 @@ fn dir_may_stand(root: &Node, names: &[Name]) -> Result<(), TreeFault>
     }
 }
 
-// Whether something stands at the names.
+// Whether there is something at the names.
 fn is_there(root: &Node, names: &[Name]) -> Result<(), TreeFault>
     ensures there { result ≡ found (finite.get root.now names.now) }
     ensures known { IfErr result (λ e. is_memory e ≡ false) }
@@ -82,7 +82,7 @@ fn is_there(root: &Node, names: &[Name]) -> Result<(), TreeFault>
     }
 }
 
-// What stands at the names, where that is a directory.
+// The node at the names, where that is a directory.
 pub(crate) fn dir_at<'a>(root: &'a Node, names: &[Name]) -> Result<&'a Node, TreeFault>
     ensures there { MatchResult result (λ n. dir_there root.now names.now ≡ Ok tt) (λ e. dir_there root.now names.now ≡ Err e) }
     ensures places { IfOk result (λ n. (q : List (List ℕ)) → finite.get n.now q ≡ finite.get root.now (names.now ++ q)) }
@@ -112,7 +112,7 @@ impl Tree {
 }
 
 impl Tree {
-    /// The tree of a root directory 0755 0:0 alone; 27 `Memory`.
+    /// Makes the tree of a root directory 0755 0:0 alone. Fails with 27 `Memory` alone.
     pub fn empty(alloc: Global) -> Result<Tree, TreeFault>
         ensures { Gives (λ t. t) result (Ok empty_tree) }
     {
@@ -124,14 +124,14 @@ impl Tree {
         })
     }
 
-    /// The root with what is below it. Takes no memory.
+    /// Returns the root with what is below it. Does not allocate.
     pub fn root(&self) -> &Node
         ensures { result.now ≡ self.now }
     {
         &self.root
     }
 
-    /// What stands at a path. Takes no memory.
+    /// Returns the entry at a path. Does not allocate.
     pub fn get(&self, path: &Path) -> Option<Entry<'_>>
         ensures found { option_map seen result ≡ finite.get self.now path.now }
         ensures tree { IsTree self.now }
@@ -139,7 +139,7 @@ impl Tree {
         self.root.get(path.names())
     }
 
-    /// Whether a directory stands at a path. Takes no memory.
+    /// Returns whether there is a directory at a path. Does not allocate.
     pub fn is_dir(&self, path: &Path) -> bool
         ensures there { result ≡ is_dir (finite.get self.now path.now) }
         ensures tree { IsTree self.now }
@@ -151,16 +151,16 @@ impl Tree {
         }
     }
 
-    /// A law: the root is a directory, and so is each proper prefix of a path that is there; and each entry can stand at
-    /// its path, which is one, with a mode and owners and, for a file, with bytes. Takes no memory.
+    /// A law: the root is a directory, and so is each proper prefix of a path that is there; and each entry is allowed at
+    /// its path, which is one, with a mode and owners and, for a file, with bytes. Does not allocate.
     pub fn is_tree(&self)
         ensures { IsTree self.now }
     {
         let _root = &self.root;
     }
 
-    /// Puts a file at a path, or replaces the file there. In this order: 25 `Root` at the root, 21 `NotFound` or 22
-    /// `NotDir` at the first parent that is missing or a file, 23 `IsDir` where a directory is there; 27 `Memory`.
+    /// Puts a file at a path, or replaces the file there. Fails, in this order, with 25 `Root` at the root, 21 `NotFound` or 22
+    /// `NotDir` at the first parent that is missing or a file, 23 `IsDir` where a directory is there; else with 27 `Memory`.
     /// After a refusal the tree is unchanged.
     pub fn put_file(&mut self, path: &Path, meta: Meta, content: Bytes) -> Result<(), TreeFault>
         ensures gives { Gives (λ _. self.new) result (put_file self.old path.now meta content) }
@@ -181,8 +181,8 @@ impl Tree {
         Ok(())
     }
 
-    /// Makes a directory at a path; one that is there, the root too, takes the new mode and owner. In this order: 21
-    /// `NotFound` or 22 `NotDir` at the first parent that is missing or a file, 24 `Conflict` where a file is there;
+    /// Makes a directory at a path; one that is there, the root too, takes the new mode and owner. Fails, in this order, with 21
+    /// `NotFound` or 22 `NotDir` at the first parent that is missing or a file, 24 `Conflict` where a file is there; else with
     /// 27 `Memory`. After a refusal the tree is unchanged.
     pub fn put_dir(&mut self, path: &Path, meta: Meta) -> Result<(), TreeFault>
         ensures gives { Gives (λ _. self.new) result (put_dir self.old path.now meta) }
@@ -199,8 +199,8 @@ impl Tree {
         Ok(())
     }
 
-    /// Takes away what is at or below a path. In this order: 25 `Root` at the root, 21 `NotFound` where nothing is there,
-    /// also below a file; 27 `Memory`. After a refusal the tree is unchanged.
+    /// Removes what is at or below a path. Fails, in this order, with 25 `Root` at the root, 21 `NotFound` where nothing is there,
+    /// also below a file; else with 27 `Memory`. After a refusal the tree is unchanged.
     pub fn remove(&mut self, path: &Path) -> Result<(), TreeFault>
         ensures gives { Gives (λ _. self.new) result (remove self.old path.now) }
         ensures last { MemoryLast result (remove self.old path.now) }
@@ -215,9 +215,9 @@ impl Tree {
         Ok(())
     }
 
-    /// Puts another tree's entries at and below a path, in place of what is there; they are shared, not copied. In this
-    /// order: 21 `NotFound` or 22 `NotDir` at the first parent that is missing or a file, 26 `BadName` where an entry's path
-    /// would have more than 128 names; 27 `Memory`. After a refusal the tree is unchanged.
+    /// Puts another tree's entries at and below a path, in place of what is there; they are shared, not copied. Fails, in this
+    /// order, with 21 `NotFound` or 22 `NotDir` at the first parent that is missing or a file, 26 `BadName` where an entry's path
+    /// would have more than 128 names; else with 27 `Memory`. After a refusal the tree is unchanged.
     pub fn graft(&mut self, path: &Path, other: &Tree) -> Result<(), TreeFault>
         ensures gives { Gives (λ _. self.new) result (graft self.old path.now other.now) }
         ensures last { MemoryLast result (graft self.old path.now other.now) }
@@ -234,8 +234,8 @@ impl Tree {
         Ok(())
     }
 
-    /// The tree of what is at or below a path, which it shares: what is at this path followed by another is there at the
-    /// other. 21 `NotFound` where nothing is there, also below a file, 22 `NotDir` where a file is; 27 `Memory`.
+    /// Returns the tree of what is at or below a path, which it shares: what is at this path followed by another is there at the
+    /// other. Fails with 21 `NotFound` where nothing is there, also below a file, with 22 `NotDir` where a file is, with 27 `Memory`.
     pub fn subtree(&self, path: &Path) -> Result<Tree, TreeFault>
         ensures gives { Gives (λ t. t) result (subtree self.now path.now) }
         ensures last { MemoryLast result (subtree self.now path.now) }
@@ -251,7 +251,7 @@ impl Tree {
         })
     }
 
-    /// An equal second owner, which shares all of it; 27 `Memory`.
+    /// Returns an equal second owner, which shares all of it. Fails with 27 `Memory` alone.
     pub fn copy(&self) -> Result<Tree, TreeFault>
         ensures { Gives (λ t. t) result (Ok self.now) }
     {

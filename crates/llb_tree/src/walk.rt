@@ -106,7 +106,7 @@ fn descend<'a>(
 }
 
 impl Tree {
-    /// A walk over the entries, from the root on. Takes no memory.
+    /// Starts a walk over the entries, from the root on. Does not allocate.
     pub fn walk(&self) -> Walk<'_>
         ensures { result ≡ finite.entries self.now }
     {
@@ -119,7 +119,7 @@ impl Tree {
 }
 
 impl<'a> Walk<'a> {
-    /// The first entry that is left, and its path; none at the end. Takes no memory.
+    /// Returns the first entry that is left, and its path; `None` at the end. Does not allocate.
     pub fn at(&self) -> Option<(&Path, Entry<'_>)>
         ensures { option_map pair_seen result ≡ slice_get self.now 0 }
     {
@@ -127,7 +127,7 @@ impl<'a> Walk<'a> {
         Some((&self.path, node.entry()))
     }
 
-    /// Goes to the next entry; 27 `Memory`. At the end it stays there, and after a refusal it is there.
+    /// Goes to the next entry; at the end it stays there. Fails with 27 `Memory` alone, and is then at the end.
     pub fn advance(&mut self) -> Result<(), TreeFault>
         ensures gives { Gives (λ _. self.new) result (Ok (drop 1 self.old)) }
         ensures err { OnErr result (self.new ≡ []) }
@@ -141,8 +141,8 @@ impl<'a> Walk<'a> {
         Ok(())
     }
 
-    /// Goes after the first entry that is left and all that is below it, at which it does not look; 27 `Memory`. At the end
-    /// it stays there, and after a refusal it is there.
+    /// Goes past the first entry that is left and all that is below it, which it does not read; at the end it stays there. Fails with
+    /// 27 `Memory` alone, and is then at the end.
     pub fn skip(&mut self) -> Result<(), TreeFault>
         ensures gives { Gives (λ _. self.new) result (Ok (past self.old)) }
         ensures err { OnErr result (self.new ≡ []) }

@@ -1,10 +1,10 @@
-//! How what is laid over a tree comes to stand.
+//! How an overlay sets modes and owners.
 
 ghost use Rattle.std.specs.Prelude.{◌≡◌, IsTrue, Some};
 ghost use Rattle.llb_tree.specs.Tree.{Dir};
 ghost use Rattle.llb_tree.specs.Meta.{MetaValue};
 ghost use Rattle.llb_tree.specs.Overlay.{way_of, given, over};
-ghost use Rattle.llb_tree.specs.Laying.{IsWay, owner_fits};
+ghost use Rattle.llb_tree.specs.Laying.{IsWay, TakesWhole, owner_fits};
 
 use crate::meta::Meta;
 use std::marker::Model;
@@ -33,7 +33,7 @@ impl Model for Way {
 }
 
 impl Way {
-    /// The way of a mode, a user, a group and what becomes of directories that both have; `None` exactly where the mode
+    /// Makes the way of a mode, a user, a group and what becomes of directories that both have; `None` exactly where the mode
     /// is above 4095.
     pub fn new(mode: Option<u16>, uid: Option<u32>, gid: Option<u32>, keeps: bool) -> Option<Way>
         ensures { result ≡ way_of mode uid gid keeps }
@@ -66,6 +66,13 @@ impl Way {
         ensures { IsTrue result → (own : MetaValue) → given self.now own ≡ own }
     {
         self.mode.is_none() && self.uid.is_none() && self.gid.is_none()
+    }
+
+    // Whether what is laid is unchanged, directories that both trees have too.
+    pub(crate) fn takes_whole(&self) -> bool
+        ensures { IsTrue result → TakesWhole self.now }
+    {
+        !self.keeps && self.gives_nothing()
     }
 
     // The mode and the owner of a directory that both trees have.

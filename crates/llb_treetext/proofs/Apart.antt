@@ -146,7 +146,7 @@ meta_in_gives text x is =
 
 -- ---- the content
 
--- the digit at a place of the table, told by a test that computes
+-- the digit at a place of the table, by a test that computes
 abbrev is_digit_at : ℕ → Bool
 is_digit_at k = nat_eq (get_or lower_digits k 0) (cond (nat_lt k 10) (48 + k) (87 + k))
 
@@ -167,7 +167,7 @@ or_parts : (a b : Bool) → (a || b) ≡ true → (a ≡ true) ⊎ (b ≡ true)
 or_parts true b is = inl refl
 or_parts false b is = inr is
 
--- a digit stands at its place
+-- a digit is at its place
 lower_digit : (c : ℕ) → is_lower c ≡ true → (k : ℕ) × (k < 16) × (get_or lower_digits k 0 ≡ c)
 lower_digit c is =
     elim (or_parts (nat_le 48 c && nat_le c 57) (nat_le 97 c && nat_le c 102) is) [
@@ -306,7 +306,7 @@ line_gives line x is =
     by_dir k m meta text true kind is = dir_gives line m.0 m.1 x meta (text ∙ (λ i. (bytes_decides k.0 (codes "d")).0 kind i ++ 32 ∷ (meta_text m.0 ++ m.1))) is
     by_dir k m meta text false kind is = by_file k m meta text (pointwise nat_eq k.0 (codes "f")) refl is
 
--- ---- what is told of a line
+-- ---- what is decided about a line
 
 seen_none : {A B : Type 0} (f : A → B) (o : Option A) → option_map f o ≡ None → o ≡ None
 seen_none f None is = refl
@@ -330,12 +330,6 @@ module _ (row : Pair) (x : Fields) (o : Option Pair) (stands : IsRow row) (parts
   made : o ≡ Some row
   made = gives ∙ ap row_from parts ∙ row_from_is row stands
 
-  -- the parts of a row that stands always give a row
-  pub row_not_made : {A : Type 0} → o ≡ None → A
-  row_not_made none = let one : ◌≡◌ {A = Option Pair} None (Some row) = sym none ∙ made in absurd cc
-
-  -- and the row that they give stands, and is the one of the line
-  pub row_made : (read : Pair) (bytes later : List ℕ) → bytes ≡ line_of row ++ later → o ≡ Some read → IsRow read × (bytes ≡ line_of read ++ later)
-  row_made read bytes later text is =
-      let own : row ≡ read = some_is row read (sym made ∙ is) in
-      (subst IsRow own stands, text ∙ ap (λ r. line_of r ++ later) own)
+  -- and what they make is the row
+  pub row_made : (read : Pair) → o ≡ Some read → row ≡ read
+  row_made read is = some_is row read (sym made ∙ is)

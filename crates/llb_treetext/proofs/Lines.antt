@@ -36,7 +36,7 @@ module _ {A : Type 0} (line : A → List ℕ) (text done : List ℕ) (es : List 
       by_items (x ∷ es) is = absurd cc
 
   module _ {F : Type 0} (is_memory : F → Bool) (a b : Option (List ℕ)) (before : Appends a b done) (failed : Bool) (fault : F) where
-    -- what is out where the next line is not
+    -- what is written where the next line is not
     pub stops_inside : (c : Option (List ℕ)) (e : A) → Some e ≡ slice_get es 0 → Writes is_memory b c failed (line e) (Err fault)
         → (r : Result (Unit {0}) F) → IsErrAnd r (λ f. f ≡ fault) → Writes is_memory a c failed text r
     stops_inside c e is part (Ok u) same = absurd same

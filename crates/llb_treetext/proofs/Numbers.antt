@@ -1,4 +1,4 @@
--- Decimal digits after a number, one at a time; and the digits that are written for a number give it back.
+-- Decimal digits after a number, one at a time; and the digits that are written for a number are read as it.
 use Rattle.std.proofs.Common.{◌≡◌, ℕ, zero, suc, ◌+◌, ◌-◌, ◌*◌, ◌/◌, ◌%◌, ◌^◌, ◌<◌, ◌≤◌, nat_lt, nat_eq, Bool, true, false, cond, List, []}
 use Rattle.std.proofs.Common.{◌∷◌, ◌++◌, length, get_or, drop, Some, None, refl, sym, ap, ◌∙◌, arith, add-one, ◌==◌, inl, inr}
 use Rattle.std.proofs.Common.{length-append}
@@ -97,7 +97,7 @@ front_same [] (z ∷ ys) x y same = absurd (omega (arith, ap length same, length
 front_same (z ∷ xs) [] x y same = absurd (omega (arith, ap length same, length-append xs (x ∷ [])))
 front_same (z ∷ xs) (w ∷ ys) x y same = let one : z ≡ w = cc in let rest = front_same xs ys x y cc in λ i. one i ∷ rest i
 
--- ---- a text is a number's, told from its last byte
+-- ---- whether a text is a number's, from its last byte
 
 module _ (text front : List ℕ) (last n : ℕ) (is : text ≡ front ++ last ∷ []) (small : n < 2 ^ 32) where
   -- a number of one digit

@@ -1,4 +1,4 @@
--- The last path of a tree tells where the next row goes.
+-- The last path of a tree decides where the next row goes.
 use Rattle.std.proofs.Common.{◌≡◌, ◌≢◌, ℕ, ◌+◌, ◌==◌, Bool, true, false, List, [], ◌∷◌, ◌++◌, length, map, drop, Option, Some, None}
 use Rattle.std.proofs.Common.{is_some, IsSome, Ok, T, refl, sym, ap, subst, ◌∙◌, true≢false, arith, length-append}
 use Rattle.std.specs.Prelude.{slice_get}
@@ -18,7 +18,7 @@ use Rattle.llb_treetext.specs.declared.fault.TextFault.TheVariants.{Order, NoPar
 use Rattle.std.specs.Option.{option_map, is_none}
 use Rattle.std.proofs.lemmas.Bool.{eqb-true, eq-eqb}
 use Rattle.llb_tree.specs.PathOrder.{path_cmp-IsTotalOrder}
-use Rattle.llb_treetext.specs.Placing.{GoesOn, IsFront, IsLast, is_dir, opens, trail_cmp}
+use Rattle.llb_treetext.specs.Placing.{put_row, GoesOn, IsFront, IsLast, is_dir, opens, trail_cmp}
 use Rattle.llb_treetext.specs.declared.judge.Place.{Place}
 use Rattle.llb_treetext.proofs.Rows.{Pair}
 use Rattle.llb_treetext.proofs.Unique.{there, entry_is_row, at_end}
@@ -206,14 +206,15 @@ module _ (t : TreeMap) (tree : IsTree t) (place : Place) (last : IsLast t place)
 
       -- its directory is there, so the row is put and is the last one now
       pub goes_to : (rest later : List ℕ) (new : Place) → rest ≡ line_of row ++ later → new.names.now ≡ names_text row.0 → new.is_dir ≡ is_dir row.1 → h ≡ true
-          → (u : TreeMap) × GoesOn t u rest later × IsLast u new × (finite.len u ≡ finite.len t + 1)
+          → (u : TreeMap) × (put_row t row ≡ Ok u) × GoesOn t u rest later × IsLast u new × (finite.len u ≡ finite.len t + 1)
       goes_to rest later new text place_is kind_is there =
           let walk_is : walk (finite.get t) row.0 ≡ Ok tt = ap (walk (finite.get t)) ends.1.1
           ∙ walks ends.0 ends.1.0 named next_end h dir dir_is holds each there in
-          let own = entries_put t tree row is behind in (
+          let own = entries_put t tree row is behind in
+          let put = put_ok t tree row is behind row.0 row.1 (not_root t tree row is behind) (not_there t tree row is behind) walk_is in (
             finite.insert t row.0 row.1,
-            goes_on t tree row is behind (finite.insert t row.0 row.1) rest later text
-                (put_ok t tree row is behind row.0 row.1 (not_root t tree row is behind) (not_there t tree row is behind) walk_is),
+            put,
+            goes_on t tree row is behind (finite.insert t row.0 row.1) rest later text put,
             record { front = finite.entries t; row = row; entries = own; names = place_is; kind = kind_is },
             finite.len-entries (finite.insert t row.0 row.1) ∙ ap length own ∙ length-append (finite.entries t) (row ∷ [])
                 ∙ ap (λ k. k + 1) (sym (finite.len-entries t)),
@@ -281,22 +282,23 @@ module _ (m : MetaValue) (is : IsMeta m) where
 module _ (row : Pair) (is : IsRow row) (bytes later : List ℕ) (text : bytes ≡ line_of row ++ later) (place : Place)
     (names : place.names.now ≡ names_text row.0) where
   starts_at : (m : MetaValue) → row.0 ≡ [] → row.1 ≡ Dir m → place.is_dir ≡ is_dir row.1
-      → (t : TreeMap) × IsFront bytes t later × IsLast t place × (finite.len t ≡ 1)
+      → IsFront bytes (root_of m) later × IsLast (root_of m) place × (finite.len (root_of m) ≡ 1)
   starts_at m at dir kind =
       let same : row ≡ ([], Dir m) = (λ i. (at i, dir i)) in
       let root = subst IsRow same is in (
-        root_of m,
         root_front m [] None (root_of m) bytes later root (text ∙ ap (λ r. line_of r ++ later) same) refl refl (root_is_tree m root.stands.meta),
         record { front = []; row = ([], Dir m); entries = root_entries m; names = names ∙ ap names_text at; kind = kind ∙ ap is_dir dir },
         finite.len-entries (root_of m) ∙ ap length (root_entries m),
       )
 
   -- a first line with no names is the root's, and the tree of the root alone is read
-  pub starts : place.is_dir ≡ is_dir row.1 → (length place.names.now == 0) ≡ true → (t : TreeMap) × IsFront bytes t later × IsLast t place × (finite.len t ≡ 1)
-  starts kind empty =
+  pub starts : (x : Parts) → parts_seen x ≡ parts_from row → place.is_dir ≡ is_dir row.1 → (length place.names.now == 0) ≡ true
+      → IsFront bytes (root_of x.meta) later × IsLast (root_of x.meta) place × (finite.len (root_of x.meta) ≡ 1)
+  starts x parts kind empty =
       let at : row.0 ≡ [] = no_names_left row.0 (ap length (sym names) ∙ eqb-true (length place.names.now) 0 empty) in
       let (m, dir) = is.root at in
-      starts_at m at dir kind
+      let own : m ≡ x.meta = sym (ap (λ (f : Fields). f.0) parts ∙ ap (λ e. (parts_from (row.0, e)).0) dir) in
+      subst (λ k. IsFront bytes (root_of k) later × IsLast (root_of k) place × (finite.len (root_of k) ≡ 1)) own (starts_at m at dir kind)
 
   -- a first line of any other path is out of order
   pub not_first : (length place.names.now == 0) ≡ false → IsFault [] bytes (Order 1)

@@ -1,4 +1,5 @@
 -- A row after all rows of a tree goes to the end of it, where its directories are there; and each row of a tree's text does.
+use Rattle.std.specs.Prelude.{is_ok}
 use Rattle.std.proofs.Common.{◌≡◌, ◌≢◌, ℕ, zero, suc, ◌+◌, ◌<◌, ◌≤◌, ◌==◌, Bool, true, false, cond, ◌&&◌, List, [], ◌∷◌, ◌++◌, length, map}
 use Rattle.std.proofs.Common.{Option, Some, None, IsSome, Result, Ok, Err, T, refl, sym, ap, subst, ◌∙◌, true≢false, arith, append_assoc}
 use Rattle.std.proofs.Common.{length-append, inl, inr}
@@ -20,7 +21,7 @@ use Rattle.llb_tree.specs.declared.fault.TreeFault.TheVariants as fault
 use Rattle.llb_wire.specs.Answer.{◌>>=◌}
 use Rattle.llb_treetext.specs.TreeText.{row_text, line_of, lines_of, tree_text}
 use Rattle.llb_treetext.specs.Reading.{IsRow, IsText, Begins, IsFault, Stops, comes_next}
-use Rattle.llb_treetext.specs.Placing.{put_row, HasNoFault, GoesOn, IsFront}
+use Rattle.llb_treetext.specs.Placing.{put_row, GoesOn, IsFront}
 use Rattle.llb_treetext.specs.Fields.{entry_of}
 use Rattle.llb_treetext.specs.declared.fault.TextFault.{TextFault}
 use Rattle.llb_treetext.specs.declared.fault.TextFault.TheVariants.{BadLine, Order, NoParent}
@@ -169,7 +170,7 @@ module _ (t : TreeMap) (tree : IsTree t) (row : Pair) (is : IsRow row) (next : c
   put_err [] (File m c) f named walks = absurd (named refl)
   put_err (n ∷ p) (File m c) f named walks = ap (λ r. r >>= λ _. file_fits (finite.get t (n ∷ p)) >>= λ _. Ok (finite.insert t (n ∷ p) (File m c))) walks
 
-  -- an edit that is granted gives a tree whose text has the row's line at its end
+  -- an edit that is granted results in a tree whose text has the row's line at its end
   pub goes_on : (new : TreeMap) (rest later : List ℕ) → rest ≡ line_of row ++ later → put_row t row ≡ Ok new → GoesOn t new rest later
   goes_on new rest later begins put = by_walk (walk (finite.get t) row.0) refl
     where
@@ -185,43 +186,13 @@ module _ (t : TreeMap) (tree : IsTree t) (row : Pair) (is : IsRow row) (next : c
             shorter = omega (arith, ap length begins, length-append (line_of row) later, length-append (row_text row) (10 ∷ []));
           }
 
-  no_parent : (f : TreeFault) → put_row t row ≡ Err f → walk (λ q. finite.find path_cmp q (finite.entries t)) row.0 ≢ Ok tt
-  no_parent f put walks =
-      let own = ap (λ look. walk look row.0) (λ i q. finite.get-entries t q i) ∙ walks in
-      let e : ◌≡◌ {A = Result TreeMap TreeFault} (Ok (finite.insert t row.0 row.1)) (Err f) = sym (put_ok row.0 row.1 not_root not_there own) ∙ put in absurd cc
-
-  -- it is put there, or memory is refused
-  pub put_there : (rest later : List ℕ) → HasNoFault (finite.entries t) rest → rest ≡ line_of row ++ later
-      → (f : TreeFault) → (base.is_memory f ≡ false → put_row t row ≡ Err f) → f ≡ fault.Memory
-  put_there rest later sound begins fault.Memory put = refl
-  put_there rest later sound begins f put =
-      absurd (sound (NoParent (length (finite.entries t) + 1)) (refl, (row, (is, (later, begins)), next, no_parent f (put refl))))
-
--- ---- a line that is not faulty
-
-module _ (rows : List Pair) (rest : List ℕ) (sound : HasNoFault rows rest) where
-  -- where the next line is not faulty, it is some row's
-  pub is_line : ((row : Pair) → ¬ Begins rest row) → ⊥
-  is_line none = sound (BadLine (length rows + 1)) (refl, none)
-
-  -- and the row's path is after the last one
-  pub is_next : (row : Pair) → Begins rest row → comes_next rows row.0 ≡ true
-  is_next row begins = go (comes_next rows row.0) refl
-    where
-      go : (b : Bool) → comes_next rows row.0 ≡ b → b ≡ true
-      go true next = refl
-      go false next = absurd (sound (Order (length rows + 1)) (refl, (row, begins, next)))
-
--- before any row the one path that comes next is the root
-pub is_first : (p : List (List ℕ)) → comes_next [] p ≡ true → p ≡ []
-is_first [] next = refl
-is_first (n ∷ p) next = absurd (true≢false (sym next))
+-- what is put where the result says so
+pub put_done : (r : Result (Unit {0}) TreeFault) (new : TreeMap) (rule : Result TreeMap TreeFault) (b : Bool) → base.Gives (λ _. new) r rule
+    → b ≡ is_ok r → b ≡ true → rule ≡ Ok new
+put_done (Ok u) new rule b gives is done = gives
+put_done (Err e) new rule b gives is done = absurd (true≢false (sym done ∙ is))
 
 -- ---- the first line
-
--- two equal answers that succeed have the same tree
-pub same_tree : (x y : TreeMap) → ◌≡◌ {A = Result TreeMap TreeFault} (Ok x) (Ok y) → x ≡ y
-same_tree x y is = cc
 
 pub root_entry : (m : MetaValue) (o : Option (List ℕ)) → ((k : MetaValue) × (entry_of m o ≡ Dir k)) → entry_of m o ≡ Dir m
 root_entry m None is = refl
@@ -259,11 +230,6 @@ pub few_rows : (rows : List Pair) → length rows ≤ length (lines_of rows)
 few_rows [] = omega arith
 few_rows (r ∷ rows) = omega (arith, few_rows rows, length-append (line_of r) (lines_of rows), length-append (row_text r) (10 ∷ []))
 
--- the first line of a tree's text is not faulty
-pub no_fault_first : (bytes : List ℕ) (t : TreeMap) → IsText bytes t → HasNoFault [] bytes
-no_fault_first bytes t is = λ e fault.
-    (one_answer bytes).apart t e is (record { rows = []; rest = bytes; before = inl refl; split = refl; more = λ _. refl; fault = fault })
-
 module _ (bytes : List ℕ) (t : TreeMap) (rest : List ℕ) (front : IsFront bytes t rest) where
   -- the test says that the rest isn't empty, so bytes are left
   pub some_left : (b : Bool) → b ≡ (length rest == 0) → b ≡ false → 0 < length rest
@@ -287,10 +253,6 @@ module _ (bytes : List ℕ) (t : TreeMap) (rest : List ℕ) (front : IsFront byt
     more = λ none. absurd (omega (arith, ap length none, some));
     fault = fault;
   }
-
-  -- so where the whole is the text of a tree, there is no fault in what is left
-  pub no_fault_left : (u : TreeMap) → IsText bytes u → 0 < length rest → HasNoFault (finite.entries t) rest
-  no_fault_left u is some = λ e fault. (one_answer bytes).apart u e is (stops e some fault)
 
   -- once one more line is read, the text starts with the text of the larger tree
   pub front_more : (new : TreeMap) (later : List ℕ) → GoesOn t new rest later → IsFront bytes new later

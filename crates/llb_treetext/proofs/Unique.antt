@@ -63,7 +63,7 @@ module _ (t : TreeMap) (tree : IsTree t) where
   pub there : (k : ℕ) (x : Pair) → slice_get (finite.entries t) k ≡ Some x → finite.get t x.0 ≡ Some x.1
   there k x is = finite.get-entries t x.0 ∙ find_here (finite.entries t) k x (finite.entries_sorted t) is
 
-  -- it can stand at its path, and at the root it is a directory, so it is a row
+  -- it is allowed at its path, and at the root it is a directory, so it is a row
   pub entry_is_row : (k : ℕ) (x : Pair) → slice_get (finite.entries t) k ≡ Some x → IsRow x
   entry_is_row k x is = record {
     stands = tree.stands x.0 x.1 (there k x is);
@@ -133,7 +133,7 @@ last_before : (r : Pair) (rows : List Pair) (row : Pair) (more : List Pair) → 
 last_before r [] row more h = ap is_lt (is_less _ (and_first _ _ (and_first _ _ h)))
 last_before r (s ∷ rows) row more h = last_before s rows row more (and_second _ _ h)
 
--- the row after some rows stands at the place that is their count
+-- the row after some rows is at the place that is their count
 pub at_end : (rows : List Pair) (row : Pair) (more : List Pair) → slice_get (rows ++ row ∷ more) (length rows) ≡ Some row
 at_end [] row more = refl
 at_end (r ∷ rows) row more = at_end rows row more
@@ -197,7 +197,7 @@ no_fault_before : (xs ys : List Pair) (a b : List ℕ) (e : TextFault) → AreBe
 no_fault_before xs ys a b e (inl none) l fault = let long = ap length (sym none ∙ l.rows) in absurd (omega (arith, length-append xs (l.row ∷ l.more), long))
 no_fault_before xs ys a b e (inr (t, tree, same)) l fault = no_fault t tree xs l.row l.more (sym same ∙ l.rows) a (lines_of l.more ++ b) e l.is_row l.text fault
 
--- ---- one answer
+-- ---- one result
 
 whole : (bytes : List ℕ) (t : TreeMap) → IsText bytes t → bytes ≡ lines_of (finite.entries t) ++ []
 whole bytes t is = is.text ∙ sym (append-nil (tree_text t))
@@ -261,7 +261,7 @@ one_fault bytes e d s u =
 pub one_answer : (bytes : List ℕ) → HasOneAnswer bytes
 one_answer bytes = record { trees = one_tree bytes; apart = apart bytes; faults = one_fault bytes }
 
--- an answer that is right for a tree's text is the tree, or out of memory
+-- a result that is right for a tree's text is the tree, or the fault `Memory`
 pub reads_back : (t : TreeMap) → IsTree t → ReadsBack t
 reads_back t tree (Ok u) answer = one_tree (tree_text t) u t answer (record { tree = tree; text = refl })
 reads_back t tree (Err e) answer = go (is_memory e) refl

@@ -405,7 +405,7 @@ digit_low c d is = by_cases (nat_lt c 128) refl
     by_cases true t = ltb-true c 128 t
     by_cases false t = let e : ◌≡◌ {A = Option ℕ} (Some d) None = sym is ∙ none (ltb-false c 128 t) in absurd cc
 
--- a digit of the table, and what stands where there is none
+-- a digit of the table, and 0, which is read past its end
 digit_ascii : (k : ℕ) → get_or lower_digits k 0 < 128
 digit_ascii k = by_cases (nat_lt k 16) refl
   where

@@ -1,5 +1,5 @@
--- How the calls of this crate answer: what their rule gives, or out of memory. A rule is a function into values
--- or faults that never gives out of memory.
+-- The results of this crate's calls: the result of the call's rule, or the fault `Memory`. A rule is a function into values
+-- or faults that never returns `Memory`.
 use Rattle.std.specs.Prelude.{ℕ, List, ◌++◌, Bool, true, false, Option, Result, codes}
 use Rattle.std.specs.Fmt.{decimal}
 use Rattle.llb_wire.specs.Answer as answer
@@ -9,18 +9,18 @@ use Rattle.llb_treetext.specs.declared.fault.TextFault.TheVariants as text
 use Rattle.llb_treetext.specs.declared.fault.PrintFault.{PrintFault}
 use Rattle.llb_treetext.specs.declared.fault.PrintFault.TheVariants as print
 
--- out of memory, which no rule gives
+-- the fault for refused memory, which no rule returns
 abbrev pub is_memory : TextFault → Bool
 is_memory text.Memory = true
 is_memory (text.BadLine n) = false
 is_memory (text.Order n) = false
 is_memory (text.NoParent n) = false
 
--- what a call answers, seen by view, is what the rule gives
+-- the result of a call, seen by view, is the result of its rule
 abbrev pub Gives : {X Y : Type 0} → (X → Y) → Result X TextFault → Result Y TextFault → Type 0
 Gives = answer.Gives is_memory
 
--- and out of memory comes last: it is answered only where the rule has no refusal
+-- and `Memory` is last: a call fails with it only where its rule has no refusal
 abbrev pub MemoryLast : {X Y : Type 0} → Result X TextFault → Result Y TextFault → Type 0
 MemoryLast = answer.MemoryLast is_memory
 
@@ -28,7 +28,7 @@ abbrev pub is_refused_memory : PrintFault → Bool
 is_refused_memory print.Memory = true
 is_refused_memory print.Write = false
 
--- a text is out, or a prefix of it where memory was refused or the sink has failed
+-- a text is written, or a prefix of it where memory was refused or the sink has failed
 abbrev pub Prints : Option (List ℕ) → Option (List ℕ) → Bool → List ℕ → Result (Unit {0}) PrintFault → Type 0
 Prints = output.Writes is_refused_memory
 

@@ -1,4 +1,4 @@
--- What a line is taken apart into: its fields, each as it is written. Only this file and the proofs know how.
+-- The fields of a line, each as it is written. Only this file and the proofs know how a line is taken apart.
 use Rattle.std.specs.Prelude.{ℕ, ◌+◌, ◌-◌, ◌*◌, ◌%◌, ◌^◌, ◌==◌, ◌&&◌, ◌||◌, not, nat_lt, nat_le, nat_eq, Bool, false, if◌then◌else◌, List}
 use Rattle.std.specs.Prelude.{[], ◌∷◌, length, codes, Option, Some, None}
 use Rattle.std.specs.List.{list_all, position_or_len, before_first, after_first}
@@ -15,7 +15,7 @@ use Rattle.llb_treetext.specs.TreeText.{path_text}
 use Rattle.llb_treetext.specs.declared.parts.Parts.{Parts}
 use Rattle.llb_treetext.specs.declared.row.Row.{Row}
 
--- a reading goes on with what another gave
+-- a reading goes on with the value of another
 abbrev pub on : {A B : Type 0} → Option A → (A → Option B) → Option B
 on None f = None
 on (Some x) f = f x
@@ -25,11 +25,11 @@ abbrev pub cut_at : ℕ → List ℕ → Option (List ℕ × List ℕ)
 cut_at c text = if nat_lt (position_or_len (λ b. nat_eq b c) text) (length text) then
     Some (before_first (λ b. nat_eq b c) text, after_first (λ b. nat_eq b c) text) else None
 
--- four octal digits
+-- the mode that four octal digits spell
 abbrev pub mode_in : List ℕ → Option ℕ
 mode_in text = if length text == 4 then mode_of text else None
 
--- decimal digits after a number
+-- the number of decimal digits that follow the digits of a number
 unfoldable pub number_from : ℕ → List ℕ → Option ℕ
 number_from n [] = Some n
 number_from n (b ∷ text) = if nat_lt (n * 10 + (b - 48)) (2 ^ 32) then number_from (n * 10 + (b - 48)) text else None
@@ -43,11 +43,11 @@ abbrev pub meta_in : List ℕ → Option (MetaValue × List ℕ)
 meta_in text = on (cut_at 32 text) (λ m. on (cut_at 32 m.1) (λ u. on (cut_at 32 u.1) (λ g.
     on (mode_in m.0) (λ mode. on (decimal_in u.0) (λ uid. on (decimal_in g.0) (λ gid. on (meta_of mode uid gid) (λ meta. Some (meta, g.1))))))))
 
--- at most 128 names between slashes
+-- a text is at most 128 names between slashes
 abbrev pub are_names : List ℕ → Bool
 are_names text = list_all is_name (parts_of text) && nat_le (length (parts_of text)) 128
 
--- a slash, and names after it or nothing
+-- a text is a slash, and names after it or nothing
 abbrev pub is_path : List ℕ → Bool
 is_path [] = false
 is_path (b ∷ names) = (b == 47) && ((length names == 0) || are_names names)
@@ -82,7 +82,7 @@ parts_from (p, File m content) = (m, Some (hex_text content), path_text p)
 abbrev pub trail : List ℕ → List ℕ
 trail path = if length path == 1 then [] else path
 
--- a directory where there is no content
+-- an entry: a directory where there is no content
 abbrev pub entry_of : MetaValue → Option (List ℕ) → Entry
 entry_of m None = Dir m
 entry_of m (Some content) = File m content

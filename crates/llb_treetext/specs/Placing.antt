@@ -1,26 +1,33 @@
--- What putting the next row in a tree gives. Only this file and the proofs know that a text is read row by row.
-use denote.Ref.{Bor}
-use Rattle.std.specs.Prelude.{◌≡◌, ℕ, ◌+◌, ◌<◌, ◌==◌, Bool, true, false, List, [], ◌∷◌, ◌++◌, length, map, Result, Ok, Err, if◌then◌else◌}
+-- The result of putting the next row in a tree. Only this file and the proofs know that a text is read row by row.
+use Rattle.std.specs.Prelude.{◌≡◌, ℕ, ◌+◌, ◌<◌, ◌==◌, Bool, true, false, List, [], ◌∷◌, ◌++◌, length, map, Option, Some, None, Result, Ok, Err, if◌then◌else◌}
 use Rattle.std.specs.FinMap as finite
 use Rattle.std.specs.declared.cmp.Ordering.{Ordering}
 use Rattle.std.specs.Ordering.{nat_cmp}
 use Rattle.std.specs.Cmp.Lexicographic.{slice_cmp}
-use Rattle.llb_tree.specs.Tree.{Entry, Dir, File, TreeMap, IsTree, put_dir, put_file}
+use Rattle.llb_tree.specs.Tree.{Entry, Dir, File, TreeMap, IsTree, empty_tree, put_dir, put_file}
 use Rattle.llb_tree.specs.declared.fault.TreeFault.{TreeFault}
 use Rattle.llb_treetext.specs.declared.fault.TextFault.{TextFault}
 use Rattle.llb_treetext.specs.TreeText.{names_text, tree_text}
-use Rattle.llb_treetext.specs.Reading.{IsText, IsFault, Stops}
+use Rattle.llb_treetext.specs.Reading.{IsRow, IsFault}
+use Rattle.llb_treetext.specs.Fields.{parts_seen, parts_from}
 use Rattle.llb_treetext.specs.Faults.{is_memory}
+use Rattle.llb_treetext.specs.declared.parts.Parts.{Parts}
 use Rattle.llb_treetext.specs.declared.judge.Place.{Place}
+use Rattle.llb_treetext.specs.declared.judge.Line.{Line}
 
 -- the tree after a row is put, or why it is not
 abbrev pub put_row : TreeMap → List (List ℕ) × Entry → Result TreeMap TreeFault
 put_row t (p, Dir m) = put_dir t p m
 put_row t (p, File m content) = put_file t p m content
 
--- the line after some rows is not faulty
-abbrev pub HasNoFault : List (List (List ℕ) × Entry) → List ℕ → Type 0
-HasNoFault rows rest = (e : TextFault) → ¬ IsFault rows rest e
+-- the parts of a row's line
+abbrev pub IsOf : List (List ℕ) × Entry → Parts → Type 0
+IsOf row x = IsRow row × (parts_seen x ≡ parts_from row)
+
+-- where there is a tree, it is this one
+abbrev pub IsIfAny : Option TreeMap → TreeMap → Type 0
+IsIfAny None t = Unit {0}
+IsIfAny (Some u) t = u ≡ t
 
 -- a line more is in the tree: what is before and what is left is the same text, and less is left
 pub record GoesOn (old new : TreeMap) (rest later : List ℕ) : Type 0 where
@@ -60,17 +67,13 @@ pub record IsLast (t : TreeMap) (place : Place) : Type 0 where
   pub names : place.names.now ≡ names_text row.0
   pub kind : place.is_dir ≡ is_dir row.1
 
--- a tree of the first line, or what is wrong with it
-abbrev pub Starts : List ℕ → Result (Place × Bor (List ℕ)) TextFault → Type 0
-Starts bytes (Ok x) = (t : TreeMap) × IsFront bytes t x.1.now × IsLast t x.0 × (finite.len t ≡ 1)
+-- the tree of the first line, or what is wrong with it
+abbrev pub Starts : List ℕ → Result Line TextFault → Type 0
+Starts bytes (Ok x) = let t = finite.insert empty_tree [] (Dir x.parts.meta) in IsFront bytes t x.later.now × IsLast t x.place × (finite.len t ≡ 1)
 Starts bytes (Err e) = (is_memory e ≡ false) × IsFault [] bytes e
 
 -- a tree with one line more, or what is wrong with the line
-abbrev pub GoesTo : TreeMap → List ℕ → Result (Place × Bor (List ℕ)) TextFault → Type 0
-GoesTo t rest (Ok x) = (new : TreeMap) × GoesOn t new rest x.1.now × IsLast new x.0 × (finite.len new ≡ finite.len t + 1)
+abbrev pub GoesTo : TreeMap → List ℕ → Result Line TextFault → Type 0
+GoesTo t rest (Ok x) = (row : List (List ℕ) × Entry) × IsOf row x.parts × ((new : TreeMap) × (put_row t row ≡ Ok new) × GoesOn t new rest x.later.now
+    × IsLast new x.place × (finite.len new ≡ finite.len t + 1))
 GoesTo t rest (Err e) = (is_memory e ≡ false) × IsFault (finite.entries t) rest e
-
--- the text is a tree's, or it has a first faulty line
-abbrev pub Judges : List ℕ → Result (Unit {0}) TextFault → Type 0
-Judges bytes (Ok u) = (t : TreeMap) × IsText bytes t
-Judges bytes (Err e) = (is_memory e ≡ false) × Stops bytes e

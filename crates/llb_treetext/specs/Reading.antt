@@ -10,7 +10,7 @@ use Rattle.llb_treetext.specs.Faults.{is_memory}
 use Rattle.llb_treetext.specs.declared.fault.TextFault.{TextFault}
 use Rattle.llb_treetext.specs.declared.fault.TextFault.TheVariants.{BadLine, Order, NoParent, Memory}
 
--- an entry that has a line: it can stand at its path, and the root is a directory
+-- an entry that has a line: it is allowed at its path, and the root is a directory
 pub record IsRow (row : List (List ℕ) × Entry) : Type 0 where
   pub stands : CanStand row.0 row.1
   pub root : row.0 ≡ [] → (m : MetaValue) × (row.1 ≡ Dir m)
@@ -58,7 +58,7 @@ abbrev pub Answers : List ℕ → Result TreeMap TextFault → Type 0
 Answers bytes (Ok t) = IsText bytes t
 Answers bytes (Err e) = is_memory e ≡ false → Stops bytes e
 
--- and out of memory comes last: it is answered only of a text that is a tree's
+-- and `Memory` is last: a reading fails with it only where the text is a tree's
 abbrev pub MemoryIsLast : List ℕ → Result TreeMap TextFault → Type 0
 MemoryIsLast bytes (Ok t) = Unit {0}
 MemoryIsLast bytes (Err e) = is_memory e ≡ true → (t : TreeMap) × IsText bytes t
@@ -69,6 +69,6 @@ pub record HasOneAnswer (bytes : List ℕ) : Type 0 where
   pub apart : (t : TreeMap) (e : TextFault) → IsText bytes t → ¬ Stops bytes e
   pub faults : (e d : TextFault) → Stops bytes e → Stops bytes d → e ≡ d
 
--- what is read of the text of a tree is the tree; out of memory is the one other answer
+-- the text of a tree is read as the tree; the only other result is the fault `Memory`
 abbrev pub ReadsBack : TreeMap → Type 0
 ReadsBack t = (r : Result TreeMap TextFault) → Answers (tree_text t) r → MatchResult r (λ u. u ≡ t) (λ e. is_memory e ≡ true)

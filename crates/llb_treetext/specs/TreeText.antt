@@ -6,14 +6,14 @@ use Rattle.std.specs.FinMap as finite
 use Rattle.llb_wire.specs.Hexadecimal.{hex_text}
 use Rattle.llb_tree.specs.Tree.{Entry, Dir, File, MetaValue, TreeMap}
 
--- four octal digits
+-- the text of a mode: four octal digits
 abbrev pub mode_text : ℕ → List ℕ
 mode_text mode = decimal (mode / 512) ++ (decimal (mode / 64 % 8) ++ (decimal (mode / 8 % 8) ++ decimal (mode % 8)))
 
 abbrev pub meta_text : MetaValue → List ℕ
 meta_text m = mode_text m.mode ++ (codes " " ++ (decimal m.uid ++ (codes " " ++ (decimal m.gid ++ codes " "))))
 
--- a slash before each name, one alone for the root
+-- the text of a path: a slash before each name, one alone for the root
 abbrev pub names_text : List (List ℕ) → List ℕ
 names_text p = flat_map (λ name. codes "/" ++ name) p
 
@@ -33,6 +33,6 @@ line_of e = row_text e ++ codes "\n"
 abbrev pub lines_of : List (List (List ℕ) × Entry) → List ℕ
 lines_of entries = flat_map line_of entries
 
--- all paths of the tree, in path order
+-- the text of a tree: the lines of all its paths, in path order
 abbrev pub tree_text : TreeMap → List ℕ
 tree_text t = lines_of (finite.entries t)

@@ -7,7 +7,7 @@ ghost use Rattle.llb_treetext.specs.TreeText.{tree_text};
 ghost use Rattle.llb_treetext.specs.Faults.{Gives};
 
 use crate::fault::TextFault;
-use crate::line::entry_line;
+use crate::line::set_line;
 use llb_tree::Tree;
 use llb_wire::{Memory, Text, text_of_digest};
 use sha2::{Digest, Sha256};
@@ -18,9 +18,10 @@ fn hash(alloc: Global, tree: &Tree) -> Result<[u8; 32], Memory>
     ensures { IfOk result (λ d. d ≡ sha256 (tree_text tree.now)) }
 {
     let mut hasher = Sha256::new();
+    let mut line = String::new(alloc);
     let mut walk = tree.walk();
     while let Some((path, entry)) = walk.at() {
-        let line = entry_line(alloc, path, &entry)?;
+        set_line(alloc, &mut line, path, &entry)?;
         hasher.update(line.as_bytes());
         if walk.advance().is_err() {
             return Err(Memory);
@@ -29,7 +30,7 @@ fn hash(alloc: Global, tree: &Tree) -> Result<[u8; 32], Memory>
     Ok(hasher.finalize())
 }
 
-/// `sha256:` and the 64 lower-case hexadecimal digits of SHA-256 of the tree's text; 34 `Memory`.
+/// Returns `sha256:` and the 64 lower-case hexadecimal digits of SHA-256 of the tree's text. Fails with 34 `Memory` alone.
 pub fn tree_digest(alloc: Global, tree: &Tree) -> Result<Text, TextFault>
     ensures { Gives (λ t. t) result (Ok (digest_text (tree_text tree.now))) }
 {

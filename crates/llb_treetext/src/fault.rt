@@ -1,4 +1,4 @@
-//! Why a text of a tree is not read, and why a tree's text is not out. A fault prints what stands after the word
+//! Why a text of a tree is not read, and why a tree's text is not written. A fault prints what comes after the word
 //! `fault` in a refusal: its number, and then its arguments.
 
 ghost use Rattle.std.specs.Prelude.{Some};
@@ -15,7 +15,7 @@ pub enum TextFault {
     BadLine(u64),
     /// 32 N: the path of line N is not above that of the line before, or line 1 is not that of the root.
     Order(u64),
-    /// 33 N: the directory that the path of line N is in does not stand before it.
+    /// 33 N: the directory that the path of line N is in has no line before it.
     NoParent(u64),
     /// 34: memory was refused.
     Memory,

@@ -1,5 +1,5 @@
-//! A text is looked through without memory. The lines before a line are those of a tree, so the last of them tells whether
-//! the next one lies after them, and whether its directory is there.
+//! A line is judged without memory. The lines before it are those of a tree, so the last of them shows whether it lies after
+//! them, and whether its directory is there.
 
 ghost use Rattle.std.specs.Prelude.{◌≡◌, ◌≢◌, ◌+◌, ◌++◌, ◌∷◌, ℕ, List, IsTrue, true};
 ghost use Rattle.std.specs.FinMap as finite;
@@ -8,7 +8,7 @@ ghost use Rattle.std.specs.Ordering.{is_lt};
 ghost use Rattle.std.specs.Option.{is_none};
 ghost use Rattle.llb_tree.specs.Tree.{TreeMap, IsTree};
 ghost use Rattle.llb_treetext.specs.Fields.{trail};
-ghost use Rattle.llb_treetext.specs.Placing.{rank, trail_cmp, opens, IsLast, Starts, GoesTo, Judges};
+ghost use Rattle.llb_treetext.specs.Placing.{rank, trail_cmp, opens, IsLast, Starts, GoesTo};
 
 use crate::fault::TextFault;
 use crate::parts::{Parts, next_parts};
@@ -18,6 +18,14 @@ use crate::parts::{Parts, next_parts};
 pub(crate) struct Place<'a> {
     pub names: &'a [u8],
     pub is_dir: bool,
+}
+
+// A line: its parts, its place, and the bytes after it.
+#[derive(Clone, Copy)]
+pub(crate) struct Line<'a> {
+    pub parts: Parts<'a>,
+    pub place: Place<'a>,
+    pub later: &'a [u8],
 }
 
 // The place of a line.
@@ -82,8 +90,8 @@ fn holds(place: &Place<'_>, dir: &[u8]) -> bool
     }
 }
 
-// The place of the first line, which is the root's, and what is after the line.
-fn first_place(bytes: &[u8]) -> Result<(Place<'_>, &[u8]), TextFault>
+// The first line, which is the root's, or its first fault. Does not allocate.
+pub(crate) fn first_line(bytes: &[u8]) -> Result<Line<'_>, TextFault>
     ensures { Starts bytes.now result }
 {
     let Some((parts, later)) = next_parts(bytes) else {
@@ -93,15 +101,19 @@ fn first_place(bytes: &[u8]) -> Result<(Place<'_>, &[u8]), TextFault>
     if !place.names.is_empty() {
         return Err(TextFault::Order(1));
     }
-    Ok((place, later))
+    Ok(Line {
+        parts,
+        place,
+        later,
+    })
 }
 
-// The place of the next line, and what is after the line.
-fn next_place<'a>(
+// The next line, or its first fault. Does not allocate.
+pub(crate) fn next_line<'a>(
     last: &Place<'_>,
     rest: &'a [u8],
     number: u64,
-) -> Result<(Place<'a>, &'a [u8]), TextFault>
+) -> Result<Line<'a>, TextFault>
     ensures { (t : TreeMap) → IsTree t → IsLast t last.now → number ≡ finite.len t + 1 → GoesTo t rest.now result }
 {
     let Some((parts, later)) = next_parts(rest) else {
@@ -114,27 +126,9 @@ fn next_place<'a>(
     if !holds(last, parent(place.names)) {
         return Err(TextFault::NoParent(number));
     }
-    Ok((place, later))
-}
-
-// The first fault of the first line that has one. Takes no memory.
-pub(crate) fn judge(bytes: &[u8]) -> Result<(), TextFault>
-    ensures { Judges bytes.now result }
-{
-    let (mut last, mut rest) = match first_place(bytes) {
-        Err(fault) => return Err(fault),
-        Ok((place, later)) => (place, later),
-    };
-    let mut number: u64 = 1;
-    while !rest.is_empty() {
-        number += 1;
-        match next_place(&last, rest, number) {
-            Err(fault) => return Err(fault),
-            Ok((place, later)) => {
-                last = place;
-                rest = later;
-            }
-        }
-    }
-    Ok(())
+    Ok(Line {
+        parts,
+        place,
+        later,
+    })
 }

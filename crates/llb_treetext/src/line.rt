@@ -1,23 +1,58 @@
-//! The line of an entry, as it is written: its kind, its mode and owners, the content of a file, and its path.
+//! The line of an entry, as it is written: its kind, its mode and owners, the content of a file, and its path. It is put
+//! after a text, so that one text's room serves for all lines.
 
-ghost use Rattle.std.specs.Prelude.{◌≡◌, ◌++◌, IfOk, OnOk, string_bytes};
+ghost use Rattle.std.specs.Prelude.{◌≡◌, ◌++◌, ◌<◌, OnOk, string_bytes};
+ghost use Rattle.std.specs.Fmt.{decimal};
 ghost use Rattle.llb_tree.specs.Rows.{seen};
-ghost use Rattle.llb_treetext.specs.TreeText.{meta_text, names_text, path_text, row_text, line_of};
+ghost use Rattle.llb_treetext.specs.TreeText.{mode_text, meta_text, names_text, path_text, row_text, line_of};
 
 use llb_tree::{Entry, Meta, Name, Path};
 use llb_wire::push_hex;
 use std::alloc::{AllocError, Global};
 
-// The mode in four octal digits, the user and the group.
-fn meta_line(alloc: Global, meta: Meta) -> Result<String, AllocError>
-    ensures { IfOk result (λ s. string_bytes s ≡ meta_text meta) }
+// Puts a digit after a text.
+fn push_digit(line: &mut String, digit: u32) -> Result<(), AllocError>
+    requires { digit < 10 }
+    ensures { OnOk result (string_bytes line.new ≡ string_bytes line.old ++ decimal digit) }
 {
-    let mode = meta.mode();
+    line.push((b'0' + digit as u8) as char)
+}
+
+// Puts a number after a text, in decimal digits.
+fn push_number(line: &mut String, number: u32) -> Result<(), AllocError>
+    ensures { OnOk result (string_bytes line.new ≡ string_bytes line.old ++ decimal number) }
+{
+    if number < 10 {
+        return push_digit(line, number);
+    }
+    push_number(line, number / 10)?;
+    push_digit(line, number % 10)
+}
+
+// Puts a mode after a text, in four octal digits.
+fn push_mode(line: &mut String, mode: u32) -> Result<(), AllocError>
+    requires { mode < 4096 }
+    ensures { OnOk result (string_bytes line.new ≡ string_bytes line.old ++ mode_text mode) }
+{
     let (first, second) = (mode / 512, mode / 64 % 8);
     let (third, last) = (mode / 8 % 8, mode % 8);
-    let (uid, gid) = (meta.uid(), meta.gid());
-    let text = format!(in alloc; "{first}{second}{third}{last} {uid} {gid} ")?;
-    Ok(text)
+    push_digit(line, first)?;
+    push_digit(line, second)?;
+    push_digit(line, third)?;
+    push_digit(line, last)
+}
+
+// Puts the mode, the user and the group after a text.
+fn push_meta(line: &mut String, meta: Meta) -> Result<(), AllocError>
+    ensures { OnOk result (string_bytes line.new ≡ string_bytes line.old ++ meta_text meta) }
+{
+    meta.is_meta();
+    push_mode(line, meta.mode() as u32)?;
+    line.push_str(" ")?;
+    push_number(line, meta.uid())?;
+    line.push_str(" ")?;
+    push_number(line, meta.gid())?;
+    line.push_str(" ")
 }
 
 // A slash before each name.
@@ -42,36 +77,40 @@ fn push_path(line: &mut String, path: &Path) -> Result<(), AllocError>
     push_names(line, path.names())
 }
 
-// The line of an entry, without its end.
-pub(crate) fn row_text(alloc: Global, path: &Path, entry: &Entry<'_>) -> Result<String, AllocError>
-    ensures { IfOk result (λ s. string_bytes s ≡ row_text (path.now, seen entry.now)) }
+// Puts the line of an entry after a text, without its end.
+fn push_row(
+    alloc: Global,
+    line: &mut String,
+    path: &Path,
+    entry: &Entry<'_>,
+) -> Result<(), AllocError>
+    ensures { OnOk result (string_bytes line.new ≡ string_bytes line.old ++ row_text (path.now, seen entry.now)) }
 {
-    let mut line = String::new(alloc);
     match entry {
         Entry::Dir(meta) => {
             line.push_str("d ")?;
-            line.push_str(meta_line(alloc, *meta)?.as_str())?;
+            push_meta(line, *meta)?;
         }
         Entry::File(meta, content) => {
             line.push_str("f ")?;
-            line.push_str(meta_line(alloc, *meta)?.as_str())?;
-            push_hex(alloc, &mut line, content.as_slice())?;
+            push_meta(line, *meta)?;
+            push_hex(alloc, line, content.as_slice())?;
             line.push_str(" ")?;
         }
     }
-    push_path(&mut line, path)?;
-    Ok(line)
+    push_path(line, path)
 }
 
-// The line of an entry.
-pub(crate) fn entry_line(
+// Writes the line of an entry in a text's place.
+pub(crate) fn set_line(
     alloc: Global,
+    line: &mut String,
     path: &Path,
     entry: &Entry<'_>,
-) -> Result<String, AllocError>
-    ensures { IfOk result (λ s. string_bytes s ≡ line_of (path.now, seen entry.now)) }
+) -> Result<(), AllocError>
+    ensures { OnOk result (string_bytes line.new ≡ line_of (path.now, seen entry.now)) }
 {
-    let mut line = row_text(alloc, path, entry)?;
-    line.push_str("\n")?;
-    Ok(line)
+    line.clear();
+    push_row(alloc, line, path, entry)?;
+    line.push_str("\n")
 }

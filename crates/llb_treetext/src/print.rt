@@ -6,14 +6,15 @@ ghost use Rattle.llb_treetext.specs.TreeText.{line_of, tree_text};
 ghost use Rattle.llb_treetext.specs.Faults.{Prints};
 
 use crate::fault::PrintFault;
-use crate::line::entry_line;
+use crate::line::set_line;
 use llb_tree::{Entry, Path, Tree};
 use llb_wire::{Sink, write_all};
 use std::alloc::Global;
 
-// Writes the line of an entry.
+// Writes the line of an entry, which is made in the place of another.
 fn print_line<W: Sink>(
     alloc: Global,
+    line: &mut String,
     path: &Path,
     entry: &Entry<'_>,
     out: &mut W,
@@ -21,9 +22,9 @@ fn print_line<W: Sink>(
     ensures prints { Prints (W.taken out.old) (W.taken out.new) (W.failed out.new) (line_of (path.now, seen entry.now)) result }
     ensures same { W.lender out.new ≡ W.lender out.old }
 {
-    match entry_line(alloc, path, entry) {
+    match set_line(alloc, line, path, entry) {
         Err(_) => Err(PrintFault::Memory),
-        Ok(line) => match write_all(out, line.as_bytes()) {
+        Ok(()) => match write_all(out, line.as_bytes()) {
             Err(_) => Err(PrintFault::Write),
             Ok(()) => Ok(()),
         },
@@ -32,14 +33,15 @@ fn print_line<W: Sink>(
 
 /// Writes the text of a tree to a sink: a line for each entry in path order, `d MODE UID GID PATH` for a directory and
 /// `f MODE UID GID CONTENT PATH` for a file. MODE is four octal digits, CONTENT lower-case hexadecimal, `-` where it is
-/// empty. 34 where memory is refused, 35 only where the writer failed: a prefix of the text is out then.
+/// empty. Fails with 34 where memory is refused, and with 35 only where the writer failed: a prefix of the text is written then.
 pub fn print_tree<W: Sink>(alloc: Global, tree: &Tree, out: &mut W) -> Result<(), PrintFault>
     ensures prints { Prints (W.taken out.old) (W.taken out.new) (W.failed out.new) (tree_text tree.now) result }
     ensures same { W.lender out.new ≡ W.lender out.old }
 {
+    let mut line = String::new(alloc);
     let mut walk = tree.walk();
     while let Some((path, entry)) = walk.at() {
-        print_line(alloc, path, &entry, out)?;
+        print_line(alloc, &mut line, path, &entry, out)?;
         if walk.advance().is_err() {
             return Err(PrintFault::Memory);
         }

@@ -1,18 +1,19 @@
-//! A text of a tree is read, a line at a time: each line is put at the end of the tree.
+//! A text of a tree is read in one pass: each line is judged without memory, and then put at the end of the tree. Once
+//! memory is refused, the lines that are left are only judged.
 
-ghost use Rattle.std.specs.Prelude.{◌≡◌, ◌+◌, [], IfOk};
+ghost use Rattle.std.specs.Prelude.{◌≡◌, ℕ, List, [], Ok, IsTrue};
 ghost use Rattle.std.specs.FinMap as finite;
 ghost use Rattle.llb_tree.specs.Tree as base;
-ghost use Rattle.llb_tree.specs.Tree.{Dir, IsTree, TreeMap, empty_tree};
-ghost use Rattle.llb_treetext.specs.Reading.{Answers, MemoryIsLast, IsText};
+ghost use Rattle.llb_tree.specs.Tree.{Dir, TreeMap, empty_tree, Entry as TreeEntry};
+ghost use Rattle.llb_treetext.specs.Reading.{Answers, MemoryIsLast};
 ghost use Rattle.llb_treetext.specs.Fields.{pair_of};
-ghost use Rattle.llb_treetext.specs.Placing.{put_row, HasNoFault, GoesOn, IsFront};
+ghost use Rattle.llb_treetext.specs.Placing.{put_row, IsOf, IsIfAny};
 
 use crate::fault::TextFault;
-use crate::judge::judge;
-use crate::row::{Row, next_row};
+use crate::judge::{first_line, next_line};
+use crate::parts::Parts;
+use crate::row::{Row, row_from};
 use llb_tree::{Meta, Path, Tree, TreeFault};
-use llb_wire::Memory;
 use std::alloc::Global;
 
 // Puts a row in a tree.
@@ -30,70 +31,70 @@ fn put(tree: &mut Tree, row: Row) -> Result<(), TreeFault>
     }
 }
 
-// The next line's entry goes to the end of the tree, and what is after the line is left. Where the line is not faulty,
-// nothing but memory can be refused.
-fn read_next<'a>(alloc: Global, tree: &mut Tree, rest: &'a [u8]) -> Result<&'a [u8], Memory>
-    requires tree { IsTree tree.old }
-    requires sound { HasNoFault (finite.entries tree.old) rest.now }
-    ensures { IfOk result (λ later. GoesOn tree.old tree.new rest.now later.now) }
+// Puts the entry of a line's parts in a tree, and returns whether it is there.
+fn is_put(alloc: Global, tree: &mut Tree, parts: &Parts<'_>) -> bool
+    ensures { IsTrue result → (row : List (List ℕ) × TreeEntry) → IsOf row parts.now → put_row tree.old row ≡ Ok tree.new }
 {
-    let Some((row, later)) = next_row(alloc, rest)? else {
-        unreachable!();
+    match row_from(alloc, parts) {
+        Ok(Some(row)) => put(tree, row).is_ok(),
+        _ => false,
+    }
+}
+
+// The tree with one line more; none once memory is refused.
+fn with_line(alloc: Global, tree: Option<Tree>, parts: &Parts<'_>) -> Option<Tree>
+    ensures { (t : TreeMap) → IsIfAny tree t → (row : List (List ℕ) × TreeEntry) → IsOf row parts.now → (new : TreeMap) → put_row t row ≡ Ok new
+        → IsIfAny result new }
+{
+    let mut tree = tree?;
+    if is_put(alloc, &mut tree, parts) {
+        Some(tree)
+    } else {
+        None
+    }
+}
+
+// The tree of a root directory alone; none where memory is refused.
+fn root_alone(alloc: Global, meta: Meta) -> Option<Tree>
+    ensures { IsIfAny result (finite.insert empty_tree [] (Dir meta)) }
+{
+    let Ok(mut tree) = Tree::empty(alloc) else {
+        return None;
     };
-    match put(tree, row) {
-        Ok(()) => Ok(later),
-        Err(fault) => match fault {
-            TreeFault::Memory => Err(Memory),
-            _ => unreachable!(),
-        },
+    match tree.put_dir(&Path::root(alloc), meta) {
+        Err(_) => None,
+        Ok(()) => Some(tree),
     }
 }
 
-// The tree of a root directory alone.
-fn root_alone(alloc: Global, meta: Meta) -> Result<Tree, TreeFault>
-    ensures { base.Gives (λ t. t) result (Ok (finite.insert empty_tree [] (Dir meta))) }
-{
-    let mut tree = Tree::empty(alloc)?;
-    tree.put_dir(&Path::root(alloc), meta)?;
-    Ok(tree)
-}
-
-// The first line's entry as the root of a tree, and what is after the line.
-fn read_root(alloc: Global, bytes: &[u8]) -> Result<(Tree, &[u8]), Memory>
-    requires sound { HasNoFault [] bytes.now }
-    ensures { IfOk result (λ x. IsFront bytes.now x.0 x.1.now) }
-{
-    let Some((row, later)) = next_row(alloc, bytes)? else {
-        unreachable!();
-    };
-    match root_alone(alloc, row.meta) {
-        Err(_) => Err(Memory),
-        Ok(tree) => {
-            tree.is_tree();
-            Ok((tree, later))
-        }
-    }
-}
-
-// The tree of a tree's text.
-fn read(alloc: Global, bytes: &[u8]) -> Result<Tree, Memory>
-    requires { (t : TreeMap) × IsText bytes.now t }
-    ensures { IfOk result (λ t. IsText bytes.now t) }
-{
-    let (mut tree, mut rest) = read_root(alloc, bytes)?;
-    while !rest.is_empty() {
-        rest = read_next(alloc, &mut tree, rest)?;
-    }
-    Ok(tree)
-}
-
-/// The tree of a text, as `print_tree` writes it; else the first fault of the first line that has one: 31 `BadLine`, 32
-/// `Order`, 33 `NoParent`. A text of no bytes and a last line with no end are 31. 34 `Memory` only where the text is a
-/// tree's: a text is looked through without memory before it is read.
+/// Reads the tree of a text, as `print_tree` writes it; else fails with the first fault of the first line that has one: 31 `BadLine`, 32
+/// `Order`, 33 `NoParent`. A text of no bytes and a last line with no end are 31. Fails with 34 `Memory` only where the text is a
+/// tree's: once memory is refused, the lines that are left are looked through without memory.
 pub fn read_tree(alloc: Global, bytes: &[u8]) -> Result<Tree, TextFault>
     ensures answers { Answers bytes.now result }
     ensures last { MemoryIsLast bytes.now result }
 {
-    judge(bytes)?;
-    Ok(read(alloc, bytes)?)
+    let first = match first_line(bytes) {
+        Err(fault) => return Err(fault),
+        Ok(line) => line,
+    };
+    let mut tree = root_alone(alloc, first.parts.meta);
+    let mut last = first.place;
+    let mut rest = first.later;
+    let mut number: u64 = 1;
+    while !rest.is_empty() {
+        number += 1;
+        match next_line(&last, rest, number) {
+            Err(fault) => return Err(fault),
+            Ok(line) => {
+                tree = with_line(alloc, tree, &line.parts);
+                last = line.place;
+                rest = line.later;
+            }
+        }
+    }
+    match tree {
+        None => Err(TextFault::Memory),
+        Some(tree) => Ok(tree),
+    }
 }

@@ -1,15 +1,12 @@
 //! The entry of a line: its path and its content take memory.
 
-ghost use Rattle.std.specs.Prelude.{◌≡◌, ◌++◌, ℕ, List, IfOk, MatchOption};
+ghost use Rattle.std.specs.Prelude.{◌≡◌, IfOk};
 ghost use Rattle.std.specs.Option.{option_map};
 ghost use Rattle.std.specs.Result.{result_ok};
 ghost use Rattle.llb_tree.specs.Path.{path_of};
-ghost use Rattle.llb_tree.specs.Tree.{Entry as TreeEntry};
-ghost use Rattle.llb_treetext.specs.TreeText.{line_of};
-ghost use Rattle.llb_treetext.specs.Reading.{IsRow, Begins};
 ghost use Rattle.llb_treetext.specs.Fields.{dir_in, file_in, row_from, parts_seen, pair_of};
 
-use crate::parts::{Parts, next_parts};
+use crate::parts::Parts;
 use llb_tree::{Meta, Path, TreeFault};
 use llb_wire::{Bytes, Memory, read_hex};
 use std::alloc::Global;
@@ -65,25 +62,11 @@ fn file_row(alloc: Global, meta: Meta, digits: &str, path: &str) -> Result<Optio
 }
 
 // The entry of parts.
-fn row_from(alloc: Global, parts: &Parts<'_>) -> Result<Option<Row>, Memory>
+pub(crate) fn row_from(alloc: Global, parts: &Parts<'_>) -> Result<Option<Row>, Memory>
     ensures { IfOk result (λ o. option_map pair_of o ≡ row_from (parts_seen parts.now)) }
 {
     match parts.digits {
         None => dir_row(alloc, parts.meta, parts.path),
         Some(digits) => file_row(alloc, parts.meta, digits, parts.path),
-    }
-}
-
-// The entry whose line the bytes begin with, and the bytes after it.
-pub(crate) fn next_row(alloc: Global, bytes: &[u8]) -> Result<Option<(Row, &[u8])>, Memory>
-    ensures { IfOk result (λ o. MatchOption o ((row : List (List ℕ) × TreeEntry) → ¬ Begins bytes.now row)
-        (λ x. IsRow (pair_of x.0) × (bytes.now ≡ line_of (pair_of x.0) ++ x.1.now))) }
-{
-    let Some((parts, later)) = next_parts(bytes) else {
-        return Ok(None);
-    };
-    match row_from(alloc, &parts)? {
-        None => Ok(None),
-        Some(row) => Ok(Some((row, later))),
     }
 }

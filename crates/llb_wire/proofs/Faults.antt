@@ -1,4 +1,4 @@
--- A number is found where it is spelled, and each fault stands only where its cause does.
+-- A number is found where it is spelled, and each fault occurs only where its cause does.
 use Rattle.std.proofs.Common.{◌≡◌, ℕ, zero, suc, ◌+◌, ◌-◌, ◌*◌, ◌≤◌, Bool, true, false, cond, ltb, List, [], ◌∷◌, length, drop, Result, Ok}
 use Rattle.std.proofs.Common.{Err, ◌⊎◌, inl, inr, refl, sym, ap, arith}
 use Rattle.std.proofs.lemmas.Bool.{ltb-false, ltb-true}
@@ -68,7 +68,7 @@ cut_at bytes at e =
 abbrev err_of : WireFault → Result (ℕ × ℕ) WireFault
 err_of d = Err d
 
--- where no number is read at a place, the cause of the fault that is given stands there
+-- where no number is read at a place, the cause of the fault is at that place
 pub at_faults : (bytes : List ℕ) (at : ℕ) (r : Result (ℕ × ℕ) WireFault) → r ≡ varint_at bytes at → IfErr r (VarintCause bytes at)
 at_faults bytes at (Ok x) e = tt
 at_faults bytes at (Err Truncated) e = cut_at bytes at (sym e)

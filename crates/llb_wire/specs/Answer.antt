@@ -1,18 +1,18 @@
--- How a result is specified, in every crate. A rule is a function into values or faults, and it never gives out of
--- memory; a call gives what its rule gives, or it lacked memory.
+-- How a result is specified, in every crate. A rule is a function into values or faults, and it never returns the fault for refused
+-- memory; a call returns what its rule returns, or it lacked memory.
 use Rattle.std.specs.Prelude.{◌≡◌, Bool, true, false, cond, Result, Ok, Err, is_ok}
 use Rattle.std.proofs.Common.{refl}
 
--- a refusal for another cause than memory is the one that the rule gives
+-- a refusal for another cause than memory is the one of the rule
 abbrev pub Fails : {Y F : Type 0} → (F → Bool) → F → Result Y F → Type 0
 Fails is_memory e rule = is_memory e ≡ false → rule ≡ Err e
 
--- the result of a call, seen by view, is what the rule gives
+-- the result of a call, seen by view, is the result of its rule
 abbrev pub Gives : {X Y F : Type 0} → (F → Bool) → (X → Y) → Result X F → Result Y F → Type 0
 Gives is_memory view (Ok x) rule = rule ≡ Ok (view x)
 Gives is_memory view (Err e) rule = Fails is_memory e rule
 
--- the fault of memory comes last: it is returned only where the rule has no refusal
+-- the fault for refused memory is last: it is returned only where the rule has no refusal
 abbrev pub MemoryLast : {X Y F : Type 0} → (F → Bool) → Result X F → Result Y F → Type 0
 MemoryLast is_memory (Ok x) rule = Unit {0}
 MemoryLast is_memory (Err e) rule = is_memory e ≡ true → is_ok rule ≡ true

@@ -10,7 +10,7 @@ use Rattle.llb_wire.specs.declared.field.Field.{Field}
 use Rattle.llb_wire.specs.declared.fault.WireFault.{WireFault}
 use Rattle.llb_wire.specs.declared.fault.WireFault.TheVariants.{Truncated, LongVarint, BadField, BadWireType}
 
--- The number at the start, and of how many bytes it is: at most one more than the count.
+-- The number at the start, and how many bytes it has: at most one more than the count.
 -- The tenth byte, after which nothing more may come, is 0 or 1.
 unfoldable pub varint_from : ℕ → List ℕ → Result (ℕ × ℕ) WireFault
 varint_from more [] = Err Truncated

@@ -11,11 +11,11 @@ Takes taken failed taken' failed' bytes (Ok n) = (failed ≡ false) × (failed' 
     × (n ≤ length bytes) × (0 < length bytes → 0 < n) × Appends taken taken' (take n bytes)
 Takes taken failed taken' failed' bytes (Err e) = (failed' ≡ true) × Keeps taken taken'
 
--- a prefix of the text is out, and no more
+-- a prefix of the text is written, and no more
 abbrev pub PartOut : Option (List ℕ) → Option (List ℕ) → List ℕ → Type 0
 PartOut taken taken' text = (front : List ℕ) × (rest : List ℕ) × (text ≡ front ++ rest) × Appends taken taken' front
 
--- a whole text went out, or the sink failed on the way
+-- a whole text was written, or the sink failed on the way
 abbrev pub TakesAll : Option (List ℕ) → Option (List ℕ) → Bool → List ℕ → Result (Unit {0}) Failed → Type 0
 TakesAll taken taken' failed' text (Ok u) = Appends taken taken' text
 TakesAll taken taken' failed' text (Err e) = (failed' ≡ true) × PartOut taken taken' text
@@ -24,7 +24,7 @@ TakesAll taken taken' failed' text (Err e) = (failed' ≡ true) × PartOut taken
 pub part_then : (a b : Option (List ℕ)) (text more : List ℕ) → PartOut a b text → PartOut a b (text ++ more)
 part_then a b text more (front, rest, split, out) = (front, rest ++ more, ap (λ l. l ++ more) split ∙ append_assoc front rest more, out)
 
--- a text is out, and then a prefix of the next
+-- a text is written, and then a prefix of the next
 pub part_after : (a b c : Option (List ℕ)) (text more : List ℕ) → Appends a b text → PartOut b c more → PartOut a c (text ++ more)
 part_after a b c text more whole (front, rest, split, out) =
     (text ++ front, rest, ap (λ l. text ++ l) split ∙ sym (append_assoc text front rest), Appends-trans a b c text front whole out)

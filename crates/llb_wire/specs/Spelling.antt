@@ -149,7 +149,7 @@ RecordCause bytes at BadWireType = HasNoWire bytes at
 
 -- ---- the shortest spellings
 
--- of at most one byte more than the count
+-- the shortest spelling of a number whose spelling has at most `more` + 1 bytes
 unfoldable pub shortest : ℕ → ℕ → List ℕ
 shortest zero n = n ∷ []
 shortest (suc more) n = if nat_lt n 128 then n ∷ [] else (128 + n % 128) ∷ shortest more (n / 128)
@@ -178,7 +178,7 @@ tag_text number wire = varint_text (8 * number + code_of wire)
 abbrev pub record_text : ℕ → Wire → ℕ → List ℕ → List ℕ
 record_text number wire value payload = tag_text number wire ++ payload_text wire value payload
 
--- the number that is read of what was written: of a LEN its length
+-- the number that is read of what was written: for a LEN its length
 abbrev pub value_text : Wire → ℕ → List ℕ → ℕ
 value_text Varint value payload = value
 value_text I64 value payload = value

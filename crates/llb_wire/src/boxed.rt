@@ -43,7 +43,7 @@ impl<T> Boxed<T> {
         &self.place
     }
 
-    /// Gives the value back.
+    /// Returns the value.
     pub fn into_inner(self) -> T
         ensures { result ≡ self }
     {

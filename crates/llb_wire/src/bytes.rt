@@ -1,4 +1,4 @@
-//! Byte strings, which contracts see as lists. That the elements are bytes is kept by the type.
+//! Byte strings, which contracts see as lists. The type keeps that the elements are bytes.
 
 ghost use Rattle.std.specs.Prelude.{◌≡◌, IfOk};
 ghost use Rattle.llb_wire.specs.Spelling.{AreBytes};
@@ -41,7 +41,7 @@ impl Bytes {
         Bytes { content }
     }
 
-    /// The bytes of a slice, in memory of its own.
+    /// Copies the bytes of a slice into memory of its own.
     pub fn from_slice(alloc: Global, bytes: &[u8]) -> Result<Bytes, Memory>
         ensures { IfOk result (λ b. b ≡ bytes.now) }
     {
@@ -63,7 +63,7 @@ impl Bytes {
         let _content = &self.content;
     }
 
-    /// Gives the bytes back.
+    /// Returns the bytes as a vector.
     pub fn into_vec(self) -> Vec<u8>
         ensures { result.items ≡ self }
     {
@@ -71,7 +71,7 @@ impl Bytes {
         content
     }
 
-    /// An equal second owner.
+    /// Copies the bytes into memory of their own.
     pub fn copy(&self) -> Result<Bytes, Memory>
         ensures { IfOk result (λ b. b ≡ self.now) }
     {

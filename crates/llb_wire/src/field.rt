@@ -7,7 +7,7 @@ pub enum Wire {
     Varint,
     /// 1: eight bytes, least significant first.
     I64,
-    /// 2: a length as a varint, and that many bytes.
+    /// 2: a length as a varint, and as many bytes.
     Len,
     /// 5: four bytes, least significant first.
     I32,

@@ -39,7 +39,7 @@ fn are_lower(digits: &[u8]) -> bool
         .all(|b| *b >= b'0' && *b <= b'9' || *b >= b'a' && *b <= b'f')
 }
 
-/// Whether a text is what `push_hex` writes: `-`, or pairs of lower-case hexadecimal digits, at least one.
+/// Returns whether a text is what `push_hex` writes: `-`, or pairs of lower-case hexadecimal digits, at least one.
 pub fn is_hex(text: &str) -> bool
     ensures { result ≡ is_hex text.now }
 {
@@ -50,8 +50,8 @@ pub fn is_hex(text: &str) -> bool
     !digits.is_empty() && digits.len() % 2 == 0 && are_lower(digits)
 }
 
-/// The bytes of pairs of hexadecimal digits, and none of `-`; `None` where the text is neither. Takes upper-case digits
-/// too: `is_hex` tells the texts that are written so.
+/// Reads the bytes of pairs of hexadecimal digits, and none of `-`; returns `None` where the text is neither. Takes upper-case digits
+/// too: `is_hex` accepts exactly the texts that are written so.
 pub fn read_hex(alloc: Global, text: &str) -> Result<Option<Bytes>, Memory>
     ensures { IfOk result (λ o. option_map (λ b. b) o ≡ bytes_in text.now) }
 {
@@ -65,7 +65,7 @@ pub fn read_hex(alloc: Global, text: &str) -> Result<Option<Bytes>, Memory>
     }
 }
 
-/// The text of a SHA-256 digest: `sha256:` and its 64 lower-case hexadecimal digits.
+/// Returns the text of a SHA-256 digest: `sha256:` and its 64 lower-case hexadecimal digits.
 pub fn text_of_digest(alloc: Global, digest: &[u8; 32]) -> Result<Text, Memory>
     ensures { IfOk result (λ text. text ≡ codes "sha256:" ++ encode_lower digest.now) }
 {

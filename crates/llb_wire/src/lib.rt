@@ -1,6 +1,6 @@
 //! Bytes are records: the wire format of Protocol Buffers, read and written one record at a time.
 //! Here too are what every crate above needs: byte strings and texts that own their memory, bytes as texts
-//! have them, out of memory, and sinks that take bytes. Nothing here knows a message.
+//! have them, the fault for refused memory, and sinks that take bytes. Nothing here knows a message.
 #![tactic(auto)]
 
 mod boxed;

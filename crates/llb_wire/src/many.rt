@@ -56,12 +56,12 @@ impl<T> Many<T> {
         self.items.is_empty()
     }
 
-    /// Where the memory of the items comes from. No clause speaks of it: contracts see no allocator, and there is one.
+    /// Returns where the memory of the items comes from. No clause speaks of it: contracts see no allocator, and there is one.
     pub fn allocator(&self) -> Global {
         *self.items.allocator()
     }
 
-    /// Gives the items back.
+    /// Returns the items as a vector.
     pub fn into_vec(self) -> Vec<T>
         ensures { result.items ≡ self }
     {

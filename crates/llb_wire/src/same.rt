@@ -1,16 +1,16 @@
 //! Equality by value: two values are the same where contracts see the same. Here are numbers, flags, options and slices;
-//! the types of this crate have it in their own files. Nothing here takes memory.
+//! the types of this crate have it in their own files. Nothing here allocates.
 
 ghost use Rattle.std.specs.Prelude.{◌≡◌, ◌↔◌, IsTrue};
 
 /// Types whose values can be compared by what contracts see of them.
 pub trait Same {
-    /// Whether both are the same by value. Takes no memory.
+    /// Returns whether both are the same by value. Does not allocate.
     fn same(&self, other: &Self) -> bool
         ensures { IsTrue result ↔ (self.now ≡ other.now) };
 }
 
-/// Whether both lists have the same values in the same order. Takes no memory.
+/// Returns whether both lists have the same values in the same order. Does not allocate.
 pub fn all_same<T: Same>(items: &[T], others: &[T]) -> bool
     ensures { IsTrue result ↔ (items.now ≡ others.now) }
 {

@@ -20,8 +20,8 @@ pub trait Sink {
     // The reference behind which the bytes go, where there is one: it stays the same.
     ghost lender: { Self → Option GName } = { λ _. None };
 
-    /// Takes some bytes from the start, at least one where there are any, and tells how many; or has
-    /// failed, and answers `Failed` from then on.
+    /// Takes some bytes from the start, at least one where there are any, and returns how many; or
+    /// fails with `Failed`, and then does so in every later call.
     fn write(&mut self, bytes: &[u8]) -> Result<usize, Failed>
         ensures takes { Takes (taken self.old) (failed self.old) (taken self.new) (failed self.new)
             bytes.now result }
@@ -68,7 +68,7 @@ impl<'a, W: Write> Sink for Over<'a, W> {
     }
 }
 
-/// Writes all of the bytes, in as many turns as it takes. Where the sink fails, a prefix of them is out.
+/// Writes all of the bytes, in as many turns as it takes. Where the sink fails, a prefix of them is written.
 pub fn write_all<S: Sink>(sink: &mut S, bytes: &[u8]) -> Result<(), Failed>
     ensures takes { TakesAll (S.taken sink.old) (S.taken sink.new) (S.failed sink.new)
         bytes.now result }

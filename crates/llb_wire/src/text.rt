@@ -41,7 +41,7 @@ impl Text {
         Text { content }
     }
 
-    /// The text of a `&str`, in memory of its own.
+    /// Copies the text of a `&str` into memory of its own.
     pub fn from_str(alloc: Global, text: &str) -> Result<Text, Memory>
         ensures { IfOk result (λ t. t ≡ text.now) }
     {
@@ -57,7 +57,7 @@ impl Text {
         self.content.as_str()
     }
 
-    /// Gives the text back.
+    /// Returns the text as a string.
     pub fn into_string(self) -> String
         ensures { string_bytes result ≡ self }
     {
@@ -65,7 +65,7 @@ impl Text {
         content
     }
 
-    /// An equal second owner.
+    /// Copies the text into memory of its own.
     pub fn copy(&self) -> Result<Text, Memory>
         ensures { IfOk result (λ t. t ≡ self.now) }
     {

@@ -55,8 +55,11 @@ module _ (T : RattleType) (g : gated.Ghosts T.Denot) (g' : ledger.Ghosts T.Denot
     (
       board_send,
       (
-        as_row_send (book.the_field T g') (book_crosses.the_send T g'),
-        (search (crosses, sendable) depth 20, tt),
+        search (crosses, sendable) depth 20,
+        (
+          as_row_send (book.the_field T g') (book_crosses.the_send T g'),
+          (search (crosses, sendable) depth 20, tt),
+        ),
       ),
     ),
   )

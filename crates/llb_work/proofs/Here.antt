@@ -3,6 +3,7 @@ use Rattle.std.proofs.Common.{◌≡◌, ℕ, ◌<◌, ◌&&◌, Bool, true, fal
 use Rattle.std.proofs.lemmas.Bool.{lt-ltb, ltb-true}
 use Rattle.std.specs.Prelude.{nat_lt, IsTrue, IfOk, Result, Ok, Err}
 use Rattle.llb_model.specs.Program.{Build}
+use Rattle.llb_model.specs.Outcome.{is_plain}
 use Rattle.llb_model.specs.State.{State}
 use Rattle.llb_model.specs.Table.{Event, Job, Reply}
 use Rattle.llb_model.specs.Run.{run}
@@ -10,6 +11,7 @@ use Rattle.llb_model.proofs.Events.{workers_stay}
 use Rattle.llb_model.proofs.Runs.{run_keeps}
 use Rattle.llb_state.specs.Board.{Seen}
 use Rattle.llb_events.specs.declared.fault.ClaimFault.{ClaimFault}
+use Rattle.llb_board.specs.Begun.{plain_job}
 use Rattle.llb_work.specs.Crew.{IsAfter}
 use Rattle.llb_work.specs.Turns.{IsClaimed}
 use Rattle.llb_work.specs.RunEnds.{is_of, may_be, StopsSomewhere}
@@ -54,7 +56,12 @@ is_of_start s b w v is has =
 -- a claim on a board is one on the board that it began from
 pub claimed_at_first : (s b : Seen) (w v : ℕ) (r : Result Job ClaimFault) → IsAfter s b → IfOk r (IsClaimed b w v) → IfOk r (IsClaimed s w v)
 claimed_at_first s b w v (Err e) is claimed = tt
-claimed_at_first s b w v (Ok job) is claimed = record { worker = claimed.worker; vertex = claimed.vertex; has = is_of_start s b w v is claimed.has }
+claimed_at_first s b w v (Ok job) is claimed = record {
+  worker = claimed.worker;
+  vertex = claimed.vertex;
+  has = is_of_start s b w v is claimed.has;
+  plain = subst (λ (g : Build). is_plain g v ≡ true → plain_job g w v ≡ Some job) is.build claimed.plain;
+}
 
 -- the job of a worker on a vertex is one on the vertex that it names
 pub claimed_as : (s : Seen) (w v : ℕ) (job : Job) → IsClaimed s w v job → IsClaimed s w job.vertex job

@@ -9,3 +9,4 @@ pub mod Fractions
 pub mod Keeping
 pub mod Ends
 pub mod Crews
+pub mod Known

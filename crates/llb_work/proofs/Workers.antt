@@ -10,6 +10,7 @@ use Rattle.llb_model.specs.Table.{Reply, Claim, Step, Settle, Cancel}
 use Rattle.llb_model.specs.Landing.{landing}
 use Rattle.llb_state.specs.Board.{Seen, after_event, recorded}
 use Rattle.llb_state.specs.Jobs.{OutcomeValue}
+use Rattle.llb_board.specs.Begun.{ClaimsArePlain}
 use Rattle.llb_board.specs.Landing.{Lands}
 use Rattle.llb_state.specs.Rules.{claim_of, claim_fault, GivesStep, step_of, GivesSettle, settle_of, GivesCancel, cancel_of}
 use Rattle.llb_events.specs.Faults.{GivesClaim}
@@ -51,11 +52,13 @@ job_in other (Claimed job) = job
 job_in other r = other
 
 -- a claim that is granted is of a worker and a vertex of the board, and so is its job
-pub claim_here : (b n : Seen) (w v : ℕ) (r : Result Job ClaimFault) → GivesClaim (λ job. (n, claim_reply job)) r (claim_of b w v) → IfOk r (IsClaimed b w v)
+pub claim_here : (b n : Seen) (w v : ℕ) (r : Result Job ClaimFault) → ClaimsArePlain b → GivesClaim (λ job. (n, claim_reply job)) r (claim_of b w v)
+    → IfOk r (IsClaimed b w v)
 unfolding table job_in
-claim_here b n w v (Err e) gives = tt
-claim_here b n w v (Ok job) gives =
-    let c = claim_is b.build b.state w v (n.state, Claimed job) (granted b n (Claim w v) claim_fault (claim_grant b.build b.state w v) (Claimed job) gives) in
+claim_here b n w v (Err e) plain gives = tt
+claim_here b n w v (Ok job) plain gives =
+    let given = granted b n (Claim w v) claim_fault (claim_grant b.build b.state w v) (Claimed job) gives in
+    let c = claim_is b.build b.state w v (n.state, Claimed job) given in
     let same = ap (λ (a : State × Reply). job_in job a.1) c.gives in
     let worker = slice_get_within b.state.workers w Idle c.idle in
     let vertex = slice_get_within b.build.graph.vertices v c.start.vertex c.begins.there in
@@ -63,6 +66,7 @@ claim_here b n w v (Ok job) gives =
       worker = ap (λ (j : Job). j.worker) same;
       vertex = ap (λ (j : Job). j.vertex) same;
       has = is_of_both b w v worker vertex;
+      plain = λ is. plain w v n.state job is given;
     }
 
 -- a step adds its event to the record or changes nothing, so the board goes on either way

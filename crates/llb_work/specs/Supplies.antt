@@ -1,12 +1,19 @@
 -- What workers are supplied with.
-use Rattle.std.specs.Prelude.{◌≡◌, ℕ, ◌≤◌, vec_len, vec_capacity}
+use Rattle.std.specs.Prelude.{◌≡◌, ℕ, ◌≤◌, List, Bool, false, vec_len, vec_capacity, unwrap_or, slice_get}
+use Rattle.llb_model.specs.Program.{Build}
+use Rattle.llb_model.specs.Outcome.{is_plain}
 use Rattle.llb_work.specs.declared.supply.Supply.{Supply}
 use Rattle.llb_work.specs.Passes.{IsUncut}
 
+-- the marks of the vertices with no cache mount at or before them
+abbrev pub ArePlain : Build → List Bool → Type 0
+ArePlain b marks = (v : ℕ) → unwrap_or (slice_get marks v) false ≡ is_plain b v
+
 module _ {L : Type 0} where
-  -- the whole pass of the queue, and for each of n workers a list and a place
-  pub record IsSupplyFor (n : ℕ) (s : Supply L) : Type 0 where
+  -- the whole pass of the queue, for each of n workers a list and a place, and the marks of the vertices
+  pub record IsSupplyFor (b : Build) (n : ℕ) (s : Supply L) : Type 0 where
     pub pass : IsUncut s.queue s.pass
     pub lists : vec_len s.lists ≡ n
     pub no_posts : vec_len s.posts ≡ 0
     pub posts : n ≤ vec_capacity s.posts
+    pub plain : ArePlain b s.plain.items

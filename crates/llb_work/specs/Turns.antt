@@ -1,16 +1,21 @@
--- What a worker is given to do next.
-use Rattle.std.specs.Prelude.{◌≡◌, ◌<◌, ℕ, true, length}
+-- What a worker is given to do next, and what it comes back with.
+use Rattle.std.specs.Prelude.{◌≡◌, ℕ, true, Some}
 use Rattle.llb_model.specs.Table.{Job}
+use Rattle.llb_model.specs.Outcome.{is_plain}
 use Rattle.llb_state.specs.Board.{Seen}
+use Rattle.llb_board.specs.Begun.{plain_job}
 use Rattle.llb_work.specs.RunEnds.{is_of}
 use Rattle.llb_work.specs.declared.desk.Turn.{Turn}
 use Rattle.llb_work.specs.declared.desk.Turn.TheVariants.{Work, Pass, Again, Next, Wait, End}
+use Rattle.llb_work.specs.declared.desk.Brought.{Brought}
+use Rattle.llb_work.specs.declared.desk.Brought.TheVariants.{Nothing, Number, Outcome}
 
--- the job of a worker on a vertex, which are of the board
+-- the job of a worker on a vertex, which are of the board; it is the plain job where no cache mount is at or before the vertex
 pub record IsClaimed (b : Seen) (w v : ℕ) (job : Job) : Type 0 where
   pub worker : job.worker ≡ w
   pub vertex : job.vertex ≡ v
   pub has : is_of b w v ≡ true
+  pub plain : is_plain b.build v ≡ true → plain_job b.build w v ≡ Some job
 
 -- what a worker is to work on, or to pass the gate for, is a vertex of the board, and the worker one of its workers
 abbrev pub IsHere : Seen → ℕ → Turn → Type 0
@@ -20,3 +25,9 @@ IsHere b w Again = Unit {0}
 IsHere b w Next = Unit {0}
 IsHere b w Wait = Unit {0}
 IsHere b w End = Unit {0}
+
+-- an outcome that a worker comes back with is that of a job that it has claimed
+abbrev pub IsBrought : Seen → ℕ → Brought → Type 0
+IsBrought b w Nothing = Unit {0}
+IsBrought b w (Number v) = Unit {0}
+IsBrought b w (Outcome o) = IsClaimed b w o.job.vertex o.job

@@ -97,16 +97,18 @@ pub(crate) fn run_crew<S: Gated + Send + Sync, G: Gate + Sync, R: Threads + Wait
         pass,
         lists,
         posts,
+        plain,
     } = supply;
     let pass = put_ready(rt, &queue, &board, pass);
     let (calls, all) = blank.open::<S>();
-    let desk = Mutex::new(make_desk(board, start, calls));
+    let desk = Mutex::new(make_desk(board, start, plain, calls));
     let (all, made, pass) = in_scope(rt, alloc, &desk, &queue, gate, n, all, pass, lists, posts);
     queue.close(pass);
     let mut all = all;
     let Desk {
         board,
         start,
+        plain: _,
         calls,
         noted,
     } = desk.into_inner();

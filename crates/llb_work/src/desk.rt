@@ -1,13 +1,17 @@
 //! What lies under the lock: the board, the board that the run began from, the book of what was made, and the fault that was noted
-//! first. Its type keeps that the record went on from the board that was given by granted events, each of which is counted.
+//! first; and which vertices have no cache mount at or before them. Its type keeps that the record went on from the board that was given
+//! by granted events, each of which is counted.
 
 ghost use Rattle.std.specs.Prelude.{◌≡◌, ◌+◌, ℕ, length, true, Some, IfOk};
+ghost use Rattle.std.specs.Bool.{OnTrue};
 ghost use Rattle.std.specs.Coded.{codes};
 ghost use Rattle.llb_tree.specs.Tree.{coded_tree};
+ghost use Rattle.llb_board.specs.Begun.{IsKnown};
 ghost use Rattle.llb_board.specs.Store.{coded_store};
 ghost use Rattle.llb_work.specs.Crew.{IsAfter};
 ghost use Rattle.llb_work.specs.RunEnds.{may_be};
-ghost use Rattle.llb_work.specs.Turns.{IsClaimed, IsHere};
+ghost use Rattle.llb_work.specs.Supplies.{ArePlain};
+ghost use Rattle.llb_work.specs.Turns.{IsBrought, IsClaimed, IsHere};
 
 use crate::granted;
 use crate::noted::{Gated, Noted, Tally, count};
@@ -15,6 +19,7 @@ use llb_board::{
     At, Board, ClaimFault, Job, LandFault, Outcome, SettleFault, Settled, Status, StepFault,
     Stepped,
 };
+use llb_state::is_marked;
 use std::sync::ledger::Book;
 
 /// The board under the lock.
@@ -22,10 +27,12 @@ use std::sync::ledger::Book;
 pub(crate) struct Desk<S: Gated> {
     pub board: Board,
     pub start: Board,
+    pub plain: Vec<bool>,
     pub calls: Book<S>,
     pub noted: Option<Noted>,
     pub ghost kept: { start ≡ S.given } by { Prim.hlevel (codes, coded_tree, coded_store) },
     pub ghost after: { IsAfter S.given board } by { Prim.hlevel (codes, coded_tree, coded_store) },
+    pub ghost marks: { ArePlain S.given.build plain.items },
     pub ghost counted: { calls.total + length S.given.events ≡ length board.events },
     pub ghost stops: { may_be S.may_stop S.given noted ≡ true },
 }
@@ -58,7 +65,13 @@ pub(crate) enum Turn {
 }
 
 /// A desk on which nothing was done.
-pub(crate) fn make_desk<S: Gated>(board: Board, start: Board, calls: Book<S>) -> Desk<S>
+pub(crate) fn make_desk<S: Gated>(
+    board: Board,
+    start: Board,
+    plain: Vec<bool>,
+    calls: Book<S>,
+) -> Desk<S>
+    requires plain { ArePlain board.build plain.items }
     requires kept { start ≡ S.given }
     requires given { board ≡ S.given }
     requires empty { calls.total ≡ 0 }
@@ -66,6 +79,7 @@ pub(crate) fn make_desk<S: Gated>(board: Board, start: Board, calls: Book<S>) ->
     Desk {
         board,
         start,
+        plain,
         calls,
         noted: None,
     }
@@ -88,6 +102,7 @@ impl<S: Gated> Desk<S> {
         let Desk {
             board,
             start: _,
+            plain: _,
             calls,
             noted: _,
         } = self;
@@ -98,22 +113,33 @@ impl<S: Gated> Desk<S> {
     }
 
     // What a worker has worked out is done on the board, which counts for it.
-    fn land(
-        &mut self,
-        w: u32,
-        outcome: Outcome,
-        mine: &mut Tally<S>,
-    ) -> Result<Settled, LandFault> {
+    fn land(&mut self, w: u32, outcome: Outcome, mine: &mut Tally<S>) -> Result<Settled, LandFault>
+        requires { IsClaimed S.given w outcome.job.vertex outcome.job }
+    {
+        let known = self.is_known(w, outcome.job());
         let Desk {
             board,
             start: _,
+            plain: _,
             calls,
             noted: _,
         } = self;
         let before = board.events().len();
-        let landed = granted::land(board, w, outcome);
+        let landed = granted::land(board, w, outcome, known);
         count(calls, mine, before, board.events().len());
         landed
+    }
+
+    // Whether a job is known to be what its worker runs: no cache mount is at or before its vertex, of which the worker has done no
+    // micro-step.
+    fn is_known(&self, w: u32, job: &Job) -> bool
+        requires { IsClaimed S.given w job.now.vertex job.now }
+        ensures { OnTrue result (IsKnown self.now.board w job.now) }
+    {
+        match self.board.worker(w) {
+            Some(At::Runs(v, 0, _)) => v == job.vertex() && is_marked(&self.plain, v),
+            _ => false,
+        }
     }
 
     // The next micro-step of what a worker runs, which counts for it.
@@ -121,6 +147,7 @@ impl<S: Gated> Desk<S> {
         let Desk {
             board,
             start: _,
+            plain: _,
             calls,
             noted: _,
         } = self;
@@ -135,6 +162,7 @@ impl<S: Gated> Desk<S> {
         let Desk {
             board,
             start: _,
+            plain: _,
             calls,
             noted: _,
         } = self;
@@ -149,6 +177,7 @@ impl<S: Gated> Desk<S> {
         let Desk {
             board,
             start: _,
+            plain: _,
             calls,
             noted: _,
         } = self;
@@ -175,6 +204,7 @@ impl<S: Gated> Desk<S> {
         mine: &mut Tally<S>,
         news: &mut Vec<u32>,
     ) -> Turn
+        requires { IsBrought S.given w brought }
         ensures { IsHere S.given w result }
     {
         match brought {

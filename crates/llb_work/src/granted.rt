@@ -1,9 +1,12 @@
 //! The calls on a board that workers make. Each is granted or changes nothing: either way the record goes on by granted events.
 
 ghost use Rattle.std.specs.Prelude.{◌≤◌, length, IfOk};
+ghost use Rattle.std.specs.Bool.{OnTrue};
+ghost use Rattle.llb_board.specs.Begun.{IsKnown};
 ghost use Rattle.llb_work.specs.Crew.{GoesOn};
 ghost use Rattle.llb_work.specs.Turns.{IsClaimed};
 
+use llb_board::laws::begun_are_plain;
 use llb_board::{
     Board, CancelFault, Cancelled, ClaimFault, Job, LandFault, Outcome, SettleFault, Settled,
     StepFault, Stepped,
@@ -15,6 +18,7 @@ pub(crate) fn claim(board: &mut Board, w: u32, v: u32) -> Result<Job, ClaimFault
     ensures goes { GoesOn board.old board.new }
     ensures longer { length board.old.events ≤ length board.new.events }
 {
+    begun_are_plain(board);
     board.claim(w, v)
 }
 
@@ -42,10 +46,20 @@ pub(crate) fn cancel(board: &mut Board, w: u32) -> Result<Cancelled, CancelFault
     board.cancel(w)
 }
 
-/// What a worker has worked out away from the board is done on it, up to the settle.
-pub(crate) fn land(board: &mut Board, w: u32, outcome: Outcome) -> Result<Settled, LandFault>
+/// What a worker has worked out away from the board is done on it, up to the settle. Nothing is compared where the job is known to be what
+/// the worker runs.
+pub(crate) fn land(
+    board: &mut Board,
+    w: u32,
+    outcome: Outcome,
+    known: bool,
+) -> Result<Settled, LandFault>
+    requires { OnTrue known (IsKnown board.old w outcome.job) }
     ensures goes { GoesOn board.old board.new }
     ensures longer { length board.old.events ≤ length board.new.events }
 {
+    if known {
+        return Ok(board.land_known(w, outcome));
+    }
     board.land(w, outcome)
 }

@@ -9,6 +9,7 @@ mod end;
 mod granted;
 mod hand_out;
 mod noted;
+mod plain;
 mod post;
 mod rest;
 mod run;

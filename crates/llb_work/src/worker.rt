@@ -1,9 +1,10 @@
 //! What a worker does, hold by hold: under the lock, then away from it. It puts into the queue what it has noted, and takes numbers from it.
 
-ghost use Rattle.std.specs.Prelude.{◌≡◌, ℕ, true, IsTrue};
+ghost use Rattle.std.specs.Prelude.{◌≡◌, ℕ, true, IsTrue, IfSome};
+ghost use Rattle.llb_state.specs.Board.{Seen};
 ghost use Rattle.llb_work.specs.Passes.{IsPassFor};
 ghost use Rattle.llb_work.specs.RunEnds.{is_of};
-ghost use Rattle.llb_work.specs.Turns.{IsClaimed, IsHere};
+ghost use Rattle.llb_work.specs.Turns.{IsBrought, IsClaimed, IsHere};
 
 use crate::desk::{Brought, Desk, Turn};
 use crate::noted::{Gated, Noted, Tally};
@@ -73,7 +74,8 @@ fn away<S: Gated, G: Gate, R: Wait>(
     requires stop { (w v : ℕ) → IsTrue (G.may_stop w v) → S.may_stop w v ≡ true }
     requires here { IsHere S.given w turn }
     requires pass { IsPassFor queue.now w pass.old }
-    ensures { IsPassFor queue.now w pass.new }
+    ensures pass { IsPassFor queue.now w pass.new }
+    ensures brought { IfSome result (IsBrought S.given w) }
 {
     if matches!(turn, Turn::Wait) {
         backoff.snooze();
@@ -98,7 +100,8 @@ fn taken<R: Wait>(
     news: &mut Vec<u32>,
 ) -> Brought
     requires { IsPassFor queue.now w pass.old }
-    ensures { IsPassFor queue.now w pass.new }
+    ensures pass { IsPassFor queue.now w pass.new }
+    ensures brought { (b : Seen) → IsBrought b w result }
 {
     let next = queue.take(rt, pass);
     put_all(rt, queue, pass, w, news);
@@ -135,6 +138,7 @@ fn passed<S: Gated, G: Gate, R: Wait>(
 ) -> Option<Brought>
     requires stop { (w v : ℕ) → IsTrue (G.may_stop w v) → S.may_stop w v ≡ true }
     requires here { is_of S.given w v ≡ true }
+    ensures { IfSome result (IsBrought S.given w) }
 {
     match gate.pass(w, v) {
         Ok(()) => Some(Brought::Nothing),
@@ -157,6 +161,7 @@ fn worked<S: Gated, G: Gate, R: Wait>(
 ) -> Option<Brought>
     requires stop { (w v : ℕ) → IsTrue (G.may_stop w v) → S.may_stop w v ≡ true }
     requires here { IsClaimed S.given w job.vertex job }
+    ensures { IfSome result (IsBrought S.given w) }
 {
     let (worker, vertex) = (job.worker(), job.vertex());
     let noted = match work(alloc, job, gate) {

@@ -1,4 +1,4 @@
-//! The program: the process's words, files, readers and writers, and its exit status. What its commands do stands in `llb_commands`.
+//! The program: the process's words, files, readers and writers, and its exit status. `llb_commands` has what its commands do.
 #![tactic(auto)]
 
 #[cfg(test)]

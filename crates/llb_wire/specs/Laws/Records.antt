@@ -98,7 +98,7 @@ payload_read number wire.Len value before behind own rest at e h =
     let stop : at + length behind ≡ at + length count + value = omega (arith, size, h.3) in
     rw (group, varint_read before count (own ++ rest) value at e h.2, enough, begin, stop) refl
 
--- a record is read of its own bytes, wherever they stand
+-- a record is read of its own bytes, wherever they are
 pub record_read_at : (before : List ℕ) (r : Record) (rest : List ℕ) (at : ℕ) → at ≡ length before → IsRecord r
     → field_at (before ++ (r.text ++ rest)) at ≡ Ok (placed at r)
 unfolding field_at

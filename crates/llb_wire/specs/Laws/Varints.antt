@@ -22,7 +22,7 @@ ok_pair e = cc
 
 -- ---- what is read is spelled there
 
--- a byte is the last one, or it stands before a number that is read
+-- a byte is the last one, or it comes before a number that is read
 pub short_or : (b v n : ℕ) (more : Result (ℕ × ℕ) WireFault) (test : Bool)
     → cond {A = Result (ℕ × ℕ) WireFault} test (Ok (b, 1)) (more >>= λ m. Ok (b - 128 + 128 * m.0, suc m.1)) ≡ Ok (v, n)
     → ((test ≡ true) × (n ≡ 1)) ⊎ ((test ≡ false) × ((m : ℕ × ℕ) × (more ≡ Ok m) × (b - 128 + 128 * m.0 ≡ v) × (suc m.1 ≡ n)))
@@ -117,7 +117,7 @@ spells_read (suc more) (b ∷ c ∷ xs) rest v h short small =
     let value : b - 128 + 128 * h.1 ≡ v = omega (arith, h.2, h.0) in
     rw (no, deep, value) refl
 
--- a spelling that stands after other bytes
+-- a spelling is read after other bytes
 pub varint_read : (before spelling rest : List ℕ) (n at : ℕ) → at ≡ length before → IsVarint spelling n
     → varint_at (before ++ (spelling ++ rest)) at ≡ Ok (n, at + length spelling)
 varint_read before spelling rest n at e h =

@@ -1,4 +1,4 @@
-//! `asm` and `dis`: texts and the definitions of their entries, refusals, and devices that fail.
+//! `asm` and `dis`: texts and the definitions of their entries, and refusals.
 
 use super::told::is_told;
 
@@ -135,59 +135,4 @@ const REFUSED: &str = "
 #[test]
 fn the_first_refused_line_or_record_is_told(rt: HostRuntime) {
     is_told(&rt, rt.alloc(), REFUSED);
-}
-
-const DEVICES: &str = "
-    # A reader that fails gives nothing.
-    > [0 reads] asm < @NONE
-    -
-    ! fault 181
-    status 3
-    > [0 reads] dis < =-
-    ! fault 181
-    status 3
-
-    # A writer that fails gets a prefix.
-    > [0 writes] asm < @ABC
-    -
-    ! fault 182
-    status 3
-    > [1 writes] asm < @ABC
-    0a
-    ! fault 182
-    status 3
-    > [4 writes] asm < @ABC
-    0a036162
-    ! fault 182
-    status 3
-    > [5 writes] asm < @ABC
-    0a03616263
-    > [5 writes, 1 end] asm < @ABC
-    0a03616263
-    ! fault 182
-    status 3
-    > [0 writes] dis < =0a03616263
-    ! fault 164
-    status 3
-    > [1 writes] dis < =0a03616263
-    r
-    (and no end of line)
-    ! fault 164
-    status 3
-    > [10 writes] dis < =0a03616263
-    raw 616263
-    (and no end of line)
-    ! fault 164
-    status 3
-    > [11 writes] dis < =0a03616263
-    raw 616263
-    > [11 writes, 1 end] dis < =0a03616263
-    raw 616263
-    ! fault 164
-    status 3
-    ";
-
-#[test]
-fn devices_that_fail_end_an_assembly(rt: HostRuntime) {
-    is_told(&rt, rt.alloc(), DEVICES);
 }

@@ -4,7 +4,7 @@ use std::alloc::Global;
 use std::io;
 use std::io::{ErrorKind, Read, Write};
 
-/// What a run answered.
+/// The result of a run.
 #[derive(Drop)]
 pub(crate) struct Ran {
     pub status: u8,
@@ -13,14 +13,52 @@ pub(crate) struct Ran {
 }
 
 impl Ran {
-    /// Whether that is the answer.
+    /// Returns whether that is the result.
     pub(crate) fn is(&self, status: u8, out: &str, err: &str) -> bool {
         let texts = self.out.as_slice() == out.as_bytes() && self.err.as_slice() == err.as_bytes();
         self.status == status && texts
     }
+
+    /// Returns whether it ended with status 3 and that line, after `length` bytes of the text.
+    pub(crate) fn is_cut(&self, text: &str, length: usize, line: &str) -> bool {
+        let told = self.out.len() == length && self.err.as_slice() == line.as_bytes();
+        self.status == 3 && told && text.as_bytes().starts_with(self.out.as_slice())
+    }
+
+    /// Returns whether it ended with status 3 and nothing but `length` bytes of the line.
+    pub(crate) fn is_cut_line(&self, line: &str, length: usize) -> bool {
+        let told = self.out.is_empty() && self.err.len() == length;
+        self.status == 3 && told && line.as_bytes().starts_with(self.err.as_slice())
+    }
 }
 
-/// A reader that gives one byte a read, and fails after that many.
+/// How many reads, writes and flushes the devices of a call do before they fail.
+#[derive(Clone, Copy)]
+pub(crate) struct Rooms {
+    /// The room of standard input.
+    pub input: usize,
+    /// The room of the file of a definition.
+    pub file: usize,
+    /// The room of each file of a local source.
+    pub local: usize,
+    pub out: usize,
+    pub flushes: usize,
+    pub err: usize,
+}
+
+const MANY: usize = 1 << 20;
+
+/// Devices that do not fail.
+pub(crate) const AMPLE: Rooms = Rooms {
+    input: MANY,
+    file: MANY,
+    local: MANY,
+    out: MANY,
+    flushes: MANY,
+    err: MANY,
+};
+
+/// A reader that returns one byte a read, and fails after a number of bytes.
 #[derive(Drop)]
 pub(crate) struct Slow<'a> {
     pub bytes: &'a [u8],
@@ -44,12 +82,12 @@ impl<'a> Read for Slow<'a> {
     }
 }
 
-/// A writer that takes one byte a write, and fails after that many. It may fail at its end, too.
+/// A writer that takes one byte a write, and fails after a number of bytes, or after a number of flushes.
 #[derive(Drop)]
 pub(crate) struct Narrow {
     pub room: usize,
     pub held: Vec<u8>,
-    pub flushes: bool,
+    pub flushes: usize,
 }
 
 impl Narrow {
@@ -57,11 +95,11 @@ impl Narrow {
         Narrow {
             room,
             held: Vec::new(alloc),
-            flushes: true,
+            flushes: MANY,
         }
     }
 
-    /// What was written.
+    /// Returns what was written.
     pub(crate) fn into_held(self) -> Vec<u8> {
         self.held
     }
@@ -83,9 +121,10 @@ impl Write for Narrow {
     }
 
     fn flush(&mut self) -> io::Result<()> {
-        if self.flushes {
-            return Ok(());
+        if self.flushes == 0 {
+            return Err(ErrorKind::Other.into());
         }
-        Err(ErrorKind::Other.into())
+        self.flushes -= 1;
+        Ok(())
     }
 }

@@ -1,5 +1,5 @@
-//! Pieces of an op by their names, each in lines of the assembler's text. After `==` stand a piece's name and what it is. Of a mount they
-//! are what stands after the dest.
+//! Pieces of an op by their names, each in lines of the assembler's text. After `==` come a piece's name and what it is. The pieces of a mount
+//! are what comes after the dest.
 
 pub(crate) const PIECES: &str = r#"
 == TRUE: an exec of `true`, left open for its mounts

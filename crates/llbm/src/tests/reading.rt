@@ -1,4 +1,4 @@
-//! Reading within small bounds, and what is told of it.
+//! Reading within small bounds, and what is printed of it.
 
 use super::devices::{Ran, Slow};
 use llb_commands::{ReadFault, read_bounded, refusal, unread};
@@ -7,7 +7,7 @@ use std::io;
 use std::io::{ErrorKind, Read};
 use std::test::Fail;
 
-// What is read of `hello`, or what is told instead.
+// What is read of `hello`, or what is printed instead.
 fn hello(alloc: Global, limit: usize, reads: u64, room: usize) -> Ran {
     let mut input = Slow {
         bytes: b"hello",
@@ -34,6 +34,7 @@ fn an_input_past_a_bound_is_not_read(rt: HostRuntime) {
         (5, 6, 9, 0, "hello", ""),
         (4, 6, 9, 2, "", "fault 81 13\n"),
         (5, 5, 9, 3, "", "fault 181\n"),
+        (5, 3, 9, 3, "", "fault 181\n"),
         (5, 0, 9, 3, "", "fault 181\n"),
         (5, 6, 2, 3, "", "fault 181\n"),
     ];
@@ -46,7 +47,7 @@ fn an_input_past_a_bound_is_not_read(rt: HostRuntime) {
     }
 }
 
-// A reader that is interrupted that many times first.
+// A reader that is interrupted a number of times first.
 #[derive(Drop)]
 struct Startled<'a> {
     bytes: &'a [u8],

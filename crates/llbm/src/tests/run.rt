@@ -1,4 +1,4 @@
-//! `run`: the worked examples, refusals, devices that fail, and several workers.
+//! `run`: the worked examples, refusals, and several workers.
 
 use super::devices::Ran;
 use super::told::{definition_of, is_told};
@@ -178,81 +178,6 @@ const EXECUTED: &str = "
 #[test]
 fn executions_are_run_or_refused(rt: HostRuntime) {
     is_told(&rt, rt.alloc(), EXECUTED);
-}
-
-// The definition has 129 bytes and its tree 32.
-const DEVICES: &str = "
-    # A reader of one byte a read is read to its end, and a writer of one byte a write gets all.
-    > [200 reads, 100 writes] run < MAKES_A; RESULT_0
-    d 0755 0 0 /
-    f 0644 0 0 6869 /a
-    > [200 reads, 32 writes] run < MAKES_A; RESULT_0
-    d 0755 0 0 /
-    f 0644 0 0 6869 /a
-
-    # A reader that fails at some read gives no text.
-    > [0 reads] run < MAKES_A; RESULT_0
-    ! fault 181
-    status 3
-    > [1 reads] run < MAKES_A; RESULT_0
-    ! fault 181
-    status 3
-    > [52 reads] run < MAKES_A; RESULT_0
-    ! fault 181
-    status 3
-    > [128 reads] run < MAKES_A; RESULT_0
-    ! fault 181
-    status 3
-    > [129 reads] run < MAKES_A; RESULT_0
-    ! fault 181
-    status 3
-
-    # A writer that fails at some write gets a prefix.
-    > [0 writes] run < MAKES_A; RESULT_0
-    ! fault 35
-    status 3
-    > [1 writes] run < MAKES_A; RESULT_0
-    d
-    (and no end of line)
-    ! fault 35
-    status 3
-    > [12 writes] run < MAKES_A; RESULT_0
-    d 0755 0 0 /
-    (and no end of line)
-    ! fault 35
-    status 3
-    > [13 writes] run < MAKES_A; RESULT_0
-    d 0755 0 0 /
-    ! fault 35
-    status 3
-    > [31 writes] run < MAKES_A; RESULT_0
-    d 0755 0 0 /
-    f 0644 0 0 6869 /a
-    (and no end of line)
-    ! fault 35
-    status 3
-
-    # One that fails at its end is a failed write.
-    > [100 writes, 1 end] run < MAKES_A; RESULT_0
-    d 0755 0 0 /
-    f 0644 0 0 6869 /a
-    ! fault 35
-    status 3
-
-    # A told line that is not out is a failed write.
-    > [5 told] run < FIELD_ZERO; RESULT_A
-    ! fault
-    (and no end of line)
-    status 3
-    > [5 told] run < MAKES_XA; RESULT_0
-    ! faile
-    (and no end of line)
-    status 3
-    ";
-
-#[test]
-fn devices_that_fail_end_a_run(rt: HostRuntime) {
-    is_told(&rt, rt.alloc(), DEVICES);
 }
 
 const MANY: &str = "

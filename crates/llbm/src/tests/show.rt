@@ -1,4 +1,4 @@
-//! `show`: the text of a graph, refusals, and devices that fail.
+//! `show`: the text of a graph, and refusals.
 
 use super::told::is_told;
 
@@ -81,66 +81,4 @@ const GRAPHS: &str = "
 #[test]
 fn graphs_are_shown_or_refused(rt: HostRuntime) {
     is_told(&rt, rt.alloc(), GRAPHS);
-}
-
-// The text has 81 bytes, 34 of them in its first line and 36 in its second.
-const DEVICES: &str = "
-    # A reader that fails at some read shows nothing.
-    > [0 reads] show < MAKES_A; D_ON_0; RESULT_1
-    ! fault 181
-    status 3
-    > [1 reads] show < MAKES_A; D_ON_0; RESULT_1
-    ! fault 181
-    status 3
-    > [129 reads] show < MAKES_A; D_ON_0; RESULT_1
-    ! fault 181
-    status 3
-
-    # A writer that fails at some write gets a prefix.
-    > [0 writes] show < MAKES_A; D_ON_0; RESULT_1
-    ! fault 182
-    status 3
-    > [1 writes] show < MAKES_A; D_ON_0; RESULT_1
-    0
-    (and no end of line)
-    ! fault 182
-    status 3
-    > [33 writes] show < MAKES_A; D_ON_0; RESULT_1
-    0 file steps 1 outputs 1 inputs -
-    (and no end of line)
-    ! fault 182
-    status 3
-    > [34 writes] show < MAKES_A; D_ON_0; RESULT_1
-    0 file steps 1 outputs 1 inputs -
-    ! fault 182
-    status 3
-    > [71 writes] show < MAKES_A; D_ON_0; RESULT_1
-    0 file steps 1 outputs 1 inputs -
-    1 file steps 1 outputs 1 inputs 0.0
-    r
-    (and no end of line)
-    ! fault 182
-    status 3
-    > [80 writes] show < MAKES_A; D_ON_0; RESULT_1
-    0 file steps 1 outputs 1 inputs -
-    1 file steps 1 outputs 1 inputs 0.0
-    result 1.0
-    (and no end of line)
-    ! fault 182
-    status 3
-    > [81 writes] show < MAKES_A; D_ON_0; RESULT_1
-    0 file steps 1 outputs 1 inputs -
-    1 file steps 1 outputs 1 inputs 0.0
-    result 1.0
-    > [81 writes, 1 end] show < MAKES_A; D_ON_0; RESULT_1
-    0 file steps 1 outputs 1 inputs -
-    1 file steps 1 outputs 1 inputs 0.0
-    result 1.0
-    ! fault 182
-    status 3
-    ";
-
-#[test]
-fn devices_that_fail_end_a_graph(rt: HostRuntime) {
-    is_told(&rt, rt.alloc(), DEVICES);
 }

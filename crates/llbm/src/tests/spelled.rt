@@ -1,5 +1,5 @@
-//! Entries by their bytes: some that are no ops, and some that are spelled otherwise than the assembler spells them, of which each record, or
-//! the prefix of one that holds the next ones, stands with what it is.
+//! Entries by their bytes: some that are no ops, and some that are spelled otherwise than the assembler spells them. Beside each record of
+//! these, or the prefix of one that holds the next ones, is written what it is.
 
 pub(crate) const SPELLED: &str = concat!(
     // Bytes whose first field has the number 0.

@@ -1,4 +1,4 @@
-//! `step`: sessions over a definition, refusals, and devices that fail.
+//! `step`: sessions over a definition, and refusals.
 
 use super::devices::Ran;
 use super::told::{definition_of, is_told};
@@ -68,77 +68,4 @@ fn a_refused_command_ends_nothing(rt: HostRuntime) {
         "fault 172\n1 claim 0 0 -> file 1\nfault 171 132\nfault 173 4\nfault 173 5\n2 step 0 -> fault 0 21\n\
         3 settle 0 -> 0 failed\nend\n0 failed action 0 fault 21\nnone\nend\n";
     assert!(rt; ran.is(0, answers, ""));
-}
-
-// The first two commands have 18 bytes, and all of them 49.
-const COMMANDS: &str = "
-    # Commands that fail have their whole lines answered.
-    > [0 reads] step FILE < MAKES_A; RESULT_0 | break settle 0; go; back; status; next; tree 0 0; quit
-    ! fault 181
-    status 3
-    > [17 reads] step FILE < MAKES_A; RESULT_0 | break settle 0; go; back; status; next; tree 0 0; quit
-    ! fault 181
-    status 3
-    > [18 reads] step FILE < MAKES_A; RESULT_0 | break settle 0; go; back; status; next; tree 0 0; quit
-    1 claim 0 0 -> file 1
-    2 step 0 -> acted 0
-    3 settle 0 -> 0 done
-    stop
-    ! fault 181
-    status 3
-    > [22 reads] step FILE < MAKES_A; RESULT_0 | break settle 0; go; back; status; next; tree 0 0; quit
-    1 claim 0 0 -> file 1
-    2 step 0 -> acted 0
-    3 settle 0 -> 0 done
-    stop
-    ! fault 181
-    status 3
-    > [60 reads] step FILE < MAKES_A; RESULT_0 | break settle 0; go; back; status; next; tree 0 0; quit
-    1 claim 0 0 -> file 1
-    2 step 0 -> acted 0
-    3 settle 0 -> 0 done
-    stop
-    back 2
-    0 running 0
-    3 settle 0 -> 0 done
-    d 0755 0 0 /
-    f 0644 0 0 6869 /a
-    ";
-
-#[test]
-fn commands_that_fail_have_their_whole_lines_answered(rt: HostRuntime) {
-    is_told(&rt, rt.alloc(), COMMANDS);
-}
-
-const ANSWERS: &str = "
-    # A writer that fails has a prefix of the answers.
-    > [0 writes] step FILE < MAKES_A; RESULT_0 | break settle 0; go; back; status; next; tree 0 0; quit
-    ! fault 182
-    status 3
-    > [1 writes] step FILE < MAKES_A; RESULT_0 | break settle 0; go; back; status; next; tree 0 0; quit
-    1
-    (and no end of line)
-    ! fault 182
-    status 3
-    > [40 writes] step FILE < MAKES_A; RESULT_0 | break settle 0; go; back; status; next; tree 0 0; quit
-    1 claim 0 0 -> file 1
-    2 step 0 -> acted
-    (and no end of line)
-    ! fault 182
-    status 3
-    > [80 writes] step FILE < MAKES_A; RESULT_0 | break settle 0; go; back; status; next; tree 0 0; quit
-    1 claim 0 0 -> file 1
-    2 step 0 -> acted 0
-    3 settle 0 -> 0 done
-    stop
-    back 2
-    0 run
-    (and no end of line)
-    ! fault 182
-    status 3
-    ";
-
-#[test]
-fn a_writer_that_fails_has_a_prefix_of_the_answers(rt: HostRuntime) {
-    is_told(&rt, rt.alloc(), ANSWERS);
 }

@@ -1,14 +1,11 @@
-//! The program as transcripts. A line with `> ` first is a call, and the lines after it are what the call writes, what it tells (`! ` first),
+//! The program as transcripts. A line with `> ` first is a call, and the lines after it are what the call writes, its error lines (`! ` first),
 //! and its status where that is not 0. One with `# ` first says what the next calls show. A call is the program's words; after ` < ` the
 //! entries that it reads as a definition (`written`), or `=` and the bytes in hexadecimal, or `@` and the name of a text, or `$` and a
-//! text in which `|` ends a line; of a session then, after the last ` | `, its commands, each ended by `;`. The file `FILE` is the definition, too,
-//! and the other files are those of `local_trees`. What `asm` writes is told in hexadecimal.
-//!
-//! In brackets before the words stands what bounds the devices: how many reads and writes of a byte each are done, how many bytes of the
-//! told line are taken (`told`), and whether the writer fails at its end (`1 end`).
+//! text in which `|` ends a line; for a session then, after the last ` | `, its commands, each ended by `;`. The file `FILE` is the definition, too,
+//! and the other files are those of `local_trees`. What `asm` writes is shown in hexadecimal. All devices do a byte at a time.
 
 use super::assembling::TEXTS;
-use super::devices::{Narrow, Ran, Slow};
+use super::devices::{AMPLE, Narrow, Ran, Rooms, Slow};
 use super::local_trees::FILES;
 use super::written::{block, push_entries};
 use llb_asm::assemble;
@@ -22,27 +19,30 @@ use std::process::Abort;
 use std::sync::Wait;
 use std::thread::Threads;
 
-const MANY: usize = 1 << 20;
-
 // The files of a call: its definition, and the local sources.
 #[derive(Clone, Copy)]
 struct Shelf<'a> {
     definition: &'a [u8],
+    rooms: Rooms,
 }
 
 impl<'a> Sources for Shelf<'a> {
     ghost use Rattle.std.specs.Prelude.{None};
 
-    type Input = &'a [u8];
+    type Input = Slow<'a>;
 
     ghost bytes = { λ _ _. None };
 
-    fn open(&self, file: &str) -> io::Result<&'a [u8]> {
+    fn open(&self, file: &str) -> io::Result<Slow<'a>> {
         if file == "FILE" {
-            return Ok(self.definition);
+            let (bytes, room) = (self.definition, self.rooms.file);
+            return Ok(Slow { bytes, room });
         }
         match block(FILES, file) {
-            Some(text) => Ok(text.as_bytes()),
+            Some(text) => {
+                let (bytes, room) = (text.as_bytes(), self.rooms.local);
+                Ok(Slow { bytes, room })
+            }
             None => Err(ErrorKind::NotFound.into()),
         }
     }
@@ -51,41 +51,23 @@ impl<'a> Sources for Shelf<'a> {
 // A call as its line has it.
 #[derive(Clone, Copy)]
 struct Call<'a> {
-    bounds: &'a str,
     words: &'a str,
     entries: &'a str,
     commands: &'a str,
 }
 
 fn call_in(line: &str) -> Call<'_> {
-    let (bounds, rest) = match line.strip_prefix("[") {
-        Some(rest) => rest.split_once("] ").unwrap_or((rest, "")),
-        None => ("", line),
-    };
-    let (words, rest) = rest.split_once(" < ").unwrap_or((rest, ""));
+    let (words, rest) = line.split_once(" < ").unwrap_or((line, ""));
     let (entries, commands) = if words.starts_with("step ") {
         rest.rsplit_once(" | ").unwrap_or((rest, ""))
     } else {
         (rest, "")
     };
     Call {
-        bounds,
         words,
         entries,
         commands,
     }
-}
-
-// The number before a word in brackets.
-fn bound(bounds: &str, wanted: &str) -> Option<usize> {
-    for bound in bounds.split(", ") {
-        if let Some((number, name)) = bound.split_once(' ') {
-            if name == wanted {
-                return number.parse::<usize>().ok();
-            }
-        }
-    }
-    None
 }
 
 // A text in which each of these marks ends a line.
@@ -98,7 +80,7 @@ fn lines_ended(rt: &impl Abort, alloc: Global, text: &str) -> Bytes {
     Bytes::new(lines)
 }
 
-/// The definition of the entries that are written, or the bytes that are spelled.
+/// Returns the definition of the entries that are written, or the bytes that are spelled.
 pub(crate) fn definition_of(rt: &impl Abort, alloc: Global, entries: &str) -> Bytes {
     if let Some(digits) = entries.strip_prefix("=") {
         return read_hex(alloc, digits)
@@ -132,6 +114,7 @@ fn ended<R: Abort + Threads + Wait + Sync>(
     rt: &R,
     alloc: Global,
     call: &Call<'_>,
+    rooms: Rooms,
     out: &mut Narrow,
     err: &mut Narrow,
 ) -> u8 {
@@ -139,6 +122,7 @@ fn ended<R: Abort + Threads + Wait + Sync>(
     let definition = definition_of(rt, alloc, call.entries);
     let shelf = Shelf {
         definition: definition.as_slice(),
+        rooms,
     };
     let commands = lines_of(rt, alloc, call.commands);
     let bytes = if call.commands.is_empty() {
@@ -146,21 +130,45 @@ fn ended<R: Abort + Threads + Wait + Sync>(
     } else {
         commands.as_bytes()
     };
-    let room = bound(call.bounds, "reads").unwrap_or(MANY);
+    let room = rooms.input;
     let mut input = Slow { bytes, room };
     program(rt, alloc, words.as_slice(), &shelf, &mut input, out, err)
 }
 
-fn ran<R: Abort + Threads + Wait + Sync>(rt: &R, alloc: Global, call: &Call<'_>) -> Ran {
-    let mut out = Narrow::new(alloc, bound(call.bounds, "writes").unwrap_or(MANY));
-    out.flushes = bound(call.bounds, "end").is_none();
-    let mut err = Narrow::new(alloc, bound(call.bounds, "told").unwrap_or(MANY));
-    let status = ended(rt, alloc, call, &mut out, &mut err);
+fn ran<R: Abort + Threads + Wait + Sync>(
+    rt: &R,
+    alloc: Global,
+    call: &Call<'_>,
+    rooms: Rooms,
+) -> Ran {
+    let mut out = Narrow::new(alloc, rooms.out);
+    out.flushes = rooms.flushes;
+    let mut err = Narrow::new(alloc, rooms.err);
+    let status = ended(rt, alloc, call, rooms, &mut out, &mut err);
     Ran {
         status,
         out: out.into_held(),
         err: err.into_held(),
     }
+}
+
+/// Returns the result of these words on no input.
+pub(crate) fn ran_words<R: Abort + Threads + Wait + Sync>(
+    rt: &R,
+    alloc: Global,
+    words: &str,
+) -> Ran {
+    ran(rt, alloc, &call_in(words), AMPLE)
+}
+
+/// Returns the result of a call on devices with these rooms.
+pub(crate) fn tried<R: Abort + Threads + Wait + Sync>(
+    rt: &R,
+    alloc: Global,
+    call: &str,
+    rooms: Rooms,
+) -> Ran {
+    ran(rt, alloc, &call_in(call), rooms)
 }
 
 // What was written, and a line that says so where it has no end.
@@ -197,7 +205,7 @@ fn say_call<R: Abort + Threads + Wait + Sync>(
     text: &mut String,
     call: &Call<'_>,
 ) {
-    let ran = ran(rt, alloc, call);
+    let ran = ran(rt, alloc, call, AMPLE);
     if call.words == "asm" {
         say_digits(rt, alloc, text, ran.out.as_slice());
     } else {
@@ -229,7 +237,7 @@ fn transcript<R: Abort + Threads + Wait + Sync>(rt: &R, alloc: Global, told: &st
     text
 }
 
-/// Ends the test at the first line of a transcript that is told otherwise. A transcript is moved in by four spaces.
+/// Ends the test at the first line of a transcript that differs. A transcript is moved in by four spaces.
 pub(crate) fn is_told<R: Abort + Threads + Wait + Sync>(rt: &R, alloc: Global, told: &str) {
     let text = transcript(rt, alloc, told);
     let mut lines = text.lines();

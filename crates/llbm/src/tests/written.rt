@@ -1,10 +1,10 @@
 //! Definitions as calls have them: entries with `; ` between them.
 //!
-//! An entry is a name of `definitions`, `execution_definitions` or `spelled`, or what stands between the braces of an op, in pieces with
+//! An entry is a name of `definitions`, `execution_definitions` or `spelled`, or what comes between the braces of an op, in pieces with
 //! ` | ` between them. A piece is a name of `pieces`, or a line of the assembler's text, or a mount: its input, its dest, and the names of
-//! pieces that stand after these. `RESULT` is the terminal on the entry before it. `act KIND | FIELD | ..` is an op with that one action on
-//! what the entry before it gives, whose second tree is what the first entry gives; and `sh TEXT` an execution of that text at the root on
-//! what the entry before it gives, or on nothing.
+//! pieces that come after these. `RESULT` is the terminal on the entry before it. `act KIND | FIELD | ..` is an op with that one action on
+//! the output of the entry before it, whose second tree is the output of the first entry; and `sh TEXT` an execution of that text at the root on
+//! the output of the entry before it, or on nothing.
 
 use super::definitions::ENTRIES;
 use super::execution_definitions::EXECUTIONS;
@@ -12,7 +12,7 @@ use super::pieces::PIECES;
 use super::spelled::SPELLED;
 use std::process::Abort;
 
-/// The lines after the one with `== ` and the name; what stands there after `:` is told to the reader.
+/// Returns the lines after the one with `== ` and the name; what comes there after `:` is for the reader.
 pub(crate) fn block<'a>(text: &'a str, wanted: &str) -> Option<&'a str> {
     for block in text.split("== ") {
         if let Some((head, lines)) = block.split_once('\n') {
@@ -75,7 +75,7 @@ fn push_act(rt: &impl Abort, text: &mut String, before: usize, action: &str) {
     push(rt, text, "}\n}\n}\n}\n");
 }
 
-// On nothing where no entry stands before it.
+// On nothing where no entry is before it.
 fn push_script(rt: &impl Abort, text: &mut String, before: Option<usize>, script: &str) {
     push(rt, text, "op {\n");
     if let Some(before) = before {

@@ -4,7 +4,7 @@ use Rattle.llb_applet.specs.Commands.{◌>>=◌, file_by, joined}
 use Rattle.llb_applet.proofs.Looking.{at_drop}
 use Rattle.llb_applet.proofs.content.joined.Goals as goal
 
--- one file more
+-- the contents with one more file
 one_more :
     (content part : List ℕ) (file : Option (MetaValue × List ℕ)) → option_map (λ f. f.1) file ≡ Some part
     → (rest : Option (List ℕ))

@@ -3,8 +3,8 @@ use Rattle.std.proofs.Common.{◌≡◌, sym, ap, ◌∙◌, ℕ, List, Some, le
 use Rattle.std.specs.Prelude.{is_some, string_bytes}
 use Rattle.std.specs.Map.{update}
 use Rattle.std.specs.Str.{bytes_eq}
-use Rattle.std.proofs.lemmas.Map.Text.{hash_map_updates_text}
-use Rattle.indexmap.specs.IndexMap.{get_by_text}
+use Rattle.std.proofs.lemmas.Map.Text.{btree_map_updates_text}
+use Rattle.std.specs.BTreeMap.{get_by_text}
 use Rattle.llb_asm.proofs.Labelled.{index_new, index_old, copied_some}
 use Rattle.llb_asm.proofs.labels.learn.Goals as goal
 
@@ -17,7 +17,7 @@ returns-in_ok-insert-clause-learnt c =
     ap (λ k. is_some (look k)) (sym c.as_str.ensures.value) ∙ ap is_some (sym c.get.ensures.value) ∙ copied_some c.get.result ∙ c.if-is_none.ensures in
     let key : string_bytes c.into_string.result ≡ t = c.into_string.ensures ∙ c.in_ok-copy.ensures in
     let updated : (d : List ℕ) → get_by_text c.insert.new.self d ≡ update bytes_eq look t (Some (length texts)) d =
-    λ d. hash_map_updates_text (string_bytes c.into_string.result) c.args.first.now c.insert.new.self _ c.in_ok-insert.ensures.updates d
+    λ d. btree_map_updates_text (string_bytes c.into_string.result) c.args.first.now c.insert.new.self _ c.in_ok-insert.ensures.updates d
     ∙ ap (λ k. update bytes_eq look k (Some (length texts)) d) key in
     index_new texts t look (λ d. get_by_text c.insert.new.self d) c.requires none updated
 

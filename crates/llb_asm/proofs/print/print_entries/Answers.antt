@@ -1,4 +1,4 @@
--- An entry more is out, or the writing stops in it.
+-- An entry more is written, or the writing stops in it.
 use Rattle.std.proofs.Common.{◌++◌, ◌∷◌, [], ◌+◌, ℕ, List, drop, sym, ap, ◌∙◌, append_assoc}
 use Rattle.std.proofs.KnownBytes.{Appends-trans}
 use Rattle.llb_wire.specs.Digest.{digest_text}

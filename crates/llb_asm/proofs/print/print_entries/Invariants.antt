@@ -1,4 +1,4 @@
--- The entries so far are out, and their labels are those at hand.
+-- The entries so far are written, and their labels are those at hand.
 use Rattle.std.proofs.Common.{◌≡◌, ◌++◌, ℕ, List, drop}
 use Rattle.std.specs.Io.KnownBytes.{Appends}
 use Rattle.llb_asm.specs.Plain.{Formed, AreFormed, plain_lines, text_of_lines}

@@ -1,4 +1,4 @@
--- What was read is what the reader gave, and each read gave something or was interrupted.
+-- What was read is what the reader returned, and each read returned something or was interrupted.
 use Rattle.std.proofs.Common.{◌≡◌, ◌≤◌, ◌+◌, length}
 use Rattle.std.specs.Io.KnownBytes.{Consumes}
 use Rattle.llb_commands.proofs.bounded.read_bounded.Given as goal

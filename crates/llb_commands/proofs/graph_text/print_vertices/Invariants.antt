@@ -1,4 +1,4 @@
--- The lines of the vertices so far are out.
+-- The lines of the vertices so far are written.
 use Rattle.std.proofs.Common.{◌≡◌, take}
 use Rattle.std.specs.List.{flat_map, enumerate_from}
 use Rattle.std.specs.Io.KnownBytes.{Appends}

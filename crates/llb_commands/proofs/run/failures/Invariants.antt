@@ -1,4 +1,4 @@
--- The lines of the vertices so far are out.
+-- The lines of the vertices so far are written.
 use Rattle.std.specs.Io.KnownBytes.{Appends}
 use Rattle.llb_commands.specs.Answer.{failed_lines}
 use Rattle.llb_commands.proofs.run.failures.Given as goal

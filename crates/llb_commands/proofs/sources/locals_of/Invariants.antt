@@ -1,4 +1,4 @@
--- What the files give to the sources that are left, over the trees so far, is what they give to all.
+-- The result of the files of the sources that are left, over the trees so far, is the result for all.
 use Rattle.std.proofs.Common.{drop, []}
 use Rattle.std.specs.Prelude.{List, Result}
 use Rattle.llb_loader.specs.Locals.{Local}

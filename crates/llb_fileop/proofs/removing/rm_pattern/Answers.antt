@@ -1,18 +1,32 @@
-use Rattle.std.proofs.Common.{◌≢◌, [], subst, sym, ◌∙◌}
-use Rattle.std.proofs.lemmas.Bool.{false≢true}
+use Rattle.std.proofs.Common.{rules, ◌≡◌, subst, sym, ap, ◌∙◌, Ok, Err, false}
+use Rattle.llb_wire.specs.Answer.{◌>>=◌}
 use Rattle.llb_tree.specs.Tree as tree
-use Rattle.llb_fileop.proofs.Answering.{same_Ok}
-use Rattle.llb_fileop.proofs.Below.{rm_none, rm_some}
+use Rattle.llb_tree.specs.Tree.{is_memory}
+use Rattle.llb_tree.specs.Tested.{rid_of}
+use Rattle.llb_fileop.specs.Removing.{rm_pattern, absent}
+use Rattle.llb_fileop.proofs.Below.{fits_part, or_absent, rm_is}
 use Rattle.llb_fileop.proofs.removing.rm_pattern.Goals as goal
 
-pub returns-then-not-branch : goal.returns-then-not-branch
-returns-then-not-branch c =
-    let some : c.args.pattern.now ≢ [] = λ e. false≢true (sym c.if-has_no_parts.false ∙ c.has_no_parts.ensures.1 e) in
-    let none = rm_none c.args.pattern.now c.args.base.now c.args.allowed some (same_Ok c.in_ok-any_matches.ensures ∙ c.if-not-branch.true) in
+pub returns-in-Some : goal.returns-in-Some
+returns-in-Some c =
+    sym (rm_is c.args.pattern.now c.args.base.now c.args.allowed c.is_tree.ensures)
+    ∙ ap (λ r. r >>= or_absent c.args.allowed c.args.base.now)
+    ((λ i. rid_of fits_part (sym c.parts.ensures i) c.args.base.now) ∙ c.in_ok-tree.ensures ∙ ap Ok c.in-Some.is)
+
+pub returns-in-None : goal.returns-in-None
+returns-in-None c =
+    let none : rm_pattern c.args.allowed c.args.base.now c.args.pattern.now ≡ absent c.args.allowed c.args.base.now =
+    sym (rm_is c.args.pattern.now c.args.base.now c.args.allowed c.is_tree.ensures)
+    ∙ ap (λ r. r >>= or_absent c.args.allowed c.args.base.now)
+    ((λ i. rid_of fits_part (sym c.parts.ensures i) c.args.base.now) ∙ c.in_ok-tree.ensures ∙ ap Ok c.in-None.is) in
     subst (λ r. tree.Gives (λ t. t) c.absent.result r) (sym none) c.absent.ensures
 
-pub returns : goal.returns
-returns c =
-    let some : c.args.pattern.now ≢ [] = λ e. false≢true (sym c.if-has_no_parts.false ∙ c.has_no_parts.ensures.1 e) in
-    let all = rm_some c.args.pattern.now c.args.base.now c.args.allowed some (same_Ok c.in_ok-any_matches.ensures ∙ c.if-not-branch.false) in
-    subst (λ r. tree.Gives (λ t. t) c.kept.result r) (sym all) c.kept.ensures
+pub returns-in_err-tree : goal.returns-in_err-tree
+returns-in_err-tree c =
+    let f : is_memory c.in_err-tree.field-0.0 ≡ false
+    → rm_pattern c.args.allowed c.args.base.now c.args.pattern.now ≡ Err c.in_err-tree.field-0.0
+    = λ m.
+    sym (rm_is c.args.pattern.now c.args.base.now c.args.allowed c.is_tree.ensures)
+    ∙ ap (λ r. r >>= or_absent c.args.allowed c.args.base.now)
+    ((λ i. rid_of fits_part (sym c.parts.ensures i) c.args.base.now) ∙ c.in_err-tree.ensures m) in
+    search rules

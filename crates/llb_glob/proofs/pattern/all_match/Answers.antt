@@ -32,7 +32,7 @@ names_second c =
     ap (λ z. iter_rest (zip_second z)) c.into_iter-part-iterator.ensures.into_iter_gives
     ∙ c.zip-part-items.ensures.second.0
 
--- where the part and the name at hand stand
+-- the place of the part and the name at hand
 record Turn (c : In-Some) : Type 0 where
   in_parts : length c.loop-part.yielded < length c.args.parts.now
   in_path : length c.loop-part.yielded < length c.args.names.now

@@ -1,9 +1,11 @@
 use Rattle.std.proofs.Common.{rules, ◌≡◌, ℕ, ◌+◌, ◌<◌, List, Option, Some, None, length, refl, sym, ◌∙◌, ap, subst, arith, ◌≢◌, true, false, IsTrue}
-use Rattle.std.proofs.lemmas.Map.Text.{hash_map_updates_str}
+use Rattle.std.proofs.lemmas.Map.Text.{btree_map_updates_str}
 use Rattle.std.specs.Borrow.{Bor}
 use Rattle.std.specs.Str.{bytes_eq}
 use Rattle.std.specs.Map.{update}
-use Rattle.indexmap.specs.IndexMap.{get_by}
+use Rattle.std.specs.BTreeMap.{get_by}
+use Rattle.std.specs.Cmp.Lexicographic.{slice_cmp}
+use Rattle.std.specs.Ordering.{nat_cmp}
 use Rattle.llb_loader.specs.declared.row.Row.{Row}
 use Rattle.llb_loader.specs.RowLookup.{row_at, Collides}
 use Rattle.llb_loader.proofs.Firsts.{IsFirst, row_read, first_update, first_again, first_is, first_below, fresh_apart, equal_apart, collides_with, below_step}
@@ -13,7 +15,7 @@ pub loop-k-preserved-in_default : goal.loop-k-preserved-in_default
 loop-k-preserved-in_default c =
     let rows = c.args.rows.now in
     let k = c.loop-k.k in
-    let look : List ℕ → Option ℕ = λ d. get_by {K = Bor (List ℕ)} (λ q. bytes_eq d q.now) c.loop-k.index in
+    let look : List ℕ → Option ℕ = λ d. get_by {K = Bor (List ℕ)} (λ q. slice_cmp nat_cmp d q.now) c.loop-k.index in
     let dig : (row_at c.args.rows.now c.loop-k.k).digest ≡ c.as_str-digest.result.now =
     ap (λ (r : Row). r.digest) (row_read c.args.rows.now c.loop-k.k c.index-rows-k.result c.loop-k-test.true c.index-rows-k.is)
     ∙ sym c.as_str-digest.ensures.value in
@@ -21,7 +23,7 @@ loop-k-preserved-in_default c =
     record {
       found = λ d.
           subst (λ (o : Option ℕ). IsFirst c.args.rows.now (c.loop-k.k + 1) d o)
-          (sym (hash_map_updates_str c.as_str-digest.result.now c.loop-k.index c.insert.new.self _ c.in_ok-insert.ensures.updates d))
+          (sym (btree_map_updates_str c.as_str-digest.result.now c.loop-k.index c.insert.new.self _ c.in_ok-insert.ensures.updates d))
           (subst (λ (b : List ℕ). IsFirst c.args.rows.now (c.loop-k.k + 1) d (update bytes_eq look b (Some c.loop-k.k) d)) dig
           (first_update c.args.rows.now c.loop-k.k d look none c.loop-k.invariant.found));
       apart = below_step (λ j. ¬ Collides c.args.rows.now j) c.loop-k.k c.loop-k.invariant.apart
@@ -48,7 +50,7 @@ offset_bounds-rows-first c =
 
 pub returns-then-not-same-clause-refused : goal.returns-then-not-same-clause-refused
 returns-then-not-same-clause-refused c = λ _.
-    let look : List ℕ → Option ℕ = λ d. get_by {K = Bor (List ℕ)} (λ q. bytes_eq d q.now) c.loop-k.index in
+    let look : List ℕ → Option ℕ = λ d. get_by {K = Bor (List ℕ)} (λ q. slice_cmp nat_cmp d q.now) c.loop-k.index in
     let here = row_read c.args.rows.now c.loop-k.k c.index-rows-k.result c.loop-k-test.true c.index-rows-k.is in
     let dig : (row_at c.args.rows.now c.loop-k.k).digest ≡ c.as_str-digest.result.now = ap (λ (r : Row). r.digest) here ∙ sym c.as_str-digest.ensures.value in
     let some : look (row_at c.args.rows.now c.loop-k.k).digest ≡ Some c.in-Some.first.now = ap look dig ∙ sym c.in-Some.ensures.value in
@@ -69,7 +71,7 @@ returns-then-not-same-clause-refused c = λ _.
 
 pub loop-k-preserved : goal.loop-k-preserved
 loop-k-preserved c =
-    let look : List ℕ → Option ℕ = λ d. get_by {K = Bor (List ℕ)} (λ q. bytes_eq d q.now) c.loop-k.index in
+    let look : List ℕ → Option ℕ = λ d. get_by {K = Bor (List ℕ)} (λ q. slice_cmp nat_cmp d q.now) c.loop-k.index in
     let here = row_read c.args.rows.now c.loop-k.k c.index-rows-k.result c.loop-k-test.true c.index-rows-k.is in
     let dig : (row_at c.args.rows.now c.loop-k.k).digest ≡ c.as_str-digest.result.now = ap (λ (r : Row). r.digest) here ∙ sym c.as_str-digest.ensures.value in
     let some : look (row_at c.args.rows.now c.loop-k.k).digest ≡ Some c.in-Some.first.now = ap look dig ∙ sym c.in-Some.ensures.value in
@@ -87,7 +89,7 @@ loop-k-preserved c =
 
 pub returns-clause-index : goal.returns-clause-index
 returns-clause-index c d = first_is c.args.rows.now d _
-    (subst (λ (n : ℕ). IsFirst c.args.rows.now n d (get_by {K = Bor (List ℕ)} (λ q. bytes_eq d q.now) c.loop-k.index))
+    (subst (λ (n : ℕ). IsFirst c.args.rows.now n d (get_by {K = Bor (List ℕ)} (λ q. slice_cmp nat_cmp d q.now) c.loop-k.index))
     (let e : c.loop-k.k ≡ length c.args.rows.now = omega arith in e) (c.loop-k.invariant.found d))
 
 pub returns-clause-apart : goal.returns-clause-apart

@@ -1,4 +1,4 @@
--- What stands over the lower tree in that way is laid.
+-- The tree over the lower one in that way is laid.
 use Rattle.llb_merge.specs.Laws.{over_is_lay}
 use Rattle.llb_merge.proofs.laying.lay_onto.Goals as goal
 

@@ -9,7 +9,7 @@ use Rattle.llb_plain.specs.Faults.{Gives, MemoryLast, may_want_memory}
 use Rattle.llb_plain.proofs.NoCaches.{none_has}
 use Rattle.llb_plain.proofs.evaluation.evaluate.Goals as goal
 
--- where no local tree is missing and no vertex mounts a cache, nothing stands in the way
+-- where no local tree is missing and no vertex mounts a cache, nothing is refused
 not_refused : (b : Build) → missing_local b.locals b.graph.vertices ≡ None → cache_from 0 b.graph.vertices ≡ None → evaluate_of b ≡ Ok (outcomes b)
 not_refused b given none =
     ap (λ o. unless_refused o (cache_from 0 b.graph.vertices) (outcomes b)) given ∙ ap (λ o. unless_refused None o (outcomes b)) none

@@ -1,4 +1,4 @@
--- A line that is not empty is answered, or ends the session.
+-- A line that is not empty gets its reply, or ends the session.
 use Rattle.std.proofs.Common.{◌<◌, length, subst}
 use Rattle.llb_session.specs.Hearing.{standing}
 use Rattle.llb_session.proofs.Ending.{last_said, some_left}

@@ -1,4 +1,4 @@
--- A read gives the end of the input, a piece, or nothing.
+-- A read returns the end of the input, a piece, or nothing.
 use Rattle.std.proofs.Common.{rules, ◌≡◌, ◌+◌, [], length, ap, arith}
 use Rattle.std.proofs.lemmas.Result.{err_from_is_err_and}
 use Rattle.llb_session.specs.Hearing.{standing}

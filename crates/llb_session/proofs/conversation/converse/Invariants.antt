@@ -1,4 +1,4 @@
--- All that was read so far was heard, and the session goes on; each read gave a byte or was interrupted.
+-- All that was read so far was heard, and the session goes on; each read returned a byte or was interrupted.
 use Rattle.std.proofs.Common.{◌≡◌, ◌≤◌, ◌+◌, length}
 use Rattle.llb_session.specs.Hearing.{standing}
 use Rattle.llb_session.proofs.Ending.{Listened}

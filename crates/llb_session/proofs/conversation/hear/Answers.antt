@@ -1,4 +1,4 @@
--- A byte stands on the line that is begun, or ends it.
+-- A byte is added to the line that is begun, or ends it.
 use Rattle.std.proofs.Common.{refl}
 use Rattle.std.proofs.lemmas.Result.{err_from_is_err_and}
 use Rattle.llb_session.specs.Hearing.{standing}

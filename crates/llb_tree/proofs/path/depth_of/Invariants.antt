@@ -1,4 +1,4 @@
--- Some path of that many names is where the parts so far lead.
+-- The parts so far lead to some path of so many names.
 use Rattle.std.proofs.Common.{◌≡◌, ℕ, List, length, drop}
 use Rattle.llb_tree.specs.Path.{follow, parts_of}
 use Rattle.llb_tree.proofs.path.depth_of.Given as goal

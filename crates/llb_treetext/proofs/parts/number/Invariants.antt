@@ -1,4 +1,4 @@
--- The digits that are left give, after the number so far, what all give.
+-- The digits that are left, read after the number so far, make what all of them make.
 use Rattle.std.proofs.Common.{◌≡◌, drop}
 use Rattle.llb_treetext.specs.Fields.{number_from}
 use Rattle.llb_treetext.proofs.parts.number.Given as goal

@@ -1,4 +1,4 @@
--- A line more is out, or the writing stops in it or after it.
+-- A line more is written, or the writing stops in it or after it.
 use Rattle.std.proofs.Common.{ℕ, List, sym, subst, ap, ◌∙◌, ◌++◌, drop, refl}
 use Rattle.std.specs.Io.KnownBytes.{Appends}
 use Rattle.std.proofs.KnownBytes.{Appends-trans}

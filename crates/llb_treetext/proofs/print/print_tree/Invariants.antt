@@ -1,4 +1,4 @@
--- The lines of the entries so far are out.
+-- The lines of the entries so far are written.
 use Rattle.std.proofs.Common.{◌≡◌, ◌++◌, ℕ, List, length}
 use Rattle.std.specs.Io.KnownBytes.{Appends}
 use Rattle.llb_treetext.specs.TreeText.{lines_of, tree_text}

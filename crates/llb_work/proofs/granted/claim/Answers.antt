@@ -10,4 +10,5 @@ pub returns-clause-longer : goal.returns-clause-longer
 returns-clause-longer c = no_shorter c.args.board.now c.claim.new.self (returns-clause-goes c)
 
 pub returns-clause-claimed : goal.returns-clause-claimed
-returns-clause-claimed c = claim_here c.args.board.now c.claim.new.self c.args.w c.args.v c.claim.result c.claim.ensures.gives
+returns-clause-claimed c =
+    claim_here c.args.board.now c.claim.new.self c.args.w c.args.v c.claim.result c.begun_are_plain.ensures.claims c.claim.ensures.gives

@@ -8,6 +8,6 @@ pub returns : goal.returns
 returns g c =
     let P : ReadyPass → Type 0 = IsPassFor c.args.queue.now c.args.w in
     elim c.match-next.branch [
-      | in-None w ↦ subst P (sym w.pass-is) c.loop-i.invariant
-      | in-Some+in-None-away w ↦ subst P (sym w.pass-is) w.away.ensures
+      | in-None w ↦ subst P (sym w.pass-is) c.loop-i.invariant.pass
+      | in-Some+in-None-away w ↦ subst P (sym w.pass-is) w.away.ensures.pass
     ]

@@ -37,7 +37,7 @@ can c =
     can_claim b.build (state_of b.stands.items b.desks.items b.caches.rows) c.args.w c.args.v c.in_ok-vertex.vertex.now
     (rw (c.deref.ensures.value, c.deref-2.ensures.value) at c.in_ok-vertex.ensures.first) c.in_ok-vertex.ensures.there
 
--- memory may be wanted where it may be of the look at the vertex's keys
+-- whether the claim may want memory is whether the look at the vertex's keys may
 wants : (c : In_ok-vertex) → claim_may_want (claim_of c.args.self.now c.args.w c.args.v)
     ≡ claim_may_want (unless_shut (needs_of c.in_ok-vertex.vertex.now) (shut_key c.self.inside.caches.out (needs_of c.in_ok-vertex.vertex.now)))
 wants c =
@@ -88,7 +88,7 @@ returns-in_err-lease-clause-last c =
     = wants (goal.at.returns-in_err-lease-clause-last c).In_ok-vertex ∙ ap claim_may_want c.in_ok-wanted.ensures.gives in
     search (rules, may_want)
 
--- ---- what the caches' type says at the claim
+-- ---- the caches' invariant at the claim
 
 abbrev May : After-is_exclusive → Type 0
 May c = let b = c.self.inside in
@@ -120,7 +120,7 @@ lease_with_room-requires-clause-low c =
       counts_length b.build.graph.vertices 0 c.self.invariant.kept.replays.replies,
     )
 
--- the events that the vertex takes
+-- the number of the vertex's events
 counts : (c : After-steps) → c.steps.result + 2 ≡ events_of c.in_ok-vertex.vertex.now
 counts c = ap (λ n. n + 2) c.steps.ensures.all ∙ ap (λ (o : Option Vertex). length (program_at o).steps + 2) c.in_ok-vertex.ensures.there
 
@@ -162,7 +162,7 @@ did_so c g =
     c.in_ok-lease.lease c.in_ok-begun.begun.execution c.lease_with_room.new.caches _ c.in_ok-wanted.ensures.gives refl c.in_ok-lease.ensures.gives
     c.in_ok-begun.ensures.supplies
 
--- the data after it
+-- the data after the claim
 abbrev after : In_ok-lease → Data
 after c = let b = c.self.inside in
     claimed (data_of b.stands.items b.desks.items b.caches b.stop_marks.items) c.args.w c.args.v c.in_ok-lease.lease c.in_ok-begun.begun.execution

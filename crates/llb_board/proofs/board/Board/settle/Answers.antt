@@ -32,7 +32,7 @@ then_done : (e : Ending) → is_failed (Some e) ≡ false → is_done (Some e) �
 then_done (Done trees) is = refl
 then_done (Failed f) is = absurd cc
 
--- ---- what the worker leaves: the vertex, how it stands then, its lease, and the desks
+-- ---- what the worker leaves: the vertex, its state then, its lease, and the desks
 
 is_left : (c : In_ok-v) → left_at c.self.inside.build (slice_get (map at_of c.self.inside.desks.items) c.args.w) ≡ Ok (c.in_ok-v.v, status_of c.in_ok-v.stand)
 is_left c = rw c.deref_mut.ensures.value at c.in_ok-v.ensures.gives
@@ -47,7 +47,7 @@ desks_are c =
     let idle : c.leave.new.desks ≡ slice_set ds c.args.w desk.Idle = rw c.deref_mut.ensures.value at c.in_ok-v.ensures.idle in
     whole_written c.self.inside.desks.len c.leave.new.desks ds (ap length idle ∙ length_set ds c.args.w desk.Idle) (search rules) ∙ idle
 
--- ---- what the table gives of it
+-- ---- what the table gives for it
 
 abbrev Can : In_ok-v → Type 0
 Can c = let b = c.self.inside in
@@ -59,7 +59,7 @@ can c = let b = c.self.inside in
     c.in_ok-v.stand
     c.self.invariant.kept (is_left c) (is_leased c)
 
--- the data after it, with these marks
+-- the data after the settle, with these marks
 abbrev data_with : In_ok-v → List Bool → Data
 data_with c marks = let b = c.self.inside in
     after b.build b.start.rows b.stands.items b.desks.items b.caches b.stop_marks.items b.history.list b.history.space c.args.w c.in_ok-v.v c.in_ok-v.lease
@@ -88,7 +88,7 @@ answered c =
     c.in_ok-v.stand
     c.self.invariant.kept (is_left c) (is_leased c) b.stop_marks.items)
 
--- ---- what the board's type keeps
+-- ---- the board's invariant
 
 keeps_with : (c : In_ok-v) (marks : List Bool) → marks ≡ stopped c.self.inside.build
     (map status_of (slice_set c.self.inside.stands.items c.in_ok-v.v c.in_ok-v.stand))

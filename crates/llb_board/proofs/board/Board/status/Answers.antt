@@ -13,7 +13,7 @@ use Rattle.llb_state.proofs.Sound.{consistent}
 use Rattle.llb_board.proofs.board.Board.status.Goals as goal
 use Rattle.llb_board.proofs.board.Board.status.Goals.{After-look}
 
--- only of a vertex that waits it matters whether it is after one that has failed
+-- whether a vertex is downstream of a failed one matters only while it waits
 look_waiting : (ready marked : Bool) (s : Status) → look ready marked s ≡ look ready (is_waiting (Some s) && marked) s
 look_waiting ready marked Waiting = refl
 look_waiting ready marked (Running w) = refl

@@ -1,11 +1,14 @@
-use Rattle.std.proofs.Common.{List, None, Ok, ap, find, map, subst, sym, ℕ, ◌<◌, ◌∙◌, ◌≡◌}
+use Rattle.std.proofs.Common.{List, None, Ok, true, cond, length, ap, find, map, subst, sym, ℕ, ◌<◌, ◌∙◌, ◌≡◌}
+use Rattle.std.specs.Map.{keys_of}
 use Rattle.llb_cache.specs.declared.need.Need.{Need}
+use Rattle.llb_cache.specs.declared.need.Place.{Place}
 use Rattle.llb_cache.specs.declared.growing.Ready.{Ready}
-use Rattle.llb_cache.specs.Caches.{CachesValue, Row, Leases, IsCaches, is_shut, leases, free_lease, with_lease, made_all, granted, lease_of}
+use Rattle.llb_cache.specs.Caches.{CachesValue, Row, Leases, Taken, is_shut, leases, free_lease, with_lease, taken, made_all, granted, lease_of}
 use Rattle.llb_cache.specs.Caches.{places_of, place_for}
 use Rattle.llb_cache.specs.Growing.{shown}
-use Rattle.llb_cache.proofs.Kept.{lease_keeps}
-use Rattle.llb_cache.proofs.Granting.{is_granted, not_refused, granted_has}
+use Rattle.llb_cache.specs.Marks.{IsMarked, marked, is_one_of}
+use Rattle.llb_cache.proofs.Granting.{is_granted, not_refused, granted_has, places_shown}
+use Rattle.llb_cache.proofs.Holding.{lease_marked}
 use Rattle.llb_cache.proofs.caches.Caches.lease.Goals as goal
 use Rattle.llb_cache.proofs.caches.Caches.lease.Goals.{After-take_lease-number}
 
@@ -19,26 +22,41 @@ behind c = record { rows = c.make_all.new.rows.entries; out = c.take_lease-numbe
 
 none_refused : (c : After-take_lease-number) → find (is_shut (before c).out) c.args.needs ≡ None
 none_refused c =
-    ap (λ (o : Leases). find (is_shut o) c.args.needs) (sym c.deref.ensures.value)
-    ∙ ap (λ (ns : List Need). find (is_shut c.deref.result.now) ns) (sym c.into_vec.ensures) ∙ c.in_ok-needs.ensures.0
+    ap (λ (v : CachesValue). find (is_shut v.out) c.args.needs) c.self.view_is
+    ∙ ap (λ (ns : List Need). find (is_shut c.args.self.now.out) ns) (sym c.into_vec.ensures) ∙ c.in_ok-needs.ensures.0
+
+takes : (c : After-take_lease-number) → map shown c.in_ok-readies.readies.items ≡ taken (before c).out c.in_ok-needs.needs.items
+takes c = c.in_ok-readies.ensures.takes ∙ ap (λ (v : CachesValue). taken v.out c.in_ok-needs.needs.items) (sym c.self.view_is)
+
+same_needs : (c : After-take_lease-number) → c.in_ok-needs.needs.items ≡ c.args.needs
+same_needs c = c.in_ok-needs.ensures.1 ∙ c.into_vec.ensures
 
 all_granted : (c : After-take_lease-number) → granted (before c) c.args.needs ≡ (c.take_lease-number.result, behind c)
 all_granted c =
     is_granted (before c) c.args.needs c.in_ok-needs.needs.items c.in_ok-readies.readies.items c.in_ok-places.places (behind c).rows
-    (behind c).out c.take_lease-number.result
-    (c.in_ok-needs.ensures.1 ∙ c.into_vec.ensures) c.in_ok-readies.ensures.takes (c.in_ok-places.ensures
-    ∙ ap (λ (rs : List Ready). map (λ (r : Ready). r.place) rs) c.deref-2.ensures.value)
-    (c.make_all.ensures ∙ ap (λ (rows : List Row). made_all rows (map shown c.in_ok-readies.readies.items)) c.reserve.ensures.entries)
-    (c.take_lease-number.ensures.out ∙ ap (λ (o : Leases). with_lease o (free_lease o) c.in_ok-places.places) c.reserve-2.ensures.items)
-    (c.take_lease-number.ensures.number ∙ ap (λ (o : Leases). free_lease o) c.reserve-2.ensures.items)
+    (behind c).out c.take_lease-number.result (same_needs c) (takes c)
+    (c.in_ok-places.ensures ∙ ap (λ (rs : List Ready). map (λ (r : Ready). r.place) rs) c.deref.ensures.value)
+    (c.make_all.ensures.rows ∙ ap (λ (rows : List Row). made_all rows (map shown c.in_ok-readies.readies.items)) c.reserve.ensures.entries)
+    (c.take_lease-number.ensures.out ∙ ap (λ (o : Leases). with_lease o (free_lease o) c.in_ok-places.places) c.reserve-3.ensures.items)
+    (c.take_lease-number.ensures.number ∙ ap (λ (o : Leases). free_lease o) c.reserve-3.ensures.items)
 
 few : (c : After-take_lease-number) → leases (before c).out < 65536
 few c = subst (λ (v : CachesValue). leases v.out < 65536) (sym c.self.view_is) c.requires.few
 
+-- the instances that are marked are those that the lease takes
+placed : (c : After-take_lease-number)
+    → map (λ (r : Ready). r.place) c.in_ok-readies.readies.items ≡ map (λ (t : Taken). t.0) (taken (before c).out c.args.needs)
+placed c = places_shown c.in_ok-readies.readies.items
+    ∙ ap (λ (ts : List Taken). map (λ (t : Taken). t.0) ts) (takes c ∙ ap (taken (before c).out) (same_needs c))
+
 pub invariant_of-self-2 : goal.invariant_of-self-2
 invariant_of-self-2 c =
-    subst (λ (g : ℕ × CachesValue). IsCaches g.1) (all_granted c)
-    (lease_keeps (before c) c.args.needs c.self.invariant (few c) c.requires.differ (none_refused c))
+    let new = c.make_all.new.marks.items in
+    subst (λ (g : ℕ × CachesValue). IsMarked g.1 new) (all_granted c)
+    (lease_marked (before c) c.args.needs c.self.inside.marks.items new c.self.invariant (few c) c.requires.differ (none_refused c)
+    (λ (q : Place). ap (λ (g : ℕ × CachesValue). marked (keys_of g.1.rows) new q) (all_granted c) ∙ c.make_all.ensures.marks q
+    ∙ (λ i. cond (is_one_of (placed c i) q) true (marked (keys_of (c.reserve.ensures.entries i)) (c.reserve-2.ensures.items i) q)))
+    (c.make_all.ensures.each ∙ ap (λ (g : ℕ × CachesValue). length g.1.rows) (sym (all_granted c))))
 
 pub returns-clause-gives : goal.returns-clause-gives
 returns-clause-gives c =

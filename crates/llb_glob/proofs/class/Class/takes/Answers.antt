@@ -4,7 +4,7 @@ use Rattle.llb_glob.specs.Class.{ClassTakes, class_takes, excluding}
 use Rattle.llb_glob.specs.Laws.{class_takes-tells}
 use Rattle.llb_glob.proofs.class.Class.takes.Goals as goal
 
--- to be in an item or not, otherwise than the class excludes
+-- a class matches a character if being in an item differs from excluding
 differs : (b excludes : Bool) → not (beq b excludes) ≡ excluding excludes b
 differs true true = refl
 differs true false = refl

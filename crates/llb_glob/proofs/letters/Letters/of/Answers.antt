@@ -25,7 +25,7 @@ one_more room letters n c fits inside is so_far =
     ∙ ap (λ x. take n letters ++ x ∷ []) is
     ∙ sym (take_more letters n c inside)
 
--- where the character at hand stands
+-- the place of the character at hand
 turn :
     (c : In-Some)
     → (length c.loop-letter.yielded < length (chars c.args.text.now))

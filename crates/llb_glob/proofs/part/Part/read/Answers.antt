@@ -29,7 +29,7 @@ returns-in_err-take c =
     ∙ ap (ahead c.loop-letter.reading) here
     ∙ c.in_err-take.ensures (drop (c.loop-letter.letter-index + 1) letters) known)
 
--- what there is at the end
+-- what is read at the end of the part
 at_end : (c : After-loop-letter) (whole : Bool) → is_whole c.loop-letter.reading.cursor ≡ whole
     → items_of (chars c.args.text.now) ≡ behind c.loop-letter.reading.items.items (ended whole)
 at_end c whole is =

@@ -9,7 +9,7 @@ use Rattle.llb_mount.proofs.view.View.route.Goals.{After-loop-i}
 is_view : (c : After-loop-i) → IsView c.args.self.now
 is_view c = subst IsView c.self.view_is c.self.invariant
 
--- what the loop found after all mounts
+-- what the loop has found after all mounts
 is_route : (c : After-loop-i) → IsRoute c.args.self.now c.args.path.now (c.loop-i.number, c.loop-i.dropped)
 is_route c =
     let mounts : c.deref-shown-items.result.now ≡ c.args.self.now = c.deref-shown-items.ensures.value ∙ c.self.view_is in

@@ -1,4 +1,4 @@
--- Some path of that many names, of which the first are shared, is where the parts so far lead.
+-- The parts so far lead to some path of so many names, of which the first are shared.
 use Rattle.std.proofs.Common.{◌≡◌, ℕ, List, length, drop}
 use Rattle.llb_tree.specs.Path.{follow, parts_of, path_of}
 use Rattle.llb_tree.specs.Shared.{shared}

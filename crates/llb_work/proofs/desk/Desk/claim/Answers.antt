@@ -11,6 +11,7 @@ invariant_of-self g c =
     record {
       kept = old.kept;
       after = after_more g.S.Gated.given old.board c.claim-claimed.new.board old.after c.claim-claimed.ensures.goes;
+      marks = old.marks;
       counted = omega (arith, before, now, c.count.ensures, old.counted);
       stops = old.stops;
     }

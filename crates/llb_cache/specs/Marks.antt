@@ -1,0 +1,28 @@
+-- Marks of the instances that leases have: for each key, in the order of the keys, one mark for each number or fewer.
+use Rattle.std.specs.Prelude.{◌≡◌, Bool, false, List, [], ◌∷◌, length, slice_index_or, if◌then◌else◌}
+use Rattle.std.specs.List.{list_any}
+use Rattle.std.specs.Map.{keys_of}
+use Rattle.llb_cache.specs.declared.key.Key.{Key}
+use Rattle.llb_cache.specs.declared.need.Place.{Place}
+use Rattle.llb_cache.specs.Key.{same_key}
+use Rattle.llb_cache.specs.Caches.{CachesValue, IsCaches, IsExclusive, same_place, is_held}
+
+-- whether an instance is marked
+unfoldable pub marked : List Key → List (List Bool) → Place → Bool
+marked [] marks p = false
+marked (k ∷ keys) [] p = false
+marked (k ∷ keys) (m ∷ marks) p = if same_key p.key k then slice_index_or m p.number false else marked keys marks p
+
+-- whether an instance is one of these
+abbrev pub is_one_of : List Place → Place → Bool
+is_one_of ps p = list_any (same_place p) ps
+
+-- the instances that pass a test have this mark, and all others the one that they had
+abbrev pub Remarks : List Key → List (List Bool) → List Key → List (List Bool) → (Place → Bool) → Bool → Type 0
+Remarks keys marks keys' marks' test b = (p : Place) → marked keys' marks' p ≡ (if test p then b else marked keys marks p)
+
+-- caches with their marks: there is a list of marks for each key, and of the locked and the private keys the instances that leases have are marked
+pub record IsMarked (c : CachesValue) (marks : List (List Bool)) : Type 0 where
+  pub caches : IsCaches c
+  pub each : length marks ≡ length c.rows
+  pub exact : (p : Place) → IsExclusive p.key.mode → marked (keys_of c.rows) marks p ≡ is_held c.out p

@@ -1,0 +1,111 @@
+//! Which instances of a key leases have, where one lease at a time has each: a mark for each number, so that a look costs no walk over leases.
+
+ghost use Rattle.std.specs.Prelude.{◌≡◌, ◌<◌, ◌==◌, ℕ, true, false, if◌then◌else◌, length, slice_index_or, IfOk, []};
+
+use crate::fault::Memory;
+use std::alloc::Global;
+use std::marker::Model;
+
+// A mark for each instance of a key, by its number. A number past the last mark has none.
+pub(crate) struct Marks {
+    items: Vec<bool>,
+}
+
+// Written out, so that what owns one drops it by this one function.
+impl Drop for Marks {
+    fn drop(self) {
+        let Marks { items: _ } = self;
+    }
+}
+
+impl Model for Marks {
+    ghost use Rattle.std.specs.Prelude.{List, Bool};
+
+    ghost Value = { List Bool };
+
+    ghost view = { λ m. m.items.items };
+}
+
+impl Marks {
+    pub(crate) fn new(alloc: Global) -> Marks
+        ensures { result ≡ [] }
+    {
+        Marks {
+            items: Vec::new(alloc),
+        }
+    }
+
+    // Room for the marks up to this number, with none of them set.
+    pub(crate) fn up_to(alloc: Global, number: u32) -> Result<Marks, Memory>
+        ensures room { IfOk result (λ m. number < length m) }
+        ensures clear { IfOk result (λ m. (k : ℕ) → slice_index_or m k false ≡ false) }
+    {
+        let items = vec![in alloc; false; number as usize + 1]?;
+        Ok(Marks { items })
+    }
+
+    pub(crate) fn has(&self, number: u32) -> bool
+        ensures { result ≡ slice_index_or self.now number false }
+    {
+        match self.items.get(number as usize) {
+            Some(mark) => *mark,
+            None => false,
+        }
+    }
+
+    // The least number without a mark.
+    pub(crate) fn first_clear(&self) -> usize
+        ensures below { (k : ℕ) → k < result → slice_index_or self.now k false ≡ true }
+        ensures clear { slice_index_or self.now result false ≡ false }
+    {
+        for (number, mark) in self.items.iter().enumerate() {
+            if !*mark {
+                return number;
+            }
+        }
+        self.items.len()
+    }
+
+    pub(crate) fn clear(&mut self, number: u32)
+        ensures { (k : ℕ) → slice_index_or self.new k false ≡ (if k == number then false else slice_index_or self.old k false) }
+    {
+        if (number as usize) < self.items.len() {
+            self.items[number as usize] = false;
+        }
+    }
+
+    // Sets the mark of a number, in the room where there is none yet.
+    pub(crate) fn set(&mut self, number: u32, room: Marks)
+        requires room { number < length room }
+        requires clear { (k : ℕ) → slice_index_or room k false ≡ false }
+        ensures { (k : ℕ) → slice_index_or self.new k false ≡ (if k == number then true else slice_index_or self.old k false) }
+    {
+        if number as usize >= self.items.len() {
+            self.move_into(room);
+        }
+        self.items[number as usize] = true;
+    }
+
+    // The same marks, with the room of more.
+    fn move_into(&mut self, room: Marks)
+        requires room { length self.old < length room }
+        requires clear { (k : ℕ) → slice_index_or room k false ≡ false }
+        ensures same { (k : ℕ) → slice_index_or self.new k false ≡ slice_index_or self.old k false }
+        ensures len { length self.new ≡ length room }
+    {
+        let Marks { items } = room;
+        let mut items = items;
+        for (number, mark) in self.items.iter().enumerate() {
+            items[number] = *mark;
+        }
+        self.items = items;
+    }
+
+    pub(crate) fn copy(&self) -> Result<Marks, Memory>
+        ensures { IfOk result (λ m. m ≡ self.now) }
+    {
+        Ok(Marks {
+            items: self.items.clone()?,
+        })
+    }
+}

@@ -1,0 +1,57 @@
+-- The page that follows the line of refused words: that of help or of the version, where `clap` refuses the words because they ask for it.
+use Rattle.std.specs.Prelude.{◌≡◌, ◌⊎◌, ℕ, if◌then◌else◌, List, [], ◌∷◌, ◌++◌, codes, Option, Some, None, Result, Ok, Err}
+use Rattle.std.specs.Io.KnownBytes.{Appends}
+use Rattle.std.specs.Str.{bytes_eq}
+use Rattle.clap.specs.Words.{IsAmong, Kinds, Text}
+use Rattle.clap.specs.declared.error.kind.ErrorKind.{ErrorKind}
+use Rattle.clap.specs.declared.error.kind.ErrorKind.TheVariants.{DisplayHelp, DisplayVersion}
+use Rattle.llb_commands.specs.CommandLine.{Refuses, words_status, words_text}
+use Rattle.llb_commands.specs.Faults.{fault_line}
+use Rattle.llb_commands.specs.declared.pages.TheConstants.{VERSION_PAGE, PROGRAM_PAGE, RUN_PAGE, SHOW_PAGE, STEP_PAGE, ASM_PAGE, DIS_PAGE}
+use Rattle.llb_commands.specs.declared.words.Command.{Command}
+use Rattle.llb_commands.specs.declared.words.Command.TheVariants.{Run, Show, Step, Assemble, Disassemble}
+use Rattle.llb_commands.specs.declared.words.Line.{Line}
+use Rattle.llb_commands.specs.declared.words.Refusal.{Refusal}
+use Rattle.llb_commands.specs.declared.words.WordsFault.{WordsFault}
+use Rattle.llb_commands.specs.declared.words.WordsFault.TheVariants.{Words}
+
+abbrev pub command_named : Text → Option Command
+command_named name =
+    if bytes_eq name (codes "run") then Some Run
+    else if bytes_eq name (codes "show") then Some Show
+    else if bytes_eq name (codes "step") then Some Step
+    else if bytes_eq name (codes "asm") then Some Assemble
+    else if bytes_eq name (codes "dis") then Some Disassemble else None
+
+abbrev pub named_first : List Text → Option Command
+named_first [] = None
+named_first (w ∷ ws) = command_named w
+
+abbrev pub help_page : Option Command → Text
+help_page None = PROGRAM_PAGE.now
+help_page (Some Run) = RUN_PAGE.now
+help_page (Some Show) = SHOW_PAGE.now
+help_page (Some Step) = STEP_PAGE.now
+help_page (Some Assemble) = ASM_PAGE.now
+help_page (Some Disassemble) = DIS_PAGE.now
+
+-- the page for a kind of refusal by `clap`; only requests have one
+abbrev pub page_for : ErrorKind → Option Command → Text
+page_for DisplayHelp command = help_page command
+page_for DisplayVersion command = VERSION_PAGE.now
+page_for _ command = []
+
+-- what follows the line of a fault: where `clap` refuses, the page for its kind (where two kinds are possible, neither has a page)
+abbrev pub HasPage : Kinds → List Text → WordsFault → Text → Type 0
+HasPage kinds words (Words None) page = (k : ErrorKind) × IsAmong k kinds × (page ≡ page_for k (named_first words))
+HasPage kinds words _ page = page ≡ []
+
+-- the result for words, with the page of a refusal
+abbrev pub IsByWordsWithPage : Kinds → List Text → List Text → Result Line Refusal → Type 0
+IsByWordsWithPage kinds locals words (Ok line) = kinds ≡ []
+IsByWordsWithPage kinds locals words (Err r) = Refuses kinds locals r.fault × HasPage kinds words r.fault r.page.now
+
+-- the line of the fault is written and the page below it, and the status is the fault's; or they could not be written, and the status is 3
+abbrev pub TellsWithPage : Option (List ℕ) → Option (List ℕ) → WordsFault → Text → ℕ → Type 0
+TellsWithPage err err' fault page status =
+    ((status ≡ words_status fault) × Appends err err' (fault_line (words_text fault) ++ page)) ⊎ (status ≡ 3)

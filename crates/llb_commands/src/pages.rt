@@ -1,0 +1,135 @@
+//! The pages that follow the line of words that ask for help or for the version. They are the texts that `clap` renders for the command line,
+//! of which no contract speaks: so they are constants here, and a test of the program holds them against `clap`.
+
+ghost use Rattle.std.specs.Prelude.{◌≡◌, map};
+ghost use Rattle.llb_commands.specs.Pages.{command_named, help_page, named_first, page_for};
+
+use crate::words::Command;
+use clap::error::ErrorKind;
+use std::convert::AsStr;
+
+/// The version of the program, and the kit that proved it, as `rt version` prints it.
+pub(crate) const VERSION: &str = "1.0, proved with rattle-kit-13b logic dac8208d650f15bf";
+
+const VERSION_PAGE: &str = "llbm 1.0, proved with rattle-kit-13b logic dac8208d650f15bf\n";
+
+const PROGRAM_PAGE: &str = "Solves graphs of BuildKit's LLB
+
+Usage: llbm [COMMAND]
+
+Commands:
+  run   Runs the definition on standard input, and prints the tree of its result
+  show  Prints the graph of the definition on standard input
+  step  Steps through the run of a definition, by commands on standard input
+  asm   Writes the definition of the entries in the text on standard input
+  dis   Prints the entries of the definition on standard input, as text
+
+Options:
+  -h, --help     Print help
+  -V, --version  Print version
+
+Without a command the definition is run by one worker, on no local sources.
+";
+
+const RUN_PAGE: &str = "Runs the definition on standard input, and prints the tree of its result
+
+Usage: llbm run [OPTIONS] [NAME=FILE]...
+
+Arguments:
+  [NAME=FILE]...  The tree of the local source NAME, as its text in FILE
+
+Options:
+      --workers <N>  The number of workers, 1 to 64; without it, 1
+  -h, --help         Print help
+";
+
+const SHOW_PAGE: &str = "Prints the graph of the definition on standard input
+
+Usage: llbm show
+
+Options:
+  -h, --help  Print help
+";
+
+const STEP_PAGE: &str = "Steps through the run of a definition, by commands on standard input
+
+Usage: llbm step [OPTIONS] <FILE> [NAME=FILE]...
+
+Arguments:
+  <FILE>          The definition
+  [NAME=FILE]...  The tree of the local source NAME, as its text in FILE
+
+Options:
+      --workers <N>  The number of workers, 1 to 64; without it, 2
+  -h, --help         Print help
+";
+
+const ASM_PAGE: &str = "Writes the definition of the entries in the text on standard input
+
+Usage: llbm asm
+
+Options:
+  -h, --help  Print help
+";
+
+const DIS_PAGE: &str = "Prints the entries of the definition on standard input, as text
+
+Usage: llbm dis
+
+Options:
+  -h, --help  Print help
+";
+
+/// Returns the command of that name.
+pub(crate) fn named(name: &str) -> Option<Command>
+    ensures { result ≡ command_named name.now }
+{
+    if name == "run" {
+        Some(Command::Run)
+    } else if name == "show" {
+        Some(Command::Show)
+    } else if name == "step" {
+        Some(Command::Step)
+    } else if name == "asm" {
+        Some(Command::Assemble)
+    } else if name == "dis" {
+        Some(Command::Disassemble)
+    } else {
+        None
+    }
+}
+
+/// Returns the command that the first word names.
+pub(crate) fn named_first<S: AsStr>(words: &[S]) -> Option<Command>
+    ensures { result ≡ named_first (map S.text words.now) }
+{
+    match words.first() {
+        Some(word) => named(word.as_str()),
+        None => None,
+    }
+}
+
+// The page of help on a command, or on the program.
+fn help_page(command: Option<Command>) -> &'static str
+    ensures { result.now ≡ help_page command }
+{
+    match command {
+        Some(Command::Run) => RUN_PAGE,
+        Some(Command::Show) => SHOW_PAGE,
+        Some(Command::Step) => STEP_PAGE,
+        Some(Command::Assemble) => ASM_PAGE,
+        Some(Command::Disassemble) => DIS_PAGE,
+        None => PROGRAM_PAGE,
+    }
+}
+
+/// Returns the page that words ask for which `clap` refuses so, by the command that the first names; it is empty where they ask for none.
+pub(crate) fn page_for(kind: ErrorKind, command: Option<Command>) -> &'static str
+    ensures { result.now ≡ page_for kind command }
+{
+    match kind {
+        ErrorKind::DisplayHelp => help_page(command),
+        ErrorKind::DisplayVersion => VERSION_PAGE,
+        _ => "",
+    }
+}

@@ -1,0 +1,222 @@
+//! File actions and merges. A tree on which one works is a copy of the one that it is given; here each is compared with one that was made in
+//! the same steps.
+
+use super::growths::{Row, Trial, are_refused};
+use super::told::{fault_told, text_told, tree_told};
+use super::written::{entries_of, tree_and_twin, tree_named};
+use llb_fileop::{ActFault, act};
+use llb_merge::{Memory, lay, lay_onto, lay_over};
+use llb_ops::{Action, Kind, Op, read_op};
+use llb_tree::Tree;
+use llb_wire::Same;
+use std::alloc::Global;
+use std::process::Abort;
+
+#[derive(Drop)]
+enum Answer {
+    None,
+    Acted(Result<Tree, ActFault>),
+    Laid(Result<Tree, Memory>),
+    LaidOver(Result<(), Memory>),
+}
+
+// Two trees, each with one that is the same; copies of the first, for two calls that take it; and an op of one action.
+#[derive(Drop)]
+struct OnTrees {
+    call: &'static str,
+    op: Op,
+    base: Tree,
+    twin: Tree,
+    second: Tree,
+    other: Tree,
+    handed: Vec<Tree>,
+    answer: Answer,
+}
+
+fn two_copies(rt: &impl Abort, alloc: Global, tree: &Tree) -> Vec<Tree> {
+    let mut copies = Vec::new(alloc);
+    for _ in 0..2 {
+        let copy = tree.copy().expect(rt, "memory");
+        copies.push(copy).expect(rt, "memory");
+    }
+    copies
+}
+
+// The op of one action: its member, and its fields with a comma between them.
+fn op_of(rt: &impl Abort, alloc: Global, action: &str) -> Op {
+    let mut text = String::new(alloc);
+    let (kind, fields) = action.split_once(": ").unwrap_or((action, ""));
+    write!(text, "op {{\nfile {{\nactions {{\n{kind} {{\n").expect(rt, "memory");
+    for field in fields.split(", ") {
+        write!(text, "{field}\n").expect(rt, "memory");
+    }
+    text.push_str("}\n}\n}\n}\n").expect(rt, "memory");
+    let entries = entries_of(rt, alloc, text.as_str());
+    let entry = entries.as_slice().first().expect(rt, "an entry");
+    read_op(alloc, entry.as_slice()).expect(rt, "an op")
+}
+
+fn action_in(op: &Op) -> Option<&Action> {
+    match &op.kind {
+        Some(Kind::File(file)) => file.actions.as_slice().first(),
+        _ => None,
+    }
+}
+
+fn acted(alloc: Global, op: &Op, base: &Tree, second: &Tree) -> Answer {
+    match action_in(op) {
+        Some(action) => Answer::Acted(act(alloc, action, base, Some(second))),
+        None => Answer::None,
+    }
+}
+
+fn laid_onto(handed: &mut Vec<Tree>, second: &Tree) -> Answer {
+    match handed.pop() {
+        Some(tree) => Answer::Laid(lay_onto(tree, second)),
+        None => Answer::None,
+    }
+}
+
+impl Trial for OnTrees {
+    fn ready(rt: &impl Abort, alloc: Global, row: &Row) -> OnTrees {
+        let (call, on, _, _) = *row;
+        let (on, second) = on.split_once(" with ").unwrap_or((on, "EMPTY"));
+        let (base, twin) = tree_and_twin(rt, alloc, on);
+        OnTrees {
+            call,
+            op: op_of(
+                rt,
+                alloc,
+                if call.contains(": ") {
+                    call
+                } else {
+                    "rm: path \"/\""
+                },
+            ),
+            handed: two_copies(rt, alloc, &twin),
+            base,
+            twin,
+            second: tree_named(rt, alloc, second),
+            other: tree_named(rt, alloc, second),
+            answer: Answer::None,
+        }
+    }
+
+    fn call(&mut self, alloc: Global) {
+        self.answer = match self.call {
+            "lay" => Answer::Laid(lay(alloc, &self.base, &self.second)),
+            "lay_onto" => laid_onto(&mut self.handed, &self.second),
+            "lay_over" => Answer::LaidOver(lay_over(&mut self.base, &self.second)),
+            _ => acted(alloc, &self.op, &self.base, &self.second),
+        };
+    }
+
+    fn told(&self, rt: &impl Abort, alloc: Global) -> String {
+        match &self.answer {
+            Answer::None => text_told(rt, alloc, "nothing"),
+            Answer::Acted(Ok(tree)) | Answer::Laid(Ok(tree)) => tree_told(rt, alloc, tree),
+            Answer::LaidOver(Ok(())) => tree_told(rt, alloc, &self.base),
+            Answer::Acted(Err(fault)) => fault_told(rt, alloc, fault),
+            Answer::Laid(Err(fault)) | Answer::LaidOver(Err(fault)) => fault_told(rt, alloc, fault),
+        }
+    }
+
+    fn is_as_before(&mut self, _rt: &impl Abort, _alloc: Global) -> bool {
+        self.base.same(&self.twin) && self.second.same(&self.other)
+    }
+}
+
+const OLD_AND_D: &str = "d 0755 0 0 /\nd 0755 0 0 /d\nf 0600 1 1 - /old\n";
+
+const OLD_AND_FILE: &str = "d 0755 0 0 /\nf 0644 0 0 6869 /a\nf 0600 1 1 - /old\n";
+
+const OLD_AND_F: &str = "d 0755 0 0 /\nd 0755 0 0 /d\nf 0644 0 0 6869 /d/f\nf 0600 1 1 - /old\n";
+
+const DIRS_AND_F: &str = "d 0755 0 0 /\nd 0755 0 0 /d\nd 0755 0 0 /d/f\nf 0644 0 0 6869 /d/f/f\n";
+
+const D_AND_FILE: &str = "d 0755 0 0 /\nd 0755 0 0 /d\nf 0644 0 0 6869 /d/f\n";
+
+const D_FROM_S: &str =
+    "d 0755 0 0 /\nd 0755 0 0 /d\nd 0755 0 0 /d/f\nd 0755 0 0 /d/s\nf 0644 0 0 6869 /d/s/f\n";
+
+const MKDIRS: &str = "d 0755 0 0 /\nf 0600 1 1 - /old\nd 0755 0 0 /x\nd 0755 0 0 /x/y\n";
+
+const ROWS: &[Row] = &[
+    ("mkdir: path \"/d\", mode 493", "OLD", "53", OLD_AND_D),
+    (
+        "mkdir: path \"/x/y\", mode 493, makeParents true",
+        "copy of OLD",
+        "53",
+        MKDIRS,
+    ),
+    (
+        "mkfile: path \"/a\", mode 420, data 6869",
+        "OLD",
+        "53",
+        OLD_AND_FILE,
+    ),
+    (
+        "mkfile: path \"/a\", mode 420, data 6869",
+        "copy of OLD",
+        "53",
+        OLD_AND_FILE,
+    ),
+    (
+        "copy: src \"/f\", dest \"/d/\", mode -1, createDestPath true",
+        "OLD with F",
+        "53",
+        OLD_AND_F,
+    ),
+    (
+        "copy: src \"/f\", dest \"/d/f\", mode -1",
+        "D_F with F",
+        "53",
+        DIRS_AND_F,
+    ),
+    (
+        "copy: src \"/s\", dest \"/d\", mode -1",
+        "D_F with S_F",
+        "53",
+        D_FROM_S,
+    ),
+    (
+        "copy: src \"/s\", dest \"/d\", mode -1, dirCopyContents true",
+        "D with S_F",
+        "53",
+        D_AND_FILE,
+    ),
+    (
+        "copy: src \"/s\", dest \"/d\", mode -1, dirCopyContents true",
+        "EMPTY with S_F",
+        "53",
+        D_AND_FILE,
+    ),
+    (
+        "copy: src \"*.c\", dest \"/d/\", allowWildcard true, allowEmptyWildcard true",
+        "D_F with F",
+        "53",
+        "D_F",
+    ),
+    (
+        "copy: src \"s*\", dest \"/d\", mode -1, allowWildcard true",
+        "D_F with S_F",
+        "53",
+        D_FROM_S,
+    ),
+    ("rm: path \"/old\"", "OLD", "53", "EMPTY"),
+    ("rm: path \"/old\"", "copy of OLD", "53", "EMPTY"),
+    ("rm: path \"o*\", allowWildcard true", "OLD", "53", "EMPTY"),
+    ("lay", "PQ with P", "55", "P"),
+    ("lay", "P with PR", "55", "PR"),
+    ("lay_onto", "copy of P with PR", "55", "PR"),
+    ("lay_over", "P with PR", "55", "PR"),
+    ("lay_over", "copy of PQ with PR", "55", PQR),
+    ("lay_over", "PQ with PR", "55", PQR),
+];
+
+const PQR: &str = "d 0755 0 0 /\nd 0755 0 0 /p\nf 0644 0 0 31 /p/q\nf 0644 0 0 33 /p/r\n";
+
+#[test]
+fn actions_and_merges(rt: HostRuntime) {
+    are_refused::<OnTrees>(&rt, rt.alloc(), ROWS);
+}

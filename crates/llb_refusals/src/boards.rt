@@ -1,0 +1,486 @@
+//! Boards: an opening, claims, steps, copies and work. A board is written as the number of its workers and its definition, after ` on ` its
+//! local trees and after ` after ` the events that were done on it.
+
+use super::growths::{Row, Trial, are_refused};
+use super::told::{fault_told, text_told};
+use super::written::{graph_of, locals_of};
+use llb_board::{
+    Board, ClaimFault, Event, Events, Gate, Job, Memory, OpenFault, Outcome, Status, StepFault,
+    Stepped, Stopped, WorkFault, work,
+};
+use llb_cache::Caches;
+use llb_loader::{Graph, Locals};
+use llb_session::{Request, request_in};
+use llb_wire::Same;
+use std::alloc::Global;
+use std::mem;
+use std::process::Abort;
+
+/// Lets all work begin.
+pub(crate) struct Open;
+
+impl Gate for Open {
+    ghost use Rattle.std.specs.Prelude.{false};
+
+    ghost may_stop = { λ _ _. false };
+
+    fn pass(&self, _w: u32, _v: u32) -> Result<(), Stopped> {
+        Ok(())
+    }
+}
+
+// What a board is opened on.
+#[derive(Drop)]
+struct Parts {
+    graph: Graph,
+    locals: Locals,
+    caches: Caches,
+}
+
+#[derive(Drop)]
+enum Answer {
+    None,
+    Opened(Result<Board, OpenFault>),
+    Claimed(Result<Job, ClaimFault>),
+    Stepped(Result<Stepped, StepFault>),
+    Copied(Result<Board, Memory>),
+    Events(Result<Events, Memory>),
+    Worked(Result<Outcome, WorkFault>),
+}
+
+/// What is written of a board.
+#[derive(Clone, Copy)]
+pub(crate) struct Written {
+    pub workers: u32,
+    pub definition: &'static str,
+    pub locals: &'static str,
+    pub events: &'static str,
+}
+
+pub(crate) fn board_in(rt: &impl Abort, text: &'static str) -> Written {
+    let (opened, events) = text.split_once(" after ").unwrap_or((text, ""));
+    let (head, locals) = opened.split_once(" on ").unwrap_or((opened, ""));
+    let (workers, definition) = head.split_once(": ").expect(rt, "a definition");
+    Written {
+        workers: workers.parse::<u32>().ok().expect(rt, "a number"),
+        definition,
+        locals,
+        events,
+    }
+}
+
+fn opened(parts: Parts, workers: u32, alloc: Global) -> Answer {
+    let Parts {
+        graph,
+        locals,
+        caches,
+    } = parts;
+    if caches.leases() != 0 {
+        return Answer::None;
+    }
+    Answer::Opened(Board::open(alloc, graph, locals, caches, workers))
+}
+
+fn parts_of(rt: &impl Abort, alloc: Global, written: &Written) -> Parts {
+    Parts {
+        graph: graph_of(rt, alloc, written.definition),
+        locals: locals_of(rt, alloc, written.locals),
+        caches: Caches::new(alloc),
+    }
+}
+
+/// Makes a board before any event.
+pub(crate) fn board_on(rt: &impl Abort, alloc: Global, written: &Written) -> Board {
+    match opened(parts_of(rt, alloc, written), written.workers, alloc) {
+        Answer::Opened(Ok(board)) => board,
+        _ => panic!(rt; "no board"),
+    }
+}
+
+pub(crate) fn event_in(line: &str) -> Option<Event> {
+    match request_in(line.as_bytes()) {
+        Some(Request::Event(event)) => Some(event),
+        _ => None,
+    }
+}
+
+fn claimed(board: &mut Board, w: u32, v: u32) -> Answer {
+    Answer::Claimed(board.claim(w, v))
+}
+
+fn stepped(board: &mut Board, w: u32) -> Answer {
+    Answer::Stepped(board.step(w))
+}
+
+fn is_settled(board: &mut Board, w: u32) -> bool {
+    board.settle(w).is_ok()
+}
+
+fn is_cancelled(board: &mut Board, w: u32) -> bool {
+    board.cancel(w).is_ok()
+}
+
+fn is_done(board: &mut Board, event: Event) -> bool {
+    match event {
+        Event::Claim(w, v) => matches!(claimed(board, w, v), Answer::Claimed(Ok(_))),
+        Event::Step(w) => matches!(stepped(board, w), Answer::Stepped(Ok(_))),
+        Event::Settle(w) => is_settled(board, w),
+        Event::Cancel(w) => is_cancelled(board, w),
+    }
+}
+
+/// Makes a board after its events.
+pub(crate) fn board_of(rt: &impl Abort, alloc: Global, written: &Written) -> Board {
+    let mut board = board_on(rt, alloc, written);
+    for line in written.events.split("; ") {
+        if let Some(event) = event_in(line) {
+            assert!(rt; is_done(&mut board, event), "{line}");
+        }
+    }
+    board
+}
+
+pub(crate) fn copy_of(rt: &impl Abort, board: &Board) -> Board {
+    board.copy().ok().expect(rt, "memory")
+}
+
+pub(crate) fn are_same(board: &Board, other: &Board) -> bool {
+    board.same(other)
+}
+
+// What a board is opened on, with the like of it, and such a board.
+#[derive(Drop)]
+struct OnParts {
+    workers: u32,
+    parts: Option<Parts>,
+    twin: Parts,
+    answer: Answer,
+}
+
+impl OnParts {
+    // What is handed in, the first time and again where it came back.
+    fn taken(&mut self) -> Option<Parts> {
+        let answer = mem::replace(&mut self.answer, Answer::None);
+        match answer {
+            Answer::Opened(Err(OpenFault::Memory(graph, locals, caches))) => {
+                Some(Parts {
+                    graph,
+                    locals,
+                    caches,
+                })
+            }
+            _ => self.parts.take(),
+        }
+    }
+
+    fn is_like(&self, graph: &Graph, locals: &Locals, caches: &Caches) -> bool {
+        graph.same(&self.twin.graph)
+            && locals.same(&self.twin.locals)
+            && caches.same(&self.twin.caches)
+    }
+}
+
+impl Trial for OnParts {
+    fn ready(rt: &impl Abort, alloc: Global, row: &Row) -> OnParts {
+        let written = board_in(rt, row.1);
+        OnParts {
+            workers: written.workers,
+            parts: Some(parts_of(rt, alloc, &written)),
+            twin: parts_of(rt, alloc, &written),
+            answer: Answer::None,
+        }
+    }
+
+    fn call(&mut self, alloc: Global) {
+        if let Some(parts) = self.taken() {
+            self.answer = opened(parts, self.workers, alloc);
+        }
+    }
+
+    fn told(&self, rt: &impl Abort, alloc: Global) -> String {
+        match &self.answer {
+            Answer::Opened(Ok(board)) => fault_told(rt, alloc, &board.graph().vertices().len()),
+            Answer::Opened(Err(fault)) => fault_told(rt, alloc, fault),
+            _ => text_told(rt, alloc, "nothing"),
+        }
+    }
+
+    fn is_as_before(&mut self, _rt: &impl Abort, _alloc: Global) -> bool {
+        match &self.answer {
+            Answer::Opened(Err(OpenFault::Memory(graph, locals, caches))) => {
+                self.is_like(graph, locals, caches)
+            }
+            _ => false,
+        }
+    }
+}
+
+pub(crate) const TWO_FILES: &str = "2: MAKES_A; MAKES_B; MERGES_0_1; RESULT 2";
+
+const OPENINGS: &[Row] = &[
+    ("open", TWO_FILES, "123", "3"),
+    (
+        "open",
+        "64: MAKES_A; MAKES_B; MERGES_0_1; RESULT 2",
+        "123",
+        "3",
+    ),
+    (
+        "open",
+        "2: SOURCE_P; SOURCE_Q; CHANGES_0_BY_1; RESULT 2 on p=OLD q=F",
+        "123",
+        "3",
+    ),
+    (
+        "open",
+        "2: SOURCE_P; SOURCE_Q; CHANGES_0_BY_1; RESULT 2 on p=OLD",
+        "123",
+        "121 q",
+    ),
+];
+
+#[test]
+fn openings(rt: HostRuntime) {
+    are_refused::<OnParts>(&rt, rt.alloc(), OPENINGS);
+}
+
+// A board, one that is the same, and one on which the event was done that is asked for; and jobs for calls that take them.
+#[derive(Drop)]
+struct OnBoard {
+    call: &'static str,
+    board: Board,
+    twin: Board,
+    goal: Board,
+    jobs: Vec<Job>,
+    answer: Answer,
+}
+
+// The job of a claim.
+fn push_job(rt: &impl Abort, jobs: &mut Vec<Job>, board: &mut Board, v: u32) {
+    match claimed(board, 0, v) {
+        Answer::Claimed(Ok(job)) => jobs.push(job).expect(rt, "memory"),
+        _ => panic!(rt; "no job"),
+    }
+}
+
+fn worked(alloc: Global, jobs: &mut Vec<Job>) -> Answer {
+    match jobs.pop() {
+        Some(job) => Answer::Worked(work(alloc, job, &Open)),
+        None => Answer::None,
+    }
+}
+
+fn event_done(board: &mut Board, event: Event) -> Answer {
+    match event {
+        Event::Claim(w, v) => claimed(board, w, v),
+        Event::Step(w) => stepped(board, w),
+        _ => Answer::None,
+    }
+}
+
+fn board_called(board: &mut Board, call: &str) -> Answer {
+    match event_in(call) {
+        Some(event) => event_done(board, event),
+        None => Answer::None,
+    }
+}
+
+fn name_of(is_same: bool) -> &'static str {
+    if is_same { "the board" } else { "another" }
+}
+
+impl OnBoard {
+    // How the board is behind an event.
+    fn behind(&self) -> &'static str {
+        name_of(self.board.same(&self.goal))
+    }
+
+    fn claim_told(&self, rt: &impl Abort, alloc: Global, job: &Job) -> String {
+        let (w, v, name) = (job.worker(), job.vertex(), self.behind());
+        format!(in alloc; "{w} at {v}, {name}").expect(rt, "memory")
+    }
+
+    fn step_told(&self, rt: &impl Abort, alloc: Global, stepped: Stepped) -> String {
+        let name = self.behind();
+        format!(in alloc; "{stepped:?}, {name}").expect(rt, "memory")
+    }
+
+    fn events_told(&self, events: &Events) -> &'static str {
+        let are_same = events.as_slice() == self.twin.events().as_slice();
+        if are_same { "the events" } else { "others" }
+    }
+
+    // A vertex whose claim was refused is ready.
+    fn is_ready(&self) -> bool {
+        match event_in(self.call) {
+            Some(Event::Claim(_, v)) => self.board.status(v) == Some(Status::Ready),
+            _ => true,
+        }
+    }
+}
+
+fn outcome_told(rt: &impl Abort, alloc: Global, outcome: &Outcome) -> String {
+    let (count, is_failed) = (outcome.count(), outcome.fault().is_some());
+    format!(in alloc; "{count} done, {is_failed}").expect(rt, "memory")
+}
+
+impl Trial for OnBoard {
+    fn ready(rt: &impl Abort, alloc: Global, row: &Row) -> OnBoard {
+        let (call, on, _, _) = *row;
+        let is_copy = on.starts_with("copy of ");
+        let written = board_in(rt, on.strip_prefix("copy of ").unwrap_or(on));
+        let mut board = board_of(rt, alloc, &written);
+        let mut twin = board_of(rt, alloc, &written);
+        let mut goal = board_of(rt, alloc, &written);
+        let mut jobs = Vec::new(alloc);
+        if let Some(vertex) = call.strip_prefix("work ") {
+            let v = vertex.parse::<u32>().ok().expect(rt, "a number");
+            push_job(rt, &mut jobs, &mut board, v);
+            push_job(rt, &mut jobs, &mut goal, v);
+            push_job(rt, &mut jobs, &mut twin, v);
+        } else {
+            let _ = board_called(&mut goal, call);
+        }
+        if is_copy {
+            twin = copy_of(rt, &board);
+        }
+        OnBoard {
+            call,
+            board,
+            twin,
+            goal,
+            jobs,
+            answer: Answer::None,
+        }
+    }
+
+    fn call(&mut self, alloc: Global) {
+        self.answer = match self.call {
+            "Board::copy" => Answer::Copied(self.board.copy()),
+            "Events::copy" => Answer::Events(self.board.events().copy()),
+            call if call.starts_with("work ") => worked(alloc, &mut self.jobs),
+            call => board_called(&mut self.board, call),
+        };
+    }
+
+    fn told(&self, rt: &impl Abort, alloc: Global) -> String {
+        match &self.answer {
+            Answer::Claimed(Ok(job)) => self.claim_told(rt, alloc, job),
+            Answer::Stepped(Ok(stepped)) => self.step_told(rt, alloc, *stepped),
+            Answer::Copied(Ok(copy)) => text_told(rt, alloc, name_of(copy.same(&self.twin))),
+            Answer::Events(Ok(events)) => text_told(rt, alloc, self.events_told(events)),
+            Answer::Worked(Ok(outcome)) => outcome_told(rt, alloc, outcome),
+            Answer::Claimed(Err(fault)) => fault_told(rt, alloc, fault),
+            Answer::Stepped(Err(fault)) => fault_told(rt, alloc, fault),
+            Answer::Worked(Err(fault)) => fault_told(rt, alloc, fault),
+            Answer::Copied(Err(fault)) | Answer::Events(Err(fault)) => fault_told(rt, alloc, fault),
+            _ => text_told(rt, alloc, "nothing"),
+        }
+    }
+
+    fn is_as_before(&mut self, _rt: &impl Abort, _alloc: Global) -> bool {
+        self.board.same(&self.twin)
+            && self.board.caches().leases() == self.twin.caches().leases()
+            && self.is_ready()
+    }
+}
+
+const ROWS: &[Row] = &[
+    ("claim 0 0", TWO_FILES, "141", "0 at 0, the board"),
+    (
+        "claim 0 0",
+        "copy of 2: MAKES_A; MAKES_B; MERGES_0_1; RESULT 2",
+        "141",
+        "0 at 0, the board",
+    ),
+    ("claim 0 0", LOCKED, "141", "0 at 0, the board"),
+    (
+        "claim 0 0",
+        "2: private: write /c/a x; RESULT 0",
+        "141",
+        "0 at 0, the board",
+    ),
+    ("claim 1 1", LOCKED_ONCE, "141", "135 k"),
+    ("claim 1 0", GIVEN_UP, "141", "1 at 0, the board"),
+    ("claim 0 2", ON_VIEW, "141", "0 at 2, the board"),
+    ("step 0", CLAIMED, "141", "Acted(0), the board"),
+    (
+        "step 0",
+        "copy of 2: MAKES_A; MAKES_B; MERGES_0_1; RESULT 2 after claim 0 0",
+        "141",
+        "Acted(0), the board",
+    ),
+    ("step 0", MERGING, "141", "Merged(1), the board"),
+    ("step 0", VIEW_CLAIMED, "141", "Ran(0, 0), the board"),
+    (
+        "step 0",
+        COPY_OF_VIEW_CLAIMED,
+        "141",
+        "Ran(0, 0), the board",
+    ),
+    ("step 0", VIEW_TWICE, "141", "Ran(2, 0), the board"),
+    ("step 0", LOCKED_ONCE, "141", "Ran(0, 0), the board"),
+    (
+        "step 0",
+        "2: locked: write /c/a x && false; RESULT 0 after claim 0 0; step 0",
+        "141",
+        "Ran(1, 1), the board",
+    ),
+    ("step 1", SHARED_TWICE, "141", "Ran(0, 0), the board"),
+    ("step 0", SKIPS, "", "Skipped(1), the board"),
+    ("Board::copy", LOCKED_ONCE, "141", "the board"),
+    ("Events::copy", LOCKED_ONCE, "141", "the events"),
+    ("work 0", TWO_FILES, "142", "1 done, false"),
+    ("work 0", LOCKED, "142", "1 done, false"),
+    ("work 2", ON_VIEW, "142", "3 done, false"),
+    (
+        "work 0",
+        "2: locked: write /c/a x && false; RESULT 0",
+        "142",
+        "2 done, true",
+    ),
+    (
+        "work 0",
+        "2: sh: write /x a || false && write /y b; RESULT 0",
+        "142",
+        "3 done, false",
+    ),
+];
+
+const LOCKED: &str = "2: locked: write /c/a x; locked: write /c/b y; MERGES_0_1; RESULT 2";
+
+const LOCKED_ONCE: &str =
+    "2: locked: write /c/a x; locked: write /c/b y; MERGES_0_1; RESULT 2 after claim 0 0";
+
+const GIVEN_UP: &str =
+    "2: locked: append /c/l a && append /c/l b; RESULT 0 after claim 0 0; step 0; cancel 0";
+
+const SHARED_TWICE: &str =
+    "2: shared: append /c/l a; shared: append /c/l c; MERGES_0_1; RESULT 2 after claim 0 0; claim 1 1; step 0";
+
+const CLAIMED: &str = "2: MAKES_A; MAKES_B; MERGES_0_1; RESULT 2 after claim 0 0";
+
+const MERGING: &str = "2: MAKES_A; MAKES_B; MERGES_0_1; RESULT 2 after \
+    claim 0 0; step 0; settle 0; claim 0 1; step 0; settle 0; claim 0 2; step 0";
+
+const ON_VIEW: &str = "2: SOURCE_P; SOURCE_Q; COPIES_BY_A_TMPFS; RESULT 2 on p=EMPTY q=SUB after \
+    claim 0 0; step 0; settle 0; claim 0 1; step 0; settle 0";
+
+const VIEW_CLAIMED: &str =
+    "2: SOURCE_P; SOURCE_Q; COPIES_BY_A_TMPFS; RESULT 2 on p=EMPTY q=SUB after \
+    claim 0 0; step 0; settle 0; claim 0 1; step 0; settle 0; claim 0 2";
+
+const COPY_OF_VIEW_CLAIMED: &str =
+    "copy of 2: SOURCE_P; SOURCE_Q; COPIES_BY_A_TMPFS; RESULT 2 on p=EMPTY q=SUB after \
+    claim 0 0; step 0; settle 0; claim 0 1; step 0; settle 0; claim 0 2";
+
+const VIEW_TWICE: &str =
+    "2: SOURCE_P; SOURCE_Q; COPIES_BY_A_TMPFS; RESULT 2 on p=EMPTY q=SUB after \
+    claim 0 0; step 0; settle 0; claim 0 1; step 0; settle 0; claim 0 2; step 0; step 0";
+
+const SKIPS: &str = "2: sh: write /x a || write /y b; RESULT 0 after claim 0 0; step 0";
+
+#[test]
+fn boards(rt: HostRuntime) {
+    are_refused::<OnBoard>(&rt, rt.alloc(), ROWS);
+}

@@ -1,0 +1,192 @@
+//! Leases of caches. A need is the ID of its key and the mode, with the tree that a new instance begins with; needs have a comma between them.
+
+use super::growths::{Row, Trial, are_refused};
+use super::told::{fault_told, text_of, text_told};
+use super::written::tree_named;
+use llb_cache::{Caches, Key, Lease, LeaseFault, Many, Memory, Mode, Need, Seed};
+use std::alloc::Global;
+use std::process::Abort;
+
+#[derive(Drop)]
+enum Answer {
+    None,
+    Lease(Result<Lease, LeaseFault>),
+    Copied(Result<Caches, Memory>),
+}
+
+// Caches, twice, and needs for two calls that take them.
+#[derive(Drop)]
+struct OnCaches {
+    call: &'static str,
+    caches: Caches,
+    twin: Caches,
+    needs: Vec<Many<Need>>,
+    answer: Answer,
+}
+
+fn mode_of(way: &str) -> Mode {
+    match way {
+        "locked" => Mode::Locked,
+        "private" => Mode::Private,
+        _ => Mode::Shared,
+    }
+}
+
+// A key with a seed where a tree is named.
+fn key_of(rt: &impl Abort, alloc: Global, id: &str, way: &str, tree: &str) -> Key {
+    let seed = if tree.is_empty() {
+        None
+    } else {
+        let digest = text_of(rt, alloc, "sha256:00");
+        Some(Seed { digest, index: 0 })
+    };
+    Key {
+        id: text_of(rt, alloc, id),
+        seed,
+        mode: mode_of(way),
+    }
+}
+
+fn needs_of(rt: &impl Abort, alloc: Global, written: &'static str) -> Many<Need> {
+    let mut needs = Vec::new(alloc);
+    for need in written.split(", ") {
+        let (id, rest) = need.split_once(' ').unwrap_or((need, ""));
+        let (way, tree) = rest.split_once(' ').unwrap_or((rest, ""));
+        let key = key_of(rt, alloc, id, way, tree);
+        let tree = tree_named(rt, alloc, if tree.is_empty() { "EMPTY" } else { tree });
+        needs.push(Need { key, tree }).expect(rt, "memory");
+    }
+    Many::new(needs)
+}
+
+fn leased(caches: &mut Caches, needs: Many<Need>) -> Answer {
+    if caches.can_lease(needs.as_slice()) {
+        return Answer::Lease(caches.lease(needs));
+    }
+    Answer::None
+}
+
+// Caches with leases out, each of which has needs.
+fn caches_of(rt: &impl Abort, alloc: Global, out: &'static str) -> Caches {
+    let mut caches = Caches::new(alloc);
+    for needs in out.split(" then ") {
+        if !needs.is_empty() {
+            let _ = leased(&mut caches, needs_of(rt, alloc, needs));
+        }
+    }
+    caches
+}
+
+fn taken(caches: &mut Caches, handed: &mut Vec<Many<Need>>) -> Answer {
+    match handed.pop() {
+        Some(needs) => leased(caches, needs),
+        None => Answer::None,
+    }
+}
+
+fn two_needs(rt: &impl Abort, alloc: Global, written: &'static str) -> Vec<Many<Need>> {
+    let mut needs = Vec::new(alloc);
+    for _ in 0..2 {
+        needs
+            .push(needs_of(rt, alloc, written))
+            .expect(rt, "memory");
+    }
+    needs
+}
+
+impl OnCaches {
+    // The lease with the instance that its first need has, and how many leases are out.
+    fn lease_told(&self, rt: &impl Abort, alloc: Global, lease: Lease) -> String {
+        let number = lease.number();
+        let mut instance = u32::MAX;
+        if self.caches.needs(lease) > 0 {
+            instance = self.caches.instance_of(&lease, 0);
+        }
+        let out = self.caches.leases();
+        format!(in alloc; "lease {number} of instance {instance}, {out} out").expect(rt, "memory")
+    }
+
+    fn copy_told(&self, copy: &Caches) -> &'static str {
+        if copy.same(&self.twin) {
+            "the caches"
+        } else {
+            "others"
+        }
+    }
+}
+
+impl Trial for OnCaches {
+    fn ready(rt: &impl Abort, alloc: Global, row: &Row) -> OnCaches {
+        let (call, on, _, _) = *row;
+        let (needs, out) = on.split_once(" after ").unwrap_or((on, ""));
+        OnCaches {
+            call,
+            caches: caches_of(rt, alloc, out),
+            twin: caches_of(rt, alloc, out),
+            needs: two_needs(rt, alloc, needs),
+            answer: Answer::None,
+        }
+    }
+
+    fn call(&mut self, _alloc: Global) {
+        self.answer = match self.call {
+            "Caches::copy" => Answer::Copied(self.caches.copy()),
+            _ => taken(&mut self.caches, &mut self.needs),
+        };
+    }
+
+    fn told(&self, rt: &impl Abort, alloc: Global) -> String {
+        match &self.answer {
+            Answer::None => text_told(rt, alloc, "nothing"),
+            Answer::Lease(Ok(lease)) => self.lease_told(rt, alloc, *lease),
+            Answer::Copied(Ok(copy)) => text_told(rt, alloc, self.copy_told(copy)),
+            Answer::Lease(Err(fault)) => fault_told(rt, alloc, fault),
+            Answer::Copied(Err(fault)) => fault_told(rt, alloc, fault),
+        }
+    }
+
+    fn is_as_before(&mut self, _rt: &impl Abort, _alloc: Global) -> bool {
+        self.caches.same(&self.twin) && self.caches.leases() == self.twin.leases()
+    }
+}
+
+const ROWS: &[Row] = &[
+    ("lease", "k locked", "112", "lease 0 of instance 0, 1 out"),
+    ("lease", "k locked after k locked", "", "111 k"),
+    ("lease", "a locked, b locked after b locked", "", "111 b"),
+    (
+        "lease",
+        "a locked after b locked",
+        "112",
+        "lease 1 of instance 0, 2 out",
+    ),
+    (
+        "lease",
+        "p private F",
+        "112",
+        "lease 0 of instance 0, 1 out",
+    ),
+    (
+        "lease",
+        "p private F after p private F",
+        "112",
+        "lease 1 of instance 1, 2 out",
+    ),
+    (
+        "lease",
+        "k shared after k shared",
+        "112",
+        "lease 1 of instance 0, 2 out",
+    ),
+    (
+        "Caches::copy",
+        "k locked after b locked then p private F",
+        "112",
+        "the caches",
+    ),
+];
+
+#[test]
+fn leases(rt: HostRuntime) {
+    are_refused::<OnCaches>(&rt, rt.alloc(), ROWS);
+}

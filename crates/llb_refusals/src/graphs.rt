@@ -1,0 +1,231 @@
+//! Definitions as graphs, local trees, and the plain outcomes.
+
+use super::growths::{Row, Trial, are_refused};
+use super::told::{fault_told, say, text_of, text_told, tree_told};
+use super::written::{definition_of, entries_of, graph_of, locals_of, tree_named};
+use llb_loader::{Graph, LoadFault, Locals, Memory, Row as Linked, link, load};
+use llb_plain::{Outcomes, PlainFault, evaluate};
+use llb_tree::Tree;
+use llb_wire::{Bytes, Same, Text};
+use std::alloc::Global;
+use std::process::Abort;
+
+#[derive(Drop)]
+enum Answer {
+    None,
+    Graph(Result<Graph, LoadFault>),
+    Copied(Result<Graph, Memory>),
+    Locals(Result<Locals, Memory>),
+    Added(Result<(), Memory>),
+    Outcomes(Result<Outcomes, PlainFault>),
+}
+
+// A definition, its rows, and its graph and local trees, each of these two twice; names and trees for two calls that take them.
+#[derive(Drop)]
+struct OnGraph {
+    call: &'static str,
+    definition: Bytes,
+    rows: Vec<Linked>,
+    graph: Graph,
+    other: Graph,
+    locals: Locals,
+    twin: Locals,
+    handed: Vec<(Text, Tree)>,
+    answer: Answer,
+}
+
+// The entries under names of one letter, the last of which is the terminal.
+fn rows_of(rt: &impl Abort, alloc: Global, written: &str) -> Vec<Linked> {
+    let mut rows = Vec::new(alloc);
+    for one in written.split(" = ") {
+        if let Some((digest, written)) = one.split_once(' ') {
+            let entries = entries_of(rt, alloc, written);
+            let entry = entries.as_slice().first().expect(rt, "an entry");
+            let bytes = Bytes::from_slice(alloc, entry.as_slice()).expect(rt, "memory");
+            let digest = text_of(rt, alloc, digest);
+            rows.push(Linked { digest, bytes }).expect(rt, "memory");
+        }
+    }
+    rows
+}
+
+// A name and a tree for each of two calls.
+fn handed(rt: &impl Abort, alloc: Global, name: &str) -> Vec<(Text, Tree)> {
+    let mut handed = Vec::new(alloc);
+    for _ in 0..2 {
+        let tree = tree_named(rt, alloc, "F");
+        handed
+            .push((text_of(rt, alloc, name), tree))
+            .expect(rt, "memory");
+    }
+    handed
+}
+
+fn added(locals: &mut Locals, handed: &mut Vec<(Text, Tree)>) -> Answer {
+    match handed.pop() {
+        Some((name, tree)) => Answer::Added(locals.add(name, tree)),
+        None => Answer::None,
+    }
+}
+
+fn linked(alloc: Global, rows: &[Linked]) -> Answer {
+    if rows.len() > 65_536 {
+        return Answer::None;
+    }
+    Answer::Graph(link(alloc, rows))
+}
+
+// How many vertices there are, and the vertex of the result.
+fn graph_told(rt: &impl Abort, alloc: Global, graph: &Graph) -> String {
+    let (count, last) = (graph.vertices().len(), graph.result().vertex);
+    format!(in alloc; "{count} {last}").expect(rt, "memory")
+}
+
+fn local_told(rt: &impl Abort, text: &mut String, locals: &Locals, name: &str) {
+    if let Some(tree) = locals.get(name) {
+        let tree = tree_told(rt, *text.allocator(), tree);
+        say(rt, text, name);
+        say(rt, text, "|");
+        say(rt, text, tree.as_str());
+    }
+}
+
+fn locals_told(rt: &impl Abort, alloc: Global, locals: &Locals) -> String {
+    let mut text = String::new(alloc);
+    local_told(rt, &mut text, locals, "p");
+    local_told(rt, &mut text, locals, "q");
+    text
+}
+
+// The first output of the last vertex.
+fn outcomes_told(rt: &impl Abort, alloc: Global, outcomes: &Outcomes) -> String {
+    match outcomes.as_slice().last() {
+        Some(outcome) => match outcome.output(0) {
+            Some(tree) => tree_told(rt, alloc, tree),
+            None => text_told(rt, alloc, "no output"),
+        },
+        None => text_told(rt, alloc, "no vertex"),
+    }
+}
+
+impl Trial for OnGraph {
+    fn ready(rt: &impl Abort, alloc: Global, row: &Row) -> OnGraph {
+        let (call, on, _, _) = *row;
+        let (written, locals) = on.split_once(" on ").unwrap_or((on, ""));
+        let is_made = call == "load" || call == "link";
+        let graph = if is_made {
+            "MAKES_A; RESULT 0"
+        } else {
+            written
+        };
+        OnGraph {
+            call,
+            definition: definition_of(rt, alloc, if call == "load" { written } else { graph }),
+            rows: rows_of(rt, alloc, if call == "link" { written } else { "" }),
+            graph: graph_of(rt, alloc, graph),
+            other: graph_of(rt, alloc, graph),
+            locals: locals_of(rt, alloc, locals),
+            twin: locals_of(rt, alloc, locals),
+            handed: handed(rt, alloc, call.strip_prefix("Locals::add ").unwrap_or("")),
+            answer: Answer::None,
+        }
+    }
+
+    fn call(&mut self, alloc: Global) {
+        self.answer = match self.call {
+            "load" => Answer::Graph(load(alloc, self.definition.as_slice())),
+            "link" => linked(alloc, &self.rows),
+            "Graph::copy" => Answer::Copied(self.graph.copy()),
+            "Locals::copy" => Answer::Locals(self.locals.copy()),
+            "evaluate" => Answer::Outcomes(evaluate(alloc, &self.graph, &self.locals)),
+            _ => added(&mut self.locals, &mut self.handed),
+        };
+    }
+
+    fn told(&self, rt: &impl Abort, alloc: Global) -> String {
+        match &self.answer {
+            Answer::None => text_told(rt, alloc, "nothing"),
+            Answer::Graph(Ok(graph)) | Answer::Copied(Ok(graph)) => graph_told(rt, alloc, graph),
+            Answer::Locals(Ok(locals)) => locals_told(rt, alloc, locals),
+            Answer::Added(Ok(())) => locals_told(rt, alloc, &self.locals),
+            Answer::Outcomes(Ok(outcomes)) => outcomes_told(rt, alloc, outcomes),
+            Answer::Graph(Err(fault)) => fault_told(rt, alloc, fault),
+            Answer::Outcomes(Err(fault)) => fault_told(rt, alloc, fault),
+            Answer::Copied(Err(fault)) | Answer::Locals(Err(fault)) | Answer::Added(Err(fault)) => {
+                fault_told(rt, alloc, fault)
+            }
+        }
+    }
+
+    fn is_as_before(&mut self, _rt: &impl Abort, _alloc: Global) -> bool {
+        self.graph.same(&self.other) && self.locals.same(&self.twin)
+    }
+}
+
+const CHANGED: &str = "SOURCE_P; SOURCE_Q; CHANGES_0_BY_1; RESULT 2";
+
+const RUN: &str = "SOURCE_P; SOURCE_Q; COPIES_BY_A_TMPFS; RESULT 2";
+
+const MERGED: &str = "MAKES_PQ; MAKES_P; MAKES_PR; MERGES_0_1_2; RESULT 3";
+
+const ON_P: &str = "SOURCE_P; SOURCE_Q; CHANGES_0_BY_1; RESULT 2 on p=OLD";
+
+const ON_BOTH: &str = "SOURCE_P; SOURCE_Q; CHANGES_0_BY_1; RESULT 2 on p=OLD q=F";
+
+const RUN_ON_BOTH: &str = "SOURCE_P; SOURCE_Q; COPIES_BY_A_TMPFS; RESULT 2 on p=EMPTY q=SUB";
+
+const D_AND_F: &str = "d 0755 0 0 /\nd 0755 0 0 /d\nf 0644 0 0 6869 /d/f\n";
+
+const BOTH: &str = "p|d 0755 0 0 /\nf 0600 1 1 - /old\nq|d 0755 0 0 /\nf 0644 0 0 6869 /f\n";
+
+const P_OLD: &str = "p|d 0755 0 0 /\nf 0600 1 1 - /old\n";
+
+const ROWS: &[Row] = &[
+    ("load", "MAKES_A; RESULT 0", "91", "1 0"),
+    ("load", RUN, "91", "3 2"),
+    (
+        "load",
+        "locked: write /c/a x && false; RESULT 0",
+        "91",
+        "1 0",
+    ),
+    (
+        "load",
+        "sh: nosuch; RESULT 0",
+        "91",
+        "89 0 Script 71 nosuch",
+    ),
+    ("load", "raw 3a00; RESULT 0", "91", "88 0 DiffOp"),
+    ("link", " = a MAKES_A = b D_ON_A = t ON_B", "91", "2 1"),
+    ("link", " = b D_ON_A = a MAKES_A = t ON_B", "91", "2 1"),
+    ("link", " = a MAKES_A = b SCRIPT_ON_A = t ON_B", "91", "2 1"),
+    ("Graph::copy", CHANGED, "", "3 2"),
+    (
+        "Locals::add p",
+        CHANGED,
+        "92",
+        "p|d 0755 0 0 /\nf 0644 0 0 6869 /f\n",
+    ),
+    ("Locals::add q", ON_P, "", BOTH),
+    (
+        "Locals::add p",
+        ON_P,
+        "",
+        "p|d 0755 0 0 /\nf 0644 0 0 6869 /f\n",
+    ),
+    ("Locals::copy", ON_P, "92", P_OLD),
+    ("evaluate", MERGED, "103", "PR"),
+    (
+        "evaluate",
+        RUN_ON_BOTH,
+        "103",
+        "d 0755 0 0 /\nf 0644 0 0 6869 /y\n",
+    ),
+    ("evaluate", ON_BOTH, "103", D_AND_F),
+    ("evaluate", ON_P, "103", "101 q"),
+];
+
+#[test]
+fn graphs(rt: HostRuntime) {
+    are_refused::<OnGraph>(&rt, rt.alloc(), ROWS);
+}

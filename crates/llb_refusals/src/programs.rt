@@ -1,0 +1,354 @@
+//! The program's commands, over readers and writers in memory that have room for all that is written.
+
+use super::growths::{MOST, Row, Trial, are_refused, is_lack, print_count, refuse, was_refused};
+use super::told::{bytes_told, is_same, say, text_told};
+use super::written::{definition_of, entries_text, locals_of, tree_text};
+use llb_commands::{
+    ReadFault, WordsFault, asm_over, command_of, dis_over, read_bounded, run_many_over, run_over,
+    show_over, step_over,
+};
+use llb_loader::Locals;
+use std::alloc::Global;
+use std::process::Abort;
+use std::sync::Wait;
+use std::thread::Threads;
+
+// What a command wrote, and its status.
+#[derive(Drop)]
+struct Ran {
+    status: u8,
+    out: Vec<u8>,
+    err: Vec<u8>,
+}
+
+fn ran_nothing(rt: &impl Abort, alloc: Global) -> Ran {
+    Ran {
+        status: 0,
+        out: Vec::with_capacity(alloc, 4000).expect(rt, "memory"),
+        err: Vec::with_capacity(alloc, 4000).expect(rt, "memory"),
+    }
+}
+
+// What is read: a definition, or a text.
+fn input_of(rt: &impl Abort, alloc: Global, call: &str, on: &str) -> Vec<u8> {
+    match call {
+        "asm_over" => entries_text(rt, alloc, on).into_bytes(),
+        _ => definition_of(rt, alloc, on).into_vec(),
+    }
+}
+
+impl Ran {
+    fn clear(&mut self) {
+        self.out.clear();
+        self.err.clear();
+    }
+
+    // The first refusal in what is written.
+    fn refusal(&self) -> Option<&str> {
+        let text = str::from_utf8(self.out.as_slice()).ok()?;
+        for line in text.lines() {
+            if line.starts_with("fault ") {
+                return Some(line);
+            }
+        }
+        None
+    }
+
+    // A status that is not 0 with what is on `err`, else the first refusal that is written, else what is written.
+    fn told(&self, rt: &impl Abort, alloc: Global, is_text: bool) -> String {
+        let (status, err) = (
+            self.status,
+            str::from_utf8(self.err.as_slice()).unwrap_or(""),
+        );
+        if status != 0 {
+            return format!(in alloc; "{status} {}", err.trim()).expect(rt, "memory");
+        }
+        match (self.refusal(), str::from_utf8(self.out.as_slice())) {
+            (Some(fault), _) => text_told(rt, alloc, fault),
+            (None, Ok(out)) if is_text => text_told(rt, alloc, out),
+            _ => bytes_told(rt, alloc, self.out.as_slice()),
+        }
+    }
+}
+
+#[derive(Drop)]
+struct OnInput {
+    call: &'static str,
+    input: Vec<u8>,
+    commands: String,
+    locals: Vec<Locals>,
+    wanted: &'static str,
+    ran: Ran,
+}
+
+fn run(alloc: Global, mut input: &[u8], handed: &mut Vec<Locals>, ran: &mut Ran) {
+    if let Some(locals) = handed.pop() {
+        ran.status = run_over(alloc, &mut input, &mut ran.out, &mut ran.err, locals);
+    }
+}
+
+fn step(alloc: Global, mut file: &[u8], commands: &str, handed: &mut Vec<Locals>, ran: &mut Ran) {
+    let mut lines = commands.as_bytes();
+    if let Some(locals) = handed.pop() {
+        ran.status = step_over(
+            alloc,
+            &mut file,
+            &mut lines,
+            &mut ran.out,
+            &mut ran.err,
+            locals,
+            2,
+        );
+    }
+}
+
+// The other commands take no local trees.
+fn other(alloc: Global, call: &str, mut input: &[u8], ran: &mut Ran) {
+    let Ran { status, out, err } = ran;
+    *status = match call {
+        "asm_over" => asm_over(alloc, &mut input, out, err),
+        "dis_over" => dis_over(alloc, &mut input, out, err),
+        _ => show_over(alloc, &mut input, out, err),
+    };
+}
+
+// Commands, each in a line.
+fn lines_of(rt: &impl Abort, alloc: Global, commands: &str) -> String {
+    let mut text = String::new(alloc);
+    for command in commands.split("; ") {
+        say(rt, &mut text, command);
+        say(rt, &mut text, "\n");
+    }
+    text
+}
+
+fn two_locals(rt: &impl Abort, alloc: Global, given: &'static str) -> Vec<Locals> {
+    let mut locals = Vec::new(alloc);
+    for _ in 0..2 {
+        locals
+            .push(locals_of(rt, alloc, given))
+            .expect(rt, "memory");
+    }
+    locals
+}
+
+impl Trial for OnInput {
+    fn ready(rt: &impl Abort, alloc: Global, row: &Row) -> OnInput {
+        let (call, commands) = row.0.split_once(": ").unwrap_or((row.0, ""));
+        let (on, locals) = row.1.split_once(" on ").unwrap_or((row.1, ""));
+        OnInput {
+            call,
+            input: input_of(rt, alloc, call, on),
+            commands: lines_of(rt, alloc, commands),
+            locals: two_locals(rt, alloc, locals),
+            wanted: tree_text(row.3),
+            ran: ran_nothing(rt, alloc),
+        }
+    }
+
+    fn call(&mut self, alloc: Global) {
+        let OnInput {
+            call,
+            input,
+            commands,
+            locals,
+            wanted: _,
+            ran,
+        } = self;
+        ran.clear();
+        match *call {
+            "run_over" => run(alloc, input.as_slice(), locals, ran),
+            "step_over" => step(alloc, input.as_slice(), commands.as_str(), locals, ran),
+            _ => other(alloc, call, input.as_slice(), ran),
+        }
+    }
+
+    fn told(&self, rt: &impl Abort, alloc: Global) -> String {
+        self.ran.told(rt, alloc, self.call != "asm_over")
+    }
+
+    // What is written is the beginning of what is to be written; a session goes on after its refusals.
+    fn is_as_before(&mut self, _rt: &impl Abort, _alloc: Global) -> bool {
+        match self.call {
+            "step_over" => true,
+            "asm_over" => self.ran.out.is_empty(),
+            _ => self.wanted.as_bytes().starts_with(self.ran.out.as_slice()),
+        }
+    }
+}
+
+const ONE_FILE: &str = "MAKES_A; RESULT 0";
+
+const A_TREE: &str = "d 0755 0 0 /\nf 0644 0 0 6869 /a\n";
+
+const SHOWN: &str =
+    "0 file steps 1 outputs 1 inputs -\n1 file steps 1 outputs 1 inputs 0.0\nresult 1.0\n";
+
+const A_MERGE: &str = "raw 320d0a0b08ffffffffffffffffff01520e0a05616d64363412056c696e75785a00";
+
+const MERGE_TEXT: &str =
+    "op {\n  merge {\n    inputs {\n      input -1\n    }\n  }\n  extra 520e0a05616d64363412056c696e75785a00\n}\n";
+
+const SESSION: &str = "step_over: break settle 0; go; back; status; next; tree 0 0; quit";
+
+const ANSWERS: &str =
+    "1 claim 0 0 -> file 1\n2 step 0 -> acted 0\n3 settle 0 -> 0 done\nstop\nback 2\n0 running 0\n\
+    3 settle 0 -> 0 done\nd 0755 0 0 /\nf 0644 0 0 6869 /a\n";
+
+const ROWS: &[Row] = &[
+    (
+        "run_over",
+        ONE_FILE,
+        "3 fault 184 and 3 fault 91 and 3 fault 123 and 3 fault 151 and 3 fault 34",
+        A_TREE,
+    ),
+    (
+        "show_over",
+        "MAKES_A; D_ON_0; RESULT 1",
+        "3 fault 184 and 3 fault 91",
+        SHOWN,
+    ),
+    (
+        "asm_over",
+        "# a comment; \traw b20000",
+        "3 fault 184 and 3 fault 163 and 3 fault 14",
+        "0a03b20000",
+    ),
+    (
+        "dis_over",
+        A_MERGE,
+        "3 fault 184 and 3 fault 14 and 3 fault 163",
+        MERGE_TEXT,
+    ),
+    (
+        SESSION,
+        ONE_FILE,
+        "3 fault 184 and 3 fault 91 and 3 fault 123 and fault 171 141 and fault 174",
+        ANSWERS,
+    ),
+];
+
+#[test]
+fn commands(rt: HostRuntime) {
+    are_refused::<OnInput>(&rt, rt.alloc(), ROWS);
+}
+
+// The words of a command line, or bytes that are read up to a bound. All that is kept of the result is its text.
+#[derive(Drop)]
+struct OnWords {
+    call: &'static str,
+    came: &'static str,
+}
+
+const NO_WORDS: [&str; 0] = [];
+
+fn words_told(alloc: Global, words: &[&str]) -> &'static str {
+    match command_of(alloc, words) {
+        Ok(_) => "granted",
+        Err(WordsFault::Memory) => "184",
+        Err(WordsFault::Words(_)) => "183",
+    }
+}
+
+fn read_told(alloc: Global) -> &'static str {
+    let mut input = b"hello".as_slice();
+    match read_bounded(alloc, &mut input, 5, 10) {
+        Ok(bytes) if bytes.as_slice() == b"hello".as_slice() => "granted",
+        Err(ReadFault::Memory) => "memory",
+        _ => "another answer",
+    }
+}
+
+impl Trial for OnWords {
+    fn ready(_rt: &impl Abort, _alloc: Global, row: &Row) -> OnWords {
+        OnWords {
+            call: row.1,
+            came: "nothing",
+        }
+    }
+
+    fn call(&mut self, alloc: Global) {
+        self.came = match self.call {
+            "hello" => read_told(alloc),
+            "no words" => words_told(alloc, &NO_WORDS),
+            "show" => words_told(alloc, &["show"]),
+            "show x" => words_told(alloc, &["show", "x"]),
+            _ => words_told(alloc, &["run", "--workers", "3", "p=a"]),
+        };
+    }
+
+    fn told(&self, rt: &impl Abort, alloc: Global) -> String {
+        text_told(rt, alloc, self.came)
+    }
+
+    fn is_as_before(&mut self, _rt: &impl Abort, _alloc: Global) -> bool {
+        true
+    }
+}
+
+const WORDS: &[Row] = &[
+    ("read_bounded", "hello", "memory", "granted"),
+    ("command_of", "no words", "184", "granted"),
+    ("command_of", "show", "184", "granted"),
+    ("command_of", "show x", "184", "183"),
+    ("command_of", "run --workers 3 p=a", "184", "granted"),
+];
+
+#[test]
+fn words(rt: HostRuntime) {
+    are_refused::<OnWords>(&rt, rt.alloc(), WORDS);
+}
+
+fn run_many<R: Threads + Wait + Sync>(
+    rt: &R,
+    alloc: Global,
+    mut input: &[u8],
+    ran: &mut Ran,
+    locals: Locals,
+    workers: u32,
+) {
+    let Ran { status, out, err } = ran;
+    *status = run_many_over(rt, alloc, &mut input, out, err, locals, workers);
+}
+
+// Whether growth k of a run by two workers was refused. The status is then 3, or the run did without.
+fn is_growth<R: Abort + Threads + Wait + Sync>(rt: &R, alloc: Global, row: &Row, k: usize) -> bool {
+    let (_, on, lacks, wanted) = *row;
+    let input = input_of(rt, alloc, "run_many_over", on);
+    let mut ran = ran_nothing(rt, alloc);
+    refuse(alloc, k);
+    run_many(rt, alloc, input.as_slice(), &mut ran, Locals::new(alloc), 2);
+    let is_refused = was_refused(alloc);
+    let told = ran.told(rt, alloc, true);
+    if is_refused && is_lack(told.as_str(), lacks) {
+        assert!(rt;
+            wanted.as_bytes().starts_with(ran.out.as_slice()),
+            "growth {k}"
+        );
+        return true;
+    }
+    is_same(rt, told.as_str(), wanted);
+    is_refused
+}
+
+fn growths<R: Abort + Threads + Wait + Sync>(rt: &R, alloc: Global, row: &Row) -> usize {
+    for k in 1..MOST {
+        if !is_growth(rt, alloc, row, k) {
+            return k.saturating_sub(1);
+        }
+    }
+    panic!(rt; "no end of growths");
+}
+
+const MANY: Row = (
+    "run_many_over",
+    "MAKES_A; MAKES_B; MERGES_0_1; RESULT 2",
+    "3 fault 184 or 3 fault 91 or 3 fault 123 or 3 fault 151 or 3 fault 153 or 3 fault 34",
+    "d 0755 0 0 /\nf 0644 0 0 6869 /a\nf 0644 0 0 686f /b\n",
+);
+
+#[test]
+fn runs_of_two_workers(rt: HostRuntime) {
+    let count = growths(&rt, rt.alloc(), &MANY);
+    print_count(&rt, count, &MANY);
+}

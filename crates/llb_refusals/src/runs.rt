@@ -1,0 +1,258 @@
+//! Runs to the end: alone, and by threads; and the queue that threads share.
+
+use super::boards::{Open, TWO_FILES, are_same, board_in, board_on};
+use super::growths::{MOST, Row, Trial, are_refused, is_lack, print_count, refuse, was_refused};
+use super::told::{fault_told, is_same, text_told, tree_told};
+use super::written::tree_text;
+use llb_board::{At, Board};
+use llb_ready::{ReadyFault, ReadyQueue};
+use llb_stepper::Stepper;
+use llb_work::{RunEnd, run_alone, run_workers};
+use std::alloc::Global;
+use std::process::Abort;
+use std::sync::Wait;
+use std::thread::Threads;
+
+fn alone(board: Board) -> RunEnd {
+    run_alone(board)
+}
+
+fn replayed(stepper: &mut Stepper, board: &Board) -> bool {
+    stepper.replay(board.events().as_slice()).is_ok()
+}
+
+// Whether the record of a run, on a board that was opened in the same way, leads to where the run ended, and is as long as the workers' counts.
+fn is_replayed(alloc: Global, end: &RunEnd, opened: Board) -> bool {
+    let mut stepper = Stepper::new(alloc, opened);
+    let mut made = 0u64;
+    for count in &end.made {
+        made = made.wrapping_add(*count);
+    }
+    replayed(&mut stepper, &end.board)
+        && are_same(stepper.board(), &end.board)
+        && made == end.board.events().len() as u64
+}
+
+// The tree of the result of a run, or its fault.
+fn end_told(rt: &impl Abort, alloc: Global, end: &RunEnd) -> String {
+    let edge = end.board.graph().result();
+    match (&end.fault, end.board.output(edge.vertex, edge.index)) {
+        (Some(fault), _) => fault_told(rt, alloc, fault),
+        (None, Some(tree)) if end.board.is_complete() => tree_told(rt, alloc, tree),
+        _ => text_told(rt, alloc, "no result"),
+    }
+}
+
+// A board, how its run ended, and another such board.
+#[derive(Drop)]
+struct OnRun {
+    on: &'static str,
+    board: Option<Board>,
+    end: Option<RunEnd>,
+}
+
+impl OnRun {
+    // What is to be run: the board that was made, and then the one that the first run ended with.
+    fn taken(&mut self) -> Option<Board> {
+        match self.end.take() {
+            Some(
+                RunEnd {
+                    board,
+                    made: _,
+                    fault: _,
+                },
+            ) => Some(board),
+            None => self.board.take(),
+        }
+    }
+}
+
+impl Trial for OnRun {
+    fn ready(rt: &impl Abort, alloc: Global, row: &Row) -> OnRun {
+        OnRun {
+            on: row.1,
+            board: Some(board_on(rt, alloc, &board_in(rt, row.1))),
+            end: None,
+        }
+    }
+
+    fn call(&mut self, _alloc: Global) {
+        if let Some(board) = self.taken() {
+            self.end = Some(alone(board));
+        }
+    }
+
+    fn told(&self, rt: &impl Abort, alloc: Global) -> String {
+        match &self.end {
+            Some(end) => end_told(rt, alloc, end),
+            None => text_told(rt, alloc, "nothing"),
+        }
+    }
+
+    // The events that were done stay.
+    fn is_as_before(&mut self, rt: &impl Abort, alloc: Global) -> bool {
+        let opened = board_on(rt, alloc, &board_in(rt, self.on));
+        match &self.end {
+            Some(end) => is_replayed(alloc, end, opened),
+            None => false,
+        }
+    }
+}
+
+const RUNS: &[Row] = &[
+    (
+        "run_alone",
+        "1: MAKES_A; RESULT 0",
+        "151",
+        "d 0755 0 0 /\nf 0644 0 0 6869 /a\n",
+    ),
+    ("run_alone", TWO_FILES, "151", BOTH),
+    ("run_alone", ON_A_CACHE, "151", "EMPTY"),
+    (
+        "run_alone",
+        "1: sh: false || write /x a && true; RESULT 0",
+        "151",
+        "d 0755 0 0 /\nf 0644 0 0 610a /x\n",
+    ),
+];
+
+const ON_A_CACHE: &str = "2: locked: write /c/a x; locked: write /c/b y; MERGES_0_1; RESULT 2";
+
+const BOTH: &str = "d 0755 0 0 /\nf 0644 0 0 6869 /a\nf 0644 0 0 686f /b\n";
+
+#[test]
+fn runs_alone(rt: HostRuntime) {
+    are_refused::<OnRun>(&rt, rt.alloc(), RUNS);
+}
+
+fn crew<R: Threads + Wait + Sync>(rt: &R, alloc: Global, board: Board) -> RunEnd {
+    run_workers(rt, alloc, board, &Open)
+}
+
+// Whether no worker runs anything, and no cache is held.
+fn are_idle(board: &Board) -> bool {
+    for w in 0..64 {
+        if matches!(board.worker(w), Some(At::Runs(..))) {
+            return false;
+        }
+    }
+    board.caches().leases() == 0
+}
+
+fn alone_told(rt: &impl Abort, alloc: Global, board: Board) -> String {
+    end_told(rt, alloc, &alone(board))
+}
+
+// Whether growth k of a run by threads was refused. Then the run has ended for that, or has done without; its record stays, and is gone on with alone.
+fn is_growth<R: Abort + Threads + Wait + Sync>(rt: &R, alloc: Global, row: &Row, k: usize) -> bool {
+    let (_, on, lacks, wanted) = *row;
+    let board = board_on(rt, alloc, &board_in(rt, on));
+    let opened = board_on(rt, alloc, &board_in(rt, on));
+    refuse(alloc, k);
+    let end = crew(rt, alloc, board);
+    let is_refused = was_refused(alloc);
+    let told = end_told(rt, alloc, &end);
+    let is_done = told.as_str() == tree_text(wanted);
+    assert!(rt;
+        is_done || is_refused && is_lack(told.as_str(), lacks),
+        "growth {k}: {told}"
+    );
+    assert!(rt; is_replayed(alloc, &end, opened), "growth {k}");
+    assert!(rt; are_idle(&end.board), "growth {k}");
+    let RunEnd {
+        board,
+        made: _,
+        fault: _,
+    } = end;
+    is_same(rt, alone_told(rt, alloc, board).as_str(), tree_text(wanted));
+    is_refused
+}
+
+fn growths<R: Abort + Threads + Wait + Sync>(rt: &R, alloc: Global, row: &Row) -> usize {
+    for k in 1..MOST {
+        if !is_growth(rt, alloc, row, k) {
+            return k.saturating_sub(1);
+        }
+    }
+    panic!(rt; "no end of growths");
+}
+
+const CREWS: &[Row] = &[
+    (
+        "run_workers",
+        "1: MAKES_A; MAKES_B; MERGES_0_1; RESULT 2",
+        "151 or 153 or done",
+        BOTH,
+    ),
+    ("run_workers", TWO_FILES, "151 or 153 or done", BOTH),
+    ("run_workers", ON_A_CACHE, "151 or 153 or done", "EMPTY"),
+    (
+        "run_workers",
+        "2: shared: append /c/l a && append /c/l b; RESULT 0",
+        "151 or 153 or done",
+        "EMPTY",
+    ),
+    (
+        "run_workers",
+        "3: MAKES_A; MAKES_B; MERGES_0_1; RESULT 2",
+        "151 or 153 or done",
+        BOTH,
+    ),
+    (
+        "run_workers",
+        "64: MAKES_A; MAKES_B; MERGES_0_1; RESULT 2",
+        "151 or 153 or done",
+        BOTH,
+    ),
+];
+
+#[test]
+fn runs_by_threads(rt: HostRuntime) {
+    for row in CREWS {
+        let count = growths(&rt, rt.alloc(), row);
+        print_count(&rt, count, row);
+    }
+}
+
+// A queue is closed where it is made.
+#[derive(Drop)]
+struct OnQueue {
+    answer: Option<Result<(), ReadyFault>>,
+}
+
+impl Trial for OnQueue {
+    fn ready(_rt: &impl Abort, _alloc: Global, _row: &Row) -> OnQueue {
+        OnQueue { answer: None }
+    }
+
+    fn call(&mut self, alloc: Global) {
+        self.answer = Some(match ReadyQueue::new(alloc, 2) {
+            Ok((queue, pass)) => {
+                queue.close(pass);
+                Ok(())
+            }
+            Err(fault) => Err(fault),
+        });
+    }
+
+    fn told(&self, rt: &impl Abort, alloc: Global) -> String {
+        match &self.answer {
+            Some(Ok(())) => text_told(rt, alloc, "a queue"),
+            Some(Err(fault)) => fault_told(rt, alloc, fault),
+            None => text_told(rt, alloc, "nothing"),
+        }
+    }
+
+    fn is_as_before(&mut self, _rt: &impl Abort, _alloc: Global) -> bool {
+        true
+    }
+}
+
+#[test]
+fn queues(rt: HostRuntime) {
+    are_refused::<OnQueue>(
+        &rt,
+        rt.alloc(),
+        &[("ReadyQueue::new", "2", "145", "a queue")],
+    );
+}

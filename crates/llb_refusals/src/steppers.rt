@@ -1,0 +1,215 @@
+//! Steppers. One is written as its board (`boards`), and after ` then ` what was asked of it, in the words of a session.
+
+use super::boards::{are_same, board_in, board_of};
+use super::growths::{Row, Trial, are_refused};
+use super::told::{fault_told, text_told};
+use llb_board::Event;
+use llb_session::{Request, request_in};
+use llb_stepper::{Break, Stepper, StepperFault, Stop};
+use llb_wire::Text;
+use std::alloc::Global;
+use std::process::Abort;
+
+#[derive(Drop)]
+enum Answer {
+    None,
+    Done(Result<(), StepperFault>),
+    Gone(Result<Stop, StepperFault>),
+    Line(Result<Option<Text>, StepperFault>),
+}
+
+// A stepper, one that is the same, and events to be replayed.
+#[derive(Drop)]
+struct OnStepper {
+    call: &'static str,
+    stepper: Stepper,
+    twin: Stepper,
+    events: Vec<Event>,
+    answer: Answer,
+}
+
+fn broken(stepper: &mut Stepper, stop: Break) -> Answer {
+    Answer::Done(stepper.break_at(stop))
+}
+
+fn done(stepper: &mut Stepper, event: Event) -> Answer {
+    Answer::Done(stepper.do_event(event))
+}
+
+fn gone(stepper: &mut Stepper) -> Answer {
+    Answer::Gone(stepper.go())
+}
+
+fn replayed(stepper: &mut Stepper, events: &[Event]) -> Answer {
+    Answer::Gone(stepper.replay(events))
+}
+
+fn asked(stepper: &mut Stepper, line: &str) -> Answer {
+    match request_in(line.as_bytes()) {
+        Some(Request::Break(stop)) => broken(stepper, stop),
+        Some(Request::Event(event)) => done(stepper, event),
+        Some(Request::Go) => gone(stepper),
+        _ => Answer::None,
+    }
+}
+
+fn stepper_of(rt: &impl Abort, alloc: Global, on: &'static str) -> Stepper {
+    let (board, lines) = on.split_once(" then ").unwrap_or((on, ""));
+    let mut stepper = Stepper::new(alloc, board_of(rt, alloc, &board_in(rt, board)));
+    for line in lines.split("; ") {
+        let _ = asked(&mut stepper, line);
+    }
+    stepper
+}
+
+// The events of a run to its end by one worker.
+fn run_of(rt: &impl Abort, alloc: Global, on: &'static str) -> Vec<Event> {
+    let mut stepper = stepper_of(rt, alloc, on);
+    let _ = gone(&mut stepper);
+    Vec::from_slice(alloc, stepper.board().events().as_slice()).expect(rt, "memory")
+}
+
+fn back_many(stepper: &mut Stepper, count: u64) {
+    stepper.back_many(count as usize);
+}
+
+fn line_told(rt: &impl Abort, alloc: Global, line: &Option<Text>) -> String {
+    match line {
+        Some(line) => text_told(rt, alloc, line.as_str()),
+        None => text_told(rt, alloc, "no line"),
+    }
+}
+
+impl OnStepper {
+    // The last line of the record.
+    fn last_told(&self, rt: &impl Abort, alloc: Global) -> String {
+        let count = self.stepper.board().events().len();
+        match self.stepper.record_line(count as u64) {
+            Ok(line) => line_told(rt, alloc, &line),
+            Err(fault) => fault_told(rt, alloc, &fault),
+        }
+    }
+
+    // Whether the stepper and the like of it go to the same place, from which each comes back.
+    fn goes_alike(&mut self) -> bool {
+        match (gone(&mut self.stepper), gone(&mut self.twin)) {
+            (Answer::Gone(Ok(stop)), Answer::Gone(Ok(other))) => {
+                let are_there = are_same(self.stepper.board(), self.twin.board());
+                back_many(&mut self.stepper, stop.events);
+                back_many(&mut self.twin, other.events);
+                are_there && stop == other
+            }
+            _ => false,
+        }
+    }
+}
+
+impl Trial for OnStepper {
+    fn ready(rt: &impl Abort, alloc: Global, row: &Row) -> OnStepper {
+        let (call, on, _, _) = *row;
+        OnStepper {
+            call,
+            stepper: stepper_of(rt, alloc, on),
+            twin: stepper_of(rt, alloc, on),
+            events: run_of(rt, alloc, on),
+            answer: Answer::None,
+        }
+    }
+
+    fn call(&mut self, _alloc: Global) {
+        self.answer = match self.call {
+            "replay" => replayed(&mut self.stepper, &self.events),
+            "record_line 1" => Answer::Line(self.stepper.record_line(1)),
+            _ => asked(&mut self.stepper, self.call),
+        };
+    }
+
+    fn told(&self, rt: &impl Abort, alloc: Global) -> String {
+        match &self.answer {
+            Answer::None => text_told(rt, alloc, "nothing"),
+            Answer::Done(Ok(())) | Answer::Gone(Ok(_)) => self.last_told(rt, alloc),
+            Answer::Line(Ok(line)) => line_told(rt, alloc, line),
+            Answer::Done(Err(fault)) | Answer::Gone(Err(fault)) | Answer::Line(Err(fault)) => {
+                fault_told(rt, alloc, fault)
+            }
+        }
+    }
+
+    fn is_as_before(&mut self, rt: &impl Abort, alloc: Global) -> bool {
+        let is_same_line = match (self.stepper.record_line(1), self.twin.record_line(1)) {
+            (Ok(line), Ok(other)) => {
+                line_told(rt, alloc, &line).as_str() == line_told(rt, alloc, &other).as_str()
+            }
+            _ => false,
+        };
+        is_same_line
+            && are_same(self.stepper.board(), self.twin.board())
+            && self.goes_alike()
+            && are_same(self.stepper.board(), self.twin.board())
+    }
+}
+
+const ONE_FILE: &str = "2: MAKES_A; RESULT 0";
+
+const CLAIMED: &str = "2: MAKES_A; RESULT 0 then claim 0 0";
+
+const TO_CLAIM: &str = "2: MAKES_A; MAKES_B; MERGES_0_1; RESULT 2 then break claim 2";
+
+const ROWS: &[Row] = &[
+    (
+        "break settle 0",
+        "2: MAKES_A; RESULT 0 then claim 0 0; step 0",
+        "174",
+        "2 step 0 -> acted 0",
+    ),
+    (
+        "claim 0 0",
+        ONE_FILE,
+        "171 141 and 174",
+        "1 claim 0 0 -> file 1",
+    ),
+    (
+        "claim 0 0",
+        TO_CLAIM,
+        "171 141 and 174",
+        "1 claim 0 0 -> file 1",
+    ),
+    (
+        "step 0",
+        "2: MAKES_A; RESULT 0 after claim 0 0",
+        "171 141 and 174",
+        "2 step 0 -> acted 0",
+    ),
+    (
+        "settle 0",
+        "2: MAKES_A; RESULT 0 after claim 0 0; step 0",
+        "171 141 and 174",
+        "3 settle 0 -> 0 done",
+    ),
+    (
+        "cancel 0",
+        "2: MAKES_A; RESULT 0 after claim 0 0; step 0",
+        "171 141 and 174",
+        "3 cancel 0 -> 0 1",
+    ),
+    ("go", ONE_FILE, "171 141 and 174", "3 settle 0 -> 0 done"),
+    ("go", TO_CLAIM, "171 141 and 174", "7 claim 0 2 -> merge 2"),
+    (
+        "replay",
+        ONE_FILE,
+        "171 141 and 174",
+        "3 settle 0 -> 0 done",
+    ),
+    (
+        "replay",
+        TO_CLAIM,
+        "171 141 and 174",
+        "7 claim 0 2 -> merge 2",
+    ),
+    ("record_line 1", CLAIMED, "174", "1 claim 0 0 -> file 1"),
+];
+
+#[test]
+fn steppers(rt: HostRuntime) {
+    are_refused::<OnStepper>(&rt, rt.alloc(), ROWS);
+}

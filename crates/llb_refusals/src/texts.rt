@@ -1,0 +1,195 @@
+//! Texts that are read and written: trees, patterns, the paths of actions, and entries.
+
+use super::growths::{Row, Trial, are_refused};
+use super::told::{bytes_told, fault_told, path_of, path_told, say, text_told, tree_told};
+use super::written::{entries_of, entries_text, tree_named, tree_text};
+use llb_asm::{AsmFault, assemble, disassemble};
+use llb_fileop::{ActFault, resolve};
+use llb_glob::{Pattern, PatternFault};
+use llb_ops::{Entries, write_definition};
+use llb_tree::{Path, Tree};
+use llb_treetext::{PrintFault, TextFault, print_tree, read_tree, tree_digest};
+use llb_wire::{Over, Same, Text, all_same};
+use std::alloc::Global;
+use std::process::Abort;
+
+#[derive(Drop)]
+enum Answer {
+    None,
+    Printed(Result<(), PrintFault>),
+    Disassembled(Result<(), AsmFault>),
+    Tree(Result<Tree, TextFault>),
+    Digest(Result<Text, TextFault>),
+    Pattern(Result<Pattern, PatternFault>),
+    Path(Result<(Path, bool), ActFault>),
+    Entries(Result<Entries, AsmFault>),
+}
+
+// A text to read, or a tree or entries to write, each twice, and room for what is written.
+#[derive(Drop)]
+struct OnText {
+    call: &'static str,
+    text: String,
+    tree: Tree,
+    twin: Tree,
+    entries: Entries,
+    others: Entries,
+    out: Vec<u8>,
+    wanted: &'static str,
+    answer: Answer,
+}
+
+// Which of three paths a pattern matches.
+fn matches_told(rt: &impl Abort, alloc: Global, pattern: &Pattern) -> String {
+    let mut text = String::new(alloc);
+    for path in ["/abc", "/*", "/d"] {
+        if pattern.matches(&path_of(rt, alloc, path)) {
+            say(rt, &mut text, path);
+        }
+    }
+    text
+}
+
+fn resolved_told(rt: &impl Abort, alloc: Global, path: &Path, ends: bool) -> String {
+    let mut text = path_told(rt, alloc, path);
+    say(rt, &mut text, if ends { " ends" } else { " does not end" });
+    text
+}
+
+fn entries_told(rt: &impl Abort, alloc: Global, entries: &Entries) -> String {
+    let bytes = write_definition(alloc, entries).expect(rt, "memory");
+    bytes_told(rt, alloc, bytes.as_slice())
+}
+
+fn out_told(rt: &impl Abort, alloc: Global, out: &[u8]) -> String {
+    text_told(rt, alloc, str::from_utf8(out).unwrap_or("no text"))
+}
+
+fn print(alloc: Global, tree: &Tree, out: &mut Vec<u8>) -> Answer {
+    out.clear();
+    Answer::Printed(print_tree(alloc, tree, &mut Over::new(out)))
+}
+
+fn write(alloc: Global, entries: &Entries, out: &mut Vec<u8>) -> Answer {
+    out.clear();
+    Answer::Disassembled(disassemble(alloc, entries, &mut Over::new(out)))
+}
+
+impl OnText {
+    fn value_told(&self, rt: &impl Abort, alloc: Global) -> Option<String> {
+        match &self.answer {
+            Answer::Printed(Ok(())) | Answer::Disassembled(Ok(())) => {
+                Some(out_told(rt, alloc, &self.out))
+            }
+            Answer::Tree(Ok(tree)) => Some(tree_told(rt, alloc, tree)),
+            Answer::Digest(Ok(digest)) => Some(text_told(rt, alloc, digest.as_str())),
+            Answer::Pattern(Ok(pattern)) => Some(matches_told(rt, alloc, pattern)),
+            Answer::Path(Ok((path, ends))) => Some(resolved_told(rt, alloc, path, *ends)),
+            Answer::Entries(Ok(entries)) => Some(entries_told(rt, alloc, entries)),
+            _ => None,
+        }
+    }
+
+    fn refusal_told(&self, rt: &impl Abort, alloc: Global) -> String {
+        match &self.answer {
+            Answer::Printed(Err(fault)) => fault_told(rt, alloc, fault),
+            Answer::Tree(Err(fault)) | Answer::Digest(Err(fault)) => fault_told(rt, alloc, fault),
+            Answer::Pattern(Err(fault)) => fault_told(rt, alloc, fault),
+            Answer::Path(Err(fault)) => fault_told(rt, alloc, fault),
+            Answer::Entries(Err(fault)) | Answer::Disassembled(Err(fault)) => {
+                fault_told(rt, alloc, fault)
+            }
+            _ => text_told(rt, alloc, "nothing"),
+        }
+    }
+}
+
+impl Trial for OnText {
+    fn ready(rt: &impl Abort, alloc: Global, row: &Row) -> OnText {
+        let (call, on, _, wanted) = *row;
+        let tree = match call {
+            "print_tree" | "tree_digest" => on,
+            _ => "EMPTY",
+        };
+        let entries = match call {
+            "assemble" | "disassemble" => on,
+            _ => "raw 00",
+        };
+        let text = match call {
+            "assemble" => entries_text(rt, alloc, on),
+            _ => text_told(rt, alloc, tree_text(on)),
+        };
+        OnText {
+            call,
+            text,
+            tree: tree_named(rt, alloc, tree),
+            twin: tree_named(rt, alloc, tree),
+            entries: entries_of(rt, alloc, entries),
+            others: entries_of(rt, alloc, entries),
+            out: Vec::with_capacity(alloc, 1000).expect(rt, "memory"),
+            wanted: tree_text(wanted),
+            answer: Answer::None,
+        }
+    }
+
+    fn call(&mut self, alloc: Global) {
+        let text = self.text.as_str();
+        self.answer = match self.call {
+            "print_tree" => print(alloc, &self.tree, &mut self.out),
+            "disassemble" => write(alloc, &self.entries, &mut self.out),
+            "read_tree" => Answer::Tree(read_tree(alloc, text.as_bytes())),
+            "tree_digest" => Answer::Digest(tree_digest(alloc, &self.tree)),
+            "Pattern::read" => Answer::Pattern(Pattern::read(alloc, text)),
+            "resolve" => Answer::Path(resolve(alloc, text)),
+            _ => Answer::Entries(assemble(alloc, text.as_bytes())),
+        };
+    }
+
+    fn told(&self, rt: &impl Abort, alloc: Global) -> String {
+        match self.value_told(rt, alloc) {
+            Some(told) => told,
+            None => self.refusal_told(rt, alloc),
+        }
+    }
+
+    // What was written is the beginning of what is to be written.
+    fn is_as_before(&mut self, _rt: &impl Abort, _alloc: Global) -> bool {
+        self.wanted.as_bytes().starts_with(self.out.as_slice())
+            && self.tree.same(&self.twin)
+            && all_same(self.entries.as_slice(), self.others.as_slice())
+    }
+}
+
+// A merge of nothing, with a platform and constraints.
+const MERGE: &str = "raw 320d0a0b08ffffffffffffffffff01520e0a05616d64363412056c696e75785a00";
+
+const MERGE_DEFINITION: &str =
+    "0a21320d0a0b08ffffffffffffffffff01520e0a05616d64363412056c696e75785a00";
+
+const MERGE_TEXT: &str =
+    "op {\n  merge {\n    inputs {\n      input -1\n    }\n  }\n  extra 520e0a05616d64363412056c696e75785a00\n}\n";
+
+const A_DEFINITION: &str = "0a1c221a121808ffffffffffffffffff012a0b0a022f6110a4031a026869";
+
+const DIGEST: &str = "sha256:5de211d85590268925259f8c7cd45d229b00372355255c350a38752ed1c86a47";
+
+const ROWS: &[Row] = &[
+    ("print_tree", "A_B", "34", "A_B"),
+    ("read_tree", "OLD", "34", "OLD"),
+    ("read_tree", "F", "34", "F"),
+    ("tree_digest", "EMPTY", "34", DIGEST),
+    ("Pattern::read", "a*c", "42", "/abc"),
+    ("Pattern::read", "\\*", "42", "/*"),
+    ("Pattern::read", "[^a-c]", "42", "/*/d"),
+    ("resolve", "a//b/../", "53", "/a ends"),
+    ("assemble", MERGE, "163", MERGE_DEFINITION),
+    ("assemble", "# a comment; \traw b20000", "163", "0a03b20000"),
+    ("assemble", "MAKES_A", "163", A_DEFINITION),
+    ("disassemble", MERGE, "163", MERGE_TEXT),
+    ("disassemble", "raw b20000", "163", "raw b20000\n"),
+];
+
+#[test]
+fn texts(rt: HostRuntime) {
+    are_refused::<OnText>(&rt, rt.alloc(), ROWS);
+}

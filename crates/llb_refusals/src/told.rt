@@ -1,0 +1,69 @@
+//! The texts of values.
+
+use llb_tree::{Path, Tree};
+use llb_treetext::{print_tree, read_tree, tree_digest};
+use llb_wire::{Over, Text, push_hex};
+use std::alloc::Global;
+use std::fmt::Display;
+use std::process::Abort;
+
+// Ends the test where a text is not the expected one; the failure shows both.
+pub(crate) fn is_same(rt: &impl Abort, told: &str, wanted: &str) {
+    assert_eq!(rt; told, wanted);
+}
+
+pub(crate) fn say(rt: &impl Abort, text: &mut String, more: &str) {
+    text.push_str(more).expect(rt, "memory");
+}
+
+// What a fault prints.
+pub(crate) fn fault_told<E: Display>(rt: &impl Abort, alloc: Global, fault: &E) -> String {
+    format!(in alloc; "{fault}").expect(rt, "memory")
+}
+
+pub(crate) fn text_told(rt: &impl Abort, alloc: Global, text: &str) -> String {
+    String::from_str(alloc, text).expect(rt, "memory")
+}
+
+pub(crate) fn bytes_told(rt: &impl Abort, alloc: Global, bytes: &[u8]) -> String {
+    let mut text = String::new(alloc);
+    push_hex(alloc, &mut text, bytes).expect(rt, "memory");
+    text
+}
+
+// A path by its names.
+pub(crate) fn path_told(rt: &impl Abort, alloc: Global, path: &Path) -> String {
+    let mut text = String::new(alloc);
+    for name in path.names() {
+        say(rt, &mut text, "/");
+        say(rt, &mut text, name.as_str());
+    }
+    text
+}
+
+fn digest_told(rt: &impl Abort, alloc: Global, tree: &Tree) -> String {
+    let digest = tree_digest(alloc, tree).expect(rt, "memory");
+    text_told(rt, alloc, digest.as_str())
+}
+
+// A tree by its text, or by its digest where that is long.
+pub(crate) fn tree_told(rt: &impl Abort, alloc: Global, tree: &Tree) -> String {
+    let mut text = Vec::new(alloc);
+    print_tree(alloc, tree, &mut Over::new(&mut text)).expect(rt, "memory");
+    if text.len() > 1000 {
+        return digest_told(rt, alloc, tree);
+    }
+    String::from_utf8(text).ok().expect(rt, "a text")
+}
+
+pub(crate) fn tree_of(rt: &impl Abort, alloc: Global, text: &str) -> Tree {
+    read_tree(alloc, text.as_bytes()).expect(rt, "a tree")
+}
+
+pub(crate) fn path_of(rt: &impl Abort, alloc: Global, text: &str) -> Path {
+    Path::read(alloc, text).expect(rt, "a path")
+}
+
+pub(crate) fn text_of(rt: &impl Abort, alloc: Global, text: &str) -> Text {
+    Text::from_str(alloc, text).expect(rt, "memory")
+}

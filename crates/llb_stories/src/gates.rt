@@ -1,0 +1,60 @@
+//! Gates that let everybody pass.
+
+use llb_board::{Gate, Stopped};
+use std::sync::atomic::{AtomicU64, Ordering};
+use std::thread;
+
+pub(crate) struct Open;
+
+impl Gate for Open {
+    ghost use Rattle.std.specs.Prelude.{false};
+
+    ghost may_stop = { λ _ _. false };
+
+    fn pass(&self, _w: u32, _v: u32) -> Result<(), Stopped> {
+        Ok(())
+    }
+}
+
+/// Counts who passes, at the vertices below a number and at the others. At vertex 0 it yields to other threads for a while.
+#[derive(Drop)]
+pub(crate) struct Counting {
+    from: u32,
+    below: AtomicU64,
+    others: AtomicU64,
+}
+
+impl Counting {
+    pub(crate) fn new(from: u32) -> Counting {
+        Counting {
+            from,
+            below: AtomicU64::new(0),
+            others: AtomicU64::new(0),
+        }
+    }
+
+    /// Returns how many have passed at the vertices below that number, and at the others.
+    pub(crate) fn passed(&self) -> (u64, u64) {
+        let below = self.below.load(Ordering::SeqCst);
+        (below, self.others.load(Ordering::SeqCst))
+    }
+}
+
+impl Gate for Counting {
+    ghost use Rattle.std.specs.Prelude.{false};
+
+    ghost may_stop = { λ _ _. false };
+
+    fn pass(&self, _w: u32, v: u32) -> Result<(), Stopped> {
+        if v < self.from {
+            self.below.fetch_add(1, Ordering::SeqCst);
+        } else {
+            self.others.fetch_add(1, Ordering::SeqCst);
+        }
+        let turns = if v == 0 { 1_000u32 } else { 0 };
+        for _turn in 0..turns {
+            thread::yield_now();
+        }
+        Ok(())
+    }
+}

@@ -1,0 +1,71 @@
+//! Workers on a board that is given in the middle of a run: each first ends what it runs.
+
+use super::calls::is_event_done;
+use super::farm::{counts, have_one_tree};
+use super::gates::Open;
+use super::told::{is_so, row_holds};
+use super::written::board_of;
+use llb_board::{Board, Event};
+use llb_work::{RunEnd, run_alone, run_workers};
+use std::alloc::Global;
+use std::process::Abort;
+
+// The second vertex has two micro-steps.
+const DEFINITION: &str = "MAKES_A; sh: true && write /k v; MERGES_0_1; RESULT_2";
+
+// The record of one worker that begins with the second vertex.
+const BY_ONE: [Event; 11] = [
+    Event::Claim(0, 1),
+    Event::Step(0),
+    Event::Step(0),
+    Event::Settle(0),
+    Event::Claim(0, 0),
+    Event::Step(0),
+    Event::Settle(0),
+    Event::Claim(0, 2),
+    Event::Step(0),
+    Event::Step(0),
+    Event::Settle(0),
+];
+
+// A board on which these events were done.
+fn board_after(rt: &impl Abort, alloc: Global, workers: u32, events: &[Event]) -> Board {
+    let mut board = board_of(rt, alloc, DEFINITION, "", workers);
+    for event in events {
+        assert!(rt; is_event_done(&mut board, *event));
+    }
+    board
+}
+
+// Whether the record is that of one worker, who made all of it but the first events.
+fn is_by_one(end: &RunEnd, before: usize) -> bool {
+    let [made, ..] = end.made;
+    let events = end.board.events().as_slice();
+    end.fault.is_none()
+        && events == BY_ONE.as_slice()
+        && made == 11u64.saturating_sub(before as u64)
+}
+
+// The worker has claimed the second vertex, has done one of its micro-steps, and has done both; and it has settled.
+#[test]
+fn a_worker_first_ends_what_it_runs(rt: HostRuntime) {
+    for before in 1..=4 {
+        let (events, _) = BY_ONE.as_slice().split_at(before);
+        let board = board_after(&rt, rt.alloc(), 1, events);
+        let end = run_workers(&rt, rt.alloc(), board, &Open);
+        row_holds(&rt, before, is_by_one(&end, before));
+    }
+}
+
+// Each of two workers runs a vertex and has two events of it left. One of them then does the merge, which has four.
+#[test]
+fn two_workers_first_end_what_they_run(rt: HostRuntime) {
+    let alloc = rt.alloc();
+    let before = [Event::Claim(0, 0), Event::Claim(1, 1), Event::Step(1)];
+    let board = board_after(&rt, alloc, 2, &before);
+    let end = run_workers(&rt, alloc, board, &Open);
+    is_so(&rt, counts(&end, 2) == Some((8, 2)));
+    is_so(&rt, end.board.events().as_slice().starts_with(&before));
+    let alone = run_alone(board_of(&rt, alloc, DEFINITION, "", 1));
+    is_so(&rt, have_one_tree(&end.board, &alone.board, 2));
+}

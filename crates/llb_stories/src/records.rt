@@ -1,0 +1,156 @@
+//! Records of workers, each in a thread of its own, on caches that are not shared: a stepper goes through such a record again, line by line;
+//! and one worker that takes the vertices in the order of its claims leaves the same trees.
+
+use super::calls::{are_same, is_event_done, replayed};
+use super::farm::{have_one_tree, merge_on};
+use super::gates::Open;
+use super::told::row_holds;
+use llb_board::{At, Board, Event};
+use llb_stepper::{Stepper, Stop};
+use llb_work::run_workers;
+use std::alloc::Global;
+use std::fmt::Write;
+use std::process::Abort;
+
+const DEFINITION: &str = "MAKES_A; MAKES_B; locked: write /c/a x && listing /c /seen; \
+    locked: write /c/b y && listing /c /seen; sh: write /k v";
+
+fn board_by(rt: &impl Abort, alloc: Global, workers: u32) -> Board {
+    merge_on(rt, alloc, DEFINITION, 5, workers)
+}
+
+// The replies to the events of each vertex, in their order; the last is the merge of the others.
+const ANSWERS: &[&[&str]] = &[
+    &["file 1", "acted 0", "0 done"],
+    &["file 1", "acted 0", "1 done"],
+    &["exec 2", "ran 0 0", "ran 1 0", "2 done"],
+    &["exec 2", "ran 0 0", "ran 1 0", "3 done"],
+    &["exec 1", "ran 0 0", "4 done"],
+    &[
+        "merge 5", "merged 0", "merged 1", "merged 2", "merged 3", "merged 4", "5 done",
+    ],
+];
+
+fn worker_of(event: Event) -> u32 {
+    match event {
+        Event::Claim(w, _) | Event::Step(w) | Event::Settle(w) | Event::Cancel(w) => w,
+    }
+}
+
+// The reply to the last of these events: that of its place among those of its worker from its claim on.
+fn answer_to(events: &[Event]) -> &'static str {
+    let mut place = 0usize;
+    let worker = events.last().map(|event| worker_of(*event));
+    for event in events.iter().rev() {
+        if Some(worker_of(*event)) == worker {
+            if let Event::Claim(_, v) = event {
+                let answers = ANSWERS.get(*v as usize).copied().unwrap_or(&[]);
+                return answers.get(place).copied().unwrap_or("none");
+            }
+            place = place.saturating_add(1);
+        }
+    }
+    "none"
+}
+
+// The line of the last of these events, with which the record begins.
+fn line_of(rt: &impl Abort, alloc: Global, events: &[Event]) -> String {
+    let (number, answer) = (events.len(), answer_to(events));
+    let mut text = String::new(alloc);
+    match events.last() {
+        Some(Event::Claim(w, v)) => write!(text, "{number} claim {w} {v} -> {answer}"),
+        Some(Event::Step(w)) => write!(text, "{number} step {w} -> {answer}"),
+        Some(Event::Settle(w)) => write!(text, "{number} settle {w} -> {answer}"),
+        Some(Event::Cancel(w)) => write!(text, "{number} cancel {w} -> {answer}"),
+        None => Ok(()),
+    }
+    .expect(rt, "memory");
+    text
+}
+
+fn is_line(rt: &impl Abort, alloc: Global, stepper: &Stepper, events: &[Event]) -> bool {
+    match stepper.record_line(events.len() as u64) {
+        Ok(Some(line)) => line.as_str() == line_of(rt, alloc, events).as_str(),
+        _ => false,
+    }
+}
+
+fn are_lines(rt: &impl Abort, alloc: Global, stepper: &Stepper, events: &[Event]) -> bool {
+    for number in 1..=events.len() {
+        let (first, _) = events.split_at(number);
+        if !is_line(rt, alloc, stepper, first) {
+            return false;
+        }
+    }
+    true
+}
+
+// Claims a vertex, and does the chosen events up to its settle.
+fn is_run(board: &mut Board, v: u32) -> bool {
+    let mut done = is_event_done(board, Event::Claim(0, v));
+    for _ in 0..9 {
+        if board.worker(0) == Some(At::Idle) {
+            return done;
+        }
+        if let Some(event) = board.chosen() {
+            done = done && is_event_done(board, event);
+        }
+    }
+    false
+}
+
+// Whether the vertices of the claims are run one by one in their order, up to the end.
+fn are_run(board: &mut Board, events: &[Event]) -> bool {
+    for event in events {
+        if let Event::Claim(_, v) = event {
+            if !is_run(board, *v) {
+                return false;
+            }
+        }
+    }
+    board.is_complete()
+}
+
+// Whether two boards have the same trees in their outputs and in their caches.
+fn have_same_trees(one: &Board, other: &Board) -> bool {
+    for v in 0..6 {
+        if !have_one_tree(one, other, v) {
+            return false;
+        }
+    }
+    one.caches().has_same_trees(other.caches())
+}
+
+const WHOLE: Stop = Stop {
+    events: 24,
+    at_break: false,
+};
+
+// Whether the record of a board is replayed to the same board, with these lines, and leaves its trees in the order of its claims.
+fn is_record(rt: &impl Abort, alloc: Global, ended: &Board, workers: u32) -> [bool; 5] {
+    let events = ended.events().as_slice();
+    let mut stepper = Stepper::new(alloc, board_by(rt, alloc, workers));
+    let stop = replayed(&mut stepper, events);
+    let mut alone = board_by(rt, alloc, 1);
+    [
+        stop == Some(WHOLE),
+        are_same(stepper.board(), ended),
+        are_lines(rt, alloc, &stepper, events),
+        are_run(&mut alone, events),
+        have_same_trees(&alone, ended),
+    ]
+}
+
+#[test]
+fn a_record_of_threads_is_replayed_and_is_that_of_its_claims(rt: HostRuntime) {
+    let alloc = rt.alloc();
+    for workers in [2, 3, 64] {
+        let end = run_workers(&rt, alloc, board_by(&rt, alloc, workers), &Open);
+        let told = is_record(&rt, alloc, &end.board, workers);
+        row_holds(
+            &rt,
+            workers as usize,
+            end.fault.is_none() && told == [true; 5],
+        );
+    }
+}

@@ -1,0 +1,90 @@
+use Rattle.std.proofs.Common.{◌≡◌, ◌+◌, ◌-◌, ◌<◌, ◌≤◌, [], ◌∷◌, ◌++◌, length, take, drop, arith, true, false, subst, sym, ap, ◌∙◌, refl, append-nil, rules}
+use Rattle.std.specs.FinMap as finite
+use Rattle.std.specs.Prelude.{is_some}
+use Rattle.llb_tree.specs.Falls.{le_height}
+use Rattle.llb_tree.specs.Tree.{height}
+use Rattle.llb_tree.specs.Nodes.{name_of, kids_of, below}
+use Rattle.llb_tree.proofs.Entries.{nothing}
+use Rattle.llb_tree.proofs.Fitting.{kid_within}
+use Rattle.llb_tree.proofs.Setting.{same_Ok}
+use Rattle.llb_tree.proofs.Thinning.{split_first, keys_of}
+use Rattle.llb_tree.proofs.Found.{under, hits, below_is, none_in, all_in, found_next, found_here, found_all, found_none}
+use Rattle.llb_tree.proofs.passing.+find.Goals as goal
+
+pub find-returns-in_default-clause-found : goal.find-returns-in_default-clause-found
+find-returns-in_default-clause-found g t c =
+    let passes = g.T.NameTest.passes in
+    let none : c.args.tests.now ≡ [] = nothing c.args.tests.now (omega (arith, c.in_default.len_below)) in
+    subst (λ ts. c.push.new.self.items ≡ c.args.found.now.items ++ under c.args.path.now (hits passes ts (finite.keys c.args.node.now))) (sym none)
+    (found_here passes c.node.inside.kind c.args.node.now c.node.view_is c.node.invariant c.args.path.now c.args.found.now.items c.push.new.self.items
+    (c.in_ok-push.ensures.items ∙ ap (λ q. c.args.found.now.items ++ q ∷ []) (sym (same_Ok _ _ c.in_ok-copy.ensures))))
+
+pub find-returns-in_default-kind-clause-found : goal.find-returns-in_default-kind-clause-found
+find-returns-in_default-kind-clause-found g t c =
+    let passes = g.T.NameTest.passes in
+    let split = split_first c.args.tests.now c.test-item.result c.in-len1-up.len_at_least c.test-item.is in
+    subst (λ ts. c.args.found.now.items ≡ c.args.found.now.items ++ under c.args.path.now (hits passes ts (finite.keys c.args.node.now))) (sym split)
+    (found_none passes c.node.inside.kind c.args.node.now c.node.view_is c.node.invariant c.test-item.result _ c.args.path.now c.args.found.now.items
+    (ap kids_of c.in_default-kind.is))
+
+pub find-loop-kid-init : goal.find-loop-kid-init
+find-loop-kid-init g t c = record { same = refl; found = sym (append-nil c.args.found.now.items) }
+
+pub find-find_in-requires : goal.find-find_in-requires
+find-find_in-requires g t c =
+    let kids : kids_of c.node.inside.kind ≡ c.as_slice-kid-items.result.now =
+    ap kids_of c.in-Dir.is ∙ sym (c.as_slice-kid-items.ensures.value ∙ ap (λ v. v.items) c.deref.ensures) in
+    let some : 1 ≤ height c.args.node.now = le_height c.args.node.now [] (ap is_some (sym c.entry-entry.ensures)) in
+    let low : height c.kid-item.result.node ≤ (129 - length c.args.path.now) - 1 =
+    kid_within c.node.inside.kind c.args.node.now c.node.view_is (129 - length c.args.path.now) c.as_slice-kid-items.result.now c.loop-kid.kid-index
+    c.kid-item.result kids c.kid-item.is c.loop-kid-test.true (omega (arith, c.requires)) in
+    let room : length c.loop-kid.path + height c.kid-item.result.node ≤ 128 = omega (arith, low, some, c.requires, ap length c.loop-kid.invariant.same) in
+    search rules
+
+pub find-loop-kid-preserved : goal.find-loop-kid-preserved
+find-loop-kid-preserved g t c =
+    let passes = g.T.NameTest.passes in
+    let tests = c.test-item.result ∷ take (length c.args.tests.now - 1) (drop 1 c.args.tests.now) in
+    record {
+      same = c.in_ok-find_in.ensures.path ∙ c.loop-kid.invariant.same;
+      found = found_next passes tests c.as_slice-kid-items.result.now c.loop-kid.kid-index c.kid-item.result c.args.path.now c.args.found.now.items
+          c.loop-kid.found.items c.find_in.new.found.items c.loop-kid-test.true c.kid-item.is c.loop-kid.invariant.found
+          (c.in_ok-find_in.ensures.found
+          ∙ ap (λ p. c.loop-kid.found.items ++ under p (hits passes tests (keys_of (below c.kid-item.result)))) c.loop-kid.invariant.same);
+    }
+
+pub find-returns-clause-found : goal.find-returns-clause-found
+find-returns-clause-found g t c =
+    let passes = g.T.NameTest.passes in
+    let kids : kids_of c.node.inside.kind ≡ c.as_slice-kid-items.result.now =
+    ap kids_of c.in-Dir.is ∙ sym (c.as_slice-kid-items.ensures.value ∙ ap (λ v. v.items) c.deref.ensures) in
+    let split = split_first c.args.tests.now c.test-item.result c.in-len1-up.len_at_least c.test-item.is in
+    subst (λ ts. c.loop-kid.found.items ≡ c.args.found.now.items ++ under c.args.path.now (hits passes ts (finite.keys c.args.node.now))) (sym split)
+    (found_all passes c.node.inside.kind c.args.node.now c.node.view_is c.node.invariant c.test-item.result _ c.as_slice-kid-items.result.now
+    c.loop-kid.kid-index c.args.path.now c.args.found.now.items c.loop-kid.found.items kids c.loop-kid-test.false c.loop-kid.invariant.found)
+
+pub find_in-returns-then-not-passes-clause-found : goal.find_in-returns-then-not-passes-clause-found
+find_in-returns-then-not-passes-clause-found g t c =
+    let passes = g.T.NameTest.passes in
+    let fails : passes c.args.test.now (name_of c.args.kid.now) ≡ false =
+    ap (passes c.args.test.now) (sym c.deref.ensures) ∙ sym c.passes.ensures ∙ c.if-not-passes.true in
+    none_in passes c.args.test.now c.args.rest.now c.args.kid.now c.args.path.now c.args.found.now.items fails
+
+pub find_in-returns-in_err-push-clause-err : goal.find_in-returns-in_err-push-clause-err
+find_in-returns-in_err-push-clause-err g t c =
+    let some : 1 ≤ height c.args.kid.now.node = le_height c.args.kid.now.node [] (ap is_some (sym c.entry-entry.ensures)) in
+    let short : length c.args.path.now < 128 = omega (arith, some, c.requires) in
+    search rules
+
+pub find_in-returns-clause-found : goal.find_in-returns-clause-found
+find_in-returns-clause-found g t c =
+    let passes = g.T.NameTest.passes in
+    let hit : passes c.args.test.now (name_of c.args.kid.now) ≡ true =
+    ap (passes c.args.test.now) (sym c.deref.ensures) ∙ sym c.passes.ensures ∙ c.if-not-passes.false in
+    let some : 1 ≤ height c.args.kid.now.node = le_height c.args.kid.now.node [] (ap is_some (sym c.entry-entry.ensures)) in
+    let short : length c.args.path.now < 128 = omega (arith, some, c.requires) in
+    let named : c.in_ok-copy.field-0 ≡ name_of c.args.kid.now = cc (c.in_ok-copy.ensures, c.deref-2.ensures) in
+    let pushed = below_is c.args.path.now c.push.new.self c.in_ok-copy.field-0 short c.in_ok-push.ensures.gives in
+    all_in passes c.args.test.now c.args.rest.now c.args.kid.now c.args.path.now c.in_ok-copy.field-0 c.args.found.now.items c.find.new.found.items hit named
+    (c.in_ok-find.ensures.found
+    ∙ ap (λ p. c.args.found.now.items ++ under p (hits passes c.args.rest.now (finite.keys c.args.kid.now.node))) pushed)

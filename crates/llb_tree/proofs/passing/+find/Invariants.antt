@@ -1,0 +1,20 @@
+-- The rest of the tests is one shorter with each level.
+use Rattle.std.proofs.Common.{◌≡◌, ◌+◌, ◌*◌, ◌∷◌, ◌++◌, length, map, take}
+use Rattle.std.specs.List.{filter}
+use Rattle.llb_tree.specs.Nodes.{flat}
+use Rattle.llb_tree.specs.Tested.{passes_all}
+use Rattle.llb_tree.proofs.passing.+find.Given as goal
+
+abbrev pub decreases-find : goal.decreases-find
+decreases-find g l = 2 * length l.tests.now
+
+abbrev pub decreases-find_in : goal.decreases-find_in
+decreases-find_in g l = 2 * length l.rest.now + 1
+
+abbrev pub invariant-find-loop-kid : goal.invariant-find-loop-kid
+invariant-find-loop-kid g l = record {
+  same : l.path ≡ l.fn.path;
+  found : l.found.items
+      ≡ l.fn.found.items ++ map (λ q. l.fn.path ++ q)
+      (filter (passes_all g.T.NameTest.passes (l.test ∷ l.rest)) (map (λ e. e.0) (flat (take l.kid-index l.kid-items))));
+}

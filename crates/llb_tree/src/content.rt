@@ -1,0 +1,121 @@
+//! Contents that files share: a second owner of a content costs no copy of its bytes, so a file is copied to another place,
+//! or takes another mode or owner, at the price of the edit alone.
+
+ghost use Rattle.std.specs.Prelude.{◌≡◌, [], Ok, List, ℕ, IfOk, OnErr};
+ghost use Rattle.std.specs.Arc.{arc_value};
+ghost use Rattle.std.specs.FinMap as finite;
+ghost use Rattle.llb_wire.specs.Spelling.{AreBytes};
+ghost use Rattle.llb_tree.specs.Tree.{Gives, MemoryLast, put_file, content_of};
+ghost use Rattle.llb_tree.specs.Nodes.{file_look};
+
+use crate::fault::TreeFault;
+use crate::meta::Meta;
+use crate::node::{Kind, Node};
+use crate::path::Path;
+use crate::tree::{Tree, file_may_stand};
+use llb_wire::Bytes;
+use std::alloc::AllocError;
+use std::marker::Model;
+use std::sync::Arc;
+
+/// The content of a file, which others may share. Contracts see the list of its bytes.
+pub struct Content {
+    bytes: Arc<Bytes>,
+}
+
+// Written out, so that what owns one drops it by this one function.
+impl Drop for Content {
+    fn drop(self) {
+        let Content { bytes: _ } = self;
+    }
+}
+
+impl Model for Content {
+    ghost use Rattle.std.specs.Prelude.{ℕ, List};
+    ghost use Rattle.std.specs.Arc.{arc_value};
+
+    ghost Value = { List ℕ };
+
+    ghost view = { λ c. arc_value c.bytes };
+}
+
+impl Content {
+    /// Returns the bytes. Does not allocate.
+    pub fn bytes(&self) -> &Bytes
+        ensures { result.now ≡ self.now }
+    {
+        &self.bytes
+    }
+
+    // The bytes behind their pointer.
+    fn into_shared(self) -> Arc<Bytes>
+        ensures { arc_value result ≡ self }
+    {
+        let Content { bytes } = self;
+        bytes
+    }
+}
+
+impl Node {
+    // The content of a file, shared; a directory has none. Refused only where there are too many owners.
+    fn content(&self) -> Result<Option<Content>, AllocError>
+        ensures { IfOk result (λ c. c ≡ content_of (finite.get self.now [])) }
+    {
+        match &self.kind {
+            Kind::Dir(..) => Ok(None),
+            Kind::File(_, content) => {
+                let bytes = Arc::try_clone(content)?;
+                Ok(Some(Content { bytes }))
+            }
+        }
+    }
+
+    // A file alone, with a content that is shared.
+    fn of_content(meta: Meta, content: Content) -> Node
+        ensures { (q : List (List ℕ)) → finite.get result q ≡ file_look meta content q }
+    {
+        Node {
+            kind: Kind::File(meta, content.into_shared()),
+        }
+    }
+}
+
+impl Tree {
+    /// Returns the content of the file at a path, which it shares and does not copy; `None` where no file is. Fails with 27 `Memory` alone, only
+    /// where the content has too many owners.
+    pub fn content(&self, path: &Path) -> Result<Option<Content>, TreeFault>
+        ensures { Gives (λ c. c) result (Ok (content_of (finite.get self.now path.now))) }
+    {
+        match self.root.at(path.names()) {
+            None => Ok(None),
+            Some(node) => Ok(node.content()?),
+        }
+    }
+
+    /// Puts a file at a path, or replaces the file there, as `put_file` does, with a content that is shared and not copied. Fails, in
+    /// this order, with 25 `Root` at the root, 21 `NotFound` or 22 `NotDir` at the first parent that is missing or a file, 23
+    /// `IsDir` where a directory is there; else with 27 `Memory`. After a refusal the tree is unchanged.
+    pub fn put_content(
+        &mut self,
+        path: &Path,
+        meta: Meta,
+        content: Content,
+    ) -> Result<(), TreeFault>
+        ensures gives { Gives (λ _. self.new) result (put_file self.old path.now meta content) }
+        ensures last { MemoryLast result (put_file self.old path.now meta content) }
+        ensures err { OnErr result (self.new ≡ self.old) }
+    {
+        meta.is_meta();
+        content.bytes().is_bytes();
+        let names = path.names();
+        if path.is_root() {
+            return Err(TreeFault::Root);
+        }
+        self.root.walked(names)?;
+        file_may_stand(&self.root, names)?;
+        let node = Node::of_content(meta, content);
+        self.root.set(self.alloc, names, Some(node))?;
+        self.depth = self.depth.max(names.len());
+        Ok(())
+    }
+}

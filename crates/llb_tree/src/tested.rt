@@ -1,0 +1,120 @@
+//! Paths by tests of their names, one test for each name from the root down. A call goes down the nodes with the tests and
+//! looks only at the children of directories whose own names pass, so never deeper than there are tests.
+
+ghost use Rattle.std.specs.Prelude.{◌≡◌, ◌∷◌, Bool, List, ℕ, IfOk, option_map};
+ghost use Rattle.llb_tree.specs.Tree.{Gives};
+ghost use Rattle.llb_tree.specs.Tested.{Keeps, KeepsAll, Thins, rid_of};
+
+use crate::fault::TreeFault;
+use crate::name::Name;
+use crate::node::{Child, Kind, Node};
+use crate::tree::Tree;
+use std::alloc::{AllocError, Global};
+use std::sync::Arc;
+
+/// A test of names.
+pub trait NameTest {
+    ghost passes: { Self → List ℕ → Bool };
+
+    /// Returns whether a name passes. Does not allocate.
+    fn passes(&self, name: &Name) -> bool
+        ensures { result ≡ passes self.now name.now };
+}
+
+// What is left of a node, a file or a directory, without all that passes the tests; `None` where all is left.
+#[cycle(thin)]
+fn thinned<T: NameTest>(
+    node: &Node,
+    alloc: Global,
+    test: &T,
+    rest: &[T],
+) -> Result<Option<Node>, AllocError>
+    ensures { IfOk result (λ o. Thins T.passes (test.now ∷ rest.now) node.now o) }
+{
+    let Kind::Dir(meta, kids) = &node.kind else {
+        return Ok(None);
+    };
+    match thinned_children(kids.as_slice(), alloc, test, rest)? {
+        None => Ok(None),
+        Some(kept) => {
+            let kids = Arc::new(alloc, kept)?;
+            Ok(Some(Node {
+                kind: Kind::Dir(*meta, kids),
+            }))
+        }
+    }
+}
+
+// What is left of children; `None` where all is left.
+#[cycle(thin)]
+fn thinned_children<T: NameTest>(
+    kids: &[Child],
+    alloc: Global,
+    test: &T,
+    rest: &[T],
+) -> Result<Option<Vec<Child>>, AllocError>
+    ensures { IfOk result (λ o. KeepsAll T.passes (test.now ∷ rest.now) kids.now (option_map (λ v. v.items) o)) }
+{
+    let mut kept = Vec::new(alloc);
+    let mut changed = false;
+    for kid in kids {
+        let goes = keep(&mut kept, alloc, kid, test, rest)?;
+        changed = changed || goes;
+    }
+    if !changed {
+        return Ok(None);
+    }
+    Ok(Some(kept))
+}
+
+// Puts what is left of a child after others, and returns whether any of it goes.
+#[cycle(thin)]
+fn keep<T: NameTest>(
+    kept: &mut Vec<Child>,
+    alloc: Global,
+    kid: &Child,
+    test: &T,
+    rest: &[T],
+) -> Result<bool, AllocError>
+    ensures { IfOk result (λ goes. Keeps T.passes (test.now ∷ rest.now) kid.now goes kept.old.items kept.new.items) }
+{
+    if !test.passes(&kid.name) {
+        kept.push(kid.copy()?)?;
+        return Ok(false);
+    }
+    let [next, others @ ..] = rest else {
+        let _entry = kid.node.entry();
+        return Ok(true);
+    };
+    match thinned(&kid.node, alloc, next, others)? {
+        None => {
+            kept.push(kid.copy()?)?;
+            Ok(false)
+        }
+        Some(node) => {
+            let name = Arc::try_clone(&kid.name)?;
+            kept.push(Child { name, node })?;
+            Ok(true)
+        }
+    }
+}
+
+impl Tree {
+    /// Returns the tree without the paths that pass the tests, and what is below them; `None` where no path passes. Fails with 25 `Root` where
+    /// there are no tests, else with 27 `Memory`. What is unchanged is shared.
+    pub fn without_passing<T: NameTest>(&self, tests: &[T]) -> Result<Option<Tree>, TreeFault>
+        ensures { Gives (λ o. o) result (rid_of T.passes tests.now self.now) }
+    {
+        let [test, rest @ ..] = tests else {
+            return Err(TreeFault::Root);
+        };
+        match thinned(&self.root, self.alloc, test, rest)? {
+            None => Ok(None),
+            Some(root) => Ok(Some(Tree {
+                root,
+                depth: self.depth,
+                alloc: self.alloc,
+            })),
+        }
+    }
+}

@@ -1,0 +1,57 @@
+//! Which vertices have no cache mount at or before them. It is looked at once, before the threads.
+
+ghost use Rattle.std.specs.Prelude.{◌≡◌, false, unwrap_or, slice_get, IfSome};
+ghost use Rattle.std.specs.List.{list_all, list_any};
+ghost use Rattle.llb_loader.specs.declared.graph.Edge as edge;
+ghost use Rattle.llb_model.specs.Outcome.{next_plain};
+ghost use Rattle.llb_model.specs.Program.{has_cache};
+ghost use Rattle.llb_work.specs.Supplies.{ArePlain};
+
+use llb_board::Board;
+use llb_execution::mounts_of;
+use llb_loader::{Edge, MountType, Vertex};
+use llb_state::is_marked;
+use std::alloc::Global;
+
+/// For each vertex by number, whether no cache mount is at or before it; none where memory is refused.
+pub(crate) fn plain_marks(alloc: Global, board: &Board) -> Option<Vec<bool>>
+    ensures { IfSome result (λ marks. ArePlain board.now.build marks.items) }
+{
+    let count = board.graph().vertices().len();
+    let mut marks = Vec::with_capacity(alloc, count).ok()?;
+    for vertex in board.graph().vertices() {
+        let plain = is_plain(vertex, &marks);
+        marks.push_reserved(plain);
+    }
+    Some(marks)
+}
+
+// Whether a vertex mounts no cache and its inputs lead to marked vertices.
+fn is_plain(vertex: &Vertex, marks: &[bool]) -> bool
+    ensures { result ≡ next_plain marks.now vertex.now }
+{
+    !has_cache(vertex) && all_marked(marks, vertex.inputs.as_slice())
+}
+
+fn all_marked(marks: &[bool], inputs: &[Edge]) -> bool
+    ensures { result ≡ list_all (λ (e : edge.Edge). unwrap_or (slice_get marks.now e.vertex) false) inputs.now }
+{
+    for edge in inputs {
+        if !is_marked(marks, edge.vertex) {
+            return false;
+        }
+    }
+    true
+}
+
+// Whether a vertex mounts a cache.
+fn has_cache(vertex: &Vertex) -> bool
+    ensures { result ≡ has_cache vertex.now }
+{
+    for mount in mounts_of(&vertex.op.kind) {
+        if MountType::Cache.is_of(mount) {
+            return true;
+        }
+    }
+    false
+}

@@ -1,0 +1,103 @@
+//! The pages of help and of the version, each held against the text that `clap` renders for the same words.
+
+use super::devices::AMPLE;
+use super::told::{ran_words, tried};
+use llb_commands::llbm_command;
+use std::alloc::Global;
+use std::process::Abort;
+
+// What is printed for words that `clap` refuses: the fault, and the text that `clap` renders of its refusal.
+fn told_by_clap(rt: &impl Abort, alloc: Global, words: &str) -> String {
+    let mut told = String::new(alloc);
+    let given: Vec<&str> = words.split(' ').collect(alloc).expect(rt, "memory");
+    let command = llbm_command(alloc).expect(rt, "memory");
+    if let Err(error) = command.try_get_matches_from(given.as_slice()) {
+        write!(told, "fault 183\n{error}").expect(rt, "memory");
+    }
+    told
+}
+
+const REQUESTS: &[&str] = &[
+    "--help",
+    "-h",
+    "--help run",
+    "-hV",
+    "--version",
+    "-V",
+    "-Vh",
+    "--version --help",
+    "run --help",
+    "run -h",
+    "run a=b nosuch --workers 3 --help",
+    "run -h --nosuch",
+    "show --help",
+    "show -h",
+    "step --help",
+    "step -h",
+    "step run --help",
+    "asm --help",
+    "asm -h",
+    "dis --help",
+    "dis -h",
+];
+
+#[test]
+fn what_is_asked_for_follows_the_refusal(rt: HostRuntime) {
+    for words in REQUESTS {
+        let told = told_by_clap(&rt, rt.alloc(), words);
+        assert!(rt;
+            ran_words(&rt, rt.alloc(), words).is(2, "", told.as_str()),
+            "{words}"
+        );
+    }
+}
+
+#[test]
+fn the_version_names_the_kit(rt: HostRuntime) {
+    let line = "fault 183\nllbm 1.0, proved with rattle-kit-13b logic dac8208d650f15bf\n";
+    assert!(rt; ran_words(&rt, rt.alloc(), "--version").is(2, "", line));
+}
+
+const REFUSALS: &[(&str, &str)] = &[
+    ("help", "fault 183\n"),
+    ("help run", "fault 183\n"),
+    ("--help=all", "fault 183\n"),
+    ("--nosuch --help", "fault 183\n"),
+    ("-- --help", "fault 183\n"),
+    ("nosuch --help", "fault 183\n"),
+    ("run --version", "fault 183\n"),
+    ("run -V", "fault 183\n"),
+    ("run --workers x --help", "fault 183\n"),
+    ("run --nosuch --help", "fault 183\n"),
+    ("show a --help", "fault 183\n"),
+    ("step", "fault 183\n"),
+    ("run nosuch", "fault 183 nosuch\n"),
+    ("run -- --help", "fault 183 --help\n"),
+];
+
+#[test]
+fn nothing_follows_another_refusal(rt: HostRuntime) {
+    for (words, line) in REFUSALS {
+        assert!(rt;
+            ran_words(&rt, rt.alloc(), words).is(2, "", line),
+            "{words}"
+        );
+    }
+}
+
+// Words, and all that standard error takes of what is told.
+const NARROW: &[(&str, &str)] = &[
+    ("--help", "fau"),
+    ("run -h", "fault 183\nRu"),
+    ("--version", "fault 183\nllbm 1.0, "),
+];
+
+#[test]
+fn a_page_that_cannot_be_written_ends_with_three(rt: HostRuntime) {
+    for (words, told) in NARROW {
+        let mut rooms = AMPLE;
+        rooms.err = told.len();
+        let ran = tried(&rt, rt.alloc(), words, rooms);
+        assert!(rt; ran.is(3, "", told), "{words}");
+    }
+}

@@ -1,0 +1,64 @@
+"""Tests of `refuse`, on programs that only tell what tests would."""
+
+import os
+import shutil
+import sys
+
+from tests.base import Folder, run
+
+
+class Refuse(Folder):
+    """What is told of tests, and what fails."""
+
+    def tests(self, *lines, refused=0, status=0, names=("one::calls",)):
+        """A program in the place of the tests: one that tells these lines and is refused so many growths."""
+        text = f"""#!{sys.executable}
+import os, sys
+if sys.argv[1:] == ["--list"]:
+    print("\\n".join({[f"{name}: test" for name in names]!r}))
+else:
+    os.write(int(os.environ["REFUSED"]), b"." * {refused})
+    print("\\n".join({lines!r}))
+    sys.exit({status})
+"""
+        place = self.file(b"tests", text.encode())
+        os.chmod(place, 0o755)
+        return os.fsdecode(place)
+
+    def refuse(self, *words):
+        """A run of the tool: its exit status and its lines."""
+        if not shutil.which("rt"):
+            self.skipTest("the toolchain is needed")
+        done = run("refuse", *words)
+        self.assertEqual(done.stderr, b"")
+        return done.returncode, done.stdout.decode().splitlines()
+
+    def test_calls_are_counted(self):
+        tests = self.tests("refused 2 (27): put /a", "refused 0 (none): copy", refused=2)
+        self.assertEqual(self.refuse(tests), (0, [
+            "one::calls: passed, 2 growths refused", "     2  27    put /a", "     0  none  copy",
+            "2 growths of 2 calls were refused", "1 passed, 0 failed",
+        ]))
+
+    def test_what_fails(self):
+        for lines, refused, status, wrong in [
+            (["refused 0 (27): put /a"], 0, 0, "refused 0, which is not right for 27: put /a"),
+            (["refused 1 (none): copy"], 1, 0, "refused 1, which is not right for none: copy"),
+            (["refused 3 (27): put /a"], 2, 0, "2 growths were refused, and it tells of 3"),
+            (["a word"], 0, 0, "it tells of no call"),
+            (["refused 1 (27): put /a", "growth 2 of put /a"], 1, 3, "growth 2 of put /a"),
+            (["refused 1 (27): put /a"], 1, 3, "it ended with status 3"),
+        ]:
+            ended, told = self.refuse(self.tests(*lines, refused=refused, status=status))
+            self.assertEqual((ended, told[-1]), (1, "0 passed, 1 failed"), lines)
+            self.assertIn(f"    {wrong}", told)
+
+    def test_no_tests(self):
+        none = ["0 growths of 0 calls were refused", "0 passed, 0 failed"]
+        self.assertEqual(self.refuse(self.tests(names=())), (1, none))
+
+    def test_command_lines_are_refused(self):
+        for words in [("/none",), ("a", "b"), ("--nosuch",)]:
+            done = run("refuse", *words)
+            self.assertEqual((done.returncode, done.stdout), (2, b""), words)
+            self.assertNotEqual(done.stderr, b"", words)
