@@ -68,7 +68,7 @@ fn push_layers(rt: &impl Abort, text: &mut String, count: u32) {
 }
 
 // The merge of `count` entries, which is the result.
-fn push_merge(rt: &impl Abort, text: &mut String, count: u32) {
+pub(crate) fn push_merge(rt: &impl Abort, text: &mut String, count: u32) {
     text.push_str("op {\n").expect(rt, "memory");
     push_digests(rt, text, count);
     text.push_str("merge {\n").expect(rt, "memory");

@@ -16,6 +16,7 @@ mod chain;
 mod conversations;
 #[cfg(test)]
 mod crew;
+#[cfg(test)]
 mod crowds;
 #[cfg(test)]
 mod definitions;

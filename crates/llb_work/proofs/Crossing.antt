@@ -24,6 +24,10 @@ use Rattle.llb_board.specs.contracts.board.Board as board
 use Rattle.llb_work.specs.declared.noted.Gated as gated
 use Rattle.llb_work.specs.contracts.noted.Tally as tally
 use Rattle.llb_work.specs.contracts.desk.Desk as desk
+use Rattle.llb_work.specs.contracts.held.Held as held
+use Rattle.llb_work.specs.contracts.idle.Idle as idle
+use Rattle.llb_work.proofs.held.Held.TheSendSync as held_crosses
+use Rattle.llb_work.proofs.idle.Idle.TheSendSync as idle_crosses
 use Rattle.llb_work.specs.contracts.worker.Kit as kit
 
 -- several threads may have the queue of the run at once
@@ -33,6 +37,13 @@ queue_shared = queue_crosses.the_sync
 -- the number of a worker, one of 32 bits, may go to another thread
 pub number : IsSend u32
 number = search sendable
+
+-- several threads may wait at one place
+pub idle_shared : IsSync idle.the_row
+idle_shared = idle_crosses.the_sync
+
+held_send : IsSend held.the_row
+held_send = held_crosses.the_send
 
 board_send : IsSend (as_row board.the_field)
 board_send = as_row_send board.the_field board_crosses
@@ -57,8 +68,11 @@ module _ (T : RattleType) (g : gated.Ghosts T.Denot) (g' : ledger.Ghosts T.Denot
       (
         search (crosses, sendable) depth 20,
         (
-          as_row_send (book.the_field T g') (book_crosses.the_send T g'),
-          (search (crosses, sendable) depth 20, tt),
+          held_send,
+          (
+            as_row_send (book.the_field T g') (book_crosses.the_send T g'),
+            (search (crosses, sendable) depth 20, tt),
+          ),
         ),
       ),
     ),
@@ -69,10 +83,10 @@ module _ (T : RattleType) (g : gated.Ghosts T.Denot) (g' : ledger.Ghosts T.Denot
   lock_crosses = search (desk_crosses, crosses, sendable) depth 20
 
 -- what a closure takes with it, each of which may go
-pub seven_cross : (ν : Sym) (A B C D E F G : RattleType) → IsSend A → IsSend B → IsSend C → IsSend D → IsSend E → IsSend F → IsSend G
-    → IsSend (TupleAt ν (A ∷ B ∷ C ∷ D ∷ E ∷ F ∷ G ∷ []))
-seven_cross ν A B C D E F G a b c d e f g =
-    declared_send (type_at ν (A ∷ B ∷ C ∷ D ∷ E ∷ F ∷ G ∷ [])) (
+pub eight_cross : (ν : Sym) (A B C D E F G H : RattleType) → IsSend A → IsSend B → IsSend C → IsSend D → IsSend E → IsSend F → IsSend G → IsSend H
+    → IsSend (TupleAt ν (A ∷ B ∷ C ∷ D ∷ E ∷ F ∷ G ∷ H ∷ []))
+eight_cross ν A B C D E F G H a b c d e f g h =
+    declared_send (type_at ν (A ∷ B ∷ C ∷ D ∷ E ∷ F ∷ G ∷ H ∷ [])) (
       as_row_send (row_field A) a,
       (
         as_row_send (row_field B) b,
@@ -84,7 +98,10 @@ seven_cross ν A B C D E F G a b c d e f g =
               as_row_send (row_field E) e,
               (
                 as_row_send (row_field F) f,
-                (as_row_send (row_field G) g, tt),
+                (
+                  as_row_send (row_field G) g,
+                  (as_row_send (row_field H) h, tt),
+                ),
               ),
             ),
           ),

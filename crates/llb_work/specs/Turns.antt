@@ -6,7 +6,7 @@ use Rattle.llb_state.specs.Board.{Seen}
 use Rattle.llb_board.specs.Begun.{plain_job}
 use Rattle.llb_work.specs.RunEnds.{is_of}
 use Rattle.llb_work.specs.declared.desk.Turn.{Turn}
-use Rattle.llb_work.specs.declared.desk.Turn.TheVariants.{Work, Pass, Again, Next, Wait, End}
+use Rattle.llb_work.specs.declared.desk.Turn.TheVariants.{Work, Pass, Again, Next, End}
 use Rattle.llb_work.specs.declared.desk.Brought.{Brought}
 use Rattle.llb_work.specs.declared.desk.Brought.TheVariants.{Nothing, Number, Outcome}
 
@@ -23,7 +23,6 @@ IsHere b w (Work job) = IsClaimed b w job.vertex job
 IsHere b w (Pass v) = is_of b w v ≡ true
 IsHere b w Again = Unit {0}
 IsHere b w Next = Unit {0}
-IsHere b w Wait = Unit {0}
 IsHere b w End = Unit {0}
 
 -- an outcome that a worker comes back with is that of a job that it has claimed

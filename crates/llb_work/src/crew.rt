@@ -8,6 +8,8 @@ ghost use Rattle.llb_work.specs.RunEnds.{may_be};
 
 use crate::desk::{Desk, make_desk};
 use crate::hand_out::all_serve;
+use crate::held::Held;
+use crate::idle::Idle;
 use crate::noted::{Gated, Noted};
 use crate::post::Post;
 use crate::supply::{Supply, make_supply, put_ready};
@@ -25,6 +27,7 @@ fn in_scope<'x, S: Gated + Send + Sync, G: Gate + Sync, R: Threads + Wait + Sync
     alloc: Global,
     desk: &'x Mutex<Desk<S>>,
     queue: &'x ReadyQueue,
+    idle: &'x Idle,
     gate: &'x G,
     n: u32,
     all: Share<S>,
@@ -51,7 +54,7 @@ fn in_scope<'x, S: Gated + Send + Sync, G: Gate + Sync, R: Threads + Wait + Sync
             ensures pass { IsReadyPassOf queue.entry.now result.2 × IsWhole result.2 }
         {
             all_serve(
-                rt, alloc, scope, desk, queue, gate, n, all, pass, lists, posts,
+                rt, alloc, scope, desk, queue, idle, gate, n, all, pass, lists, posts,
             )
         },
     )
@@ -101,14 +104,18 @@ pub(crate) fn run_crew<S: Gated + Send + Sync, G: Gate + Sync, R: Threads + Wait
     } = supply;
     let pass = put_ready(rt, &queue, &board, pass);
     let (calls, all) = blank.open::<S>();
-    let desk = Mutex::new(make_desk(board, start, plain, calls));
-    let (all, made, pass) = in_scope(rt, alloc, &desk, &queue, gate, n, all, pass, lists, posts);
+    let desk = Mutex::new(make_desk(board, start, plain, Held::new(alloc), calls));
+    let idle = Idle::new();
+    let (all, made, pass) = in_scope(
+        rt, alloc, &desk, &queue, &idle, gate, n, all, pass, lists, posts,
+    );
     queue.close(pass);
     let mut all = all;
     let Desk {
         board,
         start,
         plain: _,
+        held: _,
         calls,
         noted,
     } = desk.into_inner();

@@ -1,6 +1,6 @@
 //! What lies under the lock: the board, the board that the run began from, the book of what was made, and the fault that was noted
-//! first; and which vertices have no cache mount at or before them. Its type keeps that the record went on from the board that was given
-//! by granted events, each of which is counted.
+//! first; which vertices have no cache mount at or before them, and the numbers that wait for a key. Its type keeps that the record went
+//! on from the board that was given by granted events, each of which is counted.
 
 ghost use Rattle.std.specs.Prelude.{◌≡◌, ◌+◌, ℕ, length, true, Some, IfOk};
 ghost use Rattle.std.specs.Bool.{OnTrue};
@@ -14,11 +14,13 @@ ghost use Rattle.llb_work.specs.Supplies.{ArePlain};
 ghost use Rattle.llb_work.specs.Turns.{IsBrought, IsClaimed, IsHere};
 
 use crate::granted;
+use crate::held::Held;
 use crate::noted::{Gated, Noted, Tally, count};
 use llb_board::{
     At, Board, ClaimFault, Job, LandFault, Outcome, SettleFault, Settled, Status, StepFault,
     Stepped,
 };
+use llb_cache::Key;
 use llb_state::is_marked;
 use std::sync::ledger::Book;
 
@@ -28,6 +30,7 @@ pub(crate) struct Desk<S: Gated> {
     pub board: Board,
     pub start: Board,
     pub plain: Vec<bool>,
+    pub held: Held,
     pub calls: Book<S>,
     pub noted: Option<Noted>,
     pub ghost kept: { start ≡ S.given } by { Prim.hlevel (codes, coded_tree, coded_store) },
@@ -56,11 +59,9 @@ pub(crate) enum Turn {
     Pass(u32),
     /// To come again.
     Again,
-    /// To come again with a number, where the queue has one: it runs nothing.
+    /// To come again with a number, once the queue has one: it runs nothing.
     Next,
-    /// To do so later: there is nothing that it can do now.
-    Wait,
-    /// To end.
+    /// To end, as all others do: nothing is claimed any more.
     End,
 }
 
@@ -69,6 +70,7 @@ pub(crate) fn make_desk<S: Gated>(
     board: Board,
     start: Board,
     plain: Vec<bool>,
+    held: Held,
     calls: Book<S>,
 ) -> Desk<S>
     requires plain { ArePlain board.build plain.items }
@@ -80,6 +82,7 @@ pub(crate) fn make_desk<S: Gated>(
         board,
         start,
         plain,
+        held,
         calls,
         noted: None,
     }
@@ -103,6 +106,7 @@ impl<S: Gated> Desk<S> {
             board,
             start: _,
             plain: _,
+            held: _,
             calls,
             noted: _,
         } = self;
@@ -121,6 +125,7 @@ impl<S: Gated> Desk<S> {
             board,
             start: _,
             plain: _,
+            held: _,
             calls,
             noted: _,
         } = self;
@@ -148,6 +153,7 @@ impl<S: Gated> Desk<S> {
             board,
             start: _,
             plain: _,
+            held: _,
             calls,
             noted: _,
         } = self;
@@ -163,6 +169,7 @@ impl<S: Gated> Desk<S> {
             board,
             start: _,
             plain: _,
+            held: _,
             calls,
             noted: _,
         } = self;
@@ -178,6 +185,7 @@ impl<S: Gated> Desk<S> {
             board,
             start: _,
             plain: _,
+            held: _,
             calls,
             noted: _,
         } = self;
@@ -195,8 +203,8 @@ impl<S: Gated> Desk<S> {
         self.note(noted);
     }
 
-    /// What a worker does in one hold, by what it comes with. `news` gets the numbers that it is then to put into the queue: those
-    /// that a vertex left to it has made ready, the greatest first, and a number whose claim was held.
+    /// What a worker does in one hold, by what it comes with. `news` gets the numbers that it is then to put into the queue: of the
+    /// vertices that a vertex which it left has made ready, the greatest first, and of those that waited for its keys.
     pub(crate) fn turn(
         &mut self,
         w: u32,
@@ -211,6 +219,7 @@ impl<S: Gated> Desk<S> {
             Brought::Nothing => self.go_on(w, mine, news),
             Brought::Number(v) => self.take(w, v, mine, news),
             Brought::Outcome(outcome) => {
+                self.release(w, news);
                 let landed = self.land(w, outcome, mine);
                 self.left(landed.ok(), news)
             }
@@ -224,6 +233,7 @@ impl<S: Gated> Desk<S> {
         match self.board.worker(w) {
             None => Turn::End,
             Some(At::Runs(_, _, true)) => {
+                self.release(w, news);
                 let settled = self.settle(w, mine);
                 self.left(settled.ok(), news)
             }
@@ -235,7 +245,7 @@ impl<S: Gated> Desk<S> {
                 _ => Turn::Again,
             },
             Some(At::Idle) if self.is_over() => Turn::End,
-            Some(At::Idle) => Turn::Wait,
+            Some(At::Idle) => Turn::Next,
         }
     }
 
@@ -247,11 +257,11 @@ impl<S: Gated> Desk<S> {
             return Turn::End;
         }
         match self.claim(w, v, mine) {
-            Ok(job) => self.begun(w, job),
-            Err(ClaimFault::Held(_)) => match news.push(v) {
-                Ok(()) => Turn::Wait,
-                Err(_) => self.stop(),
-            },
+            Ok(job) => {
+                let _ = self.held.answered(v, None);
+                self.begun(w, job)
+            }
+            Err(ClaimFault::Held(key)) => self.wait_for(key, v, news),
             Err(ClaimFault::NotReady | ClaimFault::NoVertex) => Turn::Next,
             Err(ClaimFault::Memory) => self.stop(),
             Err(_) => Turn::Again,
@@ -265,13 +275,52 @@ impl<S: Gated> Desk<S> {
         match settled {
             None => Turn::Again,
             Some(Settled::Done(v) | Settled::Failed(v)) => {
-                if note_ready(&self.board, v, news) {
-                    Turn::Next
-                } else {
-                    self.stop()
+                if !note_ready(&self.board, v, news) {
+                    return self.stop();
                 }
+                if self.is_over() {
+                    return Turn::End;
+                }
+                Turn::Next
             }
         }
+    }
+
+    // A worker is about to leave what it runs: of those that wait for one of its keys, one is put again.
+    fn release(&mut self, w: u32, news: &mut Vec<u32>) {
+        let Desk {
+            board,
+            start: _,
+            plain: _,
+            held,
+            calls: _,
+            noted: _,
+        } = self;
+        let mut whole = true;
+        for place in board.places(w) {
+            if let Some(v) = held.next_of(&place.key) {
+                whole = whole && news.push(v).is_ok();
+            }
+        }
+        if !whole {
+            self.note(Noted::Memory);
+        }
+    }
+
+    // A number waits for a key that another worker has. Where it had waited for another one, the next number of that key is put.
+    fn wait_for(&mut self, key: Key, v: u32, news: &mut Vec<u32>) -> Turn
+        ensures { (w : ℕ) → IsHere S.given w result }
+    {
+        let next = self.held.answered(v, Some(&key));
+        if self.held.push(key, v).is_err() {
+            return self.stop();
+        }
+        if let Some(u) = next {
+            if news.push(u).is_err() {
+                return self.stop();
+            }
+        }
+        Turn::Next
     }
 
     // Whether no vertex is claimed any more.

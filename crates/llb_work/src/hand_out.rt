@@ -6,6 +6,7 @@ ghost use Rattle.llb_work.specs.Passes.{IsPassFor, IsUncut};
 ghost use Rattle.llb_work.specs.Posts.{PostKeeps, AllKeep};
 
 use crate::desk::Desk;
+use crate::idle::Idle;
 use crate::noted::{Gated, Noted, Tally, make_tally};
 use crate::post::{Owed, Post};
 use crate::worker::{Kit, serve};
@@ -24,6 +25,7 @@ fn start<'s, E, S: Gated + Send + Sync, G: Gate + Sync, R: Threads + Wait + Sync
     scope: &Scope<'s, E>,
     desk: &'s Mutex<Desk<S>>,
     queue: &'s ReadyQueue,
+    idle: &'s Idle,
     gate: &'s G,
     w: u32,
     kit: Kit<S>,
@@ -40,11 +42,12 @@ fn start<'s, E, S: Gated + Send + Sync, G: Gate + Sync, R: Threads + Wait + Sync
         requires stop { (w v : ℕ) → IsTrue (G.may_stop w v) → S.may_stop w v ≡ true }
         requires pass { IsPassFor queue.now w kit.pass }
         ensures { IsPassFor queue.entry.now w result.pass }
-    { serve(rt, alloc, desk, queue, gate, w, kit) };
+    { serve(rt, alloc, desk, queue, idle, gate, w, kit) };
     match scope.spawn_with(owed, part) {
         Ok(handle) => Post::Thread(handle),
         Err(refused) => {
             desk.lock(rt).note(Noted::Thread);
+            idle.end();
             Post::Here((refused.value)())
         }
     }
@@ -57,6 +60,7 @@ pub(crate) fn all_serve<'s, E, S: Gated + Send + Sync, G: Gate + Sync, R: Thread
     scope: &Scope<'s, E>,
     desk: &'s Mutex<Desk<S>>,
     queue: &'s ReadyQueue,
+    idle: &'s Idle,
     gate: &'s G,
     n: u32,
     all: Share<S>,
@@ -80,7 +84,7 @@ pub(crate) fn all_serve<'s, E, S: Gated + Send + Sync, G: Gate + Sync, R: Thread
         let (kept, pass) = queue.split(rest);
         rest = kept;
         let kit = Kit { tally, pass, news };
-        posts.push_reserved(start(rt, alloc, scope, desk, queue, gate, w, kit));
+        posts.push_reserved(start(rt, alloc, scope, desk, queue, idle, gate, w, kit));
         w += 1;
     }
     gathered(rt, queue, n, all, rest, posts)

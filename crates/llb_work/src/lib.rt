@@ -8,6 +8,8 @@ mod desk;
 mod end;
 mod granted;
 mod hand_out;
+mod held;
+mod idle;
 mod noted;
 mod plain;
 mod post;

@@ -20,8 +20,9 @@ use std::thread::Threads;
 /// Runs a board in as many threads as it has workers, 1 to 64, round one lock and one queue of numbers. The queue is given the number of
 /// every ready vertex first, the least first. Each worker ends what it runs, then takes one number after another, claims that vertex, and
 /// works on it away from the lock; where the vertex shows a shared cache, event by event under the lock, behind the gate. When it has
-/// left a vertex, it puts the numbers of those with an edge to it that are ready now. It puts a number back whose vertex wants a locked
-/// cache that another worker has.
+/// left a vertex, it puts the numbers of those with an edge to it that are ready now. A number whose vertex wants a locked cache that
+/// another worker has is put again when the vertex with that cache is left. A worker that finds the queue empty sleeps until more numbers
+/// are put than others are about to take, or the run is over.
 ///
 /// 151 where memory is refused, 152 where the gate stops a worker, 153 where a thread cannot be started: the first that is met. Where
 /// memory is refused for the copies of the board, the queue or the workers' lists, no thread starts, and the board comes back as it was

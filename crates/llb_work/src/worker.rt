@@ -7,6 +7,7 @@ ghost use Rattle.llb_work.specs.RunEnds.{is_of};
 ghost use Rattle.llb_work.specs.Turns.{IsBrought, IsClaimed, IsHere};
 
 use crate::desk::{Brought, Desk, Turn};
+use crate::idle::Idle;
 use crate::noted::{Gated, Noted, Tally};
 use crossbeam_utils::Backoff;
 use llb_board::{Gate, Job, WorkFault, work};
@@ -30,6 +31,7 @@ pub(crate) fn serve<S: Gated, G: Gate, R: Wait>(
     alloc: Global,
     desk: &Mutex<Desk<S>>,
     queue: &ReadyQueue,
+    idle: &Idle,
     gate: &G,
     w: u32,
     kit: Kit<S>,
@@ -43,17 +45,19 @@ pub(crate) fn serve<S: Gated, G: Gate, R: Wait>(
     let mut pass = pass;
     let mut news = news;
     let mut brought = Brought::Nothing;
-    let backoff = Backoff::new();
     for _i in rt.forever() {
         let turn = desk.lock(rt).turn(w, brought, &mut tally, &mut news);
-        put_all(rt, queue, &mut pass, w, &mut news);
+        let put = put_all(rt, queue, &mut pass, w, &mut news);
+        let own = usize::from(matches!(turn, Turn::Next));
+        idle.wake(put.saturating_sub(own));
         match away(
-            rt, alloc, desk, queue, gate, w, &mut tally, &mut pass, &mut news, &backoff, turn,
+            rt, alloc, desk, queue, idle, gate, w, &mut tally, &mut pass, &mut news, turn,
         ) {
             Some(more) => brought = more,
             None => break,
         }
     }
+    idle.end();
     Kit { tally, pass, news }
 }
 
@@ -63,12 +67,12 @@ fn away<S: Gated, G: Gate, R: Wait>(
     alloc: Global,
     desk: &Mutex<Desk<S>>,
     queue: &ReadyQueue,
+    idle: &Idle,
     gate: &G,
     w: u32,
     tally: &mut Tally<S>,
     pass: &mut ReadyPass,
     news: &mut Vec<u32>,
-    backoff: &Backoff,
     turn: Turn,
 ) -> Option<Brought>
     requires stop { (w v : ℕ) → IsTrue (G.may_stop w v) → S.may_stop w v ≡ true }
@@ -77,46 +81,57 @@ fn away<S: Gated, G: Gate, R: Wait>(
     ensures pass { IsPassFor queue.now w pass.new }
     ensures brought { IfSome result (IsBrought S.given w) }
 {
-    if matches!(turn, Turn::Wait) {
-        backoff.snooze();
-    } else {
-        backoff.reset();
-    }
     match turn {
         Turn::End => None,
         Turn::Again => Some(Brought::Nothing),
-        Turn::Next | Turn::Wait => Some(taken(rt, queue, pass, w, news)),
+        Turn::Next => taken(rt, queue, idle, pass, w, news),
         Turn::Pass(v) => passed(rt, desk, gate, w, v, tally),
         Turn::Work(job) => worked(rt, alloc, desk, gate, w, job, tally),
     }
 }
 
-// Takes a number, then puts those that have met a full queue again.
+// Takes a number, once there is one; none where the run is over. After each try it puts those that have met a full queue again.
 fn taken<R: Wait>(
+    rt: &R,
+    queue: &ReadyQueue,
+    idle: &Idle,
+    pass: &mut ReadyPass,
+    w: u32,
+    news: &mut Vec<u32>,
+) -> Option<Brought>
+    requires { IsPassFor queue.now w pass.old }
+    ensures pass { IsPassFor queue.now w pass.new }
+    ensures brought { (b : Seen) → IfSome result (IsBrought b w) }
+{
+    let backoff = Backoff::new();
+    for _i in rt.forever() {
+        let seen = idle.wakes();
+        if idle.is_over() {
+            return None;
+        }
+        let next = queue.take(rt, pass);
+        idle.wake(put_all(rt, queue, pass, w, news));
+        if let Some(v) = next {
+            return Some(Brought::Number(v));
+        }
+        idle.wait(rt, seen, &backoff);
+    }
+    unreachable!()
+}
+
+// Puts numbers, the last one first, until one meets a full queue. Those that are not put are kept. Returns how many were put.
+fn put_all<R: Wait>(
     rt: &R,
     queue: &ReadyQueue,
     pass: &mut ReadyPass,
     w: u32,
     news: &mut Vec<u32>,
-) -> Brought
-    requires { IsPassFor queue.now w pass.old }
-    ensures pass { IsPassFor queue.now w pass.new }
-    ensures brought { (b : Seen) → IsBrought b w result }
-{
-    let next = queue.take(rt, pass);
-    put_all(rt, queue, pass, w, news);
-    match next {
-        Some(v) => Brought::Number(v),
-        None => Brought::Nothing,
-    }
-}
-
-// Puts numbers, the last one first, until one meets a full queue. Those that are not put are kept.
-fn put_all<R: Wait>(rt: &R, queue: &ReadyQueue, pass: &mut ReadyPass, w: u32, news: &mut Vec<u32>)
+) -> usize
     requires { IsPassFor queue.now w pass.old }
     ensures { IsPassFor queue.now w pass.new }
 {
-    for _i in 0..news.len() {
+    let before = news.len();
+    for _i in 0..before {
         let Some(v) = news.last() else {
             break;
         };
@@ -125,6 +140,7 @@ fn put_all<R: Wait>(rt: &R, queue: &ReadyQueue, pass: &mut ReadyPass, w: u32, ne
         }
         let _ = news.pop();
     }
+    before.saturating_sub(news.len())
 }
 
 // Passes the gate, or gives the vertex up and notes that it was stopped there.

@@ -10,7 +10,8 @@ use Rattle.llb_ready.specs.contracts.queue.ReadyQueue as queue
 use Rattle.llb_ready.specs.declared.queue.ReadyQueue.{ReadyQueue}
 use Rattle.llb_work.specs.Passes.{IsPassFor}
 use Rattle.llb_work.specs.contracts.desk.Desk as desk
-use Rattle.llb_work.proofs.Crossing.{number, seven_cross, lock_crosses, kit_crosses, queue_shared}
+use Rattle.llb_work.specs.contracts.idle.Idle as idle
+use Rattle.llb_work.proofs.Crossing.{number, eight_cross, lock_crosses, kit_crosses, queue_shared, idle_shared}
 use Rattle.llb_work.proofs.hand_out.start.Goals as goal
 
 pub spawn_with-requires : goal.spawn_with-requires
@@ -18,10 +19,11 @@ spawn_with-requires g c κs =
     let name : RattleType = param 1 g.row.S in
     let lock : RattleType = mutex.the_row (desk.the_row name g.S.Gated g.S.Ledger) in (
       param_send 2 _ (arg_send _ no _ (
-          seven_cross _ _ _ _ _ _ _ _ (shr_send (named 6) κs.1.1.1.1.1.1.0 (param 3 g.row.R) c.type_bounds.sync-R) send
+          eight_cross _ _ _ _ _ _ _ _ _ (shr_send (named 6) κs.1.1.1.1.1.1.0 (param 3 g.row.R) c.type_bounds.sync-R) send
           (shr_send (named 7) κs.1.1.1.1.1.1.1.0 lock (lock_crosses name g.S.Gated g.S.Ledger))
           (shr_send (named 8) κs.1.1.1.1.1.1.1.1.0 queue.the_row queue_shared)
-          (shr_send (named 9) κs.1.1.1.1.1.1.1.1.1.0 (param 2 g.row.G) c.type_bounds.sync-G) number (kit_crosses name g.S.Ledger)
+          (shr_send (named 9) κs.1.1.1.1.1.1.1.1.1.0 idle.the_row idle_shared)
+          (shr_send (named 10) κs.1.1.1.1.1.1.1.1.1.1.0 (param 2 g.row.G) c.type_bounds.sync-G) number (kit_crosses name g.S.Ledger)
           )),
       (
         param_send 3 _ (arg_send _ no _ (kit_crosses name g.S.Ledger)),

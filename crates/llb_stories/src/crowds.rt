@@ -1,0 +1,195 @@
+//! Runs by more workers than there is work for, so that most of them sleep: each ends, many times over, and with all its events.
+
+use super::calls::is_event_done;
+use super::farm::{counts, push_merge};
+use super::told::row_holds;
+use super::written::board_from;
+use llb_board::{Event, Gate, Stopped};
+use llb_work::{RunEnd, RunFault, run_workers};
+use std::alloc::Global;
+use std::fmt::Write;
+use std::process::Abort;
+use std::sync::Wait;
+use std::thread;
+use std::thread::Threads;
+
+// Lets everybody pass, and a vertex with a number that 3 divides after 20 turns of others.
+struct Slow;
+
+impl Gate for Slow {
+    ghost use Rattle.std.specs.Prelude.{false};
+
+    ghost may_stop = { λ _ _. false };
+
+    fn pass(&self, _w: u32, v: u32) -> Result<(), Stopped> {
+        if v.is_multiple_of(3) {
+            for _turn in 0..20u32 {
+                thread::yield_now();
+            }
+        }
+        Ok(())
+    }
+}
+
+// Stops whoever comes to that vertex.
+struct Shut(u32);
+
+impl Gate for Shut {
+    ghost use Rattle.std.specs.Prelude.{true};
+
+    ghost may_stop = { λ _ _. true };
+
+    fn pass(&self, _w: u32, v: u32) -> Result<(), Stopped> {
+        if v == self.0 { Err(Stopped) } else { Ok(()) }
+    }
+}
+
+// The vertex of a number: a file made on the vertex before it, a file by itself, or a command that ends with a status, on up to two caches.
+#[derive(Clone, Copy)]
+enum Shape {
+    Chain,
+    Fan,
+    // Every third one fails.
+    Failing,
+    // All on one locked cache.
+    Locked,
+    // On two of three locked caches, in turn.
+    TwoOfThree,
+    // On a cache that is shared in each of the three ways, in turn.
+    Mixed,
+}
+
+fn push_file(rt: &impl Abort, text: &mut String, before: Option<u32>, v: u32) {
+    match before {
+        Some(before) => write!(
+            text,
+            "op {{\ninputs {{\ndigest %{before}\n}}\nfile {{\nactions {{\n"
+        ),
+        None => write!(text, "op {{\nfile {{\nactions {{\ninput -1\n"),
+    }
+    .expect(rt, "memory");
+    write!(
+        text,
+        "mkfile {{\npath \"/f{v}\"\nmode 420\n}}\n}}\n}}\n}}\n"
+    )
+    .expect(rt, "memory");
+}
+
+// A command on the empty tree at `/`, and on caches, each by its ID and the way in which it is shared.
+fn push_command(rt: &impl Abort, text: &mut String, script: &str, v: u32, caches: &[(u32, u32)]) {
+    write!(
+        text,
+        "op {{\nexec {{\nmeta {{\nargs \"/bin/sh\"\nargs \"-c\"\nargs \"{script}{v}\"\ncwd \"/\"\n}}\nmounts {{\ninput -1\ndest \"/\"\n}}\n"
+    )
+    .expect(rt, "memory");
+    for (id, sharing) in caches {
+        write!(
+            text,
+            "mounts {{\ninput -1\ndest \"/c{id}\"\noutput -1\nmountType 3\ncacheOpt {{\nID \"{id}\"\nsharing {sharing}\n}}\n}}\n"
+        )
+        .expect(rt, "memory");
+    }
+    text.push_str("}\n}\n").expect(rt, "memory");
+}
+
+fn push_vertex(rt: &impl Abort, text: &mut String, shape: Shape, v: u32) {
+    match shape {
+        Shape::Chain => push_file(rt, text, v.checked_sub(1), v),
+        Shape::Fan => push_file(rt, text, None, v),
+        Shape::Failing if v.is_multiple_of(3) => push_command(rt, text, "cp /none /f", v, &[]),
+        Shape::Failing => push_file(rt, text, v.checked_sub(1), v),
+        Shape::Locked => push_command(rt, text, "append /c0/l ", v, &[(0, 2)]),
+        Shape::TwoOfThree => {
+            let caches = [(v % 3, 2), (v.wrapping_add(1) % 3, 2)];
+            push_command(rt, text, "mkdir /d", v, &caches);
+        }
+        Shape::Mixed => push_command(rt, text, "append /c0/l ", v, &[(0, v % 3)]),
+    }
+}
+
+// The definition of `count` vertices, and of a merge of what they give.
+fn definition(rt: &impl Abort, alloc: Global, shape: Shape, count: u32) -> String {
+    let mut text = String::new(alloc);
+    for v in 0..count {
+        push_vertex(rt, &mut text, shape, v);
+    }
+    push_merge(rt, &mut text, count);
+    text
+}
+
+// Whether a run ended whole, with this number of events.
+fn is_whole(end: &RunEnd, events: u64) -> bool {
+    matches!(counts(end, 64), Some((all, _)) if all == events)
+}
+
+// Whether `runs` runs end whole, each with this number of events.
+fn all_end<R: Abort + Threads + Wait + Sync>(
+    rt: &R,
+    alloc: Global,
+    text: &str,
+    workers: u32,
+    runs: u32,
+    events: u64,
+) -> bool {
+    for _run in 0..runs {
+        let board = board_from(rt, alloc, text, workers);
+        if !is_whole(&run_workers(rt, alloc, board, &Slow), events) {
+            return false;
+        }
+    }
+    true
+}
+
+// A row of its own for each shape and number of workers, which is below 100.
+fn row(at: usize, workers: u32) -> usize {
+    at.wrapping_mul(100).wrapping_add(workers as usize)
+}
+
+#[test]
+fn runs_by_any_number_of_workers_end(rt: HostRuntime) {
+    let rows = [
+        (Shape::Chain, 122),
+        (Shape::Fan, 122),
+        (Shape::Failing, 30),
+        (Shape::Locked, 122),
+        (Shape::TwoOfThree, 122),
+        (Shape::Mixed, 122),
+    ];
+    for (at, (shape, events)) in rows.iter().enumerate() {
+        let text = definition(&rt, rt.alloc(), *shape, 30);
+        for workers in [1, 2, 3, 64] {
+            let whole = all_end(&rt, rt.alloc(), text.as_str(), workers, 4, *events);
+            row_holds(&rt, row(at, workers), whole);
+        }
+    }
+}
+
+// Whether a run is stopped at the last vertex that is no merge.
+fn is_stopped(end: &RunEnd) -> bool {
+    matches!(end.fault, Some(RunFault::Stopped)) && !end.board.is_complete()
+}
+
+#[test]
+fn a_stop_ends_the_run_of_those_that_sleep(rt: HostRuntime) {
+    for (at, shape) in [Shape::Chain, Shape::Fan, Shape::Locked].iter().enumerate() {
+        let text = definition(&rt, rt.alloc(), *shape, 30);
+        for workers in [1, 3, 64] {
+            let board = board_from(&rt, rt.alloc(), text.as_str(), workers);
+            let end = run_workers(&rt, rt.alloc(), board, &Shut(29));
+            row_holds(&rt, row(at, workers), is_stopped(&end));
+        }
+    }
+}
+
+#[test]
+fn a_board_is_run_on_from_the_middle(rt: HostRuntime) {
+    for (at, shape) in [Shape::Chain, Shape::Fan, Shape::Locked].iter().enumerate() {
+        let text = definition(&rt, rt.alloc(), *shape, 30);
+        for workers in [2, 64] {
+            let mut board = board_from(&rt, rt.alloc(), text.as_str(), workers);
+            let claimed = is_event_done(&mut board, Event::Claim(1, 0));
+            let end = run_workers(&rt, rt.alloc(), board, &Slow);
+            row_holds(&rt, row(at, workers), claimed && is_whole(&end, 121));
+        }
+    }
+}
