@@ -1,10 +1,10 @@
 //! What is copied lands on a tree: a file at its place, and a directory with what is below it, merged with what is there.
 //! The merged part is what is there with the directory laid over it, and takes its place.
 
-ghost use Rattle.std.specs.Prelude.{◌≡◌, ◌≤◌, [], length, false, Ok, None, IsSome, map, IfErr};
+ghost use Rattle.std.specs.Prelude.{◌≡◌, ◌≤◌, [], length, false, Ok, None, Some, IsSome, map, IfErr};
 ghost use Rattle.std.specs.FinMap as finite;
 ghost use Rattle.llb_tree.specs.Rows.{seen};
-ghost use Rattle.llb_tree.specs.Tree.{is_memory, Gives, moved, IsDirAt, IsTree, is_dir};
+ghost use Rattle.llb_tree.specs.Tree.{is_memory, Gives, content_of, moved, IsDirAt, IsTree, is_dir};
 ghost use Rattle.llb_fileop.specs.Owners.{copied};
 ghost use Rattle.llb_fileop.specs.Copying.{landed, land, meets, at_target};
 ghost use Rattle.llb_fileop.specs.Parts.{put, put_some, laid, all_below, all_meet, land_at};
@@ -12,7 +12,7 @@ ghost use Rattle.llb_fileop.specs.Parts.{put, put_some, laid, all_below, all_mee
 use crate::owner::{copied, way};
 use crate::parts::is_there;
 use llb_ops::CopyFile;
-use llb_tree::{Entry, Path, Tree, TreeFault};
+use llb_tree::{Content, Entry, Path, Tree, TreeFault};
 use std::alloc::Global;
 
 /// A file lands at its place.
@@ -69,19 +69,28 @@ fn copy_from(
 {
     match from.get(path) {
         None => Ok(()),
-        Some(held) => put_copy(action, held, goal, tree),
+        Some(held) => put_copy(action, held, from.content(path)?, goal, tree),
     }
 }
 
-// Puts a copy of an entry.
-fn put_copy(action: &CopyFile, held: Entry, path: &Path, tree: &mut Tree) -> Result<(), TreeFault>
+// Puts a copy of an entry: of a file with its content, which is shared.
+fn put_copy(
+    action: &CopyFile,
+    held: Entry,
+    shared: Option<Content>,
+    path: &Path,
+    tree: &mut Tree,
+) -> Result<(), TreeFault>
+    requires { shared ≡ content_of (Some (seen held)) }
     ensures { Gives (λ _. tree.new) result (put (landed (copied action.now.mode action.now.owner) None (seen held.entry)) tree.old path.now) }
 {
     match held {
         Entry::Dir(own) => tree.put_dir(path, copied(action, own)),
-        Entry::File(own, content) => {
-            let content = content.copy().map_err(|_| TreeFault::Memory)?;
-            tree.put_file(path, copied(action, own), content)
+        Entry::File(own, _bytes) => {
+            let Some(content) = shared else {
+                unreachable!();
+            };
+            tree.put_content(path, copied(action, own), content)
         }
     }
 }
