@@ -52,11 +52,11 @@ is_word_byte b =
 abbrev pub bad_in : Bool → List ℕ → Option ℕ
 bad_in called word = if is_separator word then (if called then None else Some 0) else position (λ b. not (is_word_byte b)) word
 
--- whether a word of a call stands right before what follows a part
+-- whether a word of a call comes right before what follows a part
 abbrev pub called_after : Bool → List ℕ → Bool
 called_after called part = if length part == 0 then called else not (is_separator part)
 
--- the first bad place among words, in a text of `end` bytes, where `called` says whether a word of a call stands right before them; at
+-- the first bad place among words, in a text of `end` bytes, where `called` says whether a word of a call comes right before them; at
 -- the end a call must have begun
 abbrev pub bad_place : ℕ → Bool → List Word → Option ℕ
 bad_place end called [] = if called then None else Some end

@@ -11,7 +11,7 @@ ghost use Rattle.llb_applet.specs.Changes.{PutsAside, Does, settled};
 use crate::fault::Memory;
 use crate::spot::Spot;
 use llb_mount::View;
-use llb_tree::{Bytes, Meta, Name, Path, Tree, TreeFault};
+use llb_tree::{Bytes, Content, Meta, Name, Path, Tree, TreeFault};
 use std::alloc::{AllocError, Global};
 
 // Takes a mount's tree out of the view and leaves an empty one in its place; returns `None` if the mount is read-only.
@@ -76,6 +76,46 @@ fn put_there(
         None => Ok(false),
         Some(mut tree) => {
             let change = tree.put_file(&spot.place, meta, content);
+            let _aside = view.swap_tree(spot.mount, tree);
+            settled(change)
+        }
+    }
+}
+
+/// Puts a file at a spot, as `put_file` does, with a content that another file has; copies no byte.
+pub fn put_shared(
+    alloc: Global,
+    view: &mut View,
+    spot: &Spot,
+    meta: Meta,
+    content: Content,
+) -> Result<bool, Memory>
+    requires { spot.now.mount < length view.old }
+    ensures { Does result (with_file view.old spot.now meta content) view.old view.new }
+{
+    if spot.is_dest() {
+        if !spot.is_there(view) {
+            return Ok(false);
+        }
+    }
+    share_there(alloc, view, spot, meta, content)
+}
+
+// Puts a file with a content that another file has at a spot, also at a dest.
+fn share_there(
+    alloc: Global,
+    view: &mut View,
+    spot: &Spot,
+    meta: Meta,
+    content: Content,
+) -> Result<bool, Memory>
+    requires { spot.now.mount < length view.old }
+    ensures { Does result (with_change view.old spot.now.mount (tree.put_file (tree_at view.old spot.now) spot.now.place meta content)) view.old view.new }
+{
+    match put_aside(alloc, view, spot.mount)? {
+        None => Ok(false),
+        Some(mut tree) => {
+            let change = tree.put_content(&spot.place, meta, content);
             let _aside = view.swap_tree(spot.mount, tree);
             settled(change)
         }

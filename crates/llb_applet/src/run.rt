@@ -7,7 +7,7 @@ ghost use Rattle.llb_applet.specs.Spots.{IsSpot, entry_at};
 ghost use Rattle.llb_applet.specs.Commands.{run, status_of, left, writes, written, copied, target_of, with_mode, is_kind};
 ghost use Rattle.llb_applet.specs.Changes.{Does};
 
-use crate::change::{make_dir, make_dirs, put_dir, put_file, remove};
+use crate::change::{make_dir, make_dirs, put_dir, put_file, put_shared, remove};
 use crate::command::{Command, Kind};
 use crate::content::{envfile, joined, line, listing_by, more, sha256_by};
 use crate::fault::Memory;
@@ -125,10 +125,9 @@ fn cp(
     let Some(spot) = spot_of(view, &source)? else {
         return Ok(false);
     };
-    let Some(content) = spot.content(view) else {
+    let Some(content) = spot.shared(view)? else {
         return Ok(false);
     };
-    let content = content.copy()?;
     let meta = spot.meta(view);
     let Some(path) = path_by(alloc, setting, to)? else {
         return Ok(false);
@@ -136,7 +135,7 @@ fn cp(
     let Some(target) = target_of(view, &source, path)? else {
         return Ok(false);
     };
-    put_file(alloc, view, &target, meta, content)
+    put_shared(alloc, view, &target, meta, content)
 }
 
 // Returns the spot to which a file is copied: the path's, or in the directory there under the last name of the source.
@@ -189,11 +188,10 @@ fn chmod_at(alloc: Global, view: &mut View, spot: &Spot, mode: Mode) -> Result<b
     if spot.is_dir(view) {
         return put_dir(alloc, view, spot, meta);
     }
-    let Some(content) = spot.content(view) else {
+    let Some(content) = spot.shared(view)? else {
         return Ok(false);
     };
-    let content = content.copy()?;
-    put_file(alloc, view, spot, meta, content)
+    put_shared(alloc, view, spot, meta, content)
 }
 
 // Returns the same owner with another mode.

@@ -10,7 +10,7 @@ ghost use Rattle.llb_applet.specs.Commands.{path_by, spot_by, new_meta, meta_the
 use crate::fault::Memory;
 use crate::setting::Setting;
 use llb_mount::View;
-use llb_tree::{Bytes, Entry, Meta, Name, Path, TreeFault};
+use llb_tree::{Bytes, Content, Entry, Meta, Name, Path, TreeFault};
 use llb_wire::Text;
 use std::alloc::Global;
 
@@ -137,6 +137,18 @@ impl Spot {
             Some(Entry::Dir(_)) => None,
             Some(Entry::File(_, content)) => Some(content),
             None => None,
+        }
+    }
+
+    /// Returns the content of the file at the spot, which it shares and does not copy; `None` if there is no file. Fails with 75
+    /// `Memory` alone.
+    pub fn shared(&self, view: &View) -> Result<Option<Content>, Memory>
+        requires { self.now.mount < length view.now }
+        ensures { IfOk result (λ c. c ≡ option_map (λ f. f.1) (file_in (entry_at view.now self.now))) }
+    {
+        match view.tree_of(self.mount).content(&self.place) {
+            Ok(content) => Ok(content),
+            Err(_) => Err(Memory),
         }
     }
 

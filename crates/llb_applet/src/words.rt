@@ -40,7 +40,7 @@ pub fn is_separator(word: &str) -> bool
     join_of(word).is_some()
 }
 
-// Returns the place of a word's first bad byte; `called` says whether a word of a call stands right before the word.
+// Returns the place of a word's first bad byte; `called` says whether a word of a call comes right before the word.
 fn bad_in(called: bool, word: &str) -> Option<usize>
     ensures value { result ≡ bad_in called word.now }
     ensures inside { IfSome result (λ k. k < length word.now) }
@@ -51,7 +51,7 @@ fn bad_in(called: bool, word: &str) -> Option<usize>
     word.as_bytes().iter().position(|byte| !is_word_byte(*byte))
 }
 
-// Returns whether a word of a call stands right before what follows a part.
+// Returns whether a word of a call comes right before what follows a part.
 fn called_after(called: bool, part: &str) -> bool
     ensures { result ≡ called_after called part.now }
 {

@@ -22,7 +22,7 @@ pub enum ReadFault {
     TooLong,
     /// A read failed, in this way.
     Failed(ErrorKind),
-    /// The bound on reads was met, and that many of the reads were interrupted.
+    /// The bound on reads was met; holds how many of the reads were interrupted.
     Unending(u64),
     /// Memory was refused.
     Memory,

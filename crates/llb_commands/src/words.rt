@@ -43,7 +43,7 @@ pub struct Line<'a> {
     pub locals: Many<Local<'a>>,
 }
 
-/// Why words say nothing. A fault prints what stands after the word `fault`.
+/// Why the words of a command line are refused. A fault prints what follows the word `fault` in its line.
 #[derive(Clone, Copy, Debug)]
 pub enum WordsFault<'a> {
     /// 183: the words are refused; a word that follows was to be a local source and has no `=`.

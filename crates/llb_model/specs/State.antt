@@ -160,7 +160,7 @@ abbrev pub above : List Place → ℕ
 above [] = 0
 above (p ∷ ps) = p.number + 1 + above ps
 
--- the least number at or after n that is not among the places of a key, found in at most so many tries
+-- the least number at or after n that is not among the places of a key, found in at most this number of tries
 abbrev pub first_free : List Place → Key → ℕ → ℕ → ℕ
 first_free ps k n zero = n
 first_free ps k n (suc tries) = if is_in ps (place k n) then first_free ps k (n + 1) tries else n

@@ -30,7 +30,7 @@ const ASK: usize = 0x1000_0000_0000_0000;
 
 const TELL: usize = 0x2000_0000_0000_0000;
 
-/// No call takes so many growths.
+/// More growths than any call takes.
 pub(crate) const MOST: usize = 100_000;
 
 /// Refuses the growth of that number from now on, where the library is in between; else refuses none.

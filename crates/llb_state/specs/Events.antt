@@ -16,7 +16,7 @@ pub record HistoryValue : Type 0 where
   pub list : List Event
   pub space : Space
 
--- the room that a claim takes for a vertex of so many events that was cancelled n times: none at its first claim
+-- the room that a claim takes for a vertex with this number of events that was cancelled n times: none at its first claim
 abbrev pub taken : ℕ → ℕ → ℕ
 taken events zero = 0
 taken events (suc n) = events

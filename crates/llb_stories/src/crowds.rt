@@ -31,7 +31,7 @@ impl Gate for Slow {
     }
 }
 
-// Stops whoever comes to that vertex.
+// Stops any worker at the gate of that vertex.
 struct Shut(u32);
 
 impl Gate for Shut {

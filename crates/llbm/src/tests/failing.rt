@@ -19,7 +19,7 @@ enum Device {
     Err,
 }
 
-// A call (`told`), and with devices that do all that it needs its status, and what it writes to its output and to standard error.
+// A call; and, with devices that do all that it needs, its status and what it writes to its output and to standard error.
 type Case = (Device, &'static str, u8, &'static str, &'static str);
 
 // How many reads, writes or flushes the device has to do.
@@ -184,7 +184,7 @@ const LINES: &[(&str, &str)] = &[
     ("quit\n", ""),
 ];
 
-// How many of them end within so many bytes.
+// How many of the lines end within this number of bytes.
 fn lines_within(bytes: usize) -> usize {
     let mut left = bytes;
     for (at, (line, _)) in LINES.iter().enumerate() {

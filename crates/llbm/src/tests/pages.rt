@@ -85,7 +85,7 @@ fn nothing_follows_another_refusal(rt: HostRuntime) {
     }
 }
 
-// Words, and all that standard error takes of what is told.
+// Words, and the part of the message that standard error takes.
 const NARROW: &[(&str, &str)] = &[
     ("--help", "fau"),
     ("run -h", "fault 183\nRu"),
