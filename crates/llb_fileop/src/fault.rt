@@ -10,7 +10,7 @@ use thiserror::Error;
 /// Why an action is refused.
 #[derive(Clone, Copy, Debug, PartialEq, Eq, Error)]
 pub enum ActFault {
-    /// 51: a text does not read as a path, or an edit of the tree is refused; the fault of the path or of the tree, 21 to 26, follows.
+    /// 51: a text is not a path, or the tree refuses the edit; the fault, 21 to 26, follows.
     #[error("51 {0}")]
     File(TreeFault),
     /// 52: a text is not a pattern.
