@@ -23,11 +23,11 @@ use Rattle.llb_fileop.proofs.Passing.{Pair, same_path, ties_itself}
 abbrev Paths : Type 0
 Paths = List (List (List ℕ))
 
--- the test of a part
+-- the test of a name by a part of a pattern
 abbrev pub fits_part : List Item → List ℕ → Bool
 fits_part part name = name_matches part (chars name)
 
--- a path passes the tests of a pattern's parts where it matches
+-- a path passes the tests of a pattern's parts exactly if it matches the pattern
 same_tests : (parts : List (List Item)) (q : List (List ℕ)) → passes_all fits_part parts q ≡ path_matches parts q
 same_tests [] [] = refl
 same_tests [] (n ∷ q) = refl
@@ -37,9 +37,9 @@ same_tests (part ∷ parts) (n ∷ q) = ap (λ b. fits_part part n && b) (same_t
 matching_is : (parts : List (List Item)) (t : TreeMap) → filter (passes_all fits_part parts) (finite.keys t) ≡ matching parts t
 matching_is parts t = ap (λ test. filter test (finite.keys t)) (λ i q. same_tests parts q i)
 
--- ---- what goes
+-- ---- the paths that go
 
--- what is below a path that matches goes
+-- a path below one that matches goes
 goes_below : (parts : List (List Item)) (p r : List (List ℕ)) → path_matches parts p ≡ true → goes fits_part parts (p ++ r) ≡ true
 goes_below [] [] r is = refl
 goes_below [] (n ∷ p) r is = absurd (true≢false (sym is))
@@ -51,7 +51,7 @@ goes_below (part ∷ parts) (n ∷ p) r is = by_test (fits_part part n) is (goes
     by_test true is rest = rest is
     by_test false is rest = absurd (true≢false (sym is))
 
--- what goes is at or below a path that matches
+-- a path that goes is at or below one that matches
 record IsBelowHit (parts : List (List Item)) (q : List (List ℕ)) : Type 0 where
   hit : List (List ℕ)
   rest : List (List ℕ)
@@ -75,7 +75,7 @@ below_hit (part ∷ parts) (n ∷ q) is = by_test (fits_part part n) refl is (be
           whole = ap (λ x. n ∷ x) below.whole;
         }
 
--- above a path that is there is one
+-- every path above one that is in a tree is in the tree too
 there_above : (t : TreeMap) → IsTree t → (p r : List (List ℕ)) → IsSome (finite.get t (p ++ r)) → IsSome (finite.get t p)
 there_above t tree p [] there = subst (λ x. IsSome (finite.get t x)) (append-nil p) there
 there_above t tree p (n ∷ r) there =
@@ -86,7 +86,7 @@ there_above t tree p (n ∷ r) there =
     is_dir None is = absurd cc
     is_dir (Some e) is = refl
 
--- of a path that is among others a test of one of them tells
+-- if a path in a list passes both tests, some path of the list that passes the first test passes the second
 among : (f g : List (List ℕ) → Bool) (p : List (List ℕ)) (ks : Paths) → list_any (eq_by_cmp path_cmp p) ks ≡ true → f p ≡ true → g p ≡ true
     → list_any g (filter f ks) ≡ true
 among f g p [] some hit is = absurd (true≢false (sym some))
@@ -104,7 +104,7 @@ among f g p (k ∷ ks) some hit is = by_tie (eq_by_cmp path_cmp p k) refl some (
         or_true false is = is
     by_tie false at some false miss rest = rest some hit is
 
--- of paths that fail no one passes
+-- if every path that passes the first test fails the second, no path of the list that passes the first passes the second
 none_of : (f g : List (List ℕ) → Bool) (ks : Paths) → ((k : List (List ℕ)) → f k ≡ true → g k ≡ false) → list_any g (filter f ks) ≡ false
 none_of f g [] fails = refl
 none_of f g (k ∷ ks) fails = by_test (f k) refl (none_of f g ks fails)
@@ -114,7 +114,7 @@ none_of f g (k ∷ ks) fails = by_test (f k) refl (none_of f g ks fails)
     by_test false test rest = rest
 
 module _ (parts : List (List Item)) (t : TreeMap) (tree : IsTree t) where
-  -- of what is there, what goes is at or below a path that is there and matches
+  -- a path that is in the tree goes exactly if it is at or below a path of the tree that matches
   below_same : (q : List (List ℕ)) → IsSome (finite.get t q) → is_below_any (matching parts t) q ≡ goes fits_part parts q
   below_same q there = by_test (goes fits_part parts q) refl
     where
@@ -131,7 +131,7 @@ module _ (parts : List (List Item)) (t : TreeMap) (tree : IsTree t) where
           by_within p hit true w = absurd (true≢false (sym (ap (goes fits_part parts) (within_split p q w)
               ∙ goes_below parts p (drop (length p) q) hit) ∙ is))
 
-  -- so what is left is the same
+  -- so the tree without the paths that go is the tree without the paths that match and what is below them
   left_is : thin fits_part parts t ≡ left parts t
   left_is = finite.same_map path_cmp-IsTotalOrder path_cmp-IsAntisymmetric (thin fits_part parts t) (left parts t) (λ q.
       finite.get-retain_keys t (λ x. not (goes fits_part parts x)) q (λ x tie. ap (λ y. not (goes fits_part parts y)) (sym (path_cmp-IsAntisymmetric q x tie)))
@@ -150,11 +150,11 @@ module _ (parts : List (List Item)) (t : TreeMap) (tree : IsTree t) where
       by_there q None is = none (not (goes fits_part parts q)) (not (is_below_any (matching parts t) q))
       by_there q (Some e) is = ap (λ b. cond (not b) (Some e) None) (sym (below_same q (ap is_some is)))
 
-  -- whether anything goes is whether anything matches
+  -- some path goes exactly if some path matches
   any_same : (ps : Paths) → matching parts t ≡ ps → any_goes fits_part parts t ≡ list_any (λ _. true) ps
   any_same ps is = by_any (any_goes fits_part parts t) refl ps is
     where
-      -- a path of some entries that passes a test is found there
+      -- if the path of some entry passes a test, a path that passes it is found among the entries
       passing : (f : List (List ℕ) → Bool) (es : List Pair) → list_any f (map (λ e. e.0) es) ≡ true
           → (q : List (List ℕ)) × (f q ≡ true) × (is_some (finite.find path_cmp q es) ≡ true)
       passing f [] some = absurd (true≢false (sym some))
@@ -195,9 +195,9 @@ module _ (parts : List (List Item)) (t : TreeMap) (tree : IsTree t) where
                   or_true true is = refl
                   or_true false is = is
 
--- ---- a removal by a pattern, from what the tree without what goes is
+-- ---- a removal by a pattern, from the tree without the paths that go
 
--- what is left, or what the rule for what is not there gives
+-- the tree that is left; if there is none, the result of `absent`
 abbrev pub or_absent : Bool → TreeMap → Option TreeMap → Result TreeMap TreeFault
 or_absent allowed t None = absent allowed t
 or_absent allowed t (Some u) = Ok u
@@ -216,7 +216,7 @@ rm_is (part ∷ parts) t allowed tree =
 
 -- ---- the sources of a copy by a pattern
 
--- all are there
+-- all these paths are in the tree
 abbrev pub AreThere : TreeMap → Paths → Type 0
 AreThere t [] = Unit {0}
 AreThere t (p ∷ ps) = IsSome (finite.get t p) × AreThere t ps
@@ -241,7 +241,7 @@ there_at t [] i d lt all = absurd (omega arith)
 there_at t (p ∷ ps) zero d lt all = all.0
 there_at t (p ∷ ps) (suc i) d lt all = there_at t ps i d (omega arith) all.1
 
--- where there are none, the rule for what is not there decides
+-- if no path matches, the result is that of `absent`
 pub copy_none : (c : CopyFile) (dest : List (List ℕ) × Bool) (second t : TreeMap) (ps : Paths) (allowed : Bool) → ps ≡ []
     → (some_match allowed ps >>= λ ss. copy_each c dest second ss t) ≡ absent allowed t
 copy_none c dest second t ps allowed none = ap (λ xs. some_match allowed xs >>= λ ss. copy_each c dest second ss t) none ∙ by_leave allowed
@@ -255,26 +255,26 @@ some_match-Ok ps true some = refl
 some_match-Ok [] false some = absurd (some refl)
 some_match-Ok (p ∷ ps) false some = refl
 
--- where there are some, they are copied
+-- if some paths match, they are copied
 pub copy_some : (c : CopyFile) (dest : List (List ℕ) × Bool) (second t : TreeMap) (parts : List (List Item)) (ps : Paths) → ps ≡ matching parts second
     → (length ps ≡ 0 → ⊥) → copy_chosen c dest t second (EachMatch parts) ≡ copy_each c dest second ps t
 copy_some c dest second t parts ps found some =
     ap (λ xs. some_match c.allow_empty_wildcard xs >>= λ ss. copy_each c dest second ss t) (sym found)
     ∙ ap (λ r. r >>= λ ss. copy_each c dest second ss t) (some_match-Ok ps c.allow_empty_wildcard (λ none. some (ap length none)))
 
--- the next source, and the others after it
+-- copying the sources that are left is copying the next one, and then the others
 pub copy_next : (c : CopyFile) (dest : List (List ℕ) × Bool) (second t : TreeMap) (ps : Paths) (i : ℕ) (p : List (List ℕ)) → i < length ps
     → p ≡ get_or ps i p → copy_each c dest second (drop i ps) t ≡ (copy_one c dest second p t >>= copy_each c dest second (drop (i + 1) ps))
 copy_next c dest second t ps i p lt is =
     ap (λ xs. copy_each c dest second xs t) (drop-cons ps i p lt)
     ∙ (λ j. copy_one c dest second (sym is j) t >>= copy_each c dest second (drop (sym (add-one i) j) ps))
 
--- a list of no length is empty
+-- a list of length 0 is empty
 pub no_path : (ps : Paths) → length ps ≡ 0 → ps ≡ []
 no_path [] none = refl
 no_path (p ∷ ps) none = absurd (omega arith)
 
--- what is found by the parts of a pattern are the paths that match it
+-- the paths that are found by the parts of a pattern are those that match it
 pub sources_are : (parts given : List (List Item)) (t : TreeMap) (found : Paths) → given ≡ parts
     → ◌≡◌ {A = Result Paths TreeFault} (Ok (filter (passes_all fits_part given) (finite.keys t))) (Ok found) → found ≡ matching parts t
 sources_are parts given t found same is =

@@ -38,7 +38,7 @@ abbrev Each : (List (List ℕ) → Type 0) → List (List (List ℕ)) → Type 0
 Each P [] = Unit {0}
 Each P (p ∷ ps) = P p × Each P ps
 
--- what was not there and is a directory now
+-- at a path there was nothing, and there is a directory now
 record IsMadeHere (P : List (List ℕ) → Type 0) (m : MetaValue) (t u : TreeMap) (q : List (List ℕ)) : Type 0 where
   one : P q
   was : finite.get t q ≡ None
@@ -90,7 +90,7 @@ parents_above : (goal : List (List ℕ)) → Each (IsAbove goal) (parents goal)
 parents_above [] = tt
 parents_above (n ∷ goal) = (record { name = n; rest = goal; is = refl }, each_below n goal (parents goal) (parents_above goal))
 
--- the tree that the copy lands on: below the target it is as it was
+-- the tree that the copy lands on is as it was below the target
 record LandsOn (t v : TreeMap) (goal : List (List ℕ)) : Type 0 where
   below : (q : List (List ℕ)) → finite.get v (goal ++ q) ≡ finite.get t (goal ++ q)
   others : (q : List (List ℕ)) → (finite.get v q ≡ finite.get t q) ⊎ IsMadeHere (IsAbove goal) new_dir_meta t v q
@@ -118,7 +118,7 @@ module _ (c : CopyFile) (second t u : TreeMap) (s goal : List (List ℕ)) (grant
   abbrev es : List Pair
   es = at_target second s goal
 
-  -- a granted copy has the entries of the source at their places, and changes nothing else but for the parents that it makes
+  -- a granted copy has the entries of the source at their places, and changes nothing else except the parents that it makes
   pub is_copied : IsCopied c second t u s goal
   is_copied =
       let fit = bind_ok (fits goal) (λ _. parents_for c.create_dest_path goal t >>= land given es) u granted in

@@ -28,7 +28,7 @@ use Rattle.llb_fileop.proofs.Laid.{get-laid_on, get-whole}
 use Rattle.llb_fileop.proofs.Landing.{fits-Ok, fits_short}
 use Rattle.llb_fileop.proofs.Moved.{within_split, find_moved, find_beside, get_inside, get_outside}
 
--- ---- what landing says of each entry
+-- ---- what a landing means for each entry
 
 pub record Lands (t : TreeMap) (p : List (List ℕ)) (e : Entry) : Type 0 where
   pub fits : fits p ≡ Ok tt
@@ -121,7 +121,7 @@ module _ (given : MetaValue → MetaValue) (here source t : TreeMap) (goal : Lis
           ∙ sym (get-laid_on given t (map (moved 0 goal) (finite.entries source)) q
           ∙ ap (laid given (finite.get t q)) (find_beside goal q (finite.entries source) is))
 
-  -- the graft of the merged part is the landing
+  -- grafting the merged part has the same result as landing the entries
   pub graft_lands : IsDirAt (finite.get t) goal → graft t goal both ≡ land given (map (moved 0 goal) (finite.entries source)) t
   graft_lands dir =
       ap (λ r. r >>= λ _. places_fit goal (finite.keys both) >>= λ _. Ok (with_tree t goal both)) (tree.closed goal (ap is_some dir.1))
@@ -132,7 +132,7 @@ module _ (given : MetaValue → MetaValue) (here source t : TreeMap) (goal : Lis
 
 -- ---- a directory
 
--- the root comes first
+-- the entry of the root is the first
 root_first : (es : List Pair) (e : Entry) → T (finite.is_sorted path_cmp es) → finite.find path_cmp [] es ≡ Some e → es ≡ ([], e) ∷ drop 1 es
 root_first [] e sorted is = absurd cc
 root_first (([], d) ∷ es) e sorted is = let same : d ≡ e = cc in ap (λ x. ([], x) ∷ es) same
@@ -171,7 +171,7 @@ module _ (given : MetaValue → MetaValue) (source t : TreeMap) (goal : List (Li
       ∙ ap (λ p. fits p >>= λ _. meets (finite.get t p) (Dir dir.0) >>= λ _. all_land t (map (moved 0 goal) (drop 1 (finite.entries source)))) (append-nil goal)
       ∙ ap (λ r. r >>= λ _. meets (finite.get t goal) (Dir dir.0) >>= λ _. all_land t (map (moved 0 goal) (drop 1 (finite.entries source)))) (fits-Ok goal low)
 
-  -- a file is in the way
+  -- if a file is at the target, a directory can't land there
   pub dir_refused : IsTree t → IsSome (finite.get t goal) → is_dir (finite.get t goal) ≡ false → land_at given es' goal t ≡ Err Conflict
   dir_refused tree there not_dir =
       ap (λ r. r >>= λ _. land given es' t) (tree.closed goal there)
@@ -187,7 +187,7 @@ module _ (given : MetaValue → MetaValue) (source t : TreeMap) (goal : List (Li
   pub walks_there : IsTree t → IsSome (finite.get t goal) → land_at given es' goal t ≡ land given es' t
   walks_there tree there = ap (λ r. r >>= λ _. land given es' t) (tree.closed goal there)
 
-  -- nothing is there: the directory is put first, and the landing is as it was
+  -- nothing is at the target: the directory is put there first
   module _ (u : TreeMap) (none : finite.get t goal ≡ None) (put_there : put_some (laid given None (finite.get source [])) t goal ≡ Ok u) where
     put_as_dir : put_dir t goal (given dir.0) ≡ Ok u
     put_as_dir = ap (λ o. put_some (laid given None o) t goal) (sym dir.1) ∙ put_there
@@ -261,7 +261,7 @@ module _ (given : MetaValue → MetaValue) (source t : TreeMap) (goal : List (Li
             ∙ ap (λ k. laid given (finite.get t k) (finite.find path_cmp k es')) (sym same)
         by_tie false tie = ap (λ o. laid given o (finite.find path_cmp q es')) (u_other q tie)
 
-    -- the landing comes to the same whether the directory is put first or not
+    -- the result of the landing is the same whether the directory is put first or not
     pub dir_made : land given es' u ≡ land_at given es' goal t
     dir_made =
         ap (λ r. r >>= λ _. Ok (laid_on given u es')) all_same
@@ -281,7 +281,7 @@ pub record HasFile (o : Option Entry) : Type 0 where
   pub content : List ℕ
   pub is : o ≡ Some (File meta content)
 
--- what stands at a path and is no directory is a file, with a meta and a content
+-- an entry that is not a directory is a file, with a meta and a content
 pub has_file : (o : Option Entry) → IsSome o → is_dir o ≡ false → HasFile o
 has_file None there not_dir = absurd (true≢false (sym there))
 has_file (Some (Dir m)) there not_dir = absurd (true≢false not_dir)
@@ -291,7 +291,7 @@ module _ (given : MetaValue → MetaValue) (t : TreeMap) (goal : List (List ℕ)
   abbrev one : List Pair
   one = (goal, File m b) ∷ []
 
-  -- a directory is in the way
+  -- if a directory is at the target, a file can't land there
   pub file_refused : is_dir (finite.get t goal) ≡ true → land_at given one goal t ≡ Err Conflict
   file_refused is =
       by_there (finite.get t goal) refl is
@@ -317,7 +317,7 @@ module _ (given : MetaValue → MetaValue) (t : TreeMap) (goal : List (List ℕ)
       by_tie q true = ap Some (own (finite.get t q))
       by_tie q false = refl
 
-  -- with no directory in the way, the landing of one file is the edit that puts it
+  -- with no directory at the target, the landing of one file is the edit that puts it
   pub file_lands : is_dir (finite.get t goal) ≡ false → land_at given one goal t ≡ put (File (given m) b) t goal
   file_lands not_dir =
       ap (λ x. walk (finite.get t) goal >>= λ _. x) (lands_one ∙ sym fits_one)
@@ -391,11 +391,11 @@ all_made m (p ∷ ps) t u is =
 pub walk_after : (m : MetaValue) (p : List (List ℕ)) (t u : TreeMap) → make_all m (parents p) t ≡ Ok u → walk (finite.get u) p ≡ Ok tt
 walk_after m p t u is = all_made m (parents p) t u is
 
--- the tree of what is below a directory
+-- the subtree of a directory is the tree of what is at or below it
 pub subtree_is : (t : TreeMap) (p : List (List ℕ)) (u : TreeMap) → subtree t p ≡ Ok u → u ≡ tree_at t p
 subtree_is t p u is = sym (same_Ok (bind_ok (dir_there t p) (λ _. Ok (tree_at t p)) u is).2)
 
--- the subtree that is given of a tree is itself a tree
+-- the subtree of a tree is a tree
 pub IsTree-subtree : (t : TreeMap) (p : List (List ℕ)) (u : TreeMap) → IsTree t → subtree t p ≡ Ok u → IsTree u
 IsTree-subtree t p u tree is = subst IsTree (sym (subtree_is t p u is)) (IsTree-tree_at t p tree (bind_ok (dir_there t p) (λ _. Ok (tree_at t p)) u is).1)
 
@@ -430,7 +430,7 @@ module _ (c : CopyFile) (second : TreeMap) (s place goal : List (List ℕ)) (t :
       ∙ ap (λ r. r >>= land given (at_target second s goal)) made
       ∙ sym (ap (λ r. r >>= λ _. land given (at_target second s goal) u) (walk_after new_dir_meta goal t u made))
 
-  -- and one that makes none lands in the tree as it is
+  -- a copy that makes no parents lands in the tree as it is
   pub copy_kept : c.create_dest_path ≡ false → copy_to c second s place t ≡ land_at given (at_target second s goal) goal t
   copy_kept create = fits_place ∙ ap (λ b. parents_for b goal t >>= land given (at_target second s goal)) create ∙ by_walk (walk (finite.get t) goal)
     where

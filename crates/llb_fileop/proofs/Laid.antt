@@ -40,7 +40,7 @@ module _ (given : MetaValue → MetaValue) (here source : TreeMap) where
 
 -- ---- an overlay
 
--- no file is above a path that is reached
+-- no file is above a path to which a walk finds only directories
 walked_free : (f g : Look) (ps : List (List (List ℕ))) → ((r : List (List ℕ)) (m : MetaValue) → f r ≡ Some (Dir m) → is_file (g r) ≡ false)
     → all_dirs (map f ps) ≡ Ok tt → list_any is_file (map g ps) ≡ false
 walked_free f g [] free walks = refl
@@ -85,7 +85,7 @@ module _ (way : WayValue) (given : MetaValue → MetaValue) (gives : (m : MetaVa
         by_own None (Some d) is =
             ap (λ b. cond b None (Some d)) (walked_free (finite.get here) (finite.get source) (parents q) free (tree.closed q (ap is_some is)))
 
-    -- what is laid over a tree that it agrees with, and what lands on it, is one
+    -- if a source agrees with a tree, laying it over the tree has the same result as landing its entries on the tree
     pub overlaid_is : (merged : TreeMap) → ((q : List (List ℕ)) → finite.get merged q ≡ over_at way (finite.get here) (finite.get source) q)
         → laid_on given here (finite.entries source) ≡ merged
     overlaid_is merged is =

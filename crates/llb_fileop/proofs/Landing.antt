@@ -16,7 +16,7 @@ use Rattle.llb_fileop.proofs.Passing.{Pair, walk_first, beside}
 use Rattle.llb_fileop.proofs.Made.{walk_passes}
 use Rattle.llb_fileop.proofs.Moved.{within_split}
 
--- a path of 128 names fits
+-- a path of at most 128 names fits
 pub fits-Ok : (p : List (List ℕ)) → length p ≤ 128 → fits p ≡ Ok tt
 fits-Ok p short = ap (λ b. cond {A = Result (Unit {0}) TreeFault} b (Err BadName) (Ok tt)) (le-ltb 128 (length p) short)
 
@@ -28,7 +28,7 @@ fits_short p is = by_test (nat_lt 128 (length p)) refl is
     by_test true t is = absurd cc
     by_test false t is = omega (arith, ltb-false 128 (length p) t)
 
--- what lands below a path
+-- entries can land below a path exactly if they can land at their places in the whole tree, and the fault is the same
 pub lands_below : (here t : TreeMap) (goal : List (List ℕ)) → ((q : List (List ℕ)) → finite.get here q ≡ finite.get t (goal ++ q)) → (es : List Pair)
     → all_below here (length goal) es ≡ all_land t (map (moved 0 goal) es)
 lands_below here t goal same [] = refl
@@ -46,7 +46,7 @@ lands_below here t goal same (e ∷ es) =
     by_test true rest = refl
     by_test false rest = λ i. meets (same e.0 i) e.1 >>= λ _. rest i
 
--- where all fit, what is there decides alone
+-- if every path fits, only what is there decides
 pub meet_where_fit : (here : TreeMap) (goal : List (List ℕ)) (es : List Pair)
     → places_fit goal (map (λ e. e.0) es) ≡ Ok tt → all_below here (length goal) es ≡ all_meet here es
 meet_where_fit here goal [] fit = refl
@@ -73,11 +73,11 @@ module _ (here : TreeMap) (es : List Pair) (k : List (List ℕ)) (e : Entry) (is
   pub below_deep : (depth : ℕ) → 128 < depth + length k → all_below here depth es ≡ Err BadName
   below_deep depth deep = ap (all_below here depth) (walk_first es k e is) ∙ ap (λ b. cond b (Err BadName) (on depth)) (lt-ltb 128 (depth + length k) deep)
 
-  -- where its path is short enough, what is there decides, and then the others
+  -- if its path is short enough, what is there decides, and then the others
   pub below_next : (depth : ℕ) → depth + length k ≤ 128 → all_below here depth es ≡ on depth
   below_next depth short = ap (all_below here depth) (walk_first es k e is) ∙ ap (λ b. cond b (Err BadName) (on depth)) (le-ltb 128 (depth + length k) short)
 
--- below a path where nothing stands, nothing does
+-- if nothing is at a path, nothing is below it
 none_below : (t : TreeMap) → IsTree t → (k q : List (List ℕ)) → finite.get t k ≡ None → is_within k q ≡ true → finite.get t q ≡ None
 none_below t tree k q none inside = by_there (drop (length k) q) (within_split k q inside) (finite.get t q) refl
   where
@@ -98,7 +98,7 @@ meet_beside here tree k (e ∷ es) none = by_place (is_within k e.0) refl (meet_
     by_place true inside rest = ap (λ o. meets o e.1 >>= λ _. all_meet here es) (none_below here tree k e.0 none inside) ∙ rest
     by_place false inside rest = ap (λ r. meets (finite.get here e.0) e.1 >>= λ _. r) rest
 
--- where a tree has nothing at the first entry's path, what is below that path meets nothing and may be passed over
+-- if a tree has nothing at the first entry's path, what is below that path meets nothing and may be passed over
 pub meet_skip : (here : TreeMap) → IsTree here → (es : List Pair) (k : List (List ℕ)) (e : Entry) → slice_get es 0 ≡ Some (k, e) → finite.get here k ≡ None
     → all_meet here es ≡ all_meet here (beside k (drop 1 es))
 meet_skip here tree es k e is none =

@@ -27,7 +27,7 @@ map-map g f (x ∷ xs) = ap (λ ys. g (f x) ∷ ys) (map-map g f xs)
 pub walk-cons : (look : Look) (n : List ℕ) (p : List (List ℕ)) → walk look (n ∷ p) ≡ all_dirs (look [] ∷ map (λ q. look (n ∷ q)) (parents p))
 walk-cons look n p = ap (λ ys. all_dirs (look [] ∷ ys)) (map-map look (λ q. n ∷ q) (parents p))
 
--- what a walk passes is a directory
+-- each path that a walk passes is a directory
 pub walk_passes : (look : Look) (r : List (List ℕ)) (n : List ℕ) (s : List (List ℕ)) → walk look (r ++ n ∷ s) ≡ Ok tt → IsDirAt look r
 walk_passes look [] n s walks = here (look []) refl (sym (walk-cons look n s) ∙ walks)
   where

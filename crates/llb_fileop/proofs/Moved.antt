@@ -39,7 +39,7 @@ within-append p q = (pointwise_decides bytes_decides p (take (length p) (p ++ q)
 pub within_itself : (p : List (List ℕ)) → is_within p p ≡ true
 within_itself p = ap (is_within p) (sym (append-nil p)) ∙ within-append p []
 
--- what is before both decides nothing
+-- a common prefix does not change the order of two paths
 cmp-append : (p q r : List (List ℕ)) → path_cmp (p ++ q) (p ++ r) ≡ path_cmp q r
 cmp-append [] q r = refl
 cmp-append (n ∷ p) q r = ap (λ o. ordering_then o (path_cmp (p ++ q) (p ++ r))) (tied_itself nat_list_cmp_total n) ∙ cmp-append p q r
@@ -61,7 +61,7 @@ find_beside p q (e ∷ es) beside = by_tie (eq_by_cmp path_cmp q (p ++ e.0)) ref
     by_tie true t rest = absurd (true≢false (sym (within-append p e.0) ∙ ap (is_within p) (sym (same_path q (p ++ e.0) t)) ∙ beside))
     by_tie false t rest = rest
 
--- the first that has it
+-- the first of two options that has an entry
 abbrev pub or_else : Option Entry → Option Entry → Option Entry
 or_else (Some e) o = Some e
 or_else None o = o
@@ -75,7 +75,7 @@ find_over q (e ∷ es) fs = by_tie (eq_by_cmp path_cmp q e.0) (find_over q es fs
     by_tie true rest = refl
     by_tie false rest = rest
 
--- without what is at or below a path, nothing is there, and all else is as it was
+-- after what is at or below a path is removed, nothing is there, and everything else is as it was
 pub get-without : (t : TreeMap) (p q : List (List ℕ)) → finite.get (without t p) q ≡ cond (not (is_within p q)) (finite.get t q) None
 get-without t p q = finite.get-retain_keys t (λ x. not (is_within p x)) q (λ x tie. ap (λ y. not (is_within p y)) (sym (path_cmp-IsAntisymmetric q x tie)))
 
@@ -86,7 +86,7 @@ get-with_tree t other p q =
     ∙ find_over q (map (moved 0 p) (finite.entries other)) (finite.entries (without t p))
     ∙ ap (or_else (finite.find path_cmp q (map (moved 0 p) (finite.entries other)))) (sym (finite.get-entries (without t p) q))
 
--- where another tree is put at a path, what stands at it and below is what the other has
+-- if another tree is put at a path, what is at and below the path is what the other tree has
 pub get_inside : (t other : TreeMap) (p q : List (List ℕ)) → finite.get (with_tree t p other) (p ++ q) ≡ finite.get other q
 get_inside t other p q =
     get-with_tree t other p (p ++ q)
@@ -101,7 +101,7 @@ get_inside t other p q =
     right (Some e) = refl
     right None = refl
 
--- where another tree is put at a path, all outside the path is as it was
+-- if another tree is put at a path, everything outside the path is as it was
 pub get_outside : (t other : TreeMap) (p q : List (List ℕ)) → is_within p q ≡ false → finite.get (with_tree t p other) q ≡ finite.get t q
 get_outside t other p q beside =
     get-with_tree t other p q
@@ -144,13 +144,13 @@ moved_again : (n : ℕ) (goal : List (List ℕ)) (es : List Pair) → map (moved
 moved_again n goal [] = refl
 moved_again n goal (e ∷ es) = ap (λ l. moved n goal e ∷ l) (moved_again n goal es)
 
--- the entries at and below a directory are those of the tree of it
+-- the entries of the tree of what is at or below a path, moved to the target, are those at the target
 pub target_dir : (second : TreeMap) (s goal : List (List ℕ)) → map (moved 0 goal) (finite.entries (tree_at second s)) ≡ at_target second s goal
 target_dir second s goal =
     ap (map (moved 0 goal)) (entries_from (inside s (finite.entries second)) (sorted_inside s (finite.entries second) (finite.entries_sorted second)))
     ∙ moved_again (length s) goal (where_key path_cmp (is_within s) (finite.entries second))
 
--- at and below a file there is the file alone
+-- at and below a file there is only the file
 pub target_file : (second : TreeMap) (s goal : List (List ℕ)) (m : MetaValue) (b : List ℕ) → IsTree second
     → finite.get second s ≡ Some (File m b) → at_target second s goal ≡ (goal, File m b) ∷ []
 target_file second s goal m b tree is =
@@ -187,7 +187,7 @@ target_file second s goal m b tree is =
         find-where_key path_cmp (is_within s) q (λ x tie. ap (is_within s) (sym (path_cmp-IsAntisymmetric q x tie))) (finite.entries second)
         ∙ by_tie q (eq_by_cmp path_cmp q s) (is_within s q) refl refl
 
--- what is found from below a path
+-- among the entries from below a path, what is found at q is what is found at q below the path
 find_inside : (p q : List (List ℕ)) (es : List Pair) → finite.find path_cmp q (inside p es) ≡ finite.find path_cmp (p ++ q) es
 find_inside p q [] = refl
 find_inside p q (e ∷ es) = by_test (is_within p e.0) refl (find_inside p q es)
@@ -205,7 +205,7 @@ find_inside p q (e ∷ es) = by_test (is_within p e.0) refl (find_inside p q es)
         by_tie false t = refl
         by_tie true t = absurd (true≢false (sym (within-append p q) ∙ ap (is_within p) (same_path (p ++ q) e.0 t) ∙ is))
 
--- the tree of what is at or below a path has at q what stands at q below that path
+-- the tree of what is at or below a path has at q what is at q below that path
 pub get-tree_at : (t : TreeMap) (p q : List (List ℕ)) → finite.get (tree_at t p) q ≡ finite.get t (p ++ q)
 get-tree_at t p q =
     finite.get-from_entries path_cmp-IsTotalOrder (inside p (finite.entries t)) q ∙ find_inside p q (finite.entries t) ∙ sym (finite.get-entries t (p ++ q))

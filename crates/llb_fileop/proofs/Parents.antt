@@ -13,7 +13,7 @@ use Rattle.llb_tree.specs.Meta.{MetaValue}
 use Rattle.llb_tree.specs.declared.fault.TreeFault.{TreeFault}
 use Rattle.llb_fileop.specs.Making.{make_all, kept_or_made}
 
--- the parents of a path that begins with these names, from that place on
+-- the parents, at or below p, of the path p with these names after it
 abbrev pub parents_from : List (List ℕ) → List (List ℕ) → List (List (List ℕ))
 parents_from p [] = []
 parents_from p (n ∷ ns) = p ∷ parents_from (p ++ n ∷ []) ns
@@ -34,7 +34,7 @@ map_same (q ∷ qs) = ap (λ l. q ∷ l) (map_same qs)
 pub parents_are : (ns : List (List ℕ)) → parents_from [] ns ≡ parents ns
 parents_are ns = parents_behind [] ns ∙ map_same (parents ns)
 
--- the parents so far are made, and those that are left lie below this one
+-- the parents so far are made, and those that are left are this one and those below it
 pub record MadeSoFar (m : MetaValue) (ns : List (List ℕ)) (old : TreeMap) (i : ℕ) (p : List (List ℕ)) (t : TreeMap) : Type 0 where
   pub left : make_all m (parents_from p (drop i ns)) t ≡ make_all m (parents ns) old
   pub names : length p ≡ i
@@ -43,7 +43,7 @@ pub record MadeSoFar (m : MetaValue) (ns : List (List ℕ)) (old : TreeMap) (i :
 pub made_start : (m : MetaValue) (ns : List (List ℕ)) (t : TreeMap) → make_all m (parents_from [] (drop 0 ns)) t ≡ make_all m (parents ns) t
 made_start m ns t = ap (λ ps. make_all m ps t) (parents_are ns)
 
--- the next parent, and the others below it
+-- making the parents that are left is making the next one, and then the others below it
 pub made_next : (m : MetaValue) (ns : List (List ℕ)) (i : ℕ) (p : List (List ℕ)) (t : TreeMap) → i < length ns
     → make_all m (parents_from p (drop i ns)) t ≡
     (kept_or_made m p (finite.get t p) t >>= make_all m (parents_from (p ++ get_or ns i [] ∷ []) (drop (i + 1) ns)))
@@ -51,14 +51,14 @@ made_next m ns i p t low =
     ap (λ l. make_all m (parents_from p l) t) (drop-cons ns i [] low)
     ∙ ap (λ k. kept_or_made m p (finite.get t p) t >>= make_all m (parents_from (p ++ get_or ns i [] ∷ []) (drop k ns))) (sym (add-one i))
 
--- where the parent at hand can't be made, its fault is that of making all the parents
+-- if the next parent can't be made, its fault is that of making all the parents
 pub made_fault : (m : MetaValue) (ns : List (List ℕ)) (old : TreeMap) (i : ℕ) (p : List (List ℕ)) (t : TreeMap) (e : TreeFault)
     → MadeSoFar m ns old i p t → i < length ns
     → kept_or_made m p (finite.get t p) t ≡ Err e → make_all m (parents ns) old ≡ Err e
 made_fault m ns old i p t e here low is =
     sym here.left ∙ made_next m ns i p t low ∙ ap (λ r. r >>= make_all m (parents_from (p ++ get_or ns i [] ∷ []) (drop (i + 1) ns))) is
 
--- where the parent at hand is there or is made, one more is made so far, and the next lies one name below
+-- if the next parent is there or is made, one more is made so far, and the one after it is one name further down
 pub made_more : (m : MetaValue) (ns : List (List ℕ)) (old : TreeMap) (i : ℕ) (p : List (List ℕ)) (t u : TreeMap) (n : List ℕ)
     → MadeSoFar m ns old i p t → i < length ns
     → kept_or_made m p (finite.get t p) t ≡ Ok u → n ≡ get_or ns i [] → MadeSoFar m ns old (i + 1) (p ++ n ∷ []) u
@@ -69,12 +69,12 @@ made_more m ns old i p t u n here low is same =
       names = omega (arith, length-append p (n ∷ []), here.names);
     }
 
--- with no name left, the tree so far is the one that making all the parents gives
+-- with no name left, the tree so far is the result of making all the parents
 pub made_end : (m : MetaValue) (ns : List (List ℕ)) (old : TreeMap) (i : ℕ) (p : List (List ℕ)) (t : TreeMap) → MadeSoFar m ns old i p t
     → length ns ≤ i → make_all m (parents ns) old ≡ Ok t
 made_end m ns old i p t here past = sym here.left ∙ ap (λ l. make_all m (parents_from p l) t) (drop_all i ns past)
 
--- a path that is short takes one more name
+-- a path of fewer than 128 names takes one more name
 pub below_fits : (p q : List (List ℕ)) (n : List ℕ) → length p < 128 → below p n ≡ Ok q → q ≡ p ++ n ∷ []
 below_fits p q n short e = go (nat_lt (length p) 128) (lt-ltb (length p) 128 short) e
   where

@@ -34,7 +34,7 @@ and_second : (a b : Bool) → T (a && b) → T b
 and_second true b h = h
 and_second false b h = absurd h
 
--- a path ties with itself alone
+-- a path ties only with itself
 pub same_path : (p q : List (List ℕ)) → eq_by_cmp path_cmp p q ≡ true → p ≡ q
 same_path p q e = path_cmp-IsAntisymmetric p q (tied _ e)
 
@@ -42,7 +42,7 @@ same_path p q e = path_cmp-IsAntisymmetric p q (tied _ e)
 pub ties_itself : (p : List (List ℕ)) → eq_by_cmp path_cmp p p ≡ true
 ties_itself p = ap is_eq (tied_itself path_cmp-IsTotalOrder p)
 
--- an entry of sorted ones is the one that is found at its path
+-- each entry of a sorted list is the one that is found at its path
 pub found_at : (es : List Pair) (i : ℕ) (k : List (List ℕ)) (e : Entry) → T (finite.is_sorted path_cmp es)
     → slice_get es i ≡ Some (k, e) → finite.find path_cmp k es ≡ Some e
 found_at [] i k e sorted is = absurd cc
@@ -65,26 +65,26 @@ found_at (f ∷ es) (suc i) k e sorted is = by_tie (eq_by_cmp path_cmp k f.0) re
 
 -- ---- a walk
 
--- what is left of it begins with the entry where it is
+-- what is left of a walk begins with the entry that the walk is at
 pub walk_first : (es : List Pair) (k : List (List ℕ)) (e : Entry) → slice_get es 0 ≡ Some (k, e) → es ≡ (k, e) ∷ drop 1 es
 walk_first [] k e is = absurd cc
 walk_first (f ∷ es) k e is = let same : f ≡ (k, e) = cc in ap (λ x. x ∷ es) same
 
--- where no first entry is left of a walk, nothing is
+-- if no first entry is left of a walk, nothing is left
 pub walk_end : (es : List Pair) → slice_get es 0 ≡ None → es ≡ []
 walk_end [] is = refl
 walk_end (f ∷ es) is = absurd cc
 
--- what is not below a path
+-- the entries that are not at or below a path
 abbrev pub beside : List (List ℕ) → List Pair → List Pair
 beside k es = where_key path_cmp (λ q. not (is_within k q)) es
 
--- past the first entry come the later ones that are not below its path
+-- past the first entry are the later ones that are not below its path
 pub past_is : (es : List Pair) (k : List (List ℕ)) (e : Entry) → slice_get es 0 ≡ Some (k, e) → past es ≡ beside k (drop 1 es)
 past_is [] k e is = absurd cc
 past_is (f ∷ es) k e is = let same : f ≡ (k, e) = cc in ap (λ x. beside x.0 es) same
 
--- it ends
+-- the entries that are not at or below a path are at most as many as all of them
 beside_short : (k : List (List ℕ)) (es : List Pair) → length (beside k es) ≤ length es
 beside_short k [] = omega arith
 beside_short k (e ∷ es) = by_test (not (is_within k e.0)) (beside_short k es)
@@ -93,7 +93,7 @@ beside_short k (e ∷ es) = by_test (not (is_within k e.0)) (beside_short k es)
     by_test true rest = omega (arith, rest)
     by_test false rest = omega (arith, rest)
 
--- passing an entry and what is below it leaves fewer of them, so the walk ends
+-- passing an entry and what is below it leaves fewer entries, so the walk ends
 pub skip_short : (es fs : List Pair) (k : List (List ℕ)) (e : Entry) → slice_get es 0 ≡ Some (k, e) → past es ≡ fs → length fs < length es
 skip_short es fs k e is next =
     let long = ap length (walk_first es k e is) in

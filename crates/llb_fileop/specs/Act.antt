@@ -1,4 +1,4 @@
--- What a file action leaves of a tree, or its first fault.
+-- The tree after a file action, or the first fault.
 use Rattle.std.specs.Prelude.{Option, Some, None, Result, Ok}
 use Rattle.llb_ops.specs.declared.file.ActionKind.{ActionKind}
 use Rattle.llb_ops.specs.declared.file.ActionKind.TheVariants as kind

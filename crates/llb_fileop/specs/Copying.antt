@@ -20,7 +20,7 @@ use Rattle.llb_fileop.specs.Owners.{copied}
 use Rattle.llb_fileop.specs.Making.{make_all}
 use Rattle.llb_fileop.specs.Removing.{matching}
 
--- where a text leads, and whether it ends in `/`
+-- the path that a text reads as, and whether the text ends in `/`
 abbrev pub resolved : List ℕ → Result (List (List ℕ) × Bool) TreeFault
 resolved text = path_of text >>= λ p. Ok (p, ends_with nat_eq text (47 ∷ []))
 

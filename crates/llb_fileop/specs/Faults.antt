@@ -8,13 +8,13 @@ use Rattle.llb_glob.specs.declared.fault.PatternFault.TheVariants as pattern
 use Rattle.llb_fileop.specs.declared.fault.ActFault.{ActFault}
 use Rattle.llb_fileop.specs.declared.fault.ActFault.TheVariants.{File, BadPattern, Memory}
 
--- whether a fault is `Memory`, which no rule gives
+-- whether a fault is `Memory`, which no rule returns
 abbrev pub is_memory : ActFault → Bool
 is_memory Memory = true
 is_memory (File f) = false
 is_memory BadPattern = false
 
--- what a call returns, seen by view, is what the rule gives, unless it is `Memory`
+-- what a call returns, seen by view, is what its rule returns, unless it is `Memory`
 abbrev pub Gives : {X Y : Type 0} → (X → Y) → Result X ActFault → Result Y ActFault → Type 0
 Gives = answer.Gives is_memory
 

@@ -1,4 +1,4 @@
--- What a granted copy of one source leaves, path by path.
+-- The tree after a granted copy of one source, path by path.
 use Rattle.std.specs.Prelude.{◌≡◌, ℕ, zero, negsuc, Bool, true, false, List, ◌++◌, Some, None, Ok, ◌⊎◌}
 use Rattle.std.specs.FinMap as finite
 use Rattle.llb_ops.specs.declared.actions.CopyFile.{CopyFile}

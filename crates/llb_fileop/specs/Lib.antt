@@ -1,5 +1,5 @@
--- Read Act first (what an action leaves of a tree), with Owners, Making, Removing and Copying for its parts, then Laws (a granted copy, path by path) and
--- Faults. Parts has the steps of a copy at its place, as the code takes them.
+-- Read Act first (the tree after an action), with Owners, Making, Removing and Copying for its parts, then Laws (a granted copy, path by path) and Faults.
+-- Parts has the steps of a copy at its place, as the code takes them.
 pub mod Faults
 pub mod Owners
 pub mod Making

@@ -21,12 +21,12 @@ kept_or_made m p None t = put_dir t p m
 kept_or_made m p (Some (Dir n)) t = Ok t
 kept_or_made m p (Some (File n bytes)) t = Err NotDir
 
--- the tree with directories at these paths, from the first on
+-- the tree with directories at these paths, made one after another
 abbrev pub make_all : MetaValue → List (List (List ℕ)) → TreeMap → Result TreeMap TreeFault
 make_all m [] t = Ok t
 make_all m (p ∷ ps) t = kept_or_made m p (finite.get t p) t >>= make_all m ps
 
--- the missing parents are made if `make_parents` asks for it
+-- the tree with the missing parents made, if `make_parents` is true
 abbrev pub with_parents : Bool → MetaValue → List (List ℕ) → TreeMap → Result TreeMap TreeFault
 with_parents true m p t = make_all m (parents p) t
 with_parents false m p t = Ok t

@@ -24,7 +24,7 @@ abbrev pub removed : Bool → List (List ℕ) → Option Entry → TreeMap → R
 removed allowed p (Some e) t = Ok (without t p)
 removed allowed p None t = absent allowed t
 
--- one path is removed, which may not be the root
+-- the tree after one path, which may not be the root, is removed
 abbrev pub rm_path : Bool → TreeMap → List (List ℕ) → Result TreeMap TreeFault
 rm_path allowed t p = not_root p >>= λ _. removed allowed p (finite.get t p) t
 
@@ -40,12 +40,12 @@ is_below_any ps q = list_any (λ p. is_within p q) ps
 abbrev pub left : List (List Item) → TreeMap → TreeMap
 left pattern t = finite.retain_keys t (λ q. not (is_below_any (matching pattern t) q))
 
--- these paths are removed, with what is below them
+-- the tree after these paths, and what is below them, are removed
 abbrev pub removed_all : Bool → List (List (List ℕ)) → TreeMap → Result TreeMap TreeFault
 removed_all allowed [] t = absent allowed t
 removed_all allowed (p ∷ ps) t = Ok (finite.retain_keys t (λ q. not (is_below_any (p ∷ ps) q)))
 
--- the paths that match a pattern are removed; a pattern without parts matches the root, which is refused
+-- the tree after the paths that match a pattern are removed; a pattern without parts matches the root, which is refused
 abbrev pub rm_pattern : Bool → TreeMap → List (List Item) → Result TreeMap TreeFault
 rm_pattern allowed t [] = Err Root
 rm_pattern allowed t (part ∷ parts) = removed_all allowed (matching (part ∷ parts) t) t

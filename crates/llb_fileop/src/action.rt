@@ -1,4 +1,4 @@
-//! What an action does to a tree. It works on a copy, so a fault leaves the tree that it began with.
+//! What an action does to a tree. An action works on a copy, so a fault leaves the tree that it began with unchanged.
 
 ghost use Rattle.std.specs.Prelude.{option_map, unwrap_or};
 ghost use Rattle.llb_tree.specs.Tree.{empty_tree};
@@ -13,9 +13,9 @@ use llb_ops::{Action, ActionKind};
 use llb_tree::Tree;
 use std::alloc::Global;
 
-/// The tree after an action on a base, as the rules of file actions have it; a copy is made from the second tree, the
-/// empty one where there is none, and other actions do not look at it. 51 `File` with the first fault of the tree (21 to 26),
-/// 52 `BadPattern` at a text that is no pattern; 53 `Memory`, at any growth. The base is not changed.
+/// Returns the tree after an action on a base, by the rules of file actions. A copy reads the second tree, or the empty tree if there is
+/// none; other actions do not read it. Fails with 51 `File`, which holds the first fault of the tree (21 to 26), with 52 `BadPattern` if a
+/// text is not a pattern, or with 53 `Memory` if any growth is refused. The base is not changed.
 pub fn act(
     alloc: Global,
     action: &Action,

@@ -1,5 +1,5 @@
-//! Copies from a second tree: the texts are read, then the sources are copied one after another in path order, each to
-//! its target. What is done before a fault is done on a copy.
+//! Copies from a second tree. The texts are read first; then the sources are copied one after another in path order, each to its target.
+//! The changes are made to a copy of the tree, so a fault leaves the tree unchanged.
 
 ghost use Rattle.std.specs.Prelude.{◌≡◌, ◌≤◌, ◌++◌, length, IsSome};
 ghost use Rattle.std.specs.FinMap as finite;
@@ -19,7 +19,7 @@ use llb_ops::CopyFile;
 use llb_tree::{Meta, Path, Tree, TreeFault};
 use std::alloc::Global;
 
-/// The tree with copies of what the source text names in the second tree.
+/// Returns the tree with copies of what the source text names in the second tree.
 pub fn copy(alloc: Global, action: &CopyFile, base: &Tree, second: &Tree) -> Result<Tree, ActFault>
     ensures { Gives (λ t. t) result (copy action.now base.now second.now) }
 {
@@ -35,7 +35,7 @@ pub fn copy(alloc: Global, action: &CopyFile, base: &Tree, second: &Tree) -> Res
     Ok(tree)
 }
 
-// One path is copied.
+// Returns the tree after one path of the second tree is copied.
 fn copy_path(
     alloc: Global,
     action: &CopyFile,
@@ -55,7 +55,7 @@ fn copy_path(
     Ok(tree)
 }
 
-// All paths that match are copied.
+// Returns the tree after all paths of the second tree that match a pattern are copied.
 fn copy_matches(
     alloc: Global,
     action: &CopyFile,
@@ -78,7 +78,7 @@ fn copy_matches(
     Ok(tree)
 }
 
-// One source is copied to its target.
+// Copies one source to its target.
 fn copy_one(
     alloc: Global,
     action: &CopyFile,
@@ -98,7 +98,7 @@ fn copy_one(
     land(alloc, action, second, source, &goal, tree)
 }
 
-// Where a source is copied to.
+// Returns the path that a source is copied to.
 fn target(
     action: &CopyFile,
     dest: &Path,
@@ -118,7 +118,7 @@ fn target(
     dest.copy()
 }
 
-// The place of a source's last name in a directory; of the root the directory itself.
+// Returns the path of a source's last name in a directory; for the root, which has no name, the directory itself.
 fn place_in(dest: &Path, source: &Path) -> Result<Path, TreeFault>
     ensures { trees.Gives (λ p. p) result (placed (dest.now ++ last_name source.now)) }
 {
@@ -129,7 +129,7 @@ fn place_in(dest: &Path, source: &Path) -> Result<Path, TreeFault>
     Ok(goal)
 }
 
-// What is at and below a source lands at and below its target.
+// Copies what is at and below a source to its target and below it.
 fn land(
     alloc: Global,
     action: &CopyFile,

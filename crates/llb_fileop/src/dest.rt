@@ -1,4 +1,4 @@
-//! Where a text leads.
+//! Resolves a destination text to a path.
 
 ghost use Rattle.std.specs.Prelude.{◌≡◌};
 ghost use Rattle.llb_fileop.specs.Faults.{Gives, MemoryLast, on_tree};
@@ -8,8 +8,8 @@ use crate::fault::ActFault;
 use llb_tree::Path;
 use std::alloc::Global;
 
-/// The path that a text reads as, from the root, and whether the text ends in `/`. 51 `File` with 26 `BadName` where it
-/// reads as none; else 53 `Memory`.
+/// Returns the path that a text reads as, from the root, and whether the text ends in `/`. Fails with 51 `File` and 26 `BadName` if the
+/// text does not read as a path; otherwise it can only fail with 53 `Memory`.
 pub fn resolve(alloc: Global, text: &str) -> Result<(Path, bool), ActFault>
     ensures gives { Gives (λ r. r) result (on_tree (resolved text.now)) }
     ensures last { MemoryLast result (on_tree (resolved text.now)) }

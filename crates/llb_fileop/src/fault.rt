@@ -1,5 +1,5 @@
-//! Why an action is refused. A fault prints what stands after the word `fault` in a refusal: its number, and that of a
-//! fault of the tree. Refusals of memory of any kind become `Memory` by `?`.
+//! Why an action is refused. A fault prints what follows the word `fault` in a refusal: its number, and after 51 the number of the tree's
+//! fault. Refusals of memory of any kind become `Memory` by `?`.
 
 use llb_glob::PatternFault;
 use llb_tree::TreeFault;
@@ -10,10 +10,10 @@ use thiserror::Error;
 /// Why an action is refused.
 #[derive(Clone, Copy, Debug, PartialEq, Eq, Error)]
 pub enum ActFault {
-    /// 51: a path does not read, or an edit of the tree is refused; its fault, 21 to 26, follows.
+    /// 51: a text does not read as a path, or an edit of the tree is refused; the fault of the path or of the tree, 21 to 26, follows.
     #[error("51 {0}")]
     File(TreeFault),
-    /// 52: a text is no pattern.
+    /// 52: a text is not a pattern.
     #[error("52")]
     BadPattern,
     /// 53: memory was refused.

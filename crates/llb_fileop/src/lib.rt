@@ -1,5 +1,5 @@
-//! File actions: what making a file or a directory, removing and copying leave of a tree, or the first fault. An action
-//! works on a copy of the tree that it is given. Nothing here knows a graph.
+//! File actions: making a file or a directory, removing and copying. Each returns the tree after the action, or the first fault. An action
+//! works on a copy of the tree that it is given. Nothing here knows about a graph.
 #![tactic(auto)]
 
 mod action;

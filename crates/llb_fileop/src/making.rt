@@ -1,4 +1,4 @@
-//! A file or a directory is made on a copy of a tree.
+//! Makes a file or a directory in a copy of a tree.
 
 ghost use Rattle.std.specs.FinMap as finite;
 ghost use Rattle.llb_tree.specs.Tree.{Gives, parents};
@@ -9,7 +9,7 @@ use llb_ops::{MkDir, MkFile};
 use llb_tree::{Entry, Meta, Path, Tree, TreeFault};
 use std::alloc::Global;
 
-/// The tree with a file that is made, or replaced.
+/// Returns the tree with a new file, which replaces a file that is there.
 pub fn mkfile(alloc: Global, make: &MkFile, base: &Tree) -> Result<Tree, TreeFault>
     ensures { Gives (λ t. t) result (mkfile make.now base.now) }
 {
@@ -21,7 +21,7 @@ pub fn mkfile(alloc: Global, make: &MkFile, base: &Tree) -> Result<Tree, TreeFau
     Ok(tree)
 }
 
-/// The tree with a directory that is made, or was there.
+/// Returns the tree with a directory, which is made if it is not there.
 pub fn mkdir(alloc: Global, make: &MkDir, base: &Tree) -> Result<Tree, TreeFault>
     ensures { Gives (λ t. t) result (mkdir make.now base.now) }
 {
@@ -32,7 +32,7 @@ pub fn mkdir(alloc: Global, make: &MkDir, base: &Tree) -> Result<Tree, TreeFault
     Ok(tree)
 }
 
-// A directory that is there stays as it is.
+// Makes a directory, and its missing parents if `parents` is true. A directory that is there stays as it is.
 fn make_dir(
     alloc: Global,
     tree: &mut Tree,
@@ -51,7 +51,7 @@ fn make_dir(
     tree.put_dir(path, meta)
 }
 
-/// The missing parents of a path are made.
+/// Makes the missing parents of a path.
 pub fn make_parents(
     alloc: Global,
     tree: &mut Tree,
@@ -68,7 +68,7 @@ pub fn make_parents(
     Ok(())
 }
 
-// A directory at a path, made where nothing stands.
+// Makes a directory at a path if nothing is there. A directory that is there stays as it is; a file there is a fault.
 fn keep_or_make(tree: &mut Tree, path: &Path, meta: Meta) -> Result<(), TreeFault>
     ensures gives { Gives (λ _. tree.new) result (kept_or_made meta path.now (finite.get tree.old path.now) tree.old) }
 {

@@ -1,5 +1,5 @@
-//! What is copied lands on a tree: a file at its place, and a directory with what is below it, merged with what is there.
-//! The merged part is what is there with the directory laid over it, and takes its place.
+//! Puts what is copied into a tree: a file at its place, and a directory with what is below it, merged with what is there. The merged part
+//! is what is there with the directory laid over it; it replaces what was there.
 
 ghost use Rattle.std.specs.Prelude.{◌≡◌, ◌≤◌, [], length, false, Ok, None, Some, IsSome, map, IfErr};
 ghost use Rattle.std.specs.FinMap as finite;
@@ -15,7 +15,7 @@ use llb_ops::CopyFile;
 use llb_tree::{Content, Entry, Path, Tree, TreeFault};
 use std::alloc::Global;
 
-/// A file lands at its place.
+/// Puts a copy of a file at its target.
 pub fn land_file(
     action: &CopyFile,
     second: &Tree,
@@ -35,7 +35,7 @@ pub fn land_file(
     copy_from(action, second, source, goal, tree)
 }
 
-/// A directory lands at its place with what is below it, which is given as a tree of its own.
+/// Puts a copy of a directory, with what is below it, at its target. The directory is given as a tree of its own, of which it is the root.
 pub fn land_dir(
     alloc: Global,
     action: &CopyFile,
@@ -57,7 +57,7 @@ pub fn land_dir(
     merge_at(action, source, goal, tree)
 }
 
-// Puts a copy of what stands at a path of another tree.
+// Puts a copy of the entry that another tree has at a path, if it has one.
 fn copy_from(
     action: &CopyFile,
     from: &Tree,
@@ -73,7 +73,7 @@ fn copy_from(
     }
 }
 
-// Puts a copy of an entry: of a file with its content, which is shared.
+// Puts a copy of an entry. The content of a file is shared, not copied.
 fn put_copy(
     action: &CopyFile,
     held: Entry,
@@ -95,7 +95,7 @@ fn put_copy(
     }
 }
 
-// A tree is merged into the directory at a path.
+// Merges a tree into the directory at a path.
 fn merge_at(action: &CopyFile, source: &Tree, goal: &Path, tree: &mut Tree) -> Result<(), TreeFault>
     requires dir { IsDirAt (finite.get tree.old) goal.now }
     requires tree { IsTree tree.old }
@@ -107,7 +107,7 @@ fn merge_at(action: &CopyFile, source: &Tree, goal: &Path, tree: &mut Tree) -> R
     tree.graft(goal, &merged)
 }
 
-// Whether each entry of a tree can land below a path, where there is a tree already.
+// Checks whether each entry of a tree can land below a path, given the tree that is already there. Fails with the first fault.
 fn may_land(here: &Tree, source: &Tree, goal: &Path) -> Result<(), TreeFault>
     ensures { Gives (λ u. u) result (all_below here.now (length goal.now) (finite.entries source.now)) }
 {
@@ -117,8 +117,8 @@ fn may_land(here: &Tree, source: &Tree, goal: &Path) -> Result<(), TreeFault>
     first_fault(here, source, goal)
 }
 
-// Whether each entry of a tree may land on what another tree has there. Below a path where that has nothing, it has
-// nothing.
+// Checks whether each entry of a tree can land on what another tree has at its path. Below a path where the other tree has nothing, it has
+// nothing, so the entries below that path are passed over.
 fn may_meet(here: &Tree, source: &Tree) -> Result<(), TreeFault>
     ensures { Gives (λ u. u) result (all_meet here.now (finite.entries source.now)) }
 {
@@ -134,7 +134,7 @@ fn may_meet(here: &Tree, source: &Tree) -> Result<(), TreeFault>
     Ok(())
 }
 
-// The first entry that can't land decides.
+// Checks the entries one by one, and fails with the fault of the first that can't land.
 fn first_fault(here: &Tree, source: &Tree, goal: &Path) -> Result<(), TreeFault>
     ensures { Gives (λ u. u) result (all_below here.now (length goal.now) (finite.entries source.now)) }
 {
@@ -149,7 +149,7 @@ fn first_fault(here: &Tree, source: &Tree, goal: &Path) -> Result<(), TreeFault>
     Ok(())
 }
 
-// Whether an entry may land on what stands at a path.
+// Checks whether an entry can land on what is at a path: a file may not meet a directory, either way.
 fn meet(here: &Tree, path: &Path, entry: Entry) -> Result<(), TreeFault>
     ensures meets { result ≡ meets (finite.get here.now path.now) (seen entry.entry) }
     ensures known { IfErr result (λ e. is_memory e ≡ false) }

@@ -9,7 +9,7 @@ use llb_ops::{ChownOpt, CopyFile, User, UserOpt};
 use llb_tree::{Meta, Way};
 use llb_wire::Boxed;
 
-/// The mode and the owner of what an action makes.
+/// Returns the mode and the owner of what an action makes: user or group 0 if none is given.
 pub fn made(mode: i32, owner: &Option<Boxed<ChownOpt>>) -> Meta
     ensures { result ≡ made mode owner.now }
 {
@@ -18,7 +18,7 @@ pub fn made(mode: i32, owner: &Option<Boxed<ChownOpt>>) -> Meta
     Meta::new(low_bits(mode), uid, gid).unwrap()
 }
 
-/// The mode and the owner of what is copied: its own where the action gives none.
+/// Returns the mode and the owner of what is copied: its own where the action gives none.
 pub fn copied(action: &CopyFile, own: Meta) -> Meta
     ensures { result ≡ copied action.now.mode action.now.owner own }
 {
@@ -28,7 +28,7 @@ pub fn copied(action: &CopyFile, own: Meta) -> Meta
     Meta::new(mode_from(action.mode, own.mode()), uid, gid).unwrap()
 }
 
-/// How what is copied is laid over a tree: a directory that is there stays as it is.
+/// Returns how what is copied is laid over a tree: a directory that is there stays as it is.
 pub fn way(action: &CopyFile) -> Way
     ensures given { (m : MetaValue) → given result m ≡ copied action.now.mode action.now.owner m }
     ensures keeps { result.keeps ≡ true }
@@ -38,7 +38,7 @@ pub fn way(action: &CopyFile) -> Way
     Way::new(mode_given(action.mode), uid, gid, true).unwrap()
 }
 
-// The mode that is given, or its own where that is -1.
+// Returns the low 12 bits of the mode that is given, or the entry's own mode if that is -1.
 fn mode_from(mode: i32, own: u16) -> u16
     requires { own ≤ 4095 }
     ensures value { result ≡ mode_from mode own }
@@ -47,7 +47,7 @@ fn mode_from(mode: i32, own: u16) -> u16
     mode_given(mode).unwrap_or(own)
 }
 
-// The mode that is given: none where it is -1.
+// Returns the low 12 bits of the mode that is given; `None` if that is -1.
 fn mode_given(mode: i32) -> Option<u16>
     ensures value { (own : ℕ) → unwrap_or result own ≡ mode_from mode own }
     ensures small { is_mode result ≡ true }
@@ -59,7 +59,7 @@ fn mode_given(mode: i32) -> Option<u16>
     }
 }
 
-// The low 12 bits.
+// Returns the low 12 bits of a mode.
 fn low_bits(mode: i32) -> u16
     ensures value { result ≡ mode_of mode }
     ensures small { result ≤ 4095 }

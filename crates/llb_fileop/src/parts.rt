@@ -1,4 +1,4 @@
-//! A look at a tree: whether something stands at a path.
+//! A query of a tree: whether there is an entry at a path.
 
 ghost use Rattle.std.specs.Prelude.{◌≡◌, is_some};
 ghost use Rattle.std.specs.FinMap as finite;
@@ -6,7 +6,7 @@ ghost use Rattle.llb_tree.specs.Tree.{IsTree};
 
 use llb_tree::{Path, Tree};
 
-/// Whether something stands at a path.
+/// Returns whether there is an entry at a path.
 pub fn is_there(tree: &Tree, path: &Path) -> bool
     ensures there { result ≡ is_some (finite.get tree.now path.now) }
     ensures tree { IsTree tree.now }

@@ -1,4 +1,4 @@
-//! A path, or all that match a pattern, go from a copy of a tree, which shares what stays as it is.
+//! Removes a path, or all paths that match a pattern, from a copy of a tree. The copy shares what stays as it is.
 
 ghost use Rattle.llb_tree.specs.Tree as tree;
 ghost use Rattle.llb_fileop.specs.Faults.{Gives};
@@ -10,7 +10,7 @@ use llb_ops::Rm;
 use llb_tree::{Path, Tree, TreeFault};
 use std::alloc::Global;
 
-/// The tree without a path, or without all that match.
+/// Returns the tree without a path, or without all paths that match a pattern.
 pub fn rm(alloc: Global, remove: &Rm, base: &Tree) -> Result<Tree, ActFault>
     ensures { Gives (λ t. t) result (rm remove.now base.now) }
 {
@@ -24,7 +24,7 @@ pub fn rm(alloc: Global, remove: &Rm, base: &Tree) -> Result<Tree, ActFault>
     Ok(tree)
 }
 
-// The tree without what is at or below a path.
+// Returns the tree without what is at or below a path, which may not be the root.
 fn rm_path(path: &Path, allowed: bool, base: &Tree) -> Result<Tree, TreeFault>
     ensures { tree.Gives (λ t. t) result (rm_path allowed base.now path.now) }
 {
@@ -39,7 +39,7 @@ fn rm_path(path: &Path, allowed: bool, base: &Tree) -> Result<Tree, TreeFault>
     Ok(tree)
 }
 
-// The tree without all that match a pattern.
+// Returns the tree without all paths that match a pattern, and without what is below them.
 fn rm_pattern(pattern: &Pattern, allowed: bool, base: &Tree) -> Result<Tree, TreeFault>
     ensures { tree.Gives (λ t. t) result (rm_pattern allowed base.now pattern.now) }
 {
@@ -50,7 +50,7 @@ fn rm_pattern(pattern: &Pattern, allowed: bool, base: &Tree) -> Result<Tree, Tre
     }
 }
 
-/// What is not there is a fault, or is let be.
+/// Returns a copy of the tree if it is allowed that nothing is there; otherwise fails with 21 `NotFound`.
 pub fn absent(allowed: bool, base: &Tree) -> Result<Tree, TreeFault>
     ensures { tree.Gives (λ t. t) result (absent allowed base.now) }
 {

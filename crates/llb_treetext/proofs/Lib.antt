@@ -7,5 +7,6 @@ pub mod Rows
 pub mod Apart
 pub mod Trails
 pub mod Places
+pub mod Growing
 pub mod Placing
 pub mod Unique

@@ -206,13 +206,15 @@ module _ (t : TreeMap) (tree : IsTree t) (place : Place) (last : IsLast t place)
 
       -- its directory is there, so the row is put and is the last one now
       pub goes_to : (rest later : List ℕ) (new : Place) → rest ≡ line_of row ++ later → new.names.now ≡ names_text row.0 → new.is_dir ≡ is_dir row.1 → h ≡ true
-          → (u : TreeMap) × (put_row t row ≡ Ok u) × GoesOn t u rest later × IsLast u new × (finite.len u ≡ finite.len t + 1)
+          → (finite.get t row.0 ≡ None) × (put_row t row ≡ Ok (finite.insert t row.0 row.1))
+          × GoesOn t (finite.insert t row.0 row.1) rest later × IsLast (finite.insert t row.0 row.1) new
+          × (finite.len (finite.insert t row.0 row.1) ≡ finite.len t + 1)
       goes_to rest later new text place_is kind_is there =
           let walk_is : walk (finite.get t) row.0 ≡ Ok tt = ap (walk (finite.get t)) ends.1.1
           ∙ walks ends.0 ends.1.0 named next_end h dir dir_is holds each there in
           let own = entries_put t tree row is behind in
           let put = put_ok t tree row is behind row.0 row.1 (not_root t tree row is behind) (not_there t tree row is behind) walk_is in (
-            finite.insert t row.0 row.1,
+            not_there t tree row is behind,
             put,
             goes_on t tree row is behind (finite.insert t row.0 row.1) rest later text put,
             record { front = finite.entries t; row = row; entries = own; names = place_is; kind = kind_is },

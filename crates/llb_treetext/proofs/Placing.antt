@@ -1,8 +1,8 @@
 -- A row after all rows of a tree goes to the end of it, where its directories are there; and each row of a tree's text does.
 use Rattle.std.specs.Prelude.{is_ok}
-use Rattle.std.proofs.Common.{◌≡◌, ◌≢◌, ℕ, zero, suc, ◌+◌, ◌<◌, ◌≤◌, ◌==◌, Bool, true, false, cond, ◌&&◌, List, [], ◌∷◌, ◌++◌, length, map}
+use Rattle.std.proofs.Common.{◌≡◌, ◌≢◌, ℕ, zero, suc, ◌<◌, ◌≤◌, ◌==◌, Bool, true, false, cond, ◌&&◌, List, [], ◌∷◌, ◌++◌, length, map}
 use Rattle.std.proofs.Common.{Option, Some, None, IsSome, Result, Ok, Err, T, refl, sym, ap, subst, ◌∙◌, true≢false, arith, append_assoc}
-use Rattle.std.proofs.Common.{length-append, inl, inr}
+use Rattle.std.proofs.Common.{length-append, inr}
 use Rattle.std.proofs.lemmas.Bool.{eqb-true}
 use Rattle.std.proofs.lemmas.Grind.{flat_map-append}
 use Rattle.std.proofs.lemmas.List.{append-nil}
@@ -17,16 +17,13 @@ use Rattle.llb_tree.specs.Meta.{MetaValue, new_dir_meta}
 use Rattle.llb_tree.specs.Tree.{Entry, Dir, File, Look, TreeMap, parents, all_dirs, walk, dir_fits, file_fits, IsDirAt, CanStand, IsTree, empty_tree}
 use Rattle.llb_tree.specs.Faults as base
 use Rattle.llb_tree.specs.declared.fault.TreeFault.{TreeFault}
-use Rattle.llb_tree.specs.declared.fault.TreeFault.TheVariants as fault
 use Rattle.llb_wire.specs.Answer.{◌>>=◌}
 use Rattle.llb_treetext.specs.TreeText.{row_text, line_of, lines_of, tree_text}
-use Rattle.llb_treetext.specs.Reading.{IsRow, IsText, Begins, IsFault, Stops, comes_next}
+use Rattle.llb_treetext.specs.Reading.{IsRow, IsText, IsFault, Stops, comes_next}
 use Rattle.llb_treetext.specs.Placing.{put_row, GoesOn, IsFront}
 use Rattle.llb_treetext.specs.Fields.{entry_of}
 use Rattle.llb_treetext.specs.declared.fault.TextFault.{TextFault}
-use Rattle.llb_treetext.specs.declared.fault.TextFault.TheVariants.{BadLine, Order, NoParent}
 use Rattle.llb_treetext.proofs.Rows.{Pair}
-use Rattle.llb_treetext.proofs.Unique.{one_answer}
 
 -- ---- after all rows
 

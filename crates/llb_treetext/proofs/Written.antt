@@ -1,5 +1,5 @@
 -- The line of an entry is read as the entry, and it is a text with no line end in it.
-use Rattle.std.proofs.Common.{◌≡◌, ◌≢◌, ℕ, zero, suc, ◌+◌, ◌-◌, ◌*◌, ◌/◌, ◌%◌, ◌^◌, ◌<◌, ◌≤◌, nat_lt, nat_eq, nat_le, ◌==◌, Bool, true}
+use Rattle.std.proofs.Common.{◌≡◌, ◌≢◌, ℕ, zero, suc, ◌+◌, ◌-◌, ◌/◌, ◌%◌, ◌^◌, ◌<◌, ◌≤◌, nat_lt, nat_eq, nat_le, ◌==◌, Bool, true}
 use Rattle.std.proofs.Common.{false, not, cond, ◌&&◌, ◌||◌, true≢false, inl, inr, List, [], ◌∷◌, ◌++◌, length, get_or, take, drop, Option}
 use Rattle.std.proofs.Common.{Some, None, refl, sym, ap, subst, ◌∙◌, arith, append_assoc, length-append}
 use Rattle.std.specs.Prelude.{codes}
@@ -198,7 +198,7 @@ no_dash b content = and_false (nat_eq (get_or lower_digits (b / 16) 0) 45)
     and_false true = refl
     and_false false = refl
 
-content_is : (content : List ℕ) → AreBytes content → bytes_in (hex_text content) ≡ Some content
+pub content_is : (content : List ℕ) → AreBytes content → bytes_in (hex_text content) ≡ Some content
 content_is [] bytes = refl
 content_is (b ∷ content) bytes = ap (λ t. cond t (Some []) (result_ok (decode_of (encode_lower (b ∷ content))))) (no_dash b content)
     ∙ ap result_ok (decode_of-encode_lower (b ∷ content) (byte_at (b ∷ content) bytes))

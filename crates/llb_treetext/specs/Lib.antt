@@ -1,9 +1,10 @@
 -- Read first TreeText (the text of a tree) and Reading (which texts are such, and what is wrong with others), then Output (what is written) and Faults.
--- Fields, Placing and Lines are the code's own way through a text.
+-- Fields, Placing, Growing and Lines are the code's own way through a text.
 pub mod TreeText
 pub mod Faults
 pub mod Output
 pub mod Reading
 pub mod Fields
 pub mod Placing
+pub mod Growing
 pub mod Lines

@@ -1,5 +1,5 @@
 -- The result of putting the next row in a tree. Only this file and the proofs know that a text is read row by row.
-use Rattle.std.specs.Prelude.{◌≡◌, ℕ, ◌+◌, ◌<◌, ◌==◌, Bool, true, false, List, [], ◌∷◌, ◌++◌, length, map, Option, Some, None, Result, Ok, Err, if◌then◌else◌}
+use Rattle.std.specs.Prelude.{◌≡◌, ℕ, ◌+◌, ◌<◌, ◌==◌, Bool, true, false, List, [], ◌∷◌, ◌++◌, length, map, None, Result, Ok, Err, if◌then◌else◌}
 use Rattle.std.specs.FinMap as finite
 use Rattle.std.specs.declared.cmp.Ordering.{Ordering}
 use Rattle.std.specs.Ordering.{nat_cmp}
@@ -23,11 +23,6 @@ put_row t (p, File m content) = put_file t p m content
 -- the parts of a row's line
 abbrev pub IsOf : List (List ℕ) × Entry → Parts → Type 0
 IsOf row x = IsRow row × (parts_seen x ≡ parts_from row)
-
--- where there is a tree, it is this one
-abbrev pub IsIfAny : Option TreeMap → TreeMap → Type 0
-IsIfAny None t = Unit {0}
-IsIfAny (Some u) t = u ≡ t
 
 -- a line more is in the tree: what is before and what is left is the same text, and less is left
 pub record GoesOn (old new : TreeMap) (rest later : List ℕ) : Type 0 where
@@ -72,8 +67,9 @@ abbrev pub Starts : List ℕ → Result Line TextFault → Type 0
 Starts bytes (Ok x) = let t = finite.insert empty_tree [] (Dir x.parts.meta) in IsFront bytes t x.later.now × IsLast t x.place × (finite.len t ≡ 1)
 Starts bytes (Err e) = (is_memory e ≡ false) × IsFault [] bytes e
 
--- a tree with one line more, or what is wrong with the line
+-- the tree with one line more, whose path was free, or what is wrong with the line
 abbrev pub GoesTo : TreeMap → List ℕ → Result Line TextFault → Type 0
-GoesTo t rest (Ok x) = (row : List (List ℕ) × Entry) × IsOf row x.parts × ((new : TreeMap) × (put_row t row ≡ Ok new) × GoesOn t new rest x.later.now
-    × IsLast new x.place × (finite.len new ≡ finite.len t + 1))
+GoesTo t rest (Ok x) = (row : List (List ℕ) × Entry) × IsOf row x.parts × (finite.get t row.0 ≡ None) × (put_row t row ≡ Ok (finite.insert t row.0 row.1))
+    × GoesOn t (finite.insert t row.0 row.1) rest x.later.now × IsLast (finite.insert t row.0 row.1) x.place
+    × (finite.len (finite.insert t row.0 row.1) ≡ finite.len t + 1)
 GoesTo t rest (Err e) = (is_memory e ≡ false) × IsFault (finite.entries t) rest e

@@ -4,6 +4,7 @@
 
 mod digest;
 mod fault;
+mod grow;
 mod judge;
 mod laws;
 mod line;

@@ -1,4 +1,4 @@
--- What goes on from a board goes on from the board that it began from.
+-- Boards that go on from others go on from the board that those began from.
 use Rattle.std.proofs.Common.{◌≡◌, ℕ, zero, suc, ◌≤◌, List, [], ◌∷◌, ◌++◌, length, take, drop, Option, Some, None, refl, sym, ap, ◌∙◌}
 use Rattle.std.proofs.Common.{subst, arith, append_assoc}
 use Rattle.std.proofs.lemmas.List.{append-nil, length-append}
@@ -29,16 +29,16 @@ both (suc n) (x ∷ xs) = ap (λ l. x ∷ l) (both n xs)
 
 -- ---- going on
 
--- nothing is done
+-- a board goes on from itself by no event
 pub goes_nowhere : (b : Seen) → GoesOn b b
 unfolding run
 goes_nowhere b = record { build = refl; opening = refl; first = refl; more = []; replies = []; leads = refl; events = sym (append-nil b.events) }
 
--- where a call changes nothing
+-- a call that changes nothing goes on by no event
 pub stays : (b c : Seen) → c ≡ b → GoesOn b c
 stays b c same = subst (λ x. GoesOn b x) (sym same) (goes_nowhere b)
 
--- one event
+-- an event that is taken is one by which the board goes on
 pub takes_one : (b c : Seen) (e : Event) → Takes b e c → GoesOn b c
 takes_one b c e takes = record {
   build = takes.build;
@@ -54,28 +54,28 @@ takes_one b c e takes = record {
 pub no_shorter : (b c : Seen) → GoesOn b c → length b.events ≤ length c.events
 no_shorter b c goes = omega (arith, ap length goes.events, length-append b.events goes.more)
 
--- ---- by equations alone
+-- ---- by equations only
 
--- what is after a prefix of the record
+-- the events after the older record
 abbrev behind_front : Seen → Seen → List Event
 behind_front s b = drop (length s.events) b.events
 
--- a record is the older one, and what is after it
+-- a record is the older record, followed by the events after it
 whole : (s b : Seen) → IsAfter s b → b.events ≡ s.events ++ behind_front s b
 whole s b is = sym (both (length s.events) b.events) ∙ ap (λ l. l ++ behind_front s b) is.front
 
--- a state with its replies
+-- a run that leads to a state has replies
 with_replies : (o : Option (State × List Reply)) (t : State) → option_map state_in o ≡ Some t → (rs : List Reply) × (o ≡ Some (t, rs))
 with_replies None t is = absurd cc
 with_replies (Some (s, rs)) t is = (rs, ap (λ (x : State). Some (x, rs)) (inside is))
 
--- where an older record is a prefix of a newer one and what is after it leads to the newer state, the board has gone on
+-- if an older record is a prefix of a newer one and what is after it leads to the newer state, the board has gone on
 pub goes_from : (s b : Seen) → IsAfter s b → GoesOn s b
 goes_from s b is =
     let led = with_replies (run s.build s.state (behind_front s b)) b.state is.leads in
     record { build = is.build; opening = is.opening; first = is.first; more = behind_front s b; replies = led.0; leads = led.1; events = whole s b is }
 
--- a record that goes on, by equations
+-- a board that goes on from an older one is after it, by equations
 is_after : (s c : Seen) → GoesOn s c → IsAfter s c
 is_after s c goes = record {
   build = goes.build;
@@ -90,7 +90,7 @@ is_after s c goes = record {
 pub after_itself : (s b : Seen) → s ≡ b → IsAfter s b
 after_itself s b same = is_after s b (stays s b (sym same))
 
--- one run after another
+-- what goes on from a board that goes on from a first one goes on from the first one
 pub goes_further : (a b c : Seen) → GoesOn a b → GoesOn b c → GoesOn a c
 goes_further a b c one two = record {
   build = two.build ∙ one.build;

@@ -1,4 +1,4 @@
--- What lies under the lock may go to another thread, and what a worker has of its own too.
+-- What is under the lock may go to another thread, and so may what a worker has of its own.
 use denote.Builtin.{u32}
 use denote.Hole.{as_row}
 use denote.Param.Send.{IsSend, IsSync, sendable}
@@ -82,7 +82,7 @@ module _ (T : RattleType) (g : gated.Ghosts T.Denot) (g' : ledger.Ghosts T.Denot
   pub lock_crosses : IsSync (mutex.the_row (desk.the_row T g g'))
   lock_crosses = search (desk_crosses, crosses, sendable) depth 20
 
--- what a closure takes with it, each of which may go
+-- eight values, which a closure takes with it, may go to another thread together if each may
 pub eight_cross : (ν : Sym) (A B C D E F G H : RattleType) → IsSend A → IsSend B → IsSend C → IsSend D → IsSend E → IsSend F → IsSend G → IsSend H
     → IsSend (TupleAt ν (A ∷ B ∷ C ∷ D ∷ E ∷ F ∷ G ∷ H ∷ []))
 eight_cross ν A B C D E F G H a b c d e f g h =

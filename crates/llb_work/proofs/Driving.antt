@@ -57,7 +57,7 @@ pub goes_nil : (b : Seen) → Goes b b
 unfolding run
 goes_nil b = record { build = refl; opening = refl; first = refl; more = []; replies = []; leads = refl; chosen = tt; events = sym (append-nil b.events) }
 
--- a chosen event more
+-- after chosen events, one more chosen event leaves all of them chosen
 chosen_more : (b : Build) (s t : State) (es : List Event) (rs : List Reply) (e : Event) → run b s es ≡ Some (t, rs) → AreChosen b s es
     → chosen b t ≡ Some e → AreChosen b s (es ++ e ∷ [])
 chosen_more b s t [] rs e leads all next = (ap (chosen b) (run_none b s t rs leads).0 ∙ next, λ a given. tt)
@@ -85,14 +85,14 @@ goes_on a b c e goes next takes = record {
     given : table a.build b.state e ≡ Some (c.state, takes.reply)
     given = ap (λ x. table x b.state e) (sym goes.build) ∙ takes.given
 
--- the claims so far ascend, and go on to
+-- if the claims so far ascend, they still ascend after a chosen event
 pub ascends_on : (b c : Seen) (e : Event) → IsGraph b.build.graph → IsConsistent b.build b.state → chosen b.build b.state ≡ Some e
     → Takes b e c → Ascends b.build b.state b.events → Ascends c.build c.state c.events
 ascends_on b c e graph here is takes up =
     subst (λ x. Ascends x c.state c.events) (sym takes.build) (subst (Ascends b.build c.state) (sym takes.events)
     (alone_step b.build graph b.state c.state e takes.reply b.events here is takes.given up))
 
--- with a chosen event fewer events are still to come
+-- after a chosen event fewer events are still to come
 pub nearer : (b c : Seen) (e : Event) → Takes b e c → chosen b.build b.state ≡ Some e
     → still_to_come c.build c.state < still_to_come b.build b.state
 nearer b c e takes is =
@@ -106,7 +106,7 @@ longer b c e takes = ap length takes.events ∙ length-append b.events (e ∷ []
 
 -- ---- the four calls
 
--- a claim that is answered with a job is granted, and stands at the end of the record
+-- a claim that returns a job is granted, and is added at the end of the record
 pub claim_takes : {J : Type 0} (reply : J → Reply) (b n : Seen) (w v : ℕ) (r : Result J ClaimFault)
     → GivesClaim (λ job. (n, reply job)) r (claim_of b w v) → is_ok r ≡ true
     → Takes b (Claim w v) n
@@ -114,13 +114,13 @@ unfolding table
 claim_takes reply b n w v (Ok job) gives ok = takes_of b (Claim w v) claim_fault (claim_grant b.build b.state w v) n (reply job) refl gives
 claim_takes reply b n w v (Err e) gives ok = absurd cc
 
--- a step that is answered without a fault is granted, and stands at the end of the record
+-- a step that returns no fault is granted, and is added at the end of the record
 pub step_takes : (b n : Seen) (w : ℕ) (r : Result Stepped StepFault) → GivesStep (λ s. (n, step_reply s)) r (step_of b w) → is_ok r ≡ true → Takes b (Step w) n
 unfolding table
 step_takes b n w (Ok s) gives ok = takes_of b (Step w) step_fault (step_grant b.build b.state w) n (step_reply s) refl gives
 step_takes b n w (Err e) gives ok = absurd cc
 
--- a settle that is answered without a fault is granted, and stands at the end of the record
+-- a settle that returns no fault is granted, and is added at the end of the record
 pub settle_takes : (b n : Seen) (w : ℕ) (r : Result Settled SettleFault) → GivesSettle (λ s. (n, settle_reply s)) r (settle_of b w)
     → is_ok r ≡ true → Takes b (Settle w) n
 unfolding table
@@ -138,7 +138,7 @@ settle_left b n w (Err e) gives refused = by_grant (settle_grant b.build b.state
     by_grant (Err cause) is = refl
     by_grant (Ok p) is = absurd cc
 
--- a cancel that is answered without a fault is granted, and stands at the end of the record
+-- a cancel that returns no fault is granted, and is added at the end of the record
 pub cancel_takes : (b n : Seen) (w : ℕ) (r : Result Cancelled CancelFault) → GivesCancel (λ s. (n, cancel_reply s)) r (cancel_of b w)
     → is_ok r ≡ true → Takes b (Cancel w) n
 unfolding table
@@ -166,26 +166,26 @@ left_over b e granted is left = subst TakesMemory (sym is) (by_event e is left)
     by_event (Settle w) is left = let none : is_some (table b.build b.state (Settle w)) ≡ false = ap is_some left in absurd (cc (none, granted (Settle w) is))
     by_event (Cancel w) is left = let none : is_some (table b.build b.state (Cancel w)) ≡ false = ap is_some left in absurd (cc (none, granted (Cancel w) is))
 
--- a fact where a test is true, or false
+-- what follows if a test is true may be promised on true
 pub on_true : (b : Bool) (P : Type 0) → (b ≡ true → P) → OnTrue b P
 on_true true P f = f refl
 on_true false P f = tt
 
--- what follows from a failed test may be promised where the test fails
+-- what follows if a test is false may be promised on false
 pub on_false : (b : Bool) (P : Type 0) → (b ≡ false → P) → OnFalse b P
 on_false true P f = tt
 on_false false P f = f refl
 
--- what is promised where a test holds, of a test that has held
+-- what is promised on true holds if the test is true
 pub when_true : (b : Bool) (P : Type 0) → OnTrue b P → b ≡ true → P
 when_true true P h is = h
 when_true false P h is = absurd cc
 
--- a prefix of a longer record
+-- a record that goes on is no shorter
 pub goes_longer : (a b : Seen) → Goes a b → length a.events ≤ length b.events
 goes_longer a b goes = omega (arith, ap length goes.events, length-append a.events goes.more)
 
--- at first no event is counted of any worker, and past the last worker there is nothing to count
+-- at first every worker's count is 0, and past the last worker 0 is read too
 pub zeros : (k w : ℕ) → slice_index (replicate k 0) w ≡ 0
 zeros zero w = refl
 zeros (suc k) zero = refl
@@ -196,18 +196,18 @@ zeros (suc k) (suc w) = zeros k w
 abbrev pub of_worker : ℕ → event.Event → Bool
 of_worker w e = worker_of (event_of e) == w
 
--- what is counted of seen events is counted of the events
+-- a worker has as many events among the seen ones as among the events themselves
 pub count_seen : (w : ℕ) (es : List event.Event) → events_by w (map event_of es) ≡ count_by (of_worker w) es
 count_seen w [] = refl
 count_seen w (e ∷ es) =
     sum_by-cons (λ x. cond (worker_of x == w) 1 0) (event_of e) (map event_of es)
     ∙ ap (λ n. cond (of_worker w e) 1 0 + n) (count_seen w es) ∙ sym (sum_by-cons (λ x. cond (of_worker w x) 1 0) e es)
 
--- the counts of that many events
+-- the counts of the first i events
 abbrev pub Counts : List ℕ → List event.Event → ℕ → Type 0
 Counts made es i = (length made ≡ 64) × ((w : ℕ) → w < 64 → slice_index made w ≡ count_by (of_worker w) (take i es))
 
--- one more event is one more of its worker, and of no other
+-- one more event adds one to the count of its worker, and nothing to the other counts
 module _ (made : List ℕ) (es : List event.Event) (i u : ℕ) (d : event.Event) (fits : i < length es)
     (is : u ≡ worker_of (event_of (get_or es i d))) (so_far : Counts made es i) where
   other : (w : ℕ) → w ≢ u → count_by (of_worker w) (take (i + 1) es) ≡ count_by (of_worker w) (take i es)
@@ -217,7 +217,7 @@ module _ (made : List ℕ) (es : List event.Event) (i u : ℕ) (d : event.Event)
   pub not_counted : 64 ≤ u → Counts made es (i + 1)
   not_counted past = (so_far.0, λ w lt. so_far.1 w lt ∙ sym (other w (λ e. omega (arith, e, past, lt))))
 
-  -- one of a worker among them has that worker's count raised by one
+  -- an event of a worker below 64 is counted by adding one to that worker's count
   pub counted : u < 64 → Counts (set made u (slice_index made u + 1)) es (i + 1)
   counted low = (length-set made u (slice_index made u + 1) ∙ so_far.0, each)
     where

@@ -1,4 +1,4 @@
--- How a driver's run ends: as its claim order tells.
+-- How a driver's run ends: as the order of its claims says.
 use Rattle.std.proofs.Common.{◌≡◌, true, [], ◌++◌, Some, ap, sym, subst, ◌∙◌}
 use Rattle.llb_model.specs.State.{State, opening}
 use Rattle.llb_model.specs.Run.{run, is_complete}
@@ -7,7 +7,7 @@ use Rattle.llb_model.proofs.Runs.{run_none}
 use Rattle.llb_state.specs.Board.{Seen, Replays}
 use Rattle.llb_work.specs.Alone.{Goes, EndsInClaimOrder}
 
--- a run from an opening board is one from the opening state
+-- a complete run from a board with an empty record ends in the order of its claims
 pub ends_in_order : (old new : Seen) → Goes old new → Replays old → old.events ≡ [] → is_complete new.build new.state ≡ true
     → IsAtRest new.state → AloneInClaimOrder new.build
     → EndsInClaimOrder new.build new.opening new.events new.state

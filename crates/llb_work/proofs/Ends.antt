@@ -1,4 +1,4 @@
--- Of the events that a driver chooses, and of how a run ends.
+-- The workers whose events a driver chooses.
 use Rattle.std.proofs.Common.{◌≡◌, ℕ, ◌+◌, ◌<◌, Bool, true, false, cond, List, [], ◌∷◌, length, Option, Some, None, refl, sym, ap, subst, ◌∙◌, arith}
 use Rattle.std.specs.Prelude.{option_map}
 use Rattle.llb_model.specs.Program.{Build}
@@ -24,7 +24,7 @@ claim_worker : (o : Option ℕ) (e : Event) → option_map (λ v. Claim 0 v) o �
 claim_worker None e is = absurd cc
 claim_worker (Some v) e is = ap worker_of (sym (inside is))
 
--- the event that is chosen is a worker's
+-- the event that is chosen is that of a worker of the board
 pub chosen_is_workers : (b : Build) (s : State) (e : Event) → 0 < length s.workers → chosen b s ≡ Some e → worker_of e < length s.workers
 chosen_is_workers b s e some is = by_next (next_of b 0 s.workers) refl
   where

@@ -13,7 +13,7 @@ pub pow_pos : (n : ℕ) → 0 < 2 ^ n
 pow_pos zero = omega arith
 pow_pos (suc n) = rw pow-suc (omega (arith, pow_pos n))
 
--- one worker's part more. P is 2 to the number of workers, a and b those of this worker's place and of the next
+-- one more worker's part is joined. P is 2 to the number of workers; a and b are 2 to the place of this worker and of the next
 pub joins : (num den P a b : ℕ) → b ≡ a + a → (num * P) * a + den * P ≡ (den * (P + 1)) * a
     → ((num * b + 1 * den) * P) * b + (den * b) * P ≡ ((den * b) * (P + 1)) * b
 joins num den P a b twice h =
@@ -29,7 +29,7 @@ whole num den P pos h =
     let e : (num * P) * P ≡ (den * P) * P = omega (arith, h) in
     cancel num den P pos (cancel (num * P) (den * P) P pos e)
 
--- how far the joining has come: the rest and the first parts are this pass
+-- how far the joining has come: the rest and the parts of the first `at` workers, joined, are this pass
 abbrev pub HasJoined : ℕ → ℕ → Hand → Type 0
 HasJoined n at v = (v.num * 2 ^ n) * 2 ^ at + v.den * 2 ^ n ≡ (v.den * (2 ^ n + 1)) * 2 ^ at
 

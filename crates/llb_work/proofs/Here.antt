@@ -38,13 +38,13 @@ is_of_both b w v worker vertex =
     both (nat_lt w (length b.state.workers)) (nat_lt v (length b.build.graph.vertices)) (lt-ltb w (length b.state.workers) worker)
     (lt-ltb v (length b.build.graph.vertices) vertex)
 
--- as many workers as at first
+-- a run does not change the number of workers
 workers_same : (b : Build) (s t : State) (es : List Event) (rs : List Reply) → run b s es ≡ Some (t, rs) → length t.workers ≡ length s.workers
 workers_same b s t es rs leads =
     run_keeps b (λ (x : State). length x.workers ≡ length s.workers) (λ x e a same given. workers_stay b x e a given ∙ same) s t es rs
     (λ i. length s.workers) leads
 
--- what is of a board is of the one that it began from
+-- a worker and a vertex of a board are of the board that it began from too
 pub is_of_start : (s b : Seen) (w v : ℕ) → IsAfter s b → is_of b w v ≡ true → is_of s w v ≡ true
 is_of_start s b w v is has =
     let goes = goes_from s b is in
@@ -78,6 +78,6 @@ stops_here may_stop b w v is =
       first_of (may_stop w v) (is_of b w v) is,
     )
 
--- and one at a worker and a vertex of the board, where the gate may stop, may be noted
+-- a stop at a worker and a vertex of the board, where the gate may stop, may be noted
 pub may_be_here : (may_stop : ℕ → ℕ → Bool) (b : Seen) (w v : ℕ) → may_stop w v ≡ true → is_of b w v ≡ true → may_be may_stop b (Some (Stopped w v)) ≡ true
 may_be_here may_stop b w v may has = both (may_stop w v) (is_of b w v) may has

@@ -1,4 +1,4 @@
--- Places in a row: what is known of each is known of the first and of the rest, and of one more at the end.
+-- Lists of places: what is known of each place is known of the first and of the rest, and of one more at the end.
 use Rattle.std.proofs.Common.{◌≡◌, ℕ, zero, suc, ◌+◌, ◌<◌, ◌≤◌, List, [], ◌∷◌, ◌++◌, length, get_or, refl, sym, ap, ◌∙◌, subst, arith}
 use Rattle.llb_ready.specs.declared.queue.ReadyQueue.{ReadyQueue}
 use Rattle.llb_work.specs.declared.post.Post.{Post}
@@ -33,7 +33,7 @@ module _ {L : Type 0} where
   pub keeps_same : (q : ReadyQueue) (from : ℕ) (xs ys : List (Post L)) → xs ≡ ys → AllKeep q from ys → AllKeep q from xs
   keeps_same q from xs ys e h = let P : List (Post L) → Type 0 = AllKeep q from in subst P (sym e) h
 
-  -- the first post keeps its pass, and the rest keep theirs, counted from one further
+  -- the first post keeps its pass, and the rest keep theirs, counted from the next worker
   pub keeps_next : (q : ReadyQueue) (from : ℕ) (p : Post L) (xs rest : List (Post L)) → xs ≡ p ∷ rest → AllKeep q from xs
       → PostKeeps q from p × AllKeep q (from + 1) rest
   keeps_next q from p xs rest e h =
@@ -43,7 +43,7 @@ module _ {L : Type 0} where
       let e' : suc from ≡ from + 1 = omega arith in
       (keeps_first q from p rest all, subst Q e' (keeps_rest q from p rest all))
 
-  -- a post that keeps its pass is pushed at the place of its worker, and all still keep theirs
+  -- if a post that keeps its pass is pushed at the place of its worker, all posts keep their passes
   pub keeps_pushed : (q : ReadyQueue) (n : ℕ) (xs posts : List (Post L)) (p : Post L) → xs ≡ posts ++ p ∷ [] → length posts ≡ n → AllKeep q 0 posts
       → PostKeeps q n p
       → AllKeep q 0 xs

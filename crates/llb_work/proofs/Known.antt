@@ -19,18 +19,18 @@ use Rattle.llb_work.specs.Turns.{IsClaimed}
 
 -- ---- the marks
 
--- the marks so far, and the vertices that are left
+-- the marks so far, continued by the rule over the vertices that are left, are the marks of all vertices
 abbrev pub MarkedSoFar : List Vertex → ℕ → List Bool → Type 0
 MarkedSoFar vs k marks = by_number next_plain marks (drop k vs) ≡ by_number next_plain [] vs
 
--- one mark more, by the rule, from the marks so far
+-- the same holds after one more mark by the rule
 pub marked_more : (vs : List Vertex) (k : ℕ) (marks : List Bool) (v : Vertex) → MarkedSoFar vs k marks → k < length vs → v ≡ get_or vs k v
     → MarkedSoFar vs (k + 1) (marks ++ next_plain marks v ∷ [])
 marked_more vs k marks v here low is =
     let next : drop k vs ≡ v ∷ drop (k + 1) vs = drop-cons vs k v low ∙ (λ i. sym is i ∷ drop (sym (add-one k) i) vs) in
     ap (by_number next_plain marks) (sym next) ∙ here
 
--- where no vertex is left, the marks are those of the rule
+-- if no vertex is left, the marks are those of the rule
 pub marked_all : (b : Build) (k : ℕ) (marks : List Bool) → MarkedSoFar b.graph.vertices k marks → length b.graph.vertices ≤ k
     → (v : ℕ) → unwrap_or (slice_get marks v) false ≡ is_plain b v
 marked_all b k marks here past v =
@@ -48,7 +48,7 @@ abbrev done_in : At → ℕ
 done_in Idle = 0
 done_in (Runs v d f) = d
 
--- where no cache mount is at or before a claimed job's vertex, and its worker has done no micro-step of it, the job is known
+-- if no cache mount is at or before a claimed job's vertex, and its worker has done no micro-step of it, the job is known
 pub known : (given b : Seen) (w v d : ℕ) (f : Bool) (job : Job) → b.build ≡ given.build → IsClaimed given w job.vertex job
     → is_plain given.build v ≡ true → Some (Runs v d f) ≡ worker_look b.build b.state w → d ≡ 0 → v ≡ job.vertex → IsKnown b w job
 known given b w v d f job same claimed plain look none vertex = by_at (slice_get b.state.workers w) refl look

@@ -1,4 +1,4 @@
--- Each call of a worker is granted, or changes nothing: the record goes on.
+-- Each call of a worker is granted or changes nothing; either way the record goes on.
 use Rattle.std.proofs.Common.{◌≡◌, ℕ, [], ◌∷◌, ◌++◌, Result, Ok, Err, refl, ap}
 use Rattle.std.specs.Prelude.{IfOk, OnErr, Some}
 use Rattle.std.specs.Result.{result_ok}
@@ -36,7 +36,7 @@ pub claim_goes : {J : Type 0} (reply : J → Reply) (b n : Seen) (w v : ℕ) (r 
 claim_goes reply b n w v (Ok job) gives err = takes_one b n (Claim w v) (claim_takes reply b n w v (Ok job) gives refl)
 claim_goes reply b n w v (Err e) gives err = stays b n err
 
--- what is granted, with the board and the reply that come of it
+-- if a recorded call returns a board and a reply, it was granted with the state of that board and that reply
 granted : {C F : Type 0} (b n : Seen) (e : Event) (fault : C → F) (o : Result (State × Reply) C) (r : Reply) → recorded b e fault o ≡ Ok (n, r)
     → result_ok o ≡ Some (n.state, r)
 granted {C} {F} b n e fault (Err cause) r given = absurd cc
@@ -86,7 +86,7 @@ pub cancel_goes : (b n : Seen) (w : ℕ) (r : Result Cancelled CancelFault) → 
 cancel_goes b n w (Ok s) gives err = takes_one b n (Cancel w) (cancel_takes b n w (Ok s) gives refl)
 cancel_goes b n w (Err e) gives err = stays b n err
 
--- a landing
+-- after a landing the board goes on
 land_leads : (b n : Seen) (w : ℕ) (o : OutcomeValue) (reply : Reply) → Lands b w o n reply → GoesOn b n
 land_leads b n w o reply lands = record {
   build = ap (λ (x : Seen). x.build) lands.recorded;

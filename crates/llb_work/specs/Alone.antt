@@ -1,4 +1,4 @@
--- What a driver does to a board, and how it leaves a build where it goes on to the end.
+-- What a driver does to a board, and how it leaves a build that it runs to the end.
 use Rattle.std.specs.Prelude.{◌≡◌, ℕ, ◌<◌, true, List, [], ◌∷◌, ◌++◌, length, drop, slice_index, Option, Some, None, ⊤}
 use Rattle.llb_model.specs.Program.{Build}
 use Rattle.llb_model.specs.State.{State, Opening, opening}
@@ -8,7 +8,7 @@ use Rattle.llb_model.specs.Order.{at_first, order, claims_in}
 use Rattle.llb_model.specs.Laws.{AreChosen}
 use Rattle.llb_state.specs.Board.{Seen}
 
--- one event that the table grants, at the end of the record
+-- one event that the table grants is added at the end of the record
 pub record Takes (old : Seen) (e : Event) (new : Seen) : Type 0 where
   pub build : new.build ≡ old.build
   pub opening : new.opening ≡ old.opening
@@ -17,7 +17,7 @@ pub record Takes (old : Seen) (e : Event) (new : Seen) : Type 0 where
   pub given : table old.build old.state e ≡ Some (new.state, reply)
   pub events : new.events ≡ old.events ++ e ∷ []
 
--- events that are chosen and granted one after another, at the end of the record
+-- events that are chosen and granted one after another are added at the end of the record
 pub record Goes (old new : Seen) : Type 0 where
   pub build : new.build ≡ old.build
   pub opening : new.opening ≡ old.opening
@@ -28,8 +28,8 @@ pub record Goes (old new : Seen) : Type 0 where
   pub chosen : AreChosen old.build old.state more
   pub events : new.events ≡ old.events ++ more
 
--- The chosen events lead from an opening to a state in which all is done. Each vertex and each instance of a cache stands there as if each
--- claimed vertex had been run whole at its claim, one after the other.
+-- The chosen events lead from an opening to a complete state. There each vertex and each instance of a cache is as if each claimed vertex
+-- had been run whole at its claim, one after the other.
 pub record EndsInClaimOrder (b : Build) (o : Opening) (es : List Event) (s : State) : Type 0 where
   pub replies : List Reply
   pub leads : run b (opening b o) es ≡ Some (s, replies)
@@ -38,11 +38,11 @@ pub record EndsInClaimOrder (b : Build) (o : Opening) (es : List Event) (s : Sta
   pub statuses : s.statuses ≡ (order b (at_first b o.store) (claims_in replies)).statuses
   pub store : s.store ≡ (order b (at_first b o.store) (claims_in replies)).store
 
--- of each worker, how many of the events that were added are its own
+-- for each worker, how many of the events that were added are its own
 abbrev pub MadeBy : Seen → Seen → List ℕ → Type 0
 MadeBy old new made = (w : ℕ) → w < 64 → slice_index made w ≡ events_by w (drop (length old.events) new.events)
 
--- an event that may end a run since it is out of memory: a settle and a cancel take none
+-- an event that may end a run because memory is refused: a settle and a cancel take no memory
 abbrev pub TakesMemory : Option Event → Type 0
 TakesMemory (Some (Claim w v)) = ⊤
 TakesMemory (Some (Step w)) = ⊤
@@ -50,7 +50,7 @@ TakesMemory (Some (Settle w)) = ⊥
 TakesMemory (Some (Cancel w)) = ⊥
 TakesMemory None = ⊥
 
--- why an event was not done, where it takes no memory: it is not granted
+-- why an event that takes no memory was not done: it is not granted
 abbrev pub IsLeft : Seen → Event → Type 0
 IsLeft b (Claim w v) = ⊤
 IsLeft b (Step w) = ⊤

@@ -1,4 +1,4 @@
--- What workers round one lock do to a board.
+-- What workers that share one lock do to a board.
 use Rattle.std.specs.Prelude.{◌≡◌, ℕ, ◌+◌, ◌++◌, List, [], length, take, drop, sum, Some, option_map}
 use Rattle.llb_model.specs.Program.{Build}
 use Rattle.llb_model.specs.State.{State}
@@ -6,7 +6,7 @@ use Rattle.llb_model.specs.Table.{Event, Reply}
 use Rattle.llb_model.specs.Run.{run}
 use Rattle.llb_state.specs.Board.{Seen, opened}
 
--- events that are granted one after another, at the end of the record
+-- events that are granted one after another are added at the end of the record
 pub record GoesOn (old new : Seen) : Type 0 where
   pub build : new.build ≡ old.build
   pub opening : new.opening ≡ old.opening
@@ -19,7 +19,7 @@ pub record GoesOn (old new : Seen) : Type 0 where
 abbrev pub state_in : State × List Reply → State
 state_in a = a.0
 
--- the same by equations alone: the older record is a prefix of the record, and what is after it leads to the state
+-- the same, stated by equations only: the older record is a prefix of the record, and what is after it leads to the state
 pub record IsAfter (start found : Seen) : Type 0 where
   pub build : found.build ≡ start.build
   pub opening : found.opening ≡ start.opening
@@ -27,11 +27,11 @@ pub record IsAfter (start found : Seen) : Type 0 where
   pub front : take (length start.events) found.events ≡ start.events
   pub leads : option_map state_in (run start.build start.state (drop (length start.events) found.events)) ≡ Some found.state
 
--- the sum of what was made is the number of events added
+-- the sum of the workers' counts is the number of events that were added
 abbrev pub Counts : List ℕ → Seen → Seen → Type 0
 Counts made old new = sum made + length old.events ≡ length new.events
 
--- a board over no graph, on which nothing has happened: it stands where no board is given
+-- a build without vertices; the board opened on it, on which nothing has happened, is used where no board is given
 abbrev pub no_build : Build
 no_build = record { graph = record { vertices = []; result = record { vertex = 0; index = 0 } }; locals = [] }
 

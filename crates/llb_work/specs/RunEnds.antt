@@ -1,4 +1,4 @@
--- What a run gives back.
+-- What a run returns.
 use Rattle.std.specs.Prelude.{ℕ, ◌<◌, ◌&&◌, nat_lt, List, length, Bool, true, false, Option, Some, None, IsTrue}
 use Rattle.llb_state.specs.Board.{Seen}
 use Rattle.llb_work.specs.Crew.{GoesOn, Counts}
@@ -15,7 +15,7 @@ is_foreign (Some Stopped) = false
 is_foreign (Some Thread) = false
 is_foreign (Some (Foreign b)) = true
 
--- the board that comes back goes on from the given one, and what was made adds up
+-- the board that is returned goes on from the given one, and the workers' counts add up to the number of events that were added
 abbrev pub Leads : Seen → List ℕ → Seen → Type 0
 Leads given made found = GoesOn given found × Counts made given found
 
@@ -27,7 +27,7 @@ StopsSomewhere may_stop b = (w : ℕ) × (v : ℕ) × (w < length b.state.worker
 abbrev pub is_of : Seen → ℕ → ℕ → Bool
 is_of b w v = nat_lt w (length b.state.workers) && nat_lt v (length b.build.graph.vertices)
 
--- where a stop is noted, the gate may stop there, and the worker and the vertex are of the board that was given
+-- if a stop is noted, the gate may stop there, and the worker and the vertex are of the board that was given
 abbrev pub may_be : (ℕ → ℕ → Bool) → Seen → Option Noted → Bool
 may_be may_stop b None = true
 may_be may_stop b (Some noted.Memory) = true

@@ -1,4 +1,4 @@
--- What a worker is given to do next, and what it comes back with.
+-- What a worker is to do next, and what it brings to the lock.
 use Rattle.std.specs.Prelude.{◌≡◌, ℕ, true, Some}
 use Rattle.llb_model.specs.Table.{Job}
 use Rattle.llb_model.specs.Outcome.{is_plain}
@@ -10,14 +10,14 @@ use Rattle.llb_work.specs.declared.desk.Turn.TheVariants.{Work, Pass, Again, Nex
 use Rattle.llb_work.specs.declared.desk.Brought.{Brought}
 use Rattle.llb_work.specs.declared.desk.Brought.TheVariants.{Nothing, Number, Outcome}
 
--- the job of a worker on a vertex, which are of the board; it is the plain job where no cache mount is at or before the vertex
+-- the job of a worker of the board on a vertex of the board; it is the plain job if no cache mount is at or before the vertex
 pub record IsClaimed (b : Seen) (w v : ℕ) (job : Job) : Type 0 where
   pub worker : job.worker ≡ w
   pub vertex : job.vertex ≡ v
   pub has : is_of b w v ≡ true
   pub plain : is_plain b.build v ≡ true → plain_job b.build w v ≡ Some job
 
--- what a worker is to work on, or to pass the gate for, is a vertex of the board, and the worker one of its workers
+-- what a worker is to work on, or to pass the gate for, is a vertex of the board, and the worker is one of the board's workers
 abbrev pub IsHere : Seen → ℕ → Turn → Type 0
 IsHere b w (Work job) = IsClaimed b w job.vertex job
 IsHere b w (Pass v) = is_of b w v ≡ true
@@ -25,7 +25,7 @@ IsHere b w Again = Unit {0}
 IsHere b w Next = Unit {0}
 IsHere b w End = Unit {0}
 
--- an outcome that a worker comes back with is that of a job that it has claimed
+-- an outcome that a worker brings is that of a job that it has claimed
 abbrev pub IsBrought : Seen → ℕ → Brought → Type 0
 IsBrought b w Nothing = Unit {0}
 IsBrought b w (Number v) = Unit {0}

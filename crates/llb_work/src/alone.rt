@@ -1,4 +1,4 @@
-//! One driver: the chosen events, one after another, on the caller's own thread, until the run is complete.
+//! A single driver: it does the chosen events one after another, on the caller's own thread, until the run is complete.
 
 ghost use Rattle.std.specs.Prelude.{◌≡◌, ◌<◌, ◌==◌, ◌↔◌, ◌⊎◌, ℕ, Some, None, [], length, slice_get, slice_index, IfSome, true};
 ghost use Rattle.std.specs.Bool.{OnTrue, OnFalse};
@@ -47,7 +47,7 @@ fn cancels(board: &mut Board, w: u32) -> bool
     board.cancel(w).is_ok()
 }
 
-/// Does one event; where that is refused, the board is as before.
+/// Does one event and returns whether it was granted; if it was refused, the board is unchanged.
 pub(crate) fn do_event(board: &mut Board, event: Event) -> bool
     ensures taken { OnTrue result (Takes board.old (event_of event) board.new) }
     ensures kept { OnFalse result (board.new ≡ board.old) }
@@ -61,7 +61,7 @@ pub(crate) fn do_event(board: &mut Board, event: Event) -> bool
     }
 }
 
-// Does the chosen events until none is left, or one is refused, and tells whether none is left.
+// Does the chosen events until none is left or one is refused. Returns whether none is left.
 fn go_alone(board: &mut Board) -> bool
     ensures goes { Goes board.old board.new }
     ensures ends { OnTrue result (chosen board.new.build board.new.state ≡ None) }
@@ -79,7 +79,7 @@ fn go_alone(board: &mut Board) -> bool
     true
 }
 
-/// The worker whose event it is.
+/// Returns the worker whose event it is.
 pub(crate) fn worker_of(event: Event) -> u32
     ensures { result ≡ worker_of (event_of event) }
 {
@@ -88,7 +88,7 @@ pub(crate) fn worker_of(event: Event) -> u32
     }
 }
 
-// How many of the events are each worker's.
+// Returns how many of the events are each worker's.
 fn made_by(events: &[Event]) -> [u64; 64]
     ensures { (w : ℕ) → w < 64 → slice_index result w ≡ count_by (λ e. worker_of (event_of e) == w) events.now }
 {
@@ -102,9 +102,9 @@ fn made_by(events: &[Event]) -> [u64; 64]
     made
 }
 
-/// Does the chosen events until the board is complete; 151 where memory is refused to a claim or a step. A board that was just
-/// opened ends as the order of its claims tells, shared caches included; and where the graph has no caches, every vertex
-/// of a complete board stands as its plain outcome.
+/// Does the chosen events until the board is complete. Ends with fault 151 `Memory` if memory is refused to a claim or a step. A board that
+/// was just opened ends, when it is complete, as if each claimed vertex had been run whole at its claim, one after the other, shared caches
+/// included. If the graph has no caches, every vertex of a complete board has its plain outcome.
 pub fn run_alone(board: Board) -> RunEnd
     ensures goes { Goes board result.board }
     ensures fault { result.fault ≡ None ⊎ (result.fault ≡ Some RunFault.Memory) }

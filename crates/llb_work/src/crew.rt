@@ -1,4 +1,4 @@
-//! One thread for each worker round one lock, in a scope of their own.
+//! Runs one thread for each worker, in a thread scope of their own; the workers share one lock.
 
 ghost use Rattle.std.specs.Prelude.{◌≡◌, ◌≤◌, ℕ, sum, length, vec_len, vec_capacity, true, Some, IsTrue};
 ghost use Rattle.llb_ready.specs.Passes.{IsReadyPassOf, IsWhole};
@@ -21,7 +21,7 @@ use std::sync::{Mutex, Wait};
 use std::thread;
 use std::thread::Threads;
 
-// All workers, in a scope of their own.
+// Runs all workers in a thread scope of their own.
 fn in_scope<'x, S: Gated + Send + Sync, G: Gate + Sync, R: Threads + Wait + Sync>(
     rt: &'x R,
     alloc: Global,
@@ -60,8 +60,8 @@ fn in_scope<'x, S: Gated + Send + Sync, G: Gate + Sync, R: Threads + Wait + Sync
     )
 }
 
-/// What the threads leave: the board, the board that they began from as the lock kept it, how many events each worker made,
-/// and the fault that was noted first.
+/// What is left when the threads have ended: the board, the board that they began from as it was kept under the lock, how many events each
+/// worker made, and the fault that was noted first.
 #[derive(Drop)]
 pub(crate) struct Left {
     pub board: Board,
@@ -70,8 +70,8 @@ pub(crate) struct Left {
     pub noted: Option<Noted>,
 }
 
-/// Runs a board beside a copy of it, one thread for each of n workers. Where memory is refused for what they need, that is noted and
-/// nothing is done.
+/// Runs a board, with a copy of it kept beside it, in one thread for each of n workers. If memory is refused for what the workers need,
+/// that is noted and nothing is done.
 pub(crate) fn run_crew<S: Gated + Send + Sync, G: Gate + Sync, R: Threads + Wait + Sync>(
     rt: &R,
     alloc: Global,
@@ -129,7 +129,7 @@ pub(crate) fn run_crew<S: Gated + Send + Sync, G: Gate + Sync, R: Threads + Wait
     }
 }
 
-// Nothing was done, since memory was refused.
+// Returns the board as it was given, with `Memory` noted: nothing was done.
 fn undone(board: Board, start: Board) -> Left
     requires same { start ≡ board }
     ensures start { result.start ≡ board }

@@ -1,6 +1,6 @@
-//! What lies under the lock: the board, the board that the run began from, the book of what was made, and the fault that was noted
-//! first; which vertices have no cache mount at or before them, and the numbers that wait for a key. Its type keeps that the record went
-//! on from the board that was given by granted events, each of which is counted.
+//! What is under the lock: the board, the board that the run began from, the book of the events that were made, and the fault that was
+//! noted first; which vertices have no cache mount at or before them; and the vertex numbers that wait for a key. An invariant of its type
+//! says that the record goes on from the given board by granted events, each of which is counted.
 
 ghost use Rattle.std.specs.Prelude.{◌≡◌, ◌+◌, ℕ, length, true, Some, IfOk};
 ghost use Rattle.std.specs.Bool.{OnTrue};
@@ -40,32 +40,32 @@ pub(crate) struct Desk<S: Gated> {
     pub ghost stops: { may_be S.may_stop S.given noted ≡ true },
 }
 
-/// What a worker comes to the lock with.
+/// What a worker brings to the lock.
 #[derive(Drop)]
 pub(crate) enum Brought {
     Nothing,
     /// The number of a vertex, from the queue.
     Number(u32),
-    /// What a job has come to.
+    /// The outcome of a job.
     Outcome(Outcome),
 }
 
 /// What a worker is to do next.
 #[derive(Drop)]
 pub(crate) enum Turn {
-    /// To work on a job away from the board.
+    /// Work on this job away from the board.
     Work(Job),
-    /// To pass the gate for this vertex, which is then worked on under the lock.
+    /// Pass the gate for this vertex, which is then worked on under the lock.
     Pass(u32),
-    /// To come again.
+    /// Come back to the lock.
     Again,
-    /// To come again with a number, once the queue has one: it runs nothing.
+    /// Come back with a number as soon as the queue has one: the worker runs nothing.
     Next,
-    /// To end, as all others do: nothing is claimed any more.
+    /// End, as all others do: nothing is claimed any more.
     End,
 }
 
-/// A desk on which nothing was done.
+/// Makes a desk on which nothing was done yet.
 pub(crate) fn make_desk<S: Gated>(
     board: Board,
     start: Board,
@@ -89,7 +89,7 @@ pub(crate) fn make_desk<S: Gated>(
 }
 
 impl<S: Gated> Desk<S> {
-    /// Notes why the run ends, unless something is noted.
+    /// Notes why the run ends, unless something is noted already.
     pub(crate) fn note(&mut self, noted: Noted)
         requires { may_be S.may_stop S.given (Some noted) ≡ true }
     {
@@ -98,7 +98,7 @@ impl<S: Gated> Desk<S> {
         }
     }
 
-    /// A worker takes a vertex, which counts for it.
+    /// Claims a vertex for a worker, and counts the event for the worker.
     fn claim(&mut self, w: u32, v: u32, mine: &mut Tally<S>) -> Result<Job, ClaimFault>
         ensures { IfOk result (IsClaimed S.given w v) }
     {
@@ -116,7 +116,7 @@ impl<S: Gated> Desk<S> {
         claimed
     }
 
-    // What a worker has worked out is done on the board, which counts for it.
+    // Lands on the board what a worker has worked out, and counts the events for the worker.
     fn land(&mut self, w: u32, outcome: Outcome, mine: &mut Tally<S>) -> Result<Settled, LandFault>
         requires { IsClaimed S.given w outcome.job.vertex outcome.job }
     {
@@ -135,8 +135,8 @@ impl<S: Gated> Desk<S> {
         landed
     }
 
-    // Whether a job is known to be what its worker runs: no cache mount is at or before its vertex, of which the worker has done no
-    // micro-step.
+    // Returns whether a job is known to be what its worker runs: no cache mount is at or before its vertex, and the worker has done no
+    // micro-step of it.
     fn is_known(&self, w: u32, job: &Job) -> bool
         requires { IsClaimed S.given w job.now.vertex job.now }
         ensures { OnTrue result (IsKnown self.now.board w job.now) }
@@ -147,7 +147,7 @@ impl<S: Gated> Desk<S> {
         }
     }
 
-    // The next micro-step of what a worker runs, which counts for it.
+    // Does the next micro-step of what a worker runs, and counts the event for the worker.
     fn step(&mut self, w: u32, mine: &mut Tally<S>) -> Result<Stepped, StepFault> {
         let Desk {
             board,
@@ -163,7 +163,7 @@ impl<S: Gated> Desk<S> {
         stepped
     }
 
-    // The end of what a worker runs, which counts for it.
+    // Settles what a worker runs, and counts the event for the worker.
     fn settle(&mut self, w: u32, mine: &mut Tally<S>) -> Result<Settled, SettleFault> {
         let Desk {
             board,
@@ -179,7 +179,7 @@ impl<S: Gated> Desk<S> {
         settled
     }
 
-    // What a worker runs is given up, which counts for it.
+    // Cancels what a worker runs, and counts the event for the worker.
     fn cancel(&mut self, w: u32, mine: &mut Tally<S>) {
         let Desk {
             board,
@@ -194,8 +194,8 @@ impl<S: Gated> Desk<S> {
         count(calls, mine, before, board.events().len());
     }
 
-    /// A worker gives up what it runs and notes why the run ends, in one hold: another worker never sees a vertex that is ready, in
-    /// no queue, and nothing noted.
+    /// Cancels what a worker runs and notes why the run ends, both in one hold of the lock: another worker never sees a ready vertex that
+    /// is in no queue while nothing is noted.
     pub(crate) fn give_up(&mut self, w: u32, noted: Noted, mine: &mut Tally<S>)
         requires { may_be S.may_stop S.given (Some noted) ≡ true }
     {
@@ -203,8 +203,9 @@ impl<S: Gated> Desk<S> {
         self.note(noted);
     }
 
-    /// What a worker does in one hold, by what it comes with. `news` gets the numbers that it is then to put into the queue: of the
-    /// vertices that a vertex which it left has made ready, the greatest first, and of those that waited for its keys.
+    /// Does what a worker has to do in one hold of the lock, by what it brings, and returns what it is to do next. Adds to `news` the
+    /// numbers that the worker then has to put into the queue: those of the vertices that became ready when it left a vertex, the greatest
+    /// first, and those of the vertices that waited for its keys.
     pub(crate) fn turn(
         &mut self,
         w: u32,
@@ -226,7 +227,7 @@ impl<S: Gated> Desk<S> {
         }
     }
 
-    // One event of what a worker runs. Where it runs nothing, it ends with the run.
+    // Does one event of what a worker runs. A worker that runs nothing ends if the run is over.
     fn go_on(&mut self, w: u32, mine: &mut Tally<S>, news: &mut Vec<u32>) -> Turn
         ensures { IsHere S.given w result }
     {
@@ -249,7 +250,7 @@ impl<S: Gated> Desk<S> {
         }
     }
 
-    // The claim of a vertex, while the run goes on. Its number is dropped where the vertex is not ready: another worker has it.
+    // Claims a vertex, unless the run is over. If the vertex is not ready, its number is dropped: another worker has it.
     fn take(&mut self, w: u32, v: u32, mine: &mut Tally<S>, news: &mut Vec<u32>) -> Turn
         ensures { IsHere S.given w result }
     {
@@ -268,7 +269,7 @@ impl<S: Gated> Desk<S> {
         }
     }
 
-    // A worker has left a vertex, or what it came with was refused.
+    // Returns what a worker is to do after it has left a vertex, or after its landing or settle was refused.
     fn left(&mut self, settled: Option<Settled>, news: &mut Vec<u32>) -> Turn
         ensures { (w : ℕ) → IsHere S.given w result }
     {
@@ -286,7 +287,7 @@ impl<S: Gated> Desk<S> {
         }
     }
 
-    // A worker is about to leave what it runs: of those that wait for one of its keys, one is put again.
+    // Adds to `news`, for each key of a worker that is about to leave what it runs, one of the numbers that wait for the key.
     fn release(&mut self, w: u32, news: &mut Vec<u32>) {
         let Desk {
             board,
@@ -307,7 +308,7 @@ impl<S: Gated> Desk<S> {
         }
     }
 
-    // A number waits for a key that another worker has. Where it had waited for another one, the next number of that key is put.
+    // Lets a number wait for a key that another worker has. If it had waited for another key, adds the next number of that key to `news`.
     fn wait_for(&mut self, key: Key, v: u32, news: &mut Vec<u32>) -> Turn
         ensures { (w : ℕ) → IsHere S.given w result }
     {
@@ -323,12 +324,12 @@ impl<S: Gated> Desk<S> {
         Turn::Next
     }
 
-    // Whether no vertex is claimed any more.
+    // Returns whether no vertex is claimed any more.
     fn is_over(&self) -> bool {
         self.noted.is_some() || self.board.is_complete()
     }
 
-    // Memory was refused to a worker that runs nothing.
+    // Notes `Memory`, which was refused to a worker that runs nothing, and ends the worker.
     fn stop(&mut self) -> Turn
         ensures { (w : ℕ) → IsHere S.given w result }
     {
@@ -336,7 +337,7 @@ impl<S: Gated> Desk<S> {
         Turn::End
     }
 
-    // What is done of a vertex that was taken: under the lock where it shows a shared cache, else away from it.
+    // Returns how a claimed vertex is worked on: under the lock if it shows a shared cache, otherwise away from it.
     fn begun(&self, w: u32, job: Job) -> Turn
         requires { IsClaimed S.given w job.vertex job }
         ensures { IsHere S.given w result }
@@ -348,7 +349,7 @@ impl<S: Gated> Desk<S> {
     }
 }
 
-// Notes the vertices with an edge to one that are ready, the greatest first. False where memory is refused.
+// Adds to `news` the ready vertices that have an edge to a vertex, the greatest first. Returns false if memory is refused.
 fn note_ready(board: &Board, v: u32, news: &mut Vec<u32>) -> bool {
     for u in board.users(v).iter().rev() {
         if matches!(board.status(*u), Some(Status::Ready)) && news.push(*u).is_err() {

@@ -1,4 +1,4 @@
-//! What a run gives back.
+//! What a run returns.
 
 ghost use Rattle.std.specs.Prelude.{Some};
 ghost use Rattle.llb_work.specs.Faults.{run_text};
@@ -15,7 +15,7 @@ pub enum RunFault {
     Stopped,
     /// 153: a thread could not be started.
     Thread,
-    /// 154: the board that the run began from, as it was kept under the lock, is another one than was given. No run ends so.
+    /// 154: the board that the run began from, as it was kept under the lock, is not the one that was given. No run ends with this fault.
     Foreign(Board),
 }
 
@@ -40,8 +40,7 @@ impl fmt::Debug for RunFault {
     }
 }
 
-/// How a run ended: the board, the number of events that each worker made, and the fault, none only where the board is
-/// complete.
+/// How a run ended: the board, the number of events that each worker made, and the fault, which is `None` only if the board is complete.
 #[derive(Drop)]
 pub struct RunEnd {
     pub board: Board,

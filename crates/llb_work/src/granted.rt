@@ -12,7 +12,7 @@ use llb_board::{
     StepFault, Stepped,
 };
 
-/// A worker takes a vertex. 131 to 135, 141.
+/// Claims a vertex for a worker. Fails with 131 to 135 or 141.
 pub(crate) fn claim(board: &mut Board, w: u32, v: u32) -> Result<Job, ClaimFault>
     ensures claimed { IfOk result (IsClaimed board.old w v) }
     ensures goes { GoesOn board.old board.new }
@@ -22,7 +22,7 @@ pub(crate) fn claim(board: &mut Board, w: u32, v: u32) -> Result<Job, ClaimFault
     board.claim(w, v)
 }
 
-/// The next micro-step of what a worker runs. 131, 136, 137, 141.
+/// Does the next micro-step of what a worker runs. Fails with 131, 136, 137 or 141.
 pub(crate) fn step(board: &mut Board, w: u32) -> Result<Stepped, StepFault>
     ensures goes { GoesOn board.old board.new }
     ensures longer { length board.old.events ≤ length board.new.events }
@@ -30,7 +30,7 @@ pub(crate) fn step(board: &mut Board, w: u32) -> Result<Stepped, StepFault>
     board.step(w)
 }
 
-/// A worker leaves what it runs. 131, 136, 138.
+/// Settles what a worker runs. Fails with 131, 136 or 138.
 pub(crate) fn settle(board: &mut Board, w: u32) -> Result<Settled, SettleFault>
     ensures goes { GoesOn board.old board.new }
     ensures longer { length board.old.events ≤ length board.new.events }
@@ -38,7 +38,7 @@ pub(crate) fn settle(board: &mut Board, w: u32) -> Result<Settled, SettleFault>
     board.settle(w)
 }
 
-/// A worker gives up what it runs. 131, 136.
+/// Cancels what a worker runs. Fails with 131 or 136.
 pub(crate) fn cancel(board: &mut Board, w: u32) -> Result<Cancelled, CancelFault>
     ensures goes { GoesOn board.old board.new }
     ensures longer { length board.old.events ≤ length board.new.events }
@@ -46,8 +46,8 @@ pub(crate) fn cancel(board: &mut Board, w: u32) -> Result<Cancelled, CancelFault
     board.cancel(w)
 }
 
-/// What a worker has worked out away from the board is done on it, up to the settle. Nothing is compared where the job is known to be what
-/// the worker runs.
+/// Lands on the board what a worker has worked out away from it, up to and including the settle. If the job is known to be what the worker
+/// runs, nothing is compared.
 pub(crate) fn land(
     board: &mut Board,
     w: u32,

@@ -1,4 +1,4 @@
-//! The hand-out of passes, shares of the ledger and lists to any number of workers, and their return.
+//! Hands out passes, shares of the ledger and lists to any number of workers, at most 64, and takes them back.
 
 ghost use Rattle.std.specs.Prelude.{◌≡◌, ◌≤◌, ◌^◌, ℕ, sum, vec_len, vec_capacity, true, IsTrue};
 ghost use Rattle.llb_ready.specs.Passes.{hand_of, IsReadyPassOf, IsWhole};
@@ -18,7 +18,7 @@ use std::sync::ledger::{Ledger, Share};
 use std::sync::{Mutex, Wait};
 use std::thread::{Scope, Threads};
 
-// Starts a thread for a worker. Where that can't be done, it is noted, and the worker's part is done here.
+// Starts a thread for a worker. If that fails, notes it and does the worker's part on this thread.
 fn start<'s, E, S: Gated + Send + Sync, G: Gate + Sync, R: Threads + Wait + Sync>(
     rt: &'s R,
     alloc: Global,
@@ -53,7 +53,7 @@ fn start<'s, E, S: Gated + Send + Sync, G: Gate + Sync, R: Threads + Wait + Sync
     }
 }
 
-/// Starts a thread for each worker, with a pass cut from the whole one, a share of the ledger and a list, and joins them all.
+/// Starts a thread for each worker, with a pass cut from the whole one, a share of the ledger and a list. Joins all threads.
 pub(crate) fn all_serve<'s, E, S: Gated + Send + Sync, G: Gate + Sync, R: Threads + Wait + Sync>(
     rt: &'s R,
     alloc: Global,
@@ -90,7 +90,7 @@ pub(crate) fn all_serve<'s, E, S: Gated + Send + Sync, G: Gate + Sync, R: Thread
     gathered(rt, queue, n, all, rest, posts)
 }
 
-// Joins them in the workers' order.
+// Joins the workers in their order.
 fn gathered<S: Ledger, R: Threads>(
     rt: &R,
     queue: &ReadyQueue,

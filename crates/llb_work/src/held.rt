@@ -1,12 +1,13 @@
-//! Numbers of vertices whose claim was refused since another worker has a locked key, by that key. They are put again one by one: one
-//! when the vertex with the key is left, and the next when that one is left, or is refused for another key. So a number is not claimed
-//! again and again. It knows nothing of the board.
+//! The numbers of vertices whose claim was refused because another worker has a locked key, by that key. They are put into the queue again
+//! one by one: the first when the vertex with the key is left, and each next one when the vertex of the one before is left or its claim is
+//! refused for another key. So a number is not claimed again and again. Nothing here knows about the board.
 
 use llb_cache::Key;
 use std::alloc::{AllocError, Global};
 use std::collections::VecDeque;
 
-// The numbers that wait for one key, first come first, and the one that was put again and was not claimed since.
+// The numbers that wait for one key, in the order in which they came, and the one that was put into the queue again and has not been
+// claimed since.
 #[derive(Drop)]
 struct Row {
     key: Key,
@@ -15,7 +16,7 @@ struct Row {
 }
 
 impl Row {
-    // The number that is to be put again, unless one was already.
+    // Takes the next number that is to be put into the queue again; `None` if one was put again already, or none waits.
     fn next(&mut self) -> Option<u32> {
         if self.put.is_some() {
             return None;
@@ -29,14 +30,14 @@ impl Row {
     }
 }
 
-/// The numbers that wait, by key: few rows, since for each a worker has the key, or a number was put again.
+/// The numbers that wait, by key. There are few rows, because for each row a worker has the key, or a number was put into the queue again.
 #[derive(Drop)]
 pub(crate) struct Held {
     rows: Vec<Row>,
 }
 
 impl Held {
-    /// No number waits.
+    /// Makes a table in which no number waits.
     pub(crate) fn new(alloc: Global) -> Held {
         Held {
             rows: Vec::new(alloc),
@@ -48,7 +49,7 @@ impl Held {
         self.rows.get_mut(at)
     }
 
-    /// A number waits for a key. Fails where memory is refused.
+    /// Adds a number that waits for a key. Fails if memory is refused.
     pub(crate) fn push(&mut self, key: Key, v: u32) -> Result<(), AllocError> {
         if let Some(row) = self.row_of(&key) {
             row.numbers.push_back(v)?;
@@ -61,13 +62,13 @@ impl Held {
         Ok(())
     }
 
-    /// A number that waits for a key which is free soon, unless one was put again already.
+    /// Takes a number that waits for a key which will be free soon; `None` if one was put into the queue again already, or none waits.
     pub(crate) fn next_of(&mut self, key: &Key) -> Option<u32> {
         self.row_of(key)?.next()
     }
 
-    /// A number was claimed, or refused for a key. Returns the next number of the row that it came from, where its key may be free: where
-    /// the number was refused for another one.
+    /// Notes that a number was claimed, or refused for a key. Returns the next number of the row that it came from if it was refused for
+    /// another key, because the key of that row may then be free.
     pub(crate) fn answered(&mut self, v: u32, refused: Option<&Key>) -> Option<u32> {
         let at = self.rows.iter().position(|row| row.put == Some(v))?;
         let row = self.rows.get_mut(at)?;

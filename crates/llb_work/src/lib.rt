@@ -1,5 +1,5 @@
-//! Runs of a board to its end: by one driver on the caller's own thread, and by threads round one lock. It changes the board by the board's
-//! calls only, and passes the numbers of ready vertices through a queue of `llb_ready`.
+//! Runs a board to its end: by one driver on the caller's own thread, or by threads that share one lock. The board is changed only by its
+//! own calls, and the numbers of ready vertices go through a queue of `llb_ready`.
 #![tactic(auto)]
 
 mod alone;

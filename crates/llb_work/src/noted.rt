@@ -1,4 +1,4 @@
-//! What a worker notes under the lock, and what it has made.
+//! What a worker notes under the lock, and the count of the events that it has made.
 
 ghost use Rattle.std.specs.Prelude.{◌≡◌, ◌+◌, ◌≤◌, ℕ, Bool, true};
 ghost use Rattle.llb_state.specs.Board.{Seen};
@@ -12,7 +12,7 @@ use std::sync::ledger::{Book, Ledger, Share};
 pub(crate) enum Noted {
     /// Memory was refused.
     Memory,
-    /// The gate stopped that worker at that vertex.
+    /// The gate stopped this worker at this vertex.
     Stopped(u32, u32),
     /// A thread could not be started.
     Thread,
@@ -31,7 +31,7 @@ impl Gated for Brand {
     ghost given = { nothing };
 }
 
-/// What a worker has made, with its share of the ledger.
+/// How many events a worker has made, with its share of the ledger.
 #[derive(Drop)]
 pub(crate) struct Tally<S: Ledger> {
     pub made: u64,
@@ -40,7 +40,7 @@ pub(crate) struct Tally<S: Ledger> {
     pub ghost counted: { share.amount ≡ made },
 }
 
-/// A tally of nothing.
+/// Makes a tally of no events.
 pub(crate) fn make_tally<S: Ledger>(share: Share<S>) -> Tally<S>
     requires part { share.parts ≡ 1 }
     requires empty { share.amount ≡ 0 }
@@ -48,7 +48,7 @@ pub(crate) fn make_tally<S: Ledger>(share: Share<S>) -> Tally<S>
     Tally { made: 0, share }
 }
 
-/// Counts in the book and in a tally what a record has grown by, from one length to another.
+/// Adds to the book and to a tally the number of events by which a record has grown, from one length to another.
 pub(crate) fn count<S: Ledger>(
     calls: &mut Book<S>,
     mine: &mut Tally<S>,

@@ -1,4 +1,4 @@
-//! Which vertices have no cache mount at or before them. It is looked at once, before the threads.
+//! Finds the vertices that have no cache mount at or before them. This is done once, before the threads start.
 
 ghost use Rattle.std.specs.Prelude.{◌≡◌, false, unwrap_or, slice_get, IfSome};
 ghost use Rattle.std.specs.List.{list_all, list_any};
@@ -13,7 +13,7 @@ use llb_loader::{Edge, MountType, Vertex};
 use llb_state::is_marked;
 use std::alloc::Global;
 
-/// For each vertex by number, whether no cache mount is at or before it; none where memory is refused.
+/// Returns for each vertex, by number, whether no cache mount is at or before it; `None` if memory is refused.
 pub(crate) fn plain_marks(alloc: Global, board: &Board) -> Option<Vec<bool>>
     ensures { IfSome result (λ marks. ArePlain board.now.build marks.items) }
 {
@@ -26,7 +26,7 @@ pub(crate) fn plain_marks(alloc: Global, board: &Board) -> Option<Vec<bool>>
     Some(marks)
 }
 
-// Whether a vertex mounts no cache and its inputs lead to marked vertices.
+// Returns whether a vertex mounts no cache and all its inputs lead to marked vertices.
 fn is_plain(vertex: &Vertex, marks: &[bool]) -> bool
     ensures { result ≡ next_plain marks.now vertex.now }
 {
@@ -44,7 +44,7 @@ fn all_marked(marks: &[bool], inputs: &[Edge]) -> bool
     true
 }
 
-// Whether a vertex mounts a cache.
+// Returns whether a vertex mounts a cache.
 fn has_cache(vertex: &Vertex) -> bool
     ensures { result ≡ has_cache vertex.now }
 {

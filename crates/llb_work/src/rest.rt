@@ -1,4 +1,4 @@
-//! What is left of a run after the threads: the chosen events, on the caller's own thread.
+//! Finishes a run after its threads have ended: does the chosen events on the caller's own thread.
 
 ghost use Rattle.std.specs.Prelude.{◌≡◌, ◌≤◌, ◌<◌, ◌+◌, ◌^◌, sum, length, true, Some};
 ghost use Rattle.std.specs.Bool.{OnTrue};
@@ -10,7 +10,7 @@ use crate::alone::{do_event, worker_of};
 use llb_board::laws::chosen_until_complete;
 use llb_board::{Board, Event};
 
-// The worker of the chosen event, which is one of the board's.
+// Returns the worker of the chosen event, which is one of the board's workers.
 fn chosen_worker(board: &Board, event: Event) -> u32
     requires { Some (event_of event) ≡ chosen board.now.build board.now.state }
     ensures { result < 64 }
@@ -19,7 +19,7 @@ fn chosen_worker(board: &Board, event: Event) -> u32
     worker_of(event)
 }
 
-// One event more is a worker's.
+// Adds one to a worker's count of events.
 fn add_one(made: &mut [u64; 64], w: u32)
     requires low { w < 64 }
     requires room { sum made.old + 1 < 2 ^ 64 }
@@ -28,7 +28,8 @@ fn add_one(made: &mut [u64; 64], w: u32)
     made[w as usize] += 1;
 }
 
-/// Does the chosen events until the board is complete, each counted for its worker, and tells whether it is; else memory was refused.
+/// Does the chosen events until the board is complete, and counts each for its worker. Returns whether the board is complete; if it is not,
+/// memory was refused.
 pub(crate) fn go_to_end(board: &mut Board, made: &mut [u64; 64]) -> bool
     requires { sum made.old ≤ length board.old.events }
     ensures goes { GoesOn board.old board.new }

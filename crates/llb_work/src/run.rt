@@ -1,4 +1,4 @@
-//! A run in as many threads as the board has workers.
+//! Runs a board in as many threads as it has workers.
 
 ghost use Rattle.std.specs.Prelude.{◌≡◌, ◌≤◌, ◌+◌, ◌⊎◌, ℕ, Bool, sum, length, true, false, Some, None};
 ghost use Rattle.llb_model.specs.Run.{is_complete};
@@ -17,18 +17,19 @@ use std::sync::Wait;
 use std::sync::ledger::Blank;
 use std::thread::Threads;
 
-/// Runs a board in as many threads as it has workers, 1 to 64, round one lock and one queue of numbers. The queue is given the number of
-/// every ready vertex first, the least first. Each worker ends what it runs, then takes one number after another, claims that vertex, and
-/// works on it away from the lock; where the vertex shows a shared cache, event by event under the lock, behind the gate. When it has
-/// left a vertex, it puts the numbers of those with an edge to it that are ready now. A number whose vertex wants a locked cache that
-/// another worker has is put again when the vertex with that cache is left. A worker that finds the queue empty sleeps until more numbers
-/// are put than others are about to take, or the run is over.
+/// Runs a board in as many threads as it has workers, 1 to 64. The threads share one lock and one queue of vertex numbers. First the number
+/// of every ready vertex is put into the queue, the least first. Each worker ends what it runs, then takes one number after another, claims
+/// that vertex, and works on it away from the lock; if the vertex shows a shared cache, the worker first passes the gate and then works on
+/// it event by event under the lock. When a worker has left a vertex, it puts into the queue the numbers of the vertices with an edge to it
+/// that are now ready. A number whose vertex needs a locked cache that another worker has is put again when the vertex with that cache is
+/// left. A worker that finds the queue empty sleeps until more numbers are put than others are about to take, or until the run is over.
 ///
-/// 151 where memory is refused, 152 where the gate stops a worker, 153 where a thread cannot be started: the first that is met. Where
-/// memory is refused for the copies of the board, the queue or the workers' lists, no thread starts, and the board comes back as it was
-/// given. The worker that meets 151 or 152 cancels what it runs and notes the fault, in one hold; every other worker ends what it runs. The
-/// board that comes back goes on from the given one by granted events, and `made` adds up to their number. 154, that the board which was
-/// kept under the lock from the beginning is found to be another one, never comes.
+/// The fault is the first that is met: 151 `Memory` if memory is refused, 152 `Stopped` if the gate stops a worker, 153 `Thread` if a
+/// thread can't be started. If memory is refused for the copies of the board, the queue or the workers' lists, no thread starts, and the
+/// board is returned as it was given. The worker that meets 151 or 152 cancels what it runs and notes the fault, both in one hold of the
+/// lock; every other worker ends what it runs. The board that is returned goes on from the given one by granted events, and the sum of
+/// `made` is their number. 154 `Foreign` would say that the board which was kept under the lock from the beginning is found to be another
+/// one; it never occurs.
 pub fn run_workers<G: Gate + Sync, R: Threads + Wait + Sync>(
     rt: &R,
     alloc: Global,
@@ -76,7 +77,7 @@ fn workers(board: &Board) -> u32
     64
 }
 
-// A run that did not begin.
+// Returns the end of a run that did not begin, because memory was refused.
 fn refused(board: Board) -> RunEnd
     ensures leads { Leads board result.made result.board }
     ensures fault { result.fault ≡ Some RunFault.Memory }
@@ -88,7 +89,7 @@ fn refused(board: Board) -> RunEnd
     }
 }
 
-// How a run ends whose threads have left a board and what is noted. Where nothing is, the rest is done here.
+// Returns how a run ends whose threads have left a board and what is noted. If nothing is noted, does the rest of the run.
 fn ended(board: Board, made: [u64; 64], noted: Option<Noted>) -> RunEnd
     requires { sum made ≤ length board.events }
     ensures goes { GoesOn board result.board }
@@ -105,7 +106,7 @@ fn ended(board: Board, made: [u64; 64], noted: Option<Noted>) -> RunEnd
     RunEnd { board, made, fault }
 }
 
-// What was noted, as a fault.
+// Returns what was noted, as a fault.
 fn fault_of(noted: Noted) -> RunFault
     ensures own { is_foreign (Some result) ≡ false }
     ensures stopped { (may_stop : ℕ → ℕ → Bool) (given : Seen) → may_be may_stop given (Some noted) ≡ true → result ≡ RunFault.Stopped
@@ -118,7 +119,7 @@ fn fault_of(noted: Noted) -> RunFault
     }
 }
 
-// The rest of a run in which nothing is noted.
+// Does the rest of a run in which nothing is noted, and returns how it ends.
 fn rest(board: Board, made: [u64; 64]) -> RunEnd
     requires { sum made ≤ length board.events }
     ensures goes { GoesOn board result.board }

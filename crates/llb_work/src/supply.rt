@@ -1,5 +1,5 @@
-//! What the workers are supplied with before any thread starts: the queue with every ready vertex in it, a list for each, room for their
-//! places, and which vertices have no cache mount at or before them.
+//! What the workers are supplied with before any thread starts: the queue with every ready vertex in it, a list for each worker, room for
+//! their places, and which vertices have no cache mount at or before them.
 
 ghost use Rattle.std.specs.Prelude.{◌≡◌, ◌≤◌, ℕ, vec_len, vec_capacity, IfOk, IfSome};
 ghost use Rattle.llb_work.specs.Passes.{IsUncut};
@@ -24,7 +24,7 @@ pub(crate) struct Supply<S: Ledger> {
     pub plain: Vec<bool>,
 }
 
-/// The supply for n workers; none where memory is refused.
+/// Makes the supply for n workers; returns `None` if memory is refused.
 pub(crate) fn make_supply<S: Ledger>(alloc: Global, board: &Board, n: u32) -> Option<Supply<S>>
     ensures { IfSome result (IsSupplyFor board.now.build n) }
 {
@@ -42,7 +42,7 @@ pub(crate) fn make_supply<S: Ledger>(alloc: Global, board: &Board, n: u32) -> Op
     })
 }
 
-// How many vertices there are.
+// Returns how many vertices there are, 1 to 65536.
 fn vertices(board: &Board) -> u32
     ensures some { 1 ≤ result }
     ensures few { result ≤ 65536 }
@@ -50,7 +50,7 @@ fn vertices(board: &Board) -> u32
     board.graph().vertices().len() as u32
 }
 
-// A list for each of n workers, each with this room.
+// Makes a list for each of n workers, each with room for `room` numbers.
 fn make_lists(alloc: Global, n: u32, room: u32) -> Result<Vec<Vec<u32>>, AllocError>
     ensures { IfOk result (λ lists. vec_len lists ≡ n) }
 {
@@ -61,7 +61,7 @@ fn make_lists(alloc: Global, n: u32, room: u32) -> Result<Vec<Vec<u32>>, AllocEr
     Ok(lists)
 }
 
-/// Puts every ready vertex, the least first.
+/// Puts the number of every ready vertex into the queue, the least first.
 pub(crate) fn put_ready<R: Wait>(
     rt: &R,
     queue: &ReadyQueue,

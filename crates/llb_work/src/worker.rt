@@ -1,4 +1,5 @@
-//! What a worker does, hold by hold: under the lock, then away from it. It puts into the queue what it has noted, and takes numbers from it.
+//! What a worker does in each hold of the lock, and then away from the lock. It puts the numbers that it has noted into the queue, and
+//! takes numbers from the queue.
 
 ghost use Rattle.std.specs.Prelude.{◌≡◌, ℕ, true, IsTrue, IfSome};
 ghost use Rattle.llb_state.specs.Board.{Seen};
@@ -16,7 +17,8 @@ use std::alloc::Global;
 use std::sync::ledger::Ledger;
 use std::sync::{Mutex, Wait};
 
-/// What a worker has of its own, and gives back: what it made, its pass, and the numbers that it has still to put, the last one first.
+/// What a worker has of its own and gives back: what it made, its pass, and the numbers that it still has to put, of which the last one is
+/// put first.
 #[derive(Drop)]
 pub(crate) struct Kit<S: Ledger> {
     pub tally: Tally<S>,
@@ -24,8 +26,8 @@ pub(crate) struct Kit<S: Ledger> {
     pub news: Vec<u32>,
 }
 
-/// Ends what its worker runs, then takes one number after another from the queue and works on the vertex, until the board is complete
-/// or a fault is noted. A worker that meets a fault itself gives up what it runs, notes the fault and ends at once.
+/// Ends what its worker runs, then takes one number after another from the queue and works on the vertex, until the board is complete or a
+/// fault is noted. A worker that meets a fault itself cancels what it runs, notes the fault and ends at once.
 pub(crate) fn serve<S: Gated, G: Gate, R: Wait>(
     rt: &R,
     alloc: Global,
@@ -61,7 +63,7 @@ pub(crate) fn serve<S: Gated, G: Gate, R: Wait>(
     Kit { tally, pass, news }
 }
 
-// What a worker does away from the lock, and what it comes back with; none where it ends.
+// Does what a worker has to do away from the lock. Returns what it brings back; `None` if it ends.
 fn away<S: Gated, G: Gate, R: Wait>(
     rt: &R,
     alloc: Global,
@@ -90,7 +92,8 @@ fn away<S: Gated, G: Gate, R: Wait>(
     }
 }
 
-// Takes a number, once there is one; none where the run is over. After each try it puts those that have met a full queue again.
+// Takes a number as soon as there is one; returns `None` if the run is over. After each try, puts the numbers that have met a full queue
+// again.
 fn taken<R: Wait>(
     rt: &R,
     queue: &ReadyQueue,
@@ -119,7 +122,8 @@ fn taken<R: Wait>(
     unreachable!()
 }
 
-// Puts numbers, the last one first, until one meets a full queue. Those that are not put are kept. Returns how many were put.
+// Puts numbers into the queue, the last one first, until one meets a full queue. Those that are not put are kept. Returns how many were
+// put.
 fn put_all<R: Wait>(
     rt: &R,
     queue: &ReadyQueue,
@@ -143,7 +147,7 @@ fn put_all<R: Wait>(
     before.saturating_sub(news.len())
 }
 
-// Passes the gate, or gives the vertex up and notes that it was stopped there.
+// Passes the gate. If the gate stops the worker there, gives the vertex up and notes the stop.
 fn passed<S: Gated, G: Gate, R: Wait>(
     rt: &R,
     desk: &Mutex<Desk<S>>,
@@ -165,7 +169,7 @@ fn passed<S: Gated, G: Gate, R: Wait>(
     }
 }
 
-// What a job comes to, or gives its vertex up and notes why.
+// Works on a job and returns its outcome. If that fails, gives its vertex up and notes why.
 fn worked<S: Gated, G: Gate, R: Wait>(
     rt: &R,
     alloc: Global,

@@ -31,12 +31,10 @@ returns-then-not-holds c = λ t tree last number.
 pub returns : goal.returns
 returns c = λ t tree last number.
     let (row, stands, text, parts) = c.in-Some.ensures in
-    let place = c.place_of-place.result in (
-      row,
-      (stands, parts),
-      goes_to t tree c.args.last.now last row stands place.names.now
-          (place_names row stands c.in-Some.parts parts place.names.now c.place_of-place.ensures.names) c.is_before.result c.is_before.ensures
-          c.if-not-is_before.false c.holds.result c.parent.result.now c.parent.ensures c.holds.ensures.found c.holds.ensures.each
-          c.args.rest.now c.in-Some.later.now place text (place_names row stands c.in-Some.parts parts place.names.now c.place_of-place.ensures.names)
-          (place_kind row stands c.in-Some.parts parts place.is_dir c.place_of-place.ensures.kind) c.if-not-holds.false,
-    )
+    let place = c.place_of-place.result in
+    let (free, put, goes, more, one) = goes_to t tree c.args.last.now last row stands place.names.now
+    (place_names row stands c.in-Some.parts parts place.names.now c.place_of-place.ensures.names) c.is_before.result c.is_before.ensures
+    c.if-not-is_before.false c.holds.result c.parent.result.now c.parent.ensures c.holds.ensures.found c.holds.ensures.each
+    c.args.rest.now c.in-Some.later.now place text (place_names row stands c.in-Some.parts parts place.names.now c.place_of-place.ensures.names)
+    (place_kind row stands c.in-Some.parts parts place.is_dir c.place_of-place.ensures.kind) c.if-not-holds.false in
+    (row, (stands, parts), free, put, goes, more, one)

@@ -1,5 +1,5 @@
 -- The last digit of a number comes after those of a tenth of it.
-use Rattle.std.proofs.Common.{◌≡◌, ◌++◌, ◌+◌, ◌/◌, ◌%◌, ◌≤◌, ◌<◌, ◌^◌, ℕ, List, Result, Ok, Err, sym, ap, ◌∙◌, arith, append_assoc}
+use Rattle.std.proofs.Common.{◌≡◌, ◌++◌, ◌/◌, ◌%◌, ◌≤◌, ◌<◌, ◌^◌, ℕ, List, Result, Ok, Err, sym, ap, ◌∙◌, arith, append_assoc}
 use Rattle.std.proofs.lemmas.Fmt.{decimal_digit, decimal_step}
 use Rattle.std.specs.Result.{OnOk}
 use Rattle.std.specs.Fmt.{decimal}

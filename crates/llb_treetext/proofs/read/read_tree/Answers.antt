@@ -8,7 +8,7 @@ use Rattle.llb_treetext.proofs.read.read_tree.Goals as goal
 pub loop-last-init : goal.loop-last-init
 loop-last-init c =
     let (front, last, one) = c.in-Ok.ensures in
-    (finite.insert empty_tree [] (Dir c.in-Ok.line.parts.meta), front, last, sym one, c.root_alone-tree.ensures)
+    (finite.insert empty_tree [] (Dir c.in-Ok.line.parts.meta), front, last, sym one, c.started-tree.ensures)
 
 pub overflow_add-number : goal.overflow_add-number
 overflow_add-number c =
@@ -27,12 +27,12 @@ returns-in-Err-next_line-clause-answers c = λ other.
 pub loop-last-preserved : goal.loop-last-preserved
 loop-last-preserved c =
     let (t, front, last, number, own) = c.loop-last.invariant in
-    let (row, is, (new, put, goes, place, more)) = c.in-Ok-next_line.ensures t front.tree last (ap (λ n. n + 1) number) in (
-      new,
-      front_more c.args.bytes.now t c.loop-last.rest.now front new c.in-Ok-next_line.line.later.now goes,
+    let (row, is, free, put, goes, place, more) = c.in-Ok-next_line.ensures t front.tree last (ap (λ n. n + 1) number) in (
+      finite.insert t row.0 row.1,
+      front_more c.args.bytes.now t c.loop-last.rest.now front (finite.insert t row.0 row.1) c.in-Ok-next_line.line.later.now goes,
       place,
       ap (λ n. n + 1) number ∙ sym more,
-      c.with_line-tree.ensures t own row is new put,
+      c.with_line-tree.ensures t own row (record { tree = front.tree; of = is; free = free; put = put }),
     )
 
 pub returns-in-None-clause-last : goal.returns-in-None-clause-last

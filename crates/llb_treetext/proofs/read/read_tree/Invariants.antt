@@ -2,11 +2,12 @@
 use Rattle.std.proofs.Common.{◌≡◌, length}
 use Rattle.std.specs.FinMap as finite
 use Rattle.llb_tree.specs.Tree.{TreeMap}
-use Rattle.llb_treetext.specs.Placing.{IsFront, IsLast, IsIfAny}
+use Rattle.llb_treetext.specs.Placing.{IsFront, IsLast}
+use Rattle.llb_treetext.specs.Growing.{IsGrownIfAny}
 use Rattle.llb_treetext.proofs.read.read_tree.Given as goal
 
 abbrev pub invariant-loop-last : goal.invariant-loop-last
-invariant-loop-last l = (t : TreeMap) × IsFront l.bytes t l.rest × IsLast t l.last × (l.number ≡ finite.len t) × IsIfAny l.tree t
+invariant-loop-last l = (t : TreeMap) × IsFront l.bytes t l.rest × IsLast t l.last × (l.number ≡ finite.len t) × IsGrownIfAny l.tree t
 
 abbrev pub decreases-loop-last : goal.decreases-loop-last
 decreases-loop-last l = length l.rest

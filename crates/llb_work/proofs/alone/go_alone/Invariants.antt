@@ -1,4 +1,4 @@
--- The events so far are chosen and granted ones, and their claims ascend; fewer can come with each.
+-- The events so far are chosen and granted, and their claims ascend; after each, fewer are still to come.
 use Rattle.std.proofs.Common.{◌≡◌, []}
 use Rattle.llb_model.specs.Room.{still_to_come}
 use Rattle.llb_model.proofs.Alone.{Ascends}

@@ -1,4 +1,4 @@
--- The record goes on, and each event is counted; fewer can come with each.
+-- The record goes on, and each event is counted; after each, fewer are still to come.
 use Rattle.std.proofs.Common.{◌≡◌, ◌+◌, length}
 use Rattle.std.specs.Prelude.{sum}
 use Rattle.llb_model.specs.Room.{still_to_come}

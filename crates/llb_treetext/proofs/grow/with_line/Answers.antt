@@ -1,0 +1,16 @@
+-- The row that is read is the one of the parts, and goes to the whole tree.
+use Rattle.std.proofs.Common.{sym, ap, subst}
+use Rattle.std.specs.Option.{option_map}
+use Rattle.llb_treetext.specs.Fields.{pair_of, parts_seen}
+use Rattle.llb_treetext.specs.Growing.{IsGrown, IsGrownIfAny}
+use Rattle.llb_treetext.proofs.Apart.{row_made}
+use Rattle.llb_treetext.proofs.Growing.{row_more}
+use Rattle.llb_treetext.proofs.grow.with_line.Goals as goal
+
+pub returns-in-Ok-Some : goal.returns-in-Ok-Some
+returns-in-Ok-Some c = λ t grown row follows.
+    let own = row_made row (parts_seen c.args.parts.now) _ follows.of.0 follows.of.1 c.in-Ok-Some.ensures (pair_of c.in-Ok-Some.row)
+    (ap (option_map pair_of) c.in-Ok-Some.field-0-is) in
+    let here = subst (λ o. IsGrownIfAny o t) c.in_ok-growing.was grown in
+    let same = c.in_ok-whole-in-Ok-Some.ensures t (subst (λ g. IsGrown g t) (sym (c.is_put_below.ensures.kept c.if-is_put_below.false)) here) in
+    row_more t c.in_ok-whole-in-Ok-Some.field-0 row (pair_of c.in-Ok-Some.row) c.args.parts.now c.with_row.result same own follows c.with_row.ensures

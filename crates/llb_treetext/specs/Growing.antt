@@ -1,0 +1,41 @@
+-- The tree of the lines so far, of which a directory may be kept apart. Only the code and the proofs know of it.
+use Rattle.std.specs.Prelude.{◌≡◌, ℕ, List, ◌++◌, Option, Some, None, Ok, false}
+use Rattle.std.specs.FinMap as finite
+use Rattle.llb_tree.specs.Path.{is_within}
+use Rattle.llb_tree.specs.Tree.{Entry, TreeMap, IsTree}
+use Rattle.llb_treetext.specs.TreeText.{names_text}
+use Rattle.llb_treetext.specs.Placing.{put_row, IsOf}
+use Rattle.llb_treetext.specs.declared.parts.Parts.{Parts}
+use Rattle.llb_treetext.specs.declared.grow.Growing.{Growing}
+use Rattle.llb_treetext.specs.declared.grow.Open.{Open}
+
+-- a tree has at and below a path what another one has, and elsewhere what a third one has
+pub record HasBelow (t above : TreeMap) (at : List (List ℕ)) (dir : TreeMap) : Type 0 where
+  pub inside : (q : List (List ℕ)) → finite.get t (at ++ q) ≡ finite.get dir q
+  pub outside : (q : List (List ℕ)) → is_within at q ≡ false → finite.get t q ≡ finite.get above q
+
+-- a tree is the one that is kept, or has that one at its place
+abbrev pub IsKept : TreeMap → Option Open → TreeMap → Type 0
+IsKept kept None t = kept ≡ t
+IsKept kept (Some o) t = HasBelow t o.above o.at kept × (o.text.now ≡ names_text o.at)
+
+-- the tree of the lines so far is this one
+abbrev pub IsGrown : Growing → TreeMap → Type 0
+IsGrown g t = IsKept g.tree g.open t
+
+-- where there is one, it stands for this tree
+abbrev pub IsGrownIfAny : Option Growing → TreeMap → Type 0
+IsGrownIfAny None t = Unit {0}
+IsGrownIfAny (Some g) t = IsGrown g t
+
+-- where there is a tree, it is this one
+abbrev pub IsIfAny : Option TreeMap → TreeMap → Type 0
+IsIfAny None t = Unit {0}
+IsIfAny (Some u) t = u ≡ t
+
+-- a line's row that follows a tree: nothing is at its path yet, and it is put there
+pub record Follows (t : TreeMap) (row : List (List ℕ) × Entry) (x : Parts) : Type 0 where
+  pub tree : IsTree t
+  pub of : IsOf row x
+  pub free : finite.get t row.0 ≡ None
+  pub put : put_row t row ≡ Ok (finite.insert t row.0 row.1)

@@ -1,0 +1,187 @@
+//! The tree of a text while it is read. The files of a directory often follow one another, so the directory of the last line
+//! is kept apart as a tree of its own, where a file is put by its name alone; later it goes back to its place as a whole.
+
+ghost use Rattle.std.specs.Prelude.{◌≡◌, ◌++◌, ◌∷◌, ℕ, List, [], Ok, None, false, IsTrue, IfSome};
+ghost use Rattle.std.specs.FinMap as finite;
+ghost use Rattle.llb_tree.specs.Tree.{Dir, TreeMap, IsTree, empty_tree, Entry as TreeEntry};
+ghost use Rattle.llb_treetext.specs.TreeText.{names_text};
+ghost use Rattle.llb_treetext.specs.Fields.{pair_of};
+ghost use Rattle.llb_treetext.specs.Placing.{put_row};
+ghost use Rattle.llb_treetext.specs.Growing.{IsIfAny, IsGrown, IsGrownIfAny, Follows};
+
+use crate::parts::Parts;
+use crate::row::{Row, row_from};
+use llb_tree::{Meta, Name, Path, Tree};
+use llb_wire::read_hex;
+use std::alloc::Global;
+
+// A tree, or a directory of one with the tree that it goes back to.
+#[derive(Drop)]
+pub(crate) struct Growing<'a> {
+    tree: Tree,
+    open: Option<Open<'a>>,
+}
+
+// Where a directory goes back to: a tree, the directory's path in it, and that path as a text.
+#[derive(Drop)]
+pub(crate) struct Open<'a> {
+    above: Tree,
+    at: Path,
+    text: &'a str,
+}
+
+// The tree of a root directory alone; none where memory is refused.
+fn root_alone(alloc: Global, meta: Meta) -> Option<Tree>
+    ensures { IsIfAny result (finite.insert empty_tree [] (Dir meta)) }
+{
+    let Ok(mut tree) = Tree::empty(alloc) else {
+        return None;
+    };
+    match tree.put_dir(&Path::root(alloc), meta) {
+        Err(_) => None,
+        Ok(()) => Some(tree),
+    }
+}
+
+// The tree of the first line; none where memory is refused.
+pub(crate) fn started<'a>(alloc: Global, meta: Meta) -> Option<Growing<'a>>
+    ensures { IsGrownIfAny result (finite.insert empty_tree [] (Dir meta)) }
+{
+    let tree = root_alone(alloc, meta)?;
+    Some(Growing { tree, open: None })
+}
+
+// The whole tree; none where memory is refused.
+fn whole(growing: Growing<'_>) -> Option<Tree>
+    ensures { (t : TreeMap) → IsGrown growing.entry t → IsIfAny result t }
+{
+    let Growing { tree, open } = growing;
+    match open {
+        None => Some(tree),
+        Some(open) => {
+            let Open {
+                mut above,
+                at,
+                text: _,
+            } = open;
+            match above.graft(&at, &tree) {
+                Err(_) => None,
+                Ok(()) => Some(above),
+            }
+        }
+    }
+}
+
+// The whole tree, where there is one.
+pub(crate) fn whole_if_any(growing: Option<Growing<'_>>) -> Option<Tree>
+    ensures { (t : TreeMap) → IsGrownIfAny growing.entry t → IsIfAny result t }
+{
+    whole(growing?)
+}
+
+// The name of a path that is just below a directory's; none where it is not, or memory is refused.
+fn name_below(alloc: Global, dir: &str, path: &str) -> Option<Name>
+    ensures { IfSome result (λ n. path.now ≡ dir.now ++ 47 ∷ n) }
+{
+    let later = path.strip_prefix(dir)?;
+    let name = later.strip_prefix('/')?;
+    match Name::new(alloc, name) {
+        Err(_) => None,
+        Ok(name) => Some(name),
+    }
+}
+
+// The path of one name; none where memory is refused.
+fn path_of_name(alloc: Global, name: Name) -> Option<Path>
+    ensures { IfSome result (λ p. p ≡ name ∷ []) }
+{
+    let mut path = Path::root(alloc);
+    match path.push(name) {
+        Err(_) => None,
+        Ok(()) => Some(path),
+    }
+}
+
+// Puts a line's file by its name in the directory that is kept apart, and returns whether it is there. Where it is not, nothing is
+// changed.
+fn is_put_below(alloc: Global, growing: &mut Growing<'_>, parts: &Parts<'_>) -> bool
+    ensures put { IsTrue result → (t : TreeMap) → IsGrown growing.old t → (row : List (List ℕ) × TreeEntry) → Follows t row parts.now
+        → IsGrown growing.new (finite.insert t row.0 row.1) }
+    ensures kept { result ≡ false → growing.new ≡ growing.old }
+{
+    let Some(open) = &growing.open else {
+        return false;
+    };
+    let Some(digits) = parts.digits else {
+        return false;
+    };
+    let _names = open.at.names();
+    let Some(name) = name_below(alloc, open.text, parts.path) else {
+        return false;
+    };
+    let _name = name.as_str();
+    let Some(path) = path_of_name(alloc, name) else {
+        return false;
+    };
+    let Ok(Some(content)) = read_hex(alloc, digits) else {
+        return false;
+    };
+    growing.tree.put_file(&path, parts.meta, content).is_ok()
+}
+
+// A tree with a directory more, which is kept apart; none where memory is refused.
+fn opened<'a>(
+    alloc: Global,
+    above: Tree,
+    at: Path,
+    meta: Meta,
+    text: &'a str,
+) -> Option<Growing<'a>>
+    ensures { IsTree above → finite.get above at ≡ None → text.now ≡ names_text at → IsGrownIfAny result (finite.insert above at (Dir meta)) }
+{
+    let tree = root_alone(alloc, meta)?;
+    let open = Open { above, at, text };
+    Some(Growing {
+        tree,
+        open: Some(open),
+    })
+}
+
+// The whole tree with a row more; none where memory is refused.
+fn with_row<'a>(alloc: Global, mut tree: Tree, row: Row, text: &'a str) -> Option<Growing<'a>>
+    ensures { IsTree tree → finite.get tree row.path ≡ None → text.now ≡ names_text row.path
+        → put_row tree (pair_of row) ≡ Ok (finite.insert tree row.path (pair_of row).1)
+        → IsGrownIfAny result (finite.insert tree row.path (pair_of row).1) }
+{
+    let Row {
+        path,
+        meta,
+        content,
+    } = row;
+    match content {
+        None => opened(alloc, tree, path, meta, text),
+        Some(content) => match tree.put_file(&path, meta, content) {
+            Err(_) => None,
+            Ok(()) => Some(Growing { tree, open: None }),
+        },
+    }
+}
+
+// The tree with the entry of a line's parts; none once memory is refused.
+pub(crate) fn with_line<'a>(
+    alloc: Global,
+    growing: Option<Growing<'a>>,
+    parts: &Parts<'a>,
+) -> Option<Growing<'a>>
+    ensures { (t : TreeMap) → IsGrownIfAny growing.entry t → (row : List (List ℕ) × TreeEntry) → Follows t row parts.now
+        → IsGrownIfAny result (finite.insert t row.0 row.1) }
+{
+    let mut growing = growing?;
+    if is_put_below(alloc, &mut growing, parts) {
+        return Some(growing);
+    }
+    match row_from(alloc, parts) {
+        Ok(Some(row)) => with_row(alloc, whole(growing)?, row, parts.path),
+        _ => None,
+    }
+}
