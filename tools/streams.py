@@ -1,4 +1,4 @@
-"""How the tools of trees and archives read standard input, write what is ready, and end."""
+"""Standard input, standard output and exit statuses for the tools of trees and archives."""
 
 import contextlib
 import os
@@ -16,15 +16,15 @@ PIECE = 1 << 20
 
 
 class Refused(Exception):
-    """What is given is refused; the words say why."""
+    """The input is refused; the message says why."""
 
 
 class Failed(Exception):
-    """A read or a write failed; the words say which."""
+    """A read or a write failed; the message says which."""
 
 
 def exit_status(work: Callable[[], int | None]) -> int:
-    """The exit status of work; what it is refused for or fails for is told on standard error."""
+    """Does the work, prints why it was refused or failed, and returns the exit status."""
     try:
         return work() or 0
     except Refused as fault:
@@ -41,14 +41,14 @@ def exit_status(work: Callable[[], int | None]) -> int:
 
 
 def input_given() -> BinaryIO:
-    """Standard input, which is open."""
+    """Returns standard input, if it is open."""
     if sys.stdin is None:
         raise Failed("standard input is closed")
     return sys.stdin.buffer
 
 
 def lines_given() -> Iterator[bytes]:
-    """The lines of standard input."""
+    """Yields the lines of standard input."""
     lines = input_given()
     try:
         yield from lines
@@ -58,16 +58,16 @@ def lines_given() -> Iterator[bytes]:
 
 @contextlib.contextmanager
 def kept_file(what: str) -> Iterator[BinaryIO]:
-    """An unnamed temporary file (under TMPDIR); where it fails, so does what is kept there."""
+    """Yields an unnamed temporary file (under TMPDIR); an OSError becomes Failed."""
     try:
         with tempfile.TemporaryFile() as kept:
             yield kept
     except OSError as fault:
-        raise Failed(f"{what} could not be kept: {fault.strerror}") from fault
+        raise Failed(f"{what} could not be stored: {fault.strerror}") from fault
 
 
 def put_out(kept: BinaryIO, what: str) -> None:
-    """All that is kept is written to standard output."""
+    """Writes a temporary file to standard output."""
     if sys.stdout is None:
         raise Failed(f"{what} could not be written: standard output is closed")
     kept.seek(0)
@@ -83,14 +83,14 @@ def put_out(kept: BinaryIO, what: str) -> None:
 
 
 def mode_of_new_files() -> int:
-    """The mode that the system gives to a new file."""
+    """Returns the mode of new files on this system."""
     mask = os.umask(0o077)
     os.umask(mask)
     return 0o666 & ~mask
 
 
 def move_in(kept: BinaryIO, place: str) -> None:
-    """All that is kept is written under a temporary name beside the place, and moved there when it is whole."""
+    """Writes a temporary file under a temporary name beside a path, and renames it when it is complete."""
     descriptor, beside = tempfile.mkstemp(prefix=".llbm-", dir=os.path.dirname(place) or ".")
     try:
         with open(descriptor, "wb") as file:
@@ -104,9 +104,9 @@ def move_in(kept: BinaryIO, place: str) -> None:
 
 
 def put_in(kept: BinaryIO, place: str) -> None:
-    """All that is kept is written to a new file, which is there whole or not at all."""
+    """Writes a temporary file to a new path, completely or not at all."""
     if os.path.lexists(place):
-        raise Refused(f"{place}: is there already")
+        raise Refused(f"{place}: already exists")
     kept.seek(0)
     try:
         move_in(kept, place)

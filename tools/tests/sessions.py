@@ -1,4 +1,4 @@
-"""Tests of `build --progress`, with a program of the tests' own in the place of llbm."""
+"""Tests of `build --progress`, with a fake program in place of llbm."""
 
 import signal
 import subprocess
@@ -26,9 +26,9 @@ exec(open("does").read())
 for line in sys.stdin:
     with open("given", "a") as file:
         file.write(line)
-    told = answers.get(line.strip())
-    if told:
-        sys.stdout.write(told.pop(0) + "\\n")
+    replies = answers.get(line.strip())
+    if replies:
+        sys.stdout.write(replies.pop(0) + "\\n")
         sys.stdout.flush()
     if line == "quit\\n":
         sys.exit(0)
@@ -51,41 +51,41 @@ COMMANDS = "next\nclear\nbreak settle 0\ngo\nnext\nclear\nbreak settle 1\ngo\nne
 
 
 def named(entry, name):
-    """The record of a definition that gives a name to an entry."""
+    """Returns the record of a definition that gives a name to an entry."""
     description = part(2, part(1, "other") + part(2, "x")) + part(2, part(1, "llb.customname") + part(2, name))
     return part(2, part(1, base.digest(entry)) + part(2, description))
 
 
 class Names(unittest.TestCase):
-    """The names in a definition's metadata."""
+    """Names in a definition's metadata."""
 
     def setUp(self):
         self.one, self.two = base.source("local://a"), base.file_op(base.rm("/a"), on=[base.source("local://a")])
         self.given = base.ending(self.one, self.two)
 
-    def test_names_by_vertex(self):
+    def test_names_are_found_by_vertex(self):
         self.assertEqual(progress.names_in(self.given), {})
         given = named(self.two, "second") + self.given + named(b"none", "none") + named(self.one, "first \N{BULLET}")
         self.assertEqual(progress.names_in(given), {0: "first \N{BULLET}", 1: "second"})
 
-    def test_the_last_name_holds(self):
+    def test_the_last_of_several_names_is_used(self):
         given = self.given + named(self.one, "old") + named(self.one, "new")
         self.assertEqual(progress.names_in(given), {0: "new"})
 
-    def test_metadata_that_does_not_read(self):
+    def test_metadata_that_cannot_be_parsed_is_skipped(self):
         broken = part(2, part(1, base.digest(self.two)) + part(2, b"\x0a"))
         self.assertEqual(progress.names_in(self.given + named(self.one, "a") + broken), {0: "a"})
         self.assertEqual(progress.names_in(self.given + named(self.one, "a") + part(2, b"\x0a")), {0: "a"})
         for given in [b"\x0a", b"", b"\xff" * 20]:
             self.assertEqual(progress.names_in(given), {})
 
-    def test_an_entry_without_a_name(self):
+    def test_an_entry_can_have_no_name(self):
         metadata = part(2, part(1, base.digest(self.one)) + part(2, part(2, part(1, "llb.customname"))))
         self.assertEqual(progress.names_in(self.given + metadata), {})
 
 
 class Progress(Builds):
-    """A build that goes through a session."""
+    """Builds with progress, which run a session."""
 
     fake = FAKE
 
@@ -94,18 +94,18 @@ class Progress(Builds):
         self.shows(SHOWN)
 
     def shows(self, text):
-        """The program shows this graph."""
+        """Sets the graph that the program shows."""
         (self.at / "shown").write_text(text)
 
     def nothing_is_left(self, also=()):
-        """The same, but for what the program shows."""
+        """Checks that there is no result and no temporary file."""
         super().nothing_is_left({"shown", *also})
 
     def follow(self, *words):
-        """A build with progress."""
+        """Runs a build with progress."""
         return self.build("--progress", "definition", "out", *words)
 
-    def test_a_line_for_each_vertex(self):
+    def test_there_is_a_line_for_each_vertex(self):
         self.make(b"a", b"a")
         self.does(DONE)
         self.file(b"definition", self.given + named(self.files, "copy\nit") + named(self.origin, "x" * 101))
@@ -119,28 +119,29 @@ class Progress(Builds):
         self.assertEqual((self.at / "out/a").read_text(), "hi")
         self.nothing_is_left({"out"})
 
-    def test_one_worker_where_no_number_is_given(self):
+    def test_the_default_is_one_worker(self):
         self.does(DONE)
         self.assertEqual(self.follow().returncode, 0)
         self.assertIn("step --workers 1\n", (self.at / "given").read_text())
 
-    def test_a_failure_is_told_as_by_a_run(self):
+    def test_a_failure_is_reported_as_by_a_run(self):
         self.does(FAILED)
-        told = run("explain", "--definition", self.place(b"definition"), "failed", "1", "action", "0", "fault", "21")
-        meaning = [f"  {line}" for line in told.stdout.decode().splitlines()]
+        words = ["failed", "1", "action", "0", "fault", "21"]
+        explained = run("explain", "--definition", self.place(b"definition"), *words)
+        meaning = [f"  {line}" for line in explained.stdout.decode().splitlines()]
         lines = ["running definition", "[1/2] vertex 0 source done", "[2/2] vertex 1 file failed"]
         self.ends(self.follow(), 1, *lines, "failed 1 action 0 fault 21", *meaning, "nothing is written")
         self.assertTrue((self.at / "given").read_text().endswith(f"{COMMANDS}status\nquit\n"))
 
-    def test_a_refusal_is_told_as_by_a_run(self):
+    def test_a_refusal_is_reported_as_by_a_run(self):
         self.shows("")
         for line, status in [("fault 121 src", 2), ("fault 83", 2), ("fault 123", 3)]:
             self.does(f'sys.stderr.write("{line}\\n")\nsys.exit({status})\n')
-            told = run("explain", "--definition", self.place(b"definition"), *line.split(" "))
-            meaning = [f"  {text}" for text in told.stdout.decode().splitlines()]
+            explained = run("explain", "--definition", self.place(b"definition"), *line.split(" "))
+            meaning = [f"  {text}" for text in explained.stdout.decode().splitlines()]
             self.ends(self.follow(), status, "running definition", line, *meaning, "nothing is written")
 
-    def test_a_session_that_ends_too_early(self):
+    def test_a_session_that_ends_too_early_is_an_error(self):
         early = "the session ended before the result was out"
         self.does("sys.exit(0)")
         self.ends(self.follow(), 3, "running definition", early)
@@ -155,15 +156,15 @@ class Progress(Builds):
         lines = ["[1/?] vertex 0 source done", "[2/?] vertex 1 file done"]
         self.ends(self.follow(), 3, "running definition", *lines, early)
 
-    def test_a_session_that_is_ended(self):
+    def test_a_killed_session_has_the_status_of_its_signal(self):
         self.does("os.kill(os.getpid(), signal.SIGKILL)")
         self.ends(self.follow(), 137, "running definition", "nothing is written")
         self.does(SOURCE + 'sys.stdin = (line if line == "next\\n" else os.kill(os.getpid(), 9) for line in sys.stdin)')
         self.ends(self.follow(), 137, "running definition", "nothing is written")
 
-    def test_answers_that_are_not_expected(self):
-        told = run("explain", "fault", "174").stdout.decode().splitlines()
-        meaning = [f"  {line}" for line in told]
+    def test_an_unexpected_answer_is_an_error(self):
+        explained = run("explain", "fault", "174").stdout.decode().splitlines()
+        meaning = [f"  {line}" for line in explained]
         claim = 'answers["next"] += ["1 claim 0 0 -> source 1"]\n'
         for does, lines in [
             ('answers["next"] += ["fault 174"]', ["fault 174", *meaning]),
@@ -171,10 +172,10 @@ class Progress(Builds):
             (claim + 'answers["go"] += ["2 settle 0 -> 1 done\\nstop"]', ["stop"]),
         ]:
             self.does(does)
-            end = "the session gave an answer that is not expected"
+            end = "the session gave an unexpected answer"
             self.ends(self.follow(), 3, "running definition", *lines, end)
 
-    def test_a_result_that_is_no_tree(self):
+    def test_a_result_that_is_not_a_tree_is_refused(self):
         self.does(DONE + 'answers["tree 1 1"] = ["none"]\n')
         done = self.follow()
         self.assertEqual(done.returncode, 2)
@@ -182,7 +183,7 @@ class Progress(Builds):
         self.assertEqual(done.stderr.splitlines()[-2:], [line, b"nothing is written"])
         self.nothing_is_left()
 
-    def test_an_archive_as_the_result(self):
+    def test_the_result_can_be_an_archive(self):
         self.does(DONE)
         done = self.build("--progress", "definition", "out.tar")
         self.assertEqual(done.returncode, 0)
@@ -190,7 +191,7 @@ class Progress(Builds):
         self.assertEqual((self.at / "out.tar").read_bytes(), wanted)
         self.nothing_is_left({"out.tar"})
 
-    def test_an_interrupt(self):
+    def test_an_interrupt_leaves_nothing(self):
         self.does(SOURCE + "time.sleep(0)\n" + 'answers["go"] = ["2 step 0 -> read"]\n')
         words = ["--llbm", self.llbm, "--progress", "definition", "out"]
         child = subprocess.Popen(command("build", *words), stderr=subprocess.PIPE, **self.settings)
