@@ -33,7 +33,7 @@ NOTHING = ["true"]
 MOST_CHARACTERS = 60
 
 
-class Wishes(NamedTuple):
+class Settings(NamedTuple):
     """What to change besides sources: what to drop, rules for words, and whether all other executions run nothing."""
 
     dropped: frozenset[str] = frozenset()
@@ -65,8 +65,8 @@ def name_of_secret(held: bytes) -> str:
 class Entry:
     """One entry while it is changed, with a description of each change."""
 
-    def __init__(self, wishes: Wishes, local: dict[str, str], name: str) -> None:
-        self.wishes = wishes
+    def __init__(self, settings: Settings, local: dict[str, str], name: str) -> None:
+        self.settings = settings
         self.local = local
         self.name = name
         self.changes: list[str] = []
@@ -74,7 +74,7 @@ class Entry:
 
     def drops(self, kind: str) -> bool:
         """Returns whether things of this kind are dropped."""
-        return kind in self.wishes.dropped
+        return kind in self.settings.dropped
 
     def changed_op(self, digest: str, entry: bytes, op: dict) -> bytes:
         """Returns the changed op; its inputs still have their old digests."""
@@ -110,10 +110,10 @@ class Entry:
 
     def words(self, digest: str, old: list[str]) -> list[str]:
         """Returns the new words of an execution."""
-        self.used = rule_for(self.wishes.rules, digest, self.name, old)
+        self.used = rule_for(self.settings.rules, digest, self.name, old)
         if self.used:
             return self.used.words or old
-        return NOTHING if self.wishes.run_nothing else old
+        return NOTHING if self.settings.run_nothing else old
 
     def mount(self, held: bytes) -> bytes | None:
         """Returns a mount, or None if it is dropped."""
@@ -161,12 +161,12 @@ class Entry:
 class Adoption:
     """A definition while it is adopted."""
 
-    def __init__(self, data: bytes, wishes: Wishes) -> None:
+    def __init__(self, data: bytes, settings: Settings) -> None:
         self.records = op_reading.read_definition(data)
         self.entries = op_reading.entries_in(self.records)
         self.digests = [definition.digest_of(entry) for entry in self.entries]
         self.names = [name.text for name in names.names_of(data)]
-        self.wishes = wishes
+        self.settings = settings
         self.rows: dict[str, int] = {}
         self.ops: dict[int, dict] = {}
         self.read()
@@ -193,7 +193,7 @@ class Adoption:
         given = LocalNames(list(sources.values()))
         for row, identifier in sources.items():
             if is_known(identifier):
-                self.local[self.digests[row]] = given.give(identifier)
+                self.local[self.digests[row]] = given.new_name(identifier)
                 self.sources.append((self.local[self.digests[row]], identifier))
             elif identifier.startswith(op_rules.LOCAL):
                 self.sources.append((identifier[len(op_rules.LOCAL) :], identifier))
@@ -212,7 +212,7 @@ class Adoption:
     def adopt_row(self, row: int) -> None:
         """Rewrites an entry, after the entries that its inputs name."""
         digest = self.digests[row]
-        one = Entry(self.wishes, self.local, self.names[row])
+        one = Entry(self.settings, self.local, self.names[row])
         entry = one.changed_op(digest, self.entries[row], self.ops[row])
         linked = changed(entry, lambda records: with_each(records, 1, self.input))
         if linked != entry:
@@ -250,13 +250,13 @@ class Adoption:
 
     def others(self) -> list[str]:
         """Returns the warnings: rules that fit no execution."""
-        unused = [rule.line for rule in self.wishes.rules if rule.line not in self.used]
+        unused = [rule.line for rule in self.settings.rules if rule.line not in self.used]
         return [f"rules: line {line} fits no execution" for line in unused]
 
 
-def adopt(data: bytes, wishes: Wishes) -> Adopted:
+def adopt(data: bytes, settings: Settings) -> Adopted:
     """Returns the definition, adopted as far as possible."""
-    adoption = Adoption(data, wishes)
+    adoption = Adoption(data, settings)
     for row in adoption.order():
         adoption.adopt_row(row)
     result = adoption.result()

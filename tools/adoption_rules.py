@@ -65,8 +65,8 @@ def rules_in(data: bytes) -> list[Rule]:
         lines = data.decode("utf-8").split("\n")
     except UnicodeDecodeError as fault:
         raise BadRules("not UTF-8") from fault
-    kept = [(number, line.strip(" \t\r")) for number, line in enumerate(lines, 1)]
-    return [rule_of(number, line) for number, line in kept if line and not line.startswith("#")]
+    stripped = [(number, line.strip(" \t\r")) for number, line in enumerate(lines, 1)]
+    return [rule_of(number, line) for number, line in stripped if line and not line.startswith("#")]
 
 
 def rule_for(rules: list[Rule], digest: str, name: str, args: list[str]) -> Rule | None:

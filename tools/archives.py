@@ -27,14 +27,14 @@ def is_archive(place: str) -> bool:
     return place.endswith(ENDINGS) and not os.path.isdir(place)
 
 
-def unpack(packed: BinaryIO, module: str, kept: BinaryIO) -> None:
+def unpack(packed: BinaryIO, module: str, stored: BinaryIO) -> None:
     """Unpacks a stream with a module of the standard library; an error is raised as Refused."""
     try:
         opened = importlib.import_module(module).open(packed, "rb")
     except ImportError as fault:
         raise Refused(f"the archive is packed by {module}, which this Python does not have") from fault
     try:
-        shutil.copyfileobj(opened, kept, PIECE)
+        shutil.copyfileobj(opened, stored, PIECE)
     except OSError as fault:
         if fault.errno is not None:
             raise

@@ -52,7 +52,7 @@ def data_in(file: str | None) -> bytes:
         return opened.read(MOST_BYTES + 1)
 
 
-def give_up_output() -> None:
+def discard_output() -> None:
     """Redirects standard output to /dev/null, so that buffered output does not fail again at exit."""
     os.dup2(os.open(os.devnull, os.O_WRONLY), 1)
 

@@ -69,7 +69,7 @@ def read_use(unit: Unit, text: str) -> None:
             unit.brought[other.strip() or name.strip()] = (path, name.strip())
 
 
-def begun(line: str) -> str | None:
+def name_defined_on(line: str) -> str | None:
     """Returns the name of the definition that begins on a line, or None."""
     if found := TYPE.match(line):
         return found[1]
@@ -94,7 +94,7 @@ def read_unit(crate: str, file: str, text: str) -> Unit:
             comment.append(line)
         elif not line.strip():
             comment = []
-        elif name := None if line[0].isspace() else begun(line):
+        elif name := None if line[0].isspace() else name_defined_on(line):
             current = Definition(crate, file, name, number - len(comment), [*comment, line])
             unit.items.setdefault(name, current)
             comment = []

@@ -145,10 +145,10 @@ class Page:
         rows = self.causes.get(number)
         if rows is None:
             raise NoLine(f"there is no fault {number}")
-        said = {}
+        rows_by_sentence = {}
         for row in [row for row in rows if row.status != "-"] or rows:
-            said.setdefault(row.sentence, row)
-        return list(said.values())
+            rows_by_sentence.setdefault(row.sentence, row)
+        return list(rows_by_sentence.values())
 
     def failure(self, prefix: str) -> Failure:
         """Returns the failure whose line has this prefix."""

@@ -284,7 +284,7 @@ class Cases:
         return Case(self, number).found()
 
 
-def keep(found: Found, seed: int, folder: pathlib.Path, program: str) -> pathlib.Path:
+def store(found: Found, seed: int, folder: pathlib.Path, program: str) -> pathlib.Path:
     """Stores a finding in its own folder: the files of the case, and the commands that repeat it."""
     place = folder / f"case-{seed}-{found.number}"
     place.mkdir(parents=True, exist_ok=True)

@@ -177,10 +177,10 @@ def mounts(dice: random.Random, count: int) -> tuple[tuple[Message, ...], int]:
     """Returns mounts that show some of `count` inputs, and how many of the mounts have an output."""
     dests = ["/", *dice.sample(["/in", "/tmp", "/cache", "/a", "/a/b", "//d/."], dice.choice([0, 1, 2, 2, 3]))]
     numbers = outputs(dice, len(dests))
-    made_mounts, kept = [], 0
+    made_mounts, output_count = [], 0
     for dest, output in zip(dests, numbers):
         kind = "bind" if dest == "/" or output >= 0 else dice.choice(["bind", "bind", "tmpfs", "cache"])
-        kept += output >= 0
+        output_count += output >= 0
         if kind == "cache" and not one_in(dice, 3):
             made_mounts.append(cache_mount(dice, dest, count - 1))
         elif kind == "tmpfs":
@@ -192,7 +192,7 @@ def mounts(dice: random.Random, count: int) -> tuple[tuple[Message, ...], int]:
             made_mounts.append(made("Mount", **values, dest=dest, output=output, readonly=one_in(dice, 4)))
     if one_in(dice, 4):
         dice.shuffle(made_mounts)
-    return tuple(made_mounts), kept
+    return tuple(made_mounts), output_count
 
 
 def exec_op(dice: random.Random, inputs: tuple[Message, ...]) -> tuple[Message, int]:

@@ -35,7 +35,7 @@ class LocalNames:
     def __init__(self, identifiers: list[str]) -> None:
         self.taken = {identifier[len(LOCAL) :] for identifier in identifiers if identifier.startswith(LOCAL)}
 
-    def give(self, identifier: str) -> str:
+    def new_name(self, identifier: str) -> str:
         """Returns a new name for an identifier, with `-2` and so on if it is taken."""
         short = name = short_name(identifier)
         count = 1

@@ -27,10 +27,10 @@ def written(records: list[Record]) -> bytes:
 
 def replaced(records: list[Record], old: list[Record], new: list[Record]) -> list[Record]:
     """Puts new records in place of the first old one, or before all records if there are no old ones."""
-    gone = {id(record) for record in old}
-    place = next((place for place, record in enumerate(records) if id(record) in gone), 0)
+    removed = {id(record) for record in old}
+    place = next((place for place, record in enumerate(records) if id(record) in removed), 0)
     before = records[:place]
-    return [*before, *new, *(record for record in records[place:] if id(record) not in gone)]
+    return [*before, *new, *(record for record in records[place:] if id(record) not in removed)]
 
 
 def with_message(
@@ -45,12 +45,12 @@ def with_message(
 
 def with_each(records: list[Record], field: int, change: Callable[[bytes], bytes | None]) -> list[Record]:
     """Changes each message of a repeated field; those for which `change` returns None are removed."""
-    kept = []
+    result = []
     for record in records:
         new = change(record.held) if record.field == field else record.held
         if new is not None:
-            kept.append(record if new == record.held else record_of(field, new))
-    return kept
+            result.append(record if new == record.held else record_of(field, new))
+    return result
 
 
 def with_text(records: list[Record], field: int, text: str) -> list[Record]:

@@ -8,7 +8,7 @@ import tempfile
 from collections.abc import Callable, Iterator
 from typing import BinaryIO
 
-from common import give_up_output, say
+from common import discard_output, say
 
 REFUSED, FAILED, INTERRUPTED = 2, 3, 130
 
@@ -40,16 +40,16 @@ def exit_status(work: Callable[[], int | None]) -> int:
         return INTERRUPTED
 
 
-def input_given() -> BinaryIO:
+def standard_input() -> BinaryIO:
     """Returns standard input, if it is open."""
     if sys.stdin is None:
         raise Failed("standard input is closed")
     return sys.stdin.buffer
 
 
-def lines_given() -> Iterator[bytes]:
+def input_lines() -> Iterator[bytes]:
     """Yields the lines of standard input."""
-    lines = input_given()
+    lines = standard_input()
     try:
         yield from lines
     except OSError as fault:
@@ -57,28 +57,28 @@ def lines_given() -> Iterator[bytes]:
 
 
 @contextlib.contextmanager
-def kept_file(what: str) -> Iterator[BinaryIO]:
+def temporary_file(what: str) -> Iterator[BinaryIO]:
     """Yields an unnamed temporary file (under TMPDIR); an OSError becomes Failed."""
     try:
-        with tempfile.TemporaryFile() as kept:
-            yield kept
+        with tempfile.TemporaryFile() as stored:
+            yield stored
     except OSError as fault:
         raise Failed(f"{what} could not be stored: {fault.strerror}") from fault
 
 
-def put_out(kept: BinaryIO, what: str) -> None:
+def write_output(stored: BinaryIO, what: str) -> None:
     """Writes a temporary file to standard output."""
     if sys.stdout is None:
         raise Failed(f"{what} could not be written: standard output is closed")
-    kept.seek(0)
+    stored.seek(0)
     try:
-        shutil.copyfileobj(kept, sys.stdout.buffer, PIECE)
+        shutil.copyfileobj(stored, sys.stdout.buffer, PIECE)
         sys.stdout.flush()
     except OSError as fault:
-        give_up_output()
+        discard_output()
         raise Failed(f"{what} could not be written: {fault.strerror}") from fault
     except KeyboardInterrupt:
-        give_up_output()
+        discard_output()
         raise
 
 
@@ -89,12 +89,12 @@ def mode_of_new_files() -> int:
     return 0o666 & ~mask
 
 
-def move_in(kept: BinaryIO, place: str) -> None:
+def write_and_rename(stored: BinaryIO, place: str) -> None:
     """Writes a temporary file under a temporary name beside a path, and renames it when it is complete."""
     descriptor, beside = tempfile.mkstemp(prefix=".llbm-", dir=os.path.dirname(place) or ".")
     try:
         with open(descriptor, "wb") as file:
-            shutil.copyfileobj(kept, file, PIECE)
+            shutil.copyfileobj(stored, file, PIECE)
             os.fchmod(file.fileno(), mode_of_new_files())
         os.rename(beside, place)
     except BaseException:
@@ -103,12 +103,12 @@ def move_in(kept: BinaryIO, place: str) -> None:
         raise
 
 
-def put_in(kept: BinaryIO, place: str) -> None:
+def write_new_file(stored: BinaryIO, place: str) -> None:
     """Writes a temporary file to a new path, completely or not at all."""
     if os.path.lexists(place):
         raise Refused(f"{place}: already exists")
-    kept.seek(0)
+    stored.seek(0)
     try:
-        move_in(kept, place)
+        write_and_rename(stored, place)
     except OSError as fault:
         raise Failed(f"{place}: {fault.strerror}") from fault

@@ -107,11 +107,11 @@ def checked(lines: Iterable[bytes]) -> Iterator[tuple[bytes, Entry]]:
         raise Refused("line 1: the text is empty")
 
 
-def check_into(kept: BinaryIO, lines: Iterable[bytes]) -> None:
+def check_into(output: BinaryIO, lines: Iterable[bytes]) -> None:
     """Copies the lines of a tree's text to a file; the first faulty line is refused."""
     for line, _ in checked(lines):
-        kept.write(line)
-    kept.flush()
+        output.write(line)
+    output.flush()
 
 
 def path_of(names: Iterable[bytes]) -> bytes:

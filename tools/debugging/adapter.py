@@ -13,7 +13,7 @@ from debugging.arguments import Refused, argument, of_kind
 from debugging.capabilities import CAPABILITIES, CONDITIONS, FAILED
 from debugging.moving import Breakpoint, Ended, Motion, Mover, Stop
 from debugging.outgoing import Outgoing
-from debugging.session import Event, Gone, Refusal
+from debugging.session import Event, Refusal, SessionFailed
 from debugging.views import Views
 from debugging.wire import Writer
 
@@ -52,7 +52,7 @@ class Adapter(Outgoing):
 
     # ---- the run
 
-    def heed(self, message: object) -> None:
+    def handle(self, message: object) -> None:
         """Handles a message, and sends the response."""
         request = message if isinstance(message, dict) else {}
         number, command = request.get("seq"), request.get("command")
@@ -65,7 +65,7 @@ class Adapter(Outgoing):
             self.fail(sequence, name, str(cause))
         except Refusal as refusal:
             self.fail(sequence, name, " ".join([str(refusal), *launching.explained(str(refusal))]))
-        except Gone as fault:
+        except SessionFailed as fault:
             self.fail(sequence, name, str(fault))
             self.crash(fault)
         else:
@@ -89,7 +89,7 @@ class Adapter(Outgoing):
         """Does an action; if the program has ended, reports that and ends the run."""
         try:
             action()
-        except Gone as fault:
+        except SessionFailed as fault:
             self.crash(fault)
         except Refusal as refusal:
             self.output(f"the program refuses: {refusal}", "stderr")
@@ -170,7 +170,7 @@ class Adapter(Outgoing):
             self.output(f"the run is complete after {count} events, with the result {self.launched.graph.result}")
         self.close(code)
 
-    def crash(self, fault: Gone) -> None:
+    def crash(self, fault: SessionFailed) -> None:
         """Reports that the program ended by itself."""
         self.output(str(fault), "stderr")
         for line in fault.words:
@@ -208,7 +208,7 @@ class Adapter(Outgoing):
         self.launched = launching.launch(arguments, self.output)
         self.stops_on_entry, self.stops_at_end, no_debug = flags
         self.mover = Mover(self.launched.session, self.report)
-        self.mover.heeds_breakpoints = not no_debug
+        self.mover.stops_at_breakpoints = not no_debug
         self.views = Views(self.launched)
         self.state = LAUNCHED
         self.then = [lambda: self.event("initialized")]

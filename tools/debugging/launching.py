@@ -20,7 +20,7 @@ import faults
 from common import MOST_BYTES, os_error_text
 from debugging import places
 from debugging.arguments import Refused, argument, of_kind
-from debugging.session import Gone, Refusal, Session
+from debugging.session import Refusal, Session, SessionFailed
 
 TOOLS = pathlib.Path(__file__).resolve().parent.parent
 PROGRAM = TOOLS.parent / "crates" / "llbm" / "out" / "llbm"
@@ -175,18 +175,18 @@ def workers_of(arguments: dict) -> int:
     return workers
 
 
-def begun(command: list[str], workers: int, vertices: int, entries: faults.Entries) -> Session:
+def start_session(command: list[str], workers: int, vertices: int, entries: faults.Entries) -> Session:
     """Starts a session, and checks that it answers its first command."""
     session = Session(command, workers, vertices)
     try:
         session.status()
-    except (Gone, Refusal) as fault:
+    except (SessionFailed, Refusal) as fault:
         session.end()
-        raise Refused(cause_of(session.said(), str(fault), entries)) from fault
+        raise Refused(cause_of(session.error_lines(), str(fault), entries)) from fault
     return session
 
 
-def started(arguments: dict, folder: str, say: Say) -> Launched:
+def start(arguments: dict, folder: str, say: Say) -> Launched:
     """Starts what a launch request asks for, with temporary files in a folder."""
     program, workers = program_of(arguments), workers_of(arguments)
     data, text = definition_of(program, arguments)
@@ -199,7 +199,7 @@ def started(arguments: dict, folder: str, say: Say) -> Launched:
     file = os.path.join(folder, "definition")
     pathlib.Path(file).write_bytes(data)
     command = [program, "step", file, "--workers", str(workers), *words]
-    session = begun(command, workers, len(graph.vertices), named_entries)
+    session = start_session(command, workers, len(graph.vertices), named_entries)
     name = os.path.basename(argument(arguments, "definition", str, ""))
     place = argument(arguments, "text", str, "")
     return Launched(session, graph, named_entries, f"{name}.text", os.path.abspath(place) if place else None)
@@ -209,7 +209,7 @@ def launch(arguments: dict, say: Say) -> Launched:
     """Starts what a launch request asks for. If that fails it is refused, and no temporary file remains."""
     try:
         with tempfile.TemporaryDirectory(prefix="llbm-debug-") as folder:
-            return started(arguments, folder, say)
+            return start(arguments, folder, say)
     except OSError as fault:
         raise Refused(os_error_text(fault)) from fault
     except ValueError as fault:

@@ -45,11 +45,11 @@ class Mover:
         self.report = report
         self.breakpoints: list[Breakpoint] = []
         self.stops_at_failures = False
-        self.heeds_breakpoints = True
+        self.stops_at_breakpoints = True
 
     def met(self, event: Event) -> Stop | None:
         """Returns the stop after an event that fails or hits breakpoints, or None."""
-        if not self.heeds_breakpoints:
+        if not self.stops_at_breakpoints:
             return None
         hits = tuple(one.number for one in self.breakpoints if (one.kind, one.vertex) == (event.kind, event.vertex))
         if self.stops_at_failures and event.fails():

@@ -15,7 +15,7 @@ from typing import NamedTuple
 LINE = re.compile(r"([0-9]+) (claim|step|settle|cancel) ([0-9]+)(?: ([0-9]+))? -> (.+)")
 
 
-class Gone(Exception):
+class SessionFailed(Exception):
     """The program has ended, or it printed a line that no session prints; the message says which."""
 
     def __init__(self, cause: str, status: int, words: list[str]) -> None:
@@ -77,13 +77,13 @@ class Session:
             self.child.stdin.write("".join(f"{line}\n" for line in lines).encode("ascii"))
             self.child.stdin.flush()
         except OSError as fault:
-            raise self.gone() from fault
+            raise self.ended() from fault
 
     def raw(self) -> bytes:
         """Returns the program's next line, without its line end."""
         line = self.child.stdout.readline()
         if not line.endswith(b"\n"):
-            raise self.gone()
+            raise self.ended()
         return line[:-1]
 
     def line(self) -> str:
@@ -146,36 +146,37 @@ class Session:
         self.send(f"tree {vertex} {output}", "")
         first = self.raw()
         if first == b"none" or first.startswith(b"fault "):
-            self.heed_end(self.raw())
+            self.check_end(self.raw())
             if first != b"none":
                 raise Refusal(first.decode("utf-8", "backslashreplace"))
             return None
         lines = [first]
         while lines[-1][:2] in (b"d ", b"f "):
             lines.append(self.raw())
-        self.heed_end(lines.pop())
+        self.check_end(lines.pop())
         return lines
 
-    def heed_end(self, line: bytes) -> None:
+    def check_end(self, line: bytes) -> None:
         """Checks that a line is the answer to the empty line after a tree."""
         if line not in (b"fault 173 %d" % self.lines, b"fault 174"):
             raise self.broken(line.decode("utf-8", "backslashreplace"))
 
-    def said(self) -> list[str]:
+    def error_lines(self) -> list[str]:
         """Returns the program's lines on standard error."""
         self.words.seek(0)
         return self.words.read().decode("utf-8", "backslashreplace").splitlines()
 
-    def gone(self) -> Gone:
+    def ended(self) -> SessionFailed:
         """Returns the error for a program that has ended; one that only closed its output is stopped."""
         status = self.end()
         cause = f"by signal {-status}" if status < 0 else f"with status {status}"
-        return Gone(f"the program has ended {cause}", status if status >= 0 else 128 - status, self.said())
+        status = status if status >= 0 else 128 - status
+        return SessionFailed(f"the program has ended {cause}", status, self.error_lines())
 
-    def broken(self, line: str) -> Gone:
+    def broken(self, line: str) -> SessionFailed:
         """Returns the error for a line that no session prints, and stops the program."""
         self.end()
-        return Gone(f"the program printed an unexpected line: {line[:200]}", 1, self.said())
+        return SessionFailed(f"the program printed an unexpected line: {line[:200]}", 1, self.error_lines())
 
     def end(self) -> int:
         """Stops the program. It writes no files, so nothing is left half done. It may be called twice."""

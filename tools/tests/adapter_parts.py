@@ -23,34 +23,34 @@ if words[0] == "show":
 elif words[0] == "dis":
     print("op {{\\n}}\\nop {{\\n}}")
 else:
-    def said(text):
+    def send(text):
         sys.stdout.write(text)
         sys.stdout.flush()
-    def heard():
+    def receive():
         return sys.stdin.readline().strip()
     exec(open(os.path.join(os.path.dirname(sys.argv[0]), "does")).read())
 """
 
-BEGINS = "heard()\nsaid('0 ready\\n')\nheard()\n"
+BEGINS = "receive()\nsend('0 ready\\n')\nreceive()\n"
 CRASHES = BEGINS + "sys.stderr.write('out of luck\\n')\nsys.exit(7)\n"
 KILLED = BEGINS + "os.kill(os.getpid(), signal.SIGKILL)\n"
-BABBLES = BEGINS + "said('1 claim 0 0 -> source 1\\n')\nheard()\nsaid('3 step 0 -> read\\n')\nheard()\n"
-CUT = BEGINS + "said('1 claim 0 0 -> sou')\n"
-CLOSES = BEGINS + "os.close(1)\nheard()\n"
+BABBLES = BEGINS + "send('1 claim 0 0 -> source 1\\n')\nreceive()\nsend('3 step 0 -> read\\n')\nreceive()\n"
+CUT = BEGINS + "send('1 claim 0 0 -> sou')\n"
+CLOSES = BEGINS + "os.close(1)\nreceive()\n"
 DONE = """
-heard()
-said('0 ready\\n')
+receive()
+send('0 ready\\n')
 number = 1
 while True:
-    line = heard()
+    line = receive()
     number += 1
-    if line == 'next': said('end\\n')
-    elif line == 'status': said('0 done\\n')
+    if line == 'next': send('end\\n')
+    elif line == 'status': send('0 done\\n')
     elif line == 'tree 0 0':
-        heard()
+        receive()
         number += 1
-        said(open(os.path.join(os.path.dirname(sys.argv[0]), 'tree')).read())
-        said(f'fault 173 {number}\\n')
+        send(open(os.path.join(os.path.dirname(sys.argv[0]), 'tree')).read())
+        send(f'fault 173 {number}\\n')
     elif not line: sys.exit()
 """
 
@@ -281,7 +281,7 @@ class Crashes(WithFake):
         for does, message in [
             ("sys.exit(3)", "the program has ended with status 3"),
             ("sys.stderr.write('fault 122\\n')\nsys.exit(2)", "fault 122: 122: "),
-            ("said('x\\n')", "the program printed an unexpected line: x"),
+            ("send('x\\n')", "the program printed an unexpected line: x"),
         ]:
             self.does(does)
             self.assertTrue(client.refused("launch", **self.given).startswith(message))
@@ -308,7 +308,7 @@ class Crashes(WithFake):
         self.assertEqual(client.ended(), 0)
 
     def test_a_terminated_adapter_leaves_no_program(self):
-        self.does(BEGINS + f"open({str(self.at / 'gone')!r}, 'w').write(str(os.getpid()))\nsaid('x')\nheard()\n")
+        self.does(BEGINS + f"open({str(self.at / 'gone')!r}, 'w').write(str(os.getpid()))\nsend('x')\nreceive()\n")
         client = self.launched(stopOnEntry=True)
         client.ask("configurationDone")
         client.child.terminate()

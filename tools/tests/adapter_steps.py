@@ -343,7 +343,7 @@ class Ends(WithRun):
         numbers = pathlib.Path(f"/proc/{number}/task/{number}/children").read_text()
         return [f"/proc/{child}" for child in numbers.split()]
 
-    def gone(self, children):
+    def check_ended(self, children):
         """Checks that programs that were running have ended."""
         self.assertEqual(len(children), 1)
         self.assertFalse(os.path.exists(children[0]))
@@ -354,14 +354,14 @@ class Ends(WithRun):
         children = self.children(client)
         self.assertEqual(client.leave(), 0)
         self.assertEqual(client.ended(), 0)
-        self.gone(children)
+        self.check_ended(children)
 
     def test_a_disconnect_before_the_run_ends_the_program(self):
         client = self.launched(self.execution)
         children = self.children(client)
         self.assertEqual(client.leave(), 0)
         self.assertEqual(client.ended(), 0)
-        self.gone(children)
+        self.check_ended(children)
 
     def test_a_disconnect_after_a_failure_has_exit_code_1(self):
         client = self.entered(self.example("failure", "empty"))
@@ -384,7 +384,7 @@ class Ends(WithRun):
         client.child.stdin.close()
         self.assertIsNone(client.receive())
         self.assertEqual(client.child.wait(60), 0)
-        self.gone(children)
+        self.check_ended(children)
 
     def test_a_closed_output_ends_the_program(self):
         client = self.entered()
@@ -392,4 +392,4 @@ class Ends(WithRun):
         client.child.stdout.close()
         client.send("continue", {"threadId": 1})
         self.assertEqual(client.child.wait(60), 3)
-        self.gone(children)
+        self.check_ended(children)

@@ -81,7 +81,7 @@ class LocalNames(unittest.TestCase):
 
     def test_no_name_is_given_twice(self):
         given = local_names.LocalNames(["local://alpine", "local://alpine-3", IMAGE])
-        self.assertEqual([given.give(IMAGE) for _ in range(3)], ["alpine-2", "alpine-4", "alpine-5"])
+        self.assertEqual([given.new_name(IMAGE) for _ in range(3)], ["alpine-2", "alpine-4", "alpine-5"])
 
 
 class Rules(unittest.TestCase):
@@ -186,7 +186,7 @@ class Adopt(Folder):
         self.assertEqual(pathlib.Path(os.fsdecode(place)).read_text(), "".join(f"{line}\n" for line in lines))
 
     def test_secrets_and_agents_are_dropped(self):
-        kept = mount("/t", kind=4, more=part(33, "x"))
+        other = mount("/t", kind=4, more=part(33, "x"))
         secret, agent = mount("/s", kind=1, output=0, more=part(21, part(1, "k"))), mount("/a", kind=2, output=0)
         more = part(5, part(1, "id") + part(2, "TOKEN")) + part(5, part(1, "id")) + number(3, 2)
         changes = ["dropped: secret mount at /s", "dropped: secret environment TOKEN, id"]
@@ -194,8 +194,8 @@ class Adopt(Folder):
         def given(origin, *mounts, more):
             return exec_of(*mounts, more=more, on=[origin]) + PLATFORM
 
-        old = given(self.image, ROOT_MOUNT, secret, kept, more=more)
-        new = given(self.local, ROOT_MOUNT, kept, more=number(3, 2))
+        old = given(self.image, ROOT_MOUNT, secret, other, more=more)
+        new = given(self.local, ROOT_MOUNT, other, more=number(3, 2))
         self.entry(old, new, changes, "--without-secrets")
         self.entry(old, new, changes, "--all")
         old = given(self.image, agent, ROOT_MOUNT, more=b"")
@@ -318,12 +318,12 @@ class Changed(Folder):
         return [linting.ops_of_all_kinds(chance) for _ in range(300)]
 
     def test_what_is_left_is_exactly_what_is_found(self):
-        wishes = adopting.Wishes(frozenset(adopting.DROPPED), (), True)
+        settings = adopting.Settings(frozenset(adopting.DROPPED), (), True)
         taken = 0
         for data in self.definitions():
-            done = adopting.adopt(data, wishes)
+            done = adopting.adopt(data, settings)
             self.assertEqual(findings.findings_of(done.data), done.left)
-            again = adopting.adopt(done.data, wishes)
+            again = adopting.adopt(done.data, settings)
             self.assertEqual((again.data, again.changes), (done.data, []))
             taken += not done.left
             names = {finding.rest.split(" ")[0] for finding in done.left}

@@ -118,7 +118,7 @@ class TreeOfTar(Folder):
         errors += ["/link/below: below an entry that is left out", "/pipe: a pipe", "/tty: a device"]
         errors += ["/volume: an entry of another kind"]
         counts = ["2 devices", "1 hard link", "1 pipe", "2 symbolic links", "1 entry of another kind"]
-        counts = ", ".join([*counts, "1 entry below another"])
+        counts = ", ".join([*counts, "1 entry below one that is left out"])
         errors = [line.replace(": ", ": left out: ", 1) for line in errors] + [f"left out: {counts}"]
         return given, "".join(f"{line}\n" for line in errors).encode()
 
@@ -168,7 +168,7 @@ class TreeOfTar(Folder):
     def test_larger_owners_are_left_out(self):
         given = tar(entry("a", b"a", owner=(4294967295, 0)), entry("b", owner=(0, 4294967296)), entry("b/c"))
         errors = b"/b: left out: an owner that is not below 2^32\n/b/c: left out: below an entry that is left out\n"
-        errors += b"left out: 1 entry with a larger owner, 1 entry below another\n"
+        errors += b"left out: 1 entry with an owner above the limit, 1 entry below one that is left out\n"
         self.reads_as(given, ["d 0755 0 0 /", "f 0644 4294967295 0 61 /a"], errors)
         lines = ["d 0755 0 0 /", "f 0644 0 0 61 /a", "d 0755 0 0 /b", "d 0755 0 0 /b/c"]
         self.reads_as(given, lines, words=["--owner", "0:0"])

@@ -34,10 +34,10 @@ class DiffOfTrees(Folder):
     def test_paths_of_one_tree_are_added_or_removed(self):
         first = self.tree(b"first", "d 0700 1 2 /a", "f 0644 0 0 6869 /a/b")
         second = self.tree(b"second", "f 0600 3 4 - /c d")
-        gone = ["directory mode 0700 owner 1:2 /a", f"file mode 0644 owner 0:0 {contents(b'hi')} /a/b"]
+        removed = ["directory mode 0700 owner 1:2 /a", f"file mode 0644 owner 0:0 {contents(b'hi')} /a/b"]
         new = f"file mode 0600 owner 3:4 {contents(b'')} /c d"
-        self.differ(first, second, *(f"removed {line}" for line in gone), f"added {new}")
-        self.differ(second, first, *(f"added {line}" for line in gone), f"removed {new}")
+        self.differ(first, second, *(f"removed {line}" for line in removed), f"added {new}")
+        self.differ(second, first, *(f"added {line}" for line in removed), f"removed {new}")
 
     def test_changed_paths_have_the_changed_properties(self):
         one, two = contents(b"a"), contents(b"bc")

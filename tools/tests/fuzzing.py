@@ -175,7 +175,7 @@ class Fuzz(Folder):
 
     def fuzz(self, program, *words, cases=3):
         """Runs the tool with the seed 1."""
-        keep = os.fsdecode(self.place(b"kept"))
+        keep = os.fsdecode(self.place(b"stored"))
         return run("fuzz", "60", "--llbm", program, "--seed", "1", "--cases", str(cases), "--keep", keep, *words)
 
     def test_broken_rules_are_found(self):
@@ -195,7 +195,7 @@ class Fuzz(Folder):
 
     def test_a_finding_is_stored_with_its_command(self):
         done = self.fuzz(self.program("exit 9"), cases=1)
-        stored = pathlib.Path(os.fsdecode(self.place(b"kept"))) / "case-1-0"
+        stored = pathlib.Path(os.fsdecode(self.place(b"stored"))) / "case-1-0"
         self.assertIn(f"stored in {stored}", done.stdout.decode())
         command = (stored / "command").read_text().splitlines()[-1]
         self.assertRegex(command, r"/program .* < input-0$")

@@ -250,6 +250,6 @@ class WithProgram(Folder):
         commands = b"go\n" + b"back\n" * (events + 1)
         lines = self.narrow_lines("step", self.file(b"definition", given), "--workers=1", given=commands)
         parts = ["claim 0 {} -> file 1", "step 0 -> acted 0", "settle 0 -> {} done"]
-        gone = [f"{number + 1} {parts[number % 3].format(number // 3)}" for number in range(events)]
+        forwards = [f"{number + 1} {parts[number % 3].format(number // 3)}" for number in range(events)]
         back = [f"back {number}" for number in reversed(range(events))]
-        self.assertTrue(lines == [*gone, "end", *back, "fault 172"])
+        self.assertTrue(lines == [*forwards, "end", *back, "fault 172"])

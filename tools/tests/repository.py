@@ -22,7 +22,7 @@ KIT = re.compile(r"rattle-kit-\w+ logic [0-9a-f]{16}")
 NUMBERED = re.compile(r"([0-9]+)(?: [A-Za-z]+)*: (.*)")
 
 
-class Said(NamedTuple):
+class Declaration(NamedTuple):
     """A variant, or a type without variants: its docstring, and all forms of what it prints."""
 
     crate: str
@@ -32,7 +32,7 @@ class Said(NamedTuple):
     forms: tuple[str, ...]
 
 
-def said_in(crate, text):
+def declarations_in(crate, text):
     """Yields the variants and the types that a source declares."""
     written = {}
     for owner, variant, form in WRITTEN.findall(text):
@@ -49,10 +49,10 @@ def said_in(crate, text):
             if head and head[1] == "enum":
                 owner = head[2]
             elif head:
-                yield Said(crate, head[2], head[2], " ".join(sentences), (error,) if error else ())
+                yield Declaration(crate, head[2], head[2], " ".join(sentences), (error,) if error else ())
             elif variant and owner:
                 forms = (error,) if error else tuple(written.get((owner, variant[1]), ()))
-                yield Said(crate, owner, f"{owner}::{variant[1]}", " ".join(sentences), forms)
+                yield Declaration(crate, owner, f"{owner}::{variant[1]}", " ".join(sentences), forms)
             elif line == "}":
                 owner = None
             sentences, error = [], None
@@ -62,7 +62,7 @@ def code():
     """Yields the variants and the types of all sources except tests."""
     for path in sorted(CRATES.glob("*/src/**/*.rt")):
         if "tests" not in path.parts:
-            yield from said_in(path.relative_to(CRATES).parts[0], path.read_text("utf-8"))
+            yield from declarations_in(path.relative_to(CRATES).parts[0], path.read_text("utf-8"))
 
 
 class Page(unittest.TestCase):
@@ -70,24 +70,24 @@ class Page(unittest.TestCase):
 
     @classmethod
     def setUpClass(cls):
-        cls.said = list(code())
+        cls.declarations = list(code())
         cls.page = faults.read_page()
-        cls.printed = [one for one in cls.said if one.forms and re.match("[0-9]", one.forms[0])]
+        cls.printed = [one for one in cls.declarations if one.forms and re.match("[0-9]", one.forms[0])]
 
     def rows(self):
         """Returns the number and the row of each cause on the page, in order."""
         return [(number, cause) for number, causes in self.page.causes.items() for cause in causes]
 
-    def name_of(self, said):
+    def name_of(self, declaration):
         """Returns the name that the page has for a variant or a type."""
-        return said.name if "::" in said.name else f"{said.crate}::{said.name}"
+        return declaration.name if "::" in declaration.name else f"{declaration.crate}::{declaration.name}"
 
     def test_the_code_is_read(self):
         self.assertGreater(len(self.printed), 100)
-        said = {self.name_of(one): one for one in self.printed}
-        self.assertEqual(said["llb_wire::Memory"].sentence, "5: memory was refused.")
-        self.assertEqual(said["AsmFault::Line"].forms, ("161 {line} {rule}",))
-        self.assertEqual(said["WordsFault::Words"].forms, ("183 {word}", "183"))
+        by_name = {self.name_of(one): one for one in self.printed}
+        self.assertEqual(by_name["llb_wire::Memory"].sentence, "5: memory was refused.")
+        self.assertEqual(by_name["AsmFault::Line"].forms, ("161 {line} {rule}",))
+        self.assertEqual(by_name["WordsFault::Words"].forms, ("183 {word}", "183"))
 
     def test_the_numbers_agree_with_the_code(self):
         code = sorted((int(form.split(" ")[0]), self.name_of(one)) for one in self.printed for form in one.forms[:1])
@@ -131,12 +131,12 @@ class Page(unittest.TestCase):
     def test_the_names_agree_with_the_code(self):
         loader = "llb_loader"
         for number, crate, owner in [(88, loader, "Feature"), (89, loader, "Rule"), (161, "llb_asm", "Rule")]:
-            declared = [one for one in self.said if (one.crate, one.owner) == (crate, owner)]
+            declared = [one for one in self.declarations if (one.crate, one.owner) == (crate, owner)]
             wanted = [(one.name.split("::")[1], one.sentence) for one in declared]
             self.assertEqual([(name, row.sentence) for name, row in self.page.names[number].items()], wanted)
 
     def test_the_failures_agree_with_the_code(self):
-        forms = {one.name: one.forms[0] for one in self.said if one.owner == "VertexFault"}
+        forms = {one.name: one.forms[0] for one in self.declarations if one.owner == "VertexFault"}
         self.assertEqual([row.name for row in self.page.failures], list(forms))
         for row in self.page.failures:
             words = "failed {v} " + forms[row.name]
