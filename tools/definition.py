@@ -139,7 +139,7 @@ def take(found: dict, field: Field, value: int | str | bytes) -> None:
         found[field.name] = value
 
 
-def looked_into(field: Field, held: bytes | list[bytes]) -> dict | list[dict]:
+def parsed_messages(field: Field, held: bytes | list[bytes]) -> dict | list[dict]:
     """Parses the message or the messages of a field."""
     if field.repeated:
         return [read(field.kind, one) for one in held]
@@ -158,7 +158,7 @@ def read(message: str, data: bytes) -> dict:
             take(found, fields[number], value_of(fields[number], form, held))
     for field in fields.values():
         if field.kind in MESSAGES and field.name in found:
-            found[field.name] = looked_into(field, found[field.name])
+            found[field.name] = parsed_messages(field, found[field.name])
     return found
 
 

@@ -121,7 +121,7 @@ class Library:
             self.units[crate, file] = read_unit(crate, file, path.read_text("utf-8")) if there else None
         return self.units[crate, file]
 
-    def placed(self, path: str, name: str) -> Definition | str | None:
+    def resolve_path(self, path: str, name: str) -> Definition | str | None:
         """Resolves a path and a name to a definition or a type of src/, or None if it is not of this repository."""
         parts = path.removesuffix(".TheVariants").split(".")
         if parts[0] != "Rattle" or parts[2:3] != ["specs"] or not (self.root / "crates" / parts[1]).is_dir():
@@ -129,26 +129,26 @@ class Library:
         if parts[3:4] == ["declared"]:
             return f"{parts[1]}/src/{'/'.join(parts[4:-1]) or 'lib'}.rt {parts[-1]}"
         unit = self.unit(parts[1], parts[3]) if len(parts) == 4 else None
-        return self.looked_up(unit, name) if unit else None
+        return self.resolve(unit, name) if unit else None
 
-    def looked_up(self, unit: Unit, word: str) -> Definition | str | None:
+    def resolve(self, unit: Unit, word: str) -> Definition | str | None:
         """Resolves a word of a file."""
         head, dot, rest = word.partition(".")
         if dot and head in unit.words:
-            return self.placed(unit.words[head], rest)
+            return self.resolve_path(unit.words[head], rest)
         if head in unit.items:
             return unit.items[head]
         if head in unit.brought:
-            return self.placed(*unit.brought[head])
+            return self.resolve_path(*unit.brought[head])
         return None
 
     def used(self, unit: Unit, text: str) -> Iterator[Definition | str]:
         """Yields what the words of a text resolve to, in order."""
         for word in WORD.findall(text):
-            if word and (found := self.looked_up(unit, word)) is not None:
+            if word and (found := self.resolve(unit, word)) is not None:
                 yield found
         for sign in INFIX.findall(text):
-            if (found := self.looked_up(unit, f"◌{sign}◌")) is not None:
+            if (found := self.resolve(unit, f"◌{sign}◌")) is not None:
                 yield found
 
     def cone(self, unit: Unit, text: str) -> tuple[list[Definition], list[str]]:

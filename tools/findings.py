@@ -84,11 +84,11 @@ class Rows:
                 self.sure.add(row)
                 left.extend(self.links(row))
 
-    def looked_at(self) -> list[int]:
+    def rows_to_check(self) -> list[int]:
         """Returns the reachable rows, or all but the terminal if they are not known."""
         return sorted(self.sure if self.is_known else self.ops.keys() - {self.terminal})
 
-    def look_at(self, row: int) -> None:
+    def check_row(self, row: int) -> None:
         """Checks a row: inputs that name no row, features and rules."""
         op = self.ops[row]
         unknown = [number for number, named in enumerate(self.links(row)) if named is None]
@@ -96,7 +96,7 @@ class Rows:
         self.found += [Finding(FEATURE, row, name) for name in op_rules.features_of(op)]
         self.found += [Finding(RULE, row, name) for name in op_rules.rules_of(op)]
 
-    def look_at_indexes(self, row: int, most: int | None = None) -> None:
+    def check_indexes(self, row: int, most: int | None = None) -> None:
         """Checks the indexes of a row's inputs, or of its first ones."""
         for number, edge in enumerate(self.ops[row]["inputs"][:most]):
             named = self.row_of(edge)
@@ -104,7 +104,7 @@ class Rows:
             if count is not None and not 0 <= edge["index"] < count:
                 self.found.append(Finding(INDEX, row, str(number)))
 
-    def look_for_cycle(self, rows: list[int]) -> None:
+    def check_for_cycle(self, rows: list[int]) -> None:
         """Checks whether rows name one another in a cycle."""
         links = {row: [named for named in self.links(row) if named in self.ops] for row in rows}
         links = {row: [named for named in named_rows if named in links] for row, named_rows in links.items()}
@@ -113,16 +113,16 @@ class Rows:
         except definition.Unreadable:
             self.found.append(Finding(CYCLE))
 
-    def look(self) -> None:
+    def check(self) -> None:
         """Checks all rows; there are at least two."""
         self.reach(self.start())
-        rows = self.looked_at()
-        self.look_for_cycle(rows)
+        rows = self.rows_to_check()
+        self.check_for_cycle(rows)
         for row in rows:
-            self.look_at(row)
-            self.look_at_indexes(row)
+            self.check_row(row)
+            self.check_indexes(row)
         if self.terminal in self.ops:
-            self.look_at_indexes(self.terminal, 1)
+            self.check_indexes(self.terminal, 1)
 
     def rank(self, finding: Finding) -> tuple[int, bool, int]:
         """Returns the sort key that puts the program's own fault first: number, then reachability, then row."""
@@ -151,5 +151,5 @@ def findings_of(data: bytes) -> list[Finding]:
     if len(rows.named) < 2:
         rows.found.append(Finding(TOO_FEW))
     else:
-        rows.look()
+        rows.check()
     return ordered(rows)

@@ -182,7 +182,7 @@ def add_record(dice: random.Random, name: str, message: Message) -> None:
 def changed_op(dice: random.Random, entry: bytes) -> bytes:
     """Returns an entry with a few changes to its messages, or to its bytes if it is not an op."""
     try:
-        op = messages.taken_apart("Op", entry)
+        op = messages.parsed("Op", entry)
     except Unreadable:
         return changed_bytes(dice, entry)
     for _ in range(dice.choice([1, 1, 1, 2, 3])):
@@ -197,7 +197,7 @@ def changed_entries(dice: random.Random, entries: list[bytes]) -> list[bytes]:
         place = dice.randrange(len(after))
         change = changed_bytes if one_in(dice, 8) else changed_op
         after[place] = change(dice, after[place])
-    return after if one_in(dice, 8) else messages.remade(entries, after)
+    return after if one_in(dice, 8) else messages.with_new_digests(entries, after)
 
 
 def moved_entries(dice: random.Random, entries: list[bytes]) -> list[bytes]:

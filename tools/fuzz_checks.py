@@ -153,7 +153,7 @@ def caches_in(data: bytes) -> list[bytes] | None:
         for entry in definition.entries_of(data):
             for kind, _, exec_op in definition.records(entry):
                 if kind == messages.NUMBERS["Op"]["exec"] and isinstance(exec_op, bytes):
-                    found += ids_in(messages.taken_apart("ExecOp", exec_op))
+                    found += ids_in(messages.parsed("ExecOp", exec_op))
     except Unreadable:
         return None
     return found

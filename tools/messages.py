@@ -141,7 +141,7 @@ def spelled(field: int, form: int, held: Value) -> Raw:
     return Raw(varint(field << 3 | form) + held)
 
 
-def taken_apart(name: str, data: bytes) -> Message:
+def parsed(name: str, data: bytes) -> Message:
     """Parses a message, and the messages inside it as far as possible; raises Unreadable."""
     message = []
     for field, form, held in definition.records(data):
@@ -150,14 +150,14 @@ def taken_apart(name: str, data: bytes) -> Message:
             held = spelled(field, form, held)
         elif form != VARINT and kind in TABLE:
             try:
-                held = taken_apart(kind, held)
+                held = parsed(kind, held)
             except Unreadable:
                 pass
         message.append((field, held))
     return message
 
 
-def remade(before: list[bytes], after: list[bytes]) -> list[bytes]:
+def with_new_digests(before: list[bytes], after: list[bytes]) -> list[bytes]:
     """Returns the changed entries with inputs that name the changed digests in place of the old ones.
 
     Both lists have the same length. An entry that would name itself keeps the old digest.

@@ -134,13 +134,13 @@ class Adapter(Outgoing):
 
     def failure_of(self, vertex: int) -> str:
         """Returns the program's line for a vertex that failed."""
-        look = self.launched.session.status()[vertex]
-        return f"failed {vertex} {look.removeprefix('failed ')}"
+        status = self.launched.session.status()[vertex]
+        return f"failed {vertex} {status.removeprefix('failed ')}"
 
     def failures(self) -> list[str]:
         """Returns the program's lines for all vertices that failed."""
-        looks = [look.partition(" ") for look in self.launched.session.status()]
-        return [f"failed {vertex} {rest}" for vertex, (word, _, rest) in enumerate(looks) if word == "failed"]
+        statuses = [status.partition(" ") for status in self.launched.session.status()]
+        return [f"failed {vertex} {rest}" for vertex, (word, _, rest) in enumerate(statuses) if word == "failed"]
 
     def exit_code(self) -> int:
         """Returns the exit code of the run: 1 if a vertex failed."""

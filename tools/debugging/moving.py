@@ -93,8 +93,8 @@ class Mover:
 
     def claim(self, worker: int) -> Event | None:
         """Claims the first vertex that is ready and whose locked caches are free, if there is one."""
-        for vertex, look in enumerate(self.session.status()):
-            if look != "ready":
+        for vertex, status in enumerate(self.session.status()):
+            if status != "ready":
                 continue
             try:
                 return self.do(f"claim {worker} {vertex}")

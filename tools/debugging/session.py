@@ -130,16 +130,16 @@ class Session:
     def status(self) -> list[str]:
         """Returns the status of each vertex, by number."""
         self.send("status")
-        looks = []
+        statuses = []
         for vertex in range(self.vertices):
             line = self.line()
             if line.startswith("fault "):
                 raise Refusal(line)
-            number, _, look = line.partition(" ")
+            number, _, status = line.partition(" ")
             if number != str(vertex):
                 raise self.broken(line)
-            looks.append(look)
-        return looks
+            statuses.append(status)
+        return statuses
 
     def tree(self, vertex: int, output: int) -> list[bytes] | None:
         """Returns the lines of the tree of an output, or None if there is no such output."""

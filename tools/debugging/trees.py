@@ -87,7 +87,7 @@ def counted(number: int, one: str, many: str) -> str:
 
 
 def text_in(content: bytes) -> str | None:
-    """Decodes bytes as text, or returns None if not UTF-8 or have control characters."""
+    """Decodes bytes as text, or returns None if they are not UTF-8 or have control characters."""
     try:
         text = content.decode("utf-8")
     except UnicodeDecodeError:
@@ -108,7 +108,7 @@ def shown(node: Node) -> tuple[str, str]:
     return f"text of {length}{cut}", content[:MOST_SHOWN].decode("utf-8", "ignore")
 
 
-def looks_of(node: Node) -> str:
+def summary_of(node: Node) -> str:
     """Describes a node in one line: mode, owner, and the number of names or the content."""
     prefix = f"{node.mode} {node.owner}"
     if node.is_directory():
@@ -117,7 +117,7 @@ def looks_of(node: Node) -> str:
     return f"{prefix}, {what}: {printable(content)}" if content else f"{prefix}, {what}"
 
 
-def whole_of(node: Node) -> str:
+def description_of(node: Node) -> str:
     """Describes a node in several lines: the names in a directory, or the content of a file."""
     if not node.is_directory():
         what, content = shown(node)

@@ -88,7 +88,7 @@ class Views:
 
     def node(self, name: str, node: trees.Node, expression: str) -> dict:
         """Returns the variable for a node of a tree; a directory expands to its entries."""
-        variable = {"name": name, "value": trees.looks_of(node), "evaluateName": expression, "variablesReference": 0}
+        variable = {"name": name, "value": trees.summary_of(node), "evaluateName": expression, "variablesReference": 0}
         if not node.is_directory():
             return {**variable, "type": "file"}
         return {**variable, "type": "directory", **self.opening(node, expression)}
@@ -133,9 +133,9 @@ class Views:
     def graph_variables(self) -> Variables:
         """Returns the variables for all vertices with their status; each expands to its outputs."""
         found = []
-        for vertex, look in enumerate(self.session.status()):
-            opener = self.reference(lambda vertex=vertex: self.outputs(vertex)) if look == "done" else 0
-            found.append({"name": self.title(vertex), "value": look, "variablesReference": opener})
+        for vertex, status in enumerate(self.session.status()):
+            opener = self.reference(lambda vertex=vertex: self.outputs(vertex)) if status == "done" else 0
+            found.append({"name": self.title(vertex), "value": status, "variablesReference": opener})
         return found
 
     def scopes(self, worker: int) -> list[dict]:
@@ -183,7 +183,7 @@ class Views:
         except trees.NoPath as fault:
             raise Refused(f"{vertex}.{output}: {fault}") from fault
         names = trees.names_in(path)
-        shown = {"result": trees.whole_of(node), "variablesReference": 0, "type": "file"}
+        shown = {"result": trees.description_of(node), "variablesReference": 0, "type": "file"}
         if not node.is_directory():
             return shown
         return shown | {"type": "directory"} | self.opening(node, f"{vertex}.{output}:/" + "/".join(names))

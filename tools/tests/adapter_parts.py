@@ -398,15 +398,15 @@ class Trees(Folder):
     def test_a_tree_is_shown_directory_by_directory(self):
         wide = "\N{GREEK SMALL LETTER ALPHA} b".encode()
         root = self.tree(b"d 0700 0 0 /a", b"f 0644 3 4 6869 /a/b", b"d 0755 0 0 /a-", b"f 0644 0 0 - /a-/" + wide)
-        self.assertEqual(trees.whole_of(root), "2 names:\na/\na-/")
-        self.assertEqual(trees.looks_of(root), "0755 1:2, 2 names")
-        self.assertEqual(trees.looks_of(trees.node_at(root, "a")), "0700 0:0, 1 name")
-        self.assertEqual(trees.looks_of(trees.node_at(root, "/a/b")), "0644 3:4, text of 2 bytes: hi")
-        self.assertEqual(trees.looks_of(trees.node_at(root, f"/x/.././a-//{wide.decode()}/")), "0644 0:0, 0 bytes")
+        self.assertEqual(trees.description_of(root), "2 names:\na/\na-/")
+        self.assertEqual(trees.summary_of(root), "0755 1:2, 2 names")
+        self.assertEqual(trees.summary_of(trees.node_at(root, "a")), "0700 0:0, 1 name")
+        self.assertEqual(trees.summary_of(trees.node_at(root, "/a/b")), "0644 3:4, text of 2 bytes: hi")
+        self.assertEqual(trees.summary_of(trees.node_at(root, f"/x/.././a-//{wide.decode()}/")), "0644 0:0, 0 bytes")
         for path, message in [("/a/c", "nothing is at /a/c"), ("/a/b/c", "/a/b is a file")]:
             with self.assertRaisesRegex(trees.NoPath, message):
                 trees.node_at(root, path)
-        self.assertEqual(trees.whole_of(self.tree()), "0 names")
+        self.assertEqual(trees.description_of(self.tree()), "0 names")
 
     def test_contents_are_shown_as_text_or_hexadecimal(self):
         for content, what, body in [
@@ -423,9 +423,9 @@ class Trees(Folder):
         ]:
             node = trees.Node("0644", "0:0", None, content.hex().encode())
             self.assertEqual(trees.shown(node), (what, body))
-            self.assertEqual(trees.whole_of(node), f"{what}:\n{body}")
+            self.assertEqual(trees.description_of(node), f"{what}:\n{body}")
 
     def test_at_most_a_thousand_names_are_shown(self):
         root = self.tree(*(b"f 0644 0 0 - /%04d" % number for number in range(1002)))
-        lines = trees.whole_of(root).split("\n")
+        lines = trees.description_of(root).split("\n")
         self.assertEqual((lines[:2], lines[1000:]), (["1,002 names:", "0000"], ["0999", "and 2 more"]))

@@ -237,7 +237,7 @@ class Adopt(Folder):
         changes = ["runs true in place of /bin/sh -c 'apk add git'"]
         self.entry(old, self.words(self.local, "true"), changes, "--run-nothing")
         self.refused(base.ending(self.local, self.words(self.local, "apk")), [
-            "entry 1: not adopted: Script 71 apk; --run-nothing or --rules gives other words", "nothing is written",
+            "entry 1: not adopted: Script 71 apk; --run-nothing or --rules replaces the words", "nothing is written",
         ])
 
     def test_rules_replace_the_words_of_executions(self):

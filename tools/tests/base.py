@@ -84,7 +84,7 @@ class Folder(unittest.TestCase):
         os.chmod(place, mode or (0o755 if content is None else 0o644))
 
     def text(self, lines):
-        """Returns the text of these lines; OWN stands for the owner of the files that the test makes."""
+        """Returns the text of these lines; OWN is replaced by the owner of the files that the test makes."""
         return "".join(line + "\n" for line in lines).encode().replace(b"OWN", self.mine)
 
     def check_run(self, done, status, output, errors=b""):

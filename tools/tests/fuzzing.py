@@ -47,9 +47,9 @@ class Messages(unittest.TestCase):
     def test_parsed_records_have_the_same_bytes(self):
         for place in EXAMPLES.glob("*.definition"):
             for entry in definition.entries_of(place.read_bytes()):
-                self.assertEqual(encoded(messages.taken_apart("Op", entry)), entry)
+                self.assertEqual(encoded(messages.parsed("Op", entry)), entry)
         mixed = b"\x09" + b"\x01" * 8 + b"\x0d" + b"\x02" * 4 + b"\x0a\x01\xff"
-        apart = messages.taken_apart("Op", mixed)
+        apart = messages.parsed("Op", mixed)
         self.assertEqual(apart, [(1, Raw(mixed[:9])), (1, Raw(mixed[9:14])), (1, b"\xff")])
         self.assertEqual(encoded(apart), mixed)
 
@@ -57,7 +57,7 @@ class Messages(unittest.TestCase):
         below = encoded(first_op())
         above = encoded(made("Op", inputs=(messages.edge(below),)))
         top = encoded(made("Op", inputs=(messages.edge(above, 3), messages.edge(below))))
-        after = messages.remade([below, above, top], [b"\x32\x00", above, top])
+        after = messages.with_new_digests([below, above, top], [b"\x32\x00", above, top])
         self.assertEqual(after[0], b"\x32\x00")
         self.assertEqual(after[1], encoded(made("Op", inputs=(messages.edge(after[0]),))))
         wanted = made("Op", inputs=(messages.edge(after[1], 3), messages.edge(after[0])))
@@ -66,7 +66,7 @@ class Messages(unittest.TestCase):
     def test_an_entry_that_would_name_itself_keeps_the_digest(self):
         below = encoded(first_op())
         own = encoded(made("Op", inputs=(messages.edge(below),)))
-        self.assertEqual(messages.remade([below], [own]), [own])
+        self.assertEqual(messages.with_new_digests([below], [own]), [own])
 
     def test_the_table_agrees_with_the_parser(self):
         for name, fields in definition.MESSAGES.items():
