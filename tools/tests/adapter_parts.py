@@ -77,7 +77,7 @@ class WithAdapter(Folder):
         client.ask("initialize", adapterID="llbm", **habits)
         return client
 
-    def no_file_is_left(self):
+    def check_no_file_is_left(self):
         """Checks that no temporary file remains."""
         self.assertEqual(os.listdir(self.at / "held"), [])
 
@@ -85,7 +85,7 @@ class WithAdapter(Folder):
 class Messages(WithAdapter):
     """Messages that come in."""
 
-    def ends(self, client, status, errors):
+    def check_end(self, client, status, errors):
         """Checks that the adapter ends with this status and this text on standard error."""
         client.child.stdin.close()
         self.assertIsNone(client.receive())
@@ -103,11 +103,11 @@ class Messages(WithAdapter):
         ]:
             client = self.client()
             client.write(b"", head)
-            self.ends(client, 2, errors)
+            self.check_end(client, 2, errors)
 
     def test_the_end_of_the_input_ends_the_adapter(self):
-        self.ends(self.client(), 0, "")
-        self.ends(self.opened(), 0, "")
+        self.check_end(self.client(), 0, "")
+        self.check_end(self.opened(), 0, "")
 
     def test_messages_can_come_in_pieces_and_with_more_fields(self):
         client = self.client()
@@ -120,7 +120,7 @@ class Messages(WithAdapter):
             client.write(b"", whole[place : place + 50])
         self.assertTrue(client.response(1)["success"])
         self.assertTrue(client.response(2)["success"])
-        self.ends(client, 0, "")
+        self.check_end(client, 0, "")
 
     def test_messages_that_are_not_requests_are_refused(self):
         for content, number, name, message in [
@@ -201,7 +201,7 @@ class WithFake(WithAdapter):
         self.program.chmod(0o755)
         self.given = {"definition": self.definition, "sources": {"src": self.tree}, "llbm": str(self.program)}
 
-    def does(self, text):
+    def set_behavior(self, text):
         """Sets what the program does in a session."""
         (self.at / "does").write_text(text)
 
@@ -224,17 +224,17 @@ class Crashes(WithFake):
             (CLOSES, 137, ["the program has ended by signal 9"]),
             (BABBLES, 1, ["the program printed an unexpected line: 3 step 0 -> read"]),
         ]:
-            self.does(does)
+            self.set_behavior(does)
             client = self.launched()
             client.ask("configurationDone")
             self.assertEqual(client.ended(), code, does)
             self.assertEqual(client.lines("stderr"), lines)
             self.assertEqual(client.refused("threads"), "threads: the run has ended")
             self.assertEqual(client.leave(), 0)
-            self.no_file_is_left()
+            self.check_no_file_is_left()
 
     def test_a_crash_during_a_request_ends_the_run(self):
-        self.does(CRASHES)
+        self.set_behavior(CRASHES)
         client = self.launched(stopOnEntry=True)
         client.ask("configurationDone")
         client.stopped()
@@ -244,7 +244,7 @@ class Crashes(WithFake):
         self.assertEqual(client.leave(), 0)
 
     def test_a_program_that_ignores_the_end_is_killed(self):
-        self.does(BEGINS + "while True: signal.pause()\n")
+        self.set_behavior(BEGINS + "while True: signal.pause()\n")
         client = self.launched(stopOnEntry=True)
         client.ask("configurationDone")
         client.stopped()
@@ -252,7 +252,7 @@ class Crashes(WithFake):
         self.assertEqual(client.ended(), 0)
 
     def test_an_invalid_tree_ends_the_run(self):
-        self.does(DONE)
+        self.set_behavior(DONE)
         for text in ["d 0755 0 0 /\nf 0644 0 0 6 /a\n", "d 0755 0 0 /\nf 0644 0 0 - /a/b\n", "d /\n", "f 0644 0 /\n"]:
             (self.at / "tree").write_text(text)
             client = self.launched(stopOnEntry=True)
@@ -265,7 +265,7 @@ class Crashes(WithFake):
             self.assertEqual(client.leave(), 0)
 
     def test_an_invalid_graph_is_refused(self):
-        self.does(DONE)
+        self.set_behavior(DONE)
         client = self.opened()
         for shown, message in [
             ("x", "the program shows 0 vertices, and the definition has 1"),
@@ -283,16 +283,16 @@ class Crashes(WithFake):
             ("sys.stderr.write('fault 122\\n')\nsys.exit(2)", "fault 122: 122: "),
             ("send('x\\n')", "the program printed an unexpected line: x"),
         ]:
-            self.does(does)
+            self.set_behavior(does)
             self.assertTrue(client.refused("launch", **self.given).startswith(message))
-        self.does(DONE)
+        self.set_behavior(DONE)
         for words, message in [
             ({"llbm": "/nowhere/llbm"}, "/nowhere/llbm: there is no such program"),
             ({"llbm": self.definition}, f"{self.definition}: there is no such program"),
         ]:
             self.assertEqual(client.refused("launch", **{**self.given, **words}), message)
         client.ask("launch", **self.given)
-        self.no_file_is_left()
+        self.check_no_file_is_left()
 
     def test_a_program_that_cannot_be_started_is_refused(self):
         self.program.write_text("#!/nowhere\n")
@@ -300,7 +300,7 @@ class Crashes(WithFake):
         self.assertEqual(message, f"{self.program}: No such file or directory")
 
     def test_the_program_on_the_path_is_used(self):
-        self.does(DONE)
+        self.set_behavior(DONE)
         self.environment["PATH"] = f"{self.at}:{os.environ['PATH']}"
         client = self.opened()
         client.ask("launch", definition=self.definition, sources={"src": self.tree})
@@ -308,12 +308,13 @@ class Crashes(WithFake):
         self.assertEqual(client.ended(), 0)
 
     def test_a_terminated_adapter_leaves_no_program(self):
-        self.does(BEGINS + f"open({str(self.at / 'gone')!r}, 'w').write(str(os.getpid()))\nsend('x')\nreceive()\n")
+        writes = f"open({str(self.at / 'gone')!r}, 'w').write(str(os.getpid()))\n"
+        self.set_behavior(BEGINS + writes + "send('x')\nreceive()\n")
         client = self.launched(stopOnEntry=True)
         client.ask("configurationDone")
         client.child.terminate()
         self.assertEqual(client.child.wait(60), 143)
-        self.no_file_is_left()
+        self.check_no_file_is_left()
 
 
 class Launches(WithFake):
@@ -321,7 +322,7 @@ class Launches(WithFake):
 
     def setUp(self):
         super().setUp()
-        self.does(DONE)
+        self.set_behavior(DONE)
 
     def test_launches_with_wrong_arguments_are_refused(self):
         client = self.opened()
@@ -345,7 +346,7 @@ class Launches(WithFake):
             ({"llbm": 1}, "llbm is not a text"),
         ]:
             self.assertEqual(client.refused("launch", **{**self.given, **words}), message, words)
-            self.no_file_is_left()
+            self.check_no_file_is_left()
         client.ask("launch", **{**self.given, "workers": None})
         again = "launch: a launch is done, and configurationDone has to come next"
         self.assertEqual(client.refused("launch", **self.given), again)

@@ -58,7 +58,7 @@ class WithRun(WithAdapter):
         client = self.opened(**(habits or {}))
         client.ask("launch", llbm=base.llbm, **given, **more)
         client.until("initialized")
-        self.no_file_is_left()
+        self.check_no_file_is_left()
         return client
 
     def entered(self, given=None, habits=None, **more):
@@ -74,14 +74,14 @@ class WithRun(WithAdapter):
         entries = [base.file_op(base.mkdir(f"/{number}")) for number in range(200)]
         return self.made(base.ending(*entries, base.merge(*entries)))
 
-    def breaks(self, client, *breakpoints, source=None):
+    def set_breakpoints(self, client, *breakpoints, source=None):
         """Sets breakpoints at these lines, with conditions if given, and returns the answers."""
         pairs = [one if isinstance(one, tuple) else (one,) for one in breakpoints]
         given = [dict(zip(("line", "condition"), pair)) for pair in pairs]
         source = source or {"sourceReference": 1}
         return client.ask("setBreakpoints", source=source, breakpoints=given)["breakpoints"]
 
-    def goes(self, client, command="continue", thread=1):
+    def move(self, client, command="continue", thread=1):
         """Sends a request that moves the run, and returns the next stop."""
         client.ask(command, threadId=thread)
         return client.stopped()
@@ -140,20 +140,20 @@ class WholeRuns(WithRun):
             self.assertEqual([*client.lines(), "end"], answers)
 
     def test_a_source_can_be_a_directory(self):
-        self.passes(run("directory-of-tree", self.at / "source", text=(EXAMPLES / "tour.tree").read_bytes()))
+        self.check_success(run("directory-of-tree", self.at / "source", text=(EXAMPLES / "tour.tree").read_bytes()))
         client = self.entered({**self.execution, "sources": {"source": str(self.at / "source")}})
-        self.goes(client, "next")
+        self.move(client, "next")
         self.assertEqual(client.ask("evaluate", expression="0.0:text/tail")["result"], "text of 6 bytes:\nworld\n")
 
     @unittest.skipUnless((TOOLS / "tree-of-tar").exists(), "tools/tree-of-tar is needed")
     def test_a_source_can_be_a_tar(self):
-        self.passes(run("directory-of-tree", self.at / "source", text=(EXAMPLES / "tour.tree").read_bytes()))
+        self.check_success(run("directory-of-tree", self.at / "source", text=(EXAMPLES / "tour.tree").read_bytes()))
         for name, form in [("packed.tar", "w"), ("packed", "w:gz")]:
             place = str(self.at / name)
             with tarfile.open(place, form) as archive:
                 archive.add(self.at / "source", "")
             client = self.entered({**self.execution, "sources": {"source": place}})
-            self.goes(client, "next")
+            self.move(client, "next")
             self.assertEqual(client.ask("evaluate", expression="0.0:text/tail")["result"], "text of 6 bytes:\nworld\n")
             self.assertEqual(client.leave(), 0)
 
@@ -163,15 +163,15 @@ class WholeRuns(WithRun):
         stop = client.stopped()
         self.assertEqual((stop["reason"], stop["threadId"]), ("end", 1))
         self.assertEqual(client.ask("evaluate", expression="2.0:/out")["result"], "2 names:\nbin/\nenv")
-        self.assertEqual(self.goes(client, "stepBack")["reason"], "step")
-        self.assertEqual(self.goes(client)["reason"], "end")
+        self.assertEqual(self.move(client, "stepBack")["reason"], "step")
+        self.assertEqual(self.move(client)["reason"], "end")
         self.assertEqual(self.record(client), stored_record())
         client.ask("next", threadId=2)
         self.assertEqual(client.ended(), 0)
 
     def test_a_run_without_debugging_does_not_stop(self):
         client = self.launched(self.execution, noDebug=True)
-        self.breaks(client, 1, 6)
+        self.set_breakpoints(client, 1, 6)
         client.ask("configurationDone")
         self.assertEqual(client.ended(), 0)
 
@@ -221,7 +221,7 @@ class Breakpoints(WithRun):
 
     def test_the_run_stops_after_claims_and_settles(self):
         client = self.launched(self.execution)
-        first, second, third = self.breaks(client, 30, (7, "settle"), (1, " claim "))
+        first, second, third = self.set_breakpoints(client, 30, (7, "settle"), (1, " claim "))
         self.assertEqual([one["verified"] for one in (first, second, third)], [True, True, True])
         self.assertEqual([one["line"] for one in (first, second, third)], [30, 7, 1])
         client.ask("configurationDone")
@@ -237,25 +237,25 @@ class Breakpoints(WithRun):
     def test_every_line_of_an_entry_can_have_a_breakpoint(self):
         client = self.entered()
         last = len((EXAMPLES / "tour.text").read_text().splitlines())
-        answers = self.breaks(client, *range(1, last + 2))
+        answers = self.set_breakpoints(client, *range(1, last + 2))
         for vertex, (begin, end) in enumerate(ENTRIES):
             self.assertTrue(all(one["verified"] for one in answers[begin - 1 : end]), vertex)
         messages = [one.get("message") for one in answers[TERMINAL - 1 :]]
         wanted = ["entry 3 is not a vertex: the result does not depend on it"] * 5 + ["no entry has this line"]
         self.assertEqual(messages, wanted)
-        stop = self.goes(client)
+        stop = self.move(client)
         self.assertEqual(stop["hitBreakpointIds"], [one["id"] for one in answers[:5]])
 
     def test_invalid_breakpoints_are_not_verified(self):
         client = self.entered()
-        answers = self.breaks(client, 0, (1, "now"), -7, 10**9)
+        answers = self.set_breakpoints(client, 0, (1, "now"), -7, 10**9)
         self.assertEqual([one["verified"] for one in answers], [False] * 4)
         self.assertEqual(answers[1]["message"], "the condition is neither claim nor settle")
-        self.breaks(client, 1)
-        other = self.breaks(client, 1, source={"path": "/nowhere/main.c"})
+        self.set_breakpoints(client, 1)
+        other = self.set_breakpoints(client, 1, source={"path": "/nowhere/main.c"})
         self.assertFalse(other[0]["verified"])
-        self.assertEqual(self.goes(client)["reason"], "breakpoint")
-        self.assertEqual(self.breaks(client), [])
+        self.assertEqual(self.move(client)["reason"], "breakpoint")
+        self.assertEqual(self.set_breakpoints(client), [])
         client.ask("continue", threadId=1)
         self.assertEqual(client.ended(), 0)
 
@@ -284,14 +284,14 @@ class Breakpoints(WithRun):
         lines = client.ask("source", sourceReference=1)["content"].splitlines()
         begins = [number for number, line in enumerate(lines, 1) if line == "op {" or line[:4] == "raw "]
         self.assertEqual(len(begins), 4)
-        answers = self.breaks(client, begins[1])
+        answers = self.set_breakpoints(client, begins[1])
         self.assertTrue(answers[0]["verified"])
-        self.assertEqual(self.goes(client)["hitBreakpointIds"], [answers[0]["id"]])
+        self.assertEqual(self.move(client)["hitBreakpointIds"], [answers[0]["id"]])
         self.assertEqual(self.record(client), ["1 claim 0 0 -> source 1"])
 
     def test_the_source_is_the_text_of_the_entries(self):
         client = self.entered()
-        self.goes(client, "stepIn")
+        self.move(client, "stepIn")
         frame = client.ask("stackTrace", threadId=1)["stackFrames"][0]
         self.assertEqual((frame["line"], frame["endLine"], frame["column"]), (1, 5, 1))
         self.assertEqual(client.ask("loadedSources")["sources"], [frame["source"]])
@@ -304,9 +304,9 @@ class Breakpoints(WithRun):
         given = self.example("failure", "empty")
         client = self.entered(given, {"linesStartAt1": False, "columnsStartAt1": False})
         source = {"path": given["text"]}
-        comments, entry = self.breaks(client, 1, 2, source=source)
+        comments, entry = self.set_breakpoints(client, 1, 2, source=source)
         self.assertEqual((comments["verified"], entry["verified"]), (False, True))
-        self.goes(client)
+        self.move(client)
         frame = client.ask("stackTrace", threadId=1)["stackFrames"][0]
         self.assertEqual((frame["line"], frame["endLine"], frame["column"]), (2, 6, 0))
         self.assertEqual(frame["source"], {"name": "definition.text", "path": given["text"]})
@@ -341,8 +341,8 @@ class Failures(WithRun):
         answer = client.refused("evaluate", expression="1.0:/a")
         self.assertEqual(answer, "there is no output 1.0: vertex 1 is failed command 1 status 1")
         self.assertEqual([one["value"] for one in self.scope(client, 1, "Outputs")], ["none"])
-        self.goes(client, "stepBack")
-        stop = self.goes(client, "stepIn")
+        self.move(client, "stepBack")
+        stop = self.move(client, "stepIn")
         self.assertEqual(stop["reason"], "exception")
         client.ask("continue", threadId=1)
         self.assertEqual(client.ended(), 1)
@@ -367,7 +367,7 @@ class Failures(WithRun):
         ]:
             given = self.made(base.definition(*entries))
             self.assertTrue(client.refused("launch", llbm=base.llbm, **given).startswith(message), message)
-            self.no_file_is_left()
+            self.check_no_file_is_left()
         given = self.made(base.ending(base.source("local://src")), src=b"x\n")
         message = client.refused("launch", llbm=base.llbm, **given)
         self.assertTrue(message.startswith("fault 31 1: "), message)
@@ -416,7 +416,7 @@ class Documented(WithRun):
             self.assertLessEqual(set(given), attributes)
             self.assertIs(given.pop("stopOnEntry"), True)
             client = self.entered(given)
-            self.assertEqual(self.goes(client)["reason"], "end")
+            self.assertEqual(self.move(client)["reason"], "end")
 
     def test_the_launch_files_of_emacs_and_neovim_have_these_names_and_paths(self):
         wanted = {"type", "request", "text", "sources", "workers", "stopOnEntry", "stopAtEnd"}

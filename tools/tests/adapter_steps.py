@@ -18,7 +18,7 @@ class Steps(WithRun):
         lines = []
         for command, thread in steps:
             before = len(client.lines())
-            stop = self.goes(client, command, thread)
+            stop = self.move(client, command, thread)
             self.assertEqual(stop["reason"], "step")
             lines += client.lines()[before:]
         return lines
@@ -48,7 +48,7 @@ class Steps(WithRun):
     def test_a_worker_that_can_claim_nothing_lets_another_continue(self):
         client = self.entered()
         self.steps(client, ("next", 1), ("next", 1), ("stepIn", 1))
-        stop = self.goes(client, "next", 2)
+        stop = self.move(client, "next", 2)
         self.assertEqual((stop["reason"], stop["threadId"]), ("step", 1))
         self.assertEqual(self.record(client)[-1], "8 step 0 -> ran 0 0")
 
@@ -64,25 +64,25 @@ class Steps(WithRun):
 
     def test_a_breakpoint_ends_a_step(self):
         client = self.entered()
-        self.breaks(client, 1)
-        stop = self.goes(client, "next")
+        self.set_breakpoints(client, 1)
+        stop = self.move(client, "next")
         self.assertEqual((stop["reason"], self.record(client)), ("breakpoint", stored_record()[:1]))
-        self.assertEqual(self.goes(client, "stepOut")["reason"], "step")
+        self.assertEqual(self.move(client, "stepOut")["reason"], "step")
         self.assertEqual(self.record(client), stored_record()[:3])
 
     def test_the_console_takes_commands(self):
         client = self.entered()
 
-        def does(command, line):
+        def run_command(command, line):
             """Does a command that adds a line to the record."""
             body = client.ask("evaluate", expression=command, context="repl")
             self.assertEqual((body["result"], client.lines()[-1]), (line, line))
             self.assertEqual(client.stopped()["reason"], "step")
 
-        does("claim 1 1", "1 claim 1 1 -> file 1")
-        does("step 1", "2 step 1 -> acted 0")
-        does("cancel 1", "3 cancel 1 -> 1 1")
-        does(" claim 0 1 ", "4 claim 0 1 -> file 1")
+        run_command("claim 1 1", "1 claim 1 1 -> file 1")
+        run_command("step 1", "2 step 1 -> acted 0")
+        run_command("cancel 1", "3 cancel 1 -> 1 1")
+        run_command(" claim 0 1 ", "4 claim 0 1 -> file 1")
         message = client.refused("evaluate", expression="settle 0", context="repl")
         self.assertTrue(message.startswith("fault 171 138 171: "), message)
         message = client.refused("evaluate", expression="claim 0 9", context="repl")
@@ -90,7 +90,7 @@ class Steps(WithRun):
         self.assertIn("is neither", client.refused("evaluate", expression="step 0", context="watch"))
         self.assertIn("is neither", client.refused("evaluate", expression="quit", context="repl"))
         for count in [3, 2, 1, 0]:
-            self.goes(client, "stepBack")
+            self.move(client, "stepBack")
             self.assertEqual(len(self.record(client)), count)
         client.ask("continue", threadId=1)
         self.assertEqual(client.ended(), 0)
@@ -105,27 +105,27 @@ class StepsBack(WithRun):
         moves = [("stepIn", 1 + number % 2) for number in range(14)]
         states = [self.state(client, 3, 2)]
         for command, thread in moves:
-            self.goes(client, command, thread)
+            self.move(client, command, thread)
             states.append(self.state(client, 3, 2))
         whole = self.record(client)
         for number in reversed(range(14)):
-            stop = self.goes(client, "stepBack", 1 + number % 2)
+            stop = self.move(client, "stepBack", 1 + number % 2)
             self.assertEqual(stop["reason"], "step")
             self.assertEqual(self.record(client), whole[:number])
             self.assertEqual(self.state(client, 3, 2), states[number])
         self.assertEqual(client.refused("stepBack", threadId=1), "the run is at its beginning")
         self.assertEqual(client.refused("reverseContinue", threadId=1), "the run is at its beginning")
         for number, (command, thread) in enumerate(moves, 1):
-            self.goes(client, command, thread)
+            self.move(client, command, thread)
             self.assertEqual(self.state(client, 3, 2), states[number])
         self.assertEqual(self.record(client), whole)
 
     def test_stops_are_the_same_both_ways(self):
         client = self.entered(stopAtEnd=True)
-        self.breaks(client, 1, (7, "settle"), (20, "settle"), 21)
+        self.set_breakpoints(client, 1, (7, "settle"), (20, "settle"), 21)
         stops, states, lengths = [], [], []
         while True:
-            stop = self.goes(client)
+            stop = self.move(client)
             if stop["reason"] == "end":
                 break
             stops.append(stop)
@@ -133,53 +133,53 @@ class StepsBack(WithRun):
             lengths.append(len(self.record(client)))
         self.assertEqual(lengths, [1, 6, 7, 14])
         for number in [2, 1, 0]:
-            self.assertEqual(self.goes(client, "reverseContinue"), stops[number])
+            self.assertEqual(self.move(client, "reverseContinue"), stops[number])
             self.assertEqual(self.record(client), stored_record()[: lengths[number]])
             self.assertEqual(self.state(client, 3, 2), states[number])
-        stop = self.goes(client, "reverseContinue")
+        stop = self.move(client, "reverseContinue")
         self.assertEqual((stop["reason"], self.record(client)), ("entry", []))
         for stop in stops:
-            self.assertEqual(self.goes(client), stop)
+            self.assertEqual(self.move(client), stop)
         self.assertEqual(self.record(client), stored_record())
 
     def test_a_failure_stops_the_run_backwards_too(self):
         client = self.entered(self.example("failure", "empty"), stopAtEnd=True)
         client.ask("setExceptionBreakpoints", filters=["failed"])
-        first = self.goes(client)
+        first = self.move(client)
         self.assertEqual(first["reason"], "exception")
         states = self.state(client, 2, 2)
-        self.assertEqual(self.goes(client, "reverseContinue")["reason"], "entry")
-        self.assertEqual(self.goes(client), first)
+        self.assertEqual(self.move(client, "reverseContinue")["reason"], "entry")
+        self.assertEqual(self.move(client), first)
         self.assertEqual(self.state(client, 2, 2), states)
 
     def test_outputs_are_read_again_after_a_step_back(self):
         client = self.entered(self.example("cache"), workers=1)
         for _ in range(2):
-            self.goes(client, "next")
+            self.move(client, "next")
         self.assertIn("seen-by-second", client.ask("evaluate", expression="1.0:/")["result"])
-        self.goes(client, "reverseContinue")
+        self.move(client, "reverseContinue")
         for command in ["claim 0 1", "step 0", "step 0", "settle 0"]:
             client.ask("evaluate", expression=command, context="repl")
         result = client.ask("evaluate", expression="1.0:/seen-by-second")["result"]
         self.assertEqual(result, "text of 7 bytes:\nsecond\n")
 
 
-class Looks(WithRun):
+class Inspection(WithRun):
     """Frames, scopes, variables and expressions."""
 
     def test_a_worker_that_runs_has_a_frame(self):
         client = self.entered()
         self.assertEqual(client.ask("stackTrace", threadId=1), {"stackFrames": [], "totalFrames": 0})
-        self.goes(client, "stepIn", 2)
+        self.move(client, "stepIn", 2)
         self.assertEqual(client.ask("stackTrace", threadId=1)["stackFrames"], [])
         frame = client.ask("stackTrace", threadId=2)["stackFrames"][0]
         self.assertEqual((frame["line"], frame["endLine"]), ENTRIES[0])
         self.assertEqual(frame["name"], "0 source: local://source (0 of 1 steps)")
         self.assertEqual(client.ask("stackTrace", threadId=2, startFrame=1)["stackFrames"], [])
         self.assertEqual(client.ask("stackTrace", threadId=2, startFrame=0, levels=20)["stackFrames"], [frame])
-        self.goes(client, "stepOut", 2)
+        self.move(client, "stepOut", 2)
         self.assertIn("(done)", client.ask("stackTrace", threadId=2)["stackFrames"][0]["name"])
-        self.goes(client, "stepIn", 1)
+        self.move(client, "stepIn", 1)
         self.assertEqual(client.ask("stackTrace", threadId=2)["stackFrames"], [])
         names = [one["name"] for one in client.ask("threads")["threads"]]
         self.assertEqual(names, ["worker 0, 1 file: mkdir /out", "worker 1, idle"])
@@ -192,8 +192,8 @@ class Looks(WithRun):
 
     def test_inputs_and_outputs_are_shown_directory_by_directory(self):
         client = self.entered()
-        self.breaks(client, (20, "settle"))
-        self.goes(client)
+        self.set_breakpoints(client, (20, "settle"))
+        self.move(client)
         one, two = self.scope(client, 1, "Inputs")
         self.assertEqual((one["name"], one["value"]), ("input 0, 1.0", "0755 0:0, 1 name"))
         self.assertEqual(two["name"], "input 1, 0.0")
@@ -212,8 +212,8 @@ class Looks(WithRun):
 
     def test_a_vertex_and_all_vertices_are_shown(self):
         client = self.entered()
-        self.goes(client, "next")
-        self.goes(client, "stepIn")
+        self.move(client, "next")
+        self.move(client, "stepIn")
         facts = {one["name"]: one["value"] for one in self.scope(client, 1, "Vertex")}
         self.assertEqual(facts, {
             "vertex": "1", "kind": "file", "entry": "1", "progress": "0 of 1 steps", "action 0": "mkdir /out",
@@ -233,7 +233,7 @@ class Looks(WithRun):
         text = "".join(line + "\n" for line in ["d 0755 0 0 /", *lines]).encode()
         given = self.made(base.ending(base.source("local://src")), src=text)
         client = self.entered(given, {"supportsVariableType": True})
-        self.goes(client, "next")
+        self.move(client, "next")
         for name, result in [
             ("a", "0 bytes"), ("b", f"hexadecimal of 256 bytes:\n{bytes(range(256)).hex()}"),
             ("c", "text of 5,000 bytes, the first 4,096 shown:\n" + "x" * 4096), (wide, "text of 3 bytes:\na\nb"),
@@ -250,7 +250,7 @@ class Looks(WithRun):
 
     def test_expressions_are_evaluated(self):
         client = self.entered()
-        self.goes(client, "next")
+        self.move(client, "next")
         for expression, result in [
             ("0.0:/text", "2 names:\nhead\ntail"), (" 0.0 ", "1 name:\ntext/"), ("0.0:", "1 name:\ntext/"),
             ("0.0:/text/head", "text of 7 bytes:\nhello,\n"), ("0.0:text/./../text//tail", "text of 6 bytes:\nworld\n"),
@@ -284,10 +284,10 @@ class Looks(WithRun):
         for reference in [0, 1, -1, 10**9]:
             message = client.refused("variables", variablesReference=reference)
             self.assertEqual(message, f"variablesReference {reference} is not known in this state")
-        self.goes(client, "stepIn")
+        self.move(client, "stepIn")
         scope = client.ask("scopes", frameId=1)["scopes"][0]["variablesReference"]
         client.ask("variables", variablesReference=scope)
-        self.goes(client, "stepIn")
+        self.move(client, "stepIn")
         client.ask("scopes", frameId=1)
         message = client.refused("variables", variablesReference=scope)
         self.assertEqual(message, f"variablesReference {scope} is not known in this state")
@@ -334,7 +334,7 @@ class RandomRequests(WithRun):
             self.assertEqual(client.child.stderr.read(), b"")
 
 
-class Ends(WithRun):
+class Leaving(WithRun):
     """Clients that leave before the run is over."""
 
     def children(self, client):
@@ -350,7 +350,7 @@ class Ends(WithRun):
 
     def test_a_disconnect_ends_the_program(self):
         client = self.entered()
-        self.goes(client, "stepIn")
+        self.move(client, "stepIn")
         children = self.children(client)
         self.assertEqual(client.leave(), 0)
         self.assertEqual(client.ended(), 0)
@@ -366,13 +366,13 @@ class Ends(WithRun):
     def test_a_disconnect_after_a_failure_has_exit_code_1(self):
         client = self.entered(self.example("failure", "empty"))
         client.ask("setExceptionBreakpoints", filters=["failed"])
-        self.assertEqual(self.goes(client)["reason"], "exception")
+        self.assertEqual(self.move(client)["reason"], "exception")
         self.assertEqual(client.leave(), 0)
         self.assertEqual(client.ended(), 1)
 
     def test_a_terminate_ends_the_run(self):
         client = self.entered()
-        self.goes(client, "stepIn")
+        self.move(client, "stepIn")
         client.ask("terminate")
         self.assertEqual(client.ended(), 0)
         self.assertEqual(client.refused("terminate"), "terminate: the run has ended")

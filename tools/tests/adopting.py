@@ -117,7 +117,7 @@ class Adopt(Folder):
         super().setUp()
         self.image, self.local = base.source(IMAGE) + PLATFORM, base.source("local://alpine") + PLATFORM
 
-    def adopted(self, given, wanted, changes, *words, sources=()):
+    def check_adopted(self, given, wanted, changes, *words, sources=()):
         """Checks the adopted definition, and the printed changes and local sources."""
         done = run("adopt", *words, text=given)
         lines = "".join(f"{line}\n" for line in [*changes, *sources]).encode()
@@ -125,7 +125,7 @@ class Adopt(Folder):
         self.assertEqual(done.stdout.hex(), wanted.hex())
         self.assertEqual(findings.findings_of(done.stdout), [])
 
-    def refused(self, given, messages, *words):
+    def check_refused(self, given, messages, *words):
         """Checks that the definition is refused with these lines."""
         lines = "".join(f"{line}\n" for line in messages).encode()
         self.check_run(run("adopt", *words, text=given), 2, b"", lines)
@@ -136,14 +136,14 @@ class Adopt(Folder):
         wanted = base.ending(self.local, new) + metadata(new, "n") + places(self.local, new)
         lines = [f"entry 0: source {IMAGE} is local://alpine", *(f"entry 1: {text}" for text in changes)]
         lines += ["entry 1: its inputs have new digests", "entry 2: its inputs have new digests"]
-        self.adopted(given, wanted, lines, *words, sources=[f"alpine\t{IMAGE}"])
+        self.check_adopted(given, wanted, lines, *words, sources=[f"alpine\t{IMAGE}"])
 
     def test_an_accepted_definition_stays_as_it_is(self):
         one = base.source("local://a") + PLATFORM
         split = part(3, part(1, "git://")) + base.exec_op("true") + part(2, part(88, "x")) + part(11, "caps")
         given = b"\x7a\x01x" + base.ending(one, one, split, base.merge(split, one)) + metadata(one, "a") + places(split)
         for words in [[], ["--all"], ["--leave"]]:
-            self.adopted(given, given, [], *words, sources=["a\tlocal://a"])
+            self.check_adopted(given, given, [], *words, sources=["a\tlocal://a"])
 
     def test_other_fields_stay_as_they_are(self):
         attribute = part(2, part(1, "image.resolvemode") + part(2, "pull"))
@@ -159,7 +159,7 @@ class Adopt(Folder):
         wanted = base.ending(new, user_new) + part(9, "z") + metadata(new, "a") + metadata(user_new, "b")
         changes = [f"entry 0: source {IMAGE} is local://alpine"]
         changes += [f"entry {row}: its inputs have new digests" for row in (1, 2)]
-        self.adopted(given, wanted, changes, sources=[f"alpine\t{IMAGE}"])
+        self.check_adopted(given, wanted, changes, sources=[f"alpine\t{IMAGE}"])
 
     def test_entries_can_be_in_any_order_and_repeated(self):
         def made(origin):
@@ -170,7 +170,7 @@ class Adopt(Folder):
 
         changes = ["entry 0: its inputs have new digests", "entry 1: its inputs have new digests"]
         changes += [f"entry 2: source {IMAGE} is local://alpine", "entry 3: its inputs have new digests"]
-        self.adopted(made(self.image), made(self.local), changes, sources=[f"alpine\t{IMAGE}"])
+        self.check_adopted(made(self.image), made(self.local), changes, sources=[f"alpine\t{IMAGE}"])
 
     def test_sources_become_local(self):
         identifiers = ["git://h/a.git", "local://a", "https://h/a", IMAGE, "oci-layout://a@sha256:00"]
@@ -180,9 +180,9 @@ class Adopt(Folder):
         changes += [f"entry {row}: its inputs have new digests" for row in (5, 6)]
         lines = [f"{name}\t{identifier}" for name, identifier in zip(names, identifiers)]
         given, wanted = base.ending(*old, base.merge(*old)), base.ending(*new, base.merge(*new))
-        self.adopted(given, wanted, changes, sources=lines)
+        self.check_adopted(given, wanted, changes, sources=lines)
         place = self.place(b"sources")
-        self.adopted(given, wanted, changes, "--sources", place)
+        self.check_adopted(given, wanted, changes, "--sources", place)
         self.assertEqual(pathlib.Path(os.fsdecode(place)).read_text(), "".join(f"{line}\n" for line in lines))
 
     def test_secrets_and_agents_are_dropped(self):
@@ -201,7 +201,7 @@ class Adopt(Folder):
         old = given(self.image, agent, ROOT_MOUNT, more=b"")
         self.entry(old, given(self.local, ROOT_MOUNT, more=b""), ["dropped: SSH mount at /a"], "--without-ssh")
         drops = "--without-secrets drops it"
-        self.refused(base.ending(self.image, given(self.image, ROOT_MOUNT, secret, agent, more=more)), [
+        self.check_refused(base.ending(self.image, given(self.image, ROOT_MOUNT, secret, agent, more=more)), [
             f"entry 1: not adopted: SecretMount; {drops}", "entry 1: not adopted: SshMount; --without-ssh drops it",
             f"entry 1: not adopted: SecretEnv; {drops}", "entry 1: not adopted: MountOutput", "nothing is written",
         ])
@@ -222,7 +222,7 @@ class Adopt(Folder):
         left = [action(part(field, part(1, "/c") + part(4, group[2:])), 0, place) for place, field in enumerate((5, 6))]
         changes = [f"dropped: user root of action {place}" for place in (0, 1)]
         self.entry(on(self.image, *made), on(self.local, *left), changes, "--all")
-        self.refused(base.ending(self.local, on(self.local, copy(unpack, NAMED))), [
+        self.check_refused(base.ending(self.local, on(self.local, copy(unpack, NAMED))), [
             "entry 1: not adopted: Unpack; --without-unpack drops it",
             "entry 1: not adopted: OwnerByName; --without-owners drops it", "nothing is written",
         ])
@@ -236,7 +236,7 @@ class Adopt(Folder):
         old = self.words(self.image, "/bin/sh", "-c", "apk add git")
         changes = ["runs true in place of /bin/sh -c 'apk add git'"]
         self.entry(old, self.words(self.local, "true"), changes, "--run-nothing")
-        self.refused(base.ending(self.local, self.words(self.local, "apk")), [
+        self.check_refused(base.ending(self.local, self.words(self.local, "apk")), [
             "entry 1: not adopted: Script 71 apk; --run-nothing or --rules replaces the words", "nothing is written",
         ])
 
@@ -255,7 +255,7 @@ class Adopt(Folder):
         self.entry(old, new, [], "--all", "--rules", rules)
         rules = self.file(b"rules", b"name => true\n")
         cause = os.fsdecode(rules) + ": line 1: exactly one word goes between name and =>"
-        self.refused(base.ending(self.image), [cause], "--rules", rules)
+        self.check_refused(base.ending(self.image), [cause], "--rules", rules)
 
     def test_what_cannot_be_adopted_is_named(self):
         diff, link = base.inputs(self.image) + part(7, b""), base.file_op(action(part(8, b"")))
@@ -266,18 +266,18 @@ class Adopt(Folder):
             (1, "DiffOp"), (2, "Action"), (3, "Patterns"), (3, "CopyField"), (4, "Source")]]
         indexes = [f"not adopted: fault 90 5 {place}" for place in (1, 2)]
         given = base.ending(self.image, diff, link, copy, other, all_of_them)
-        self.refused(given, [*messages, *indexes, "nothing is written"], "--all")
+        self.check_refused(given, [*messages, *indexes, "nothing is written"], "--all")
         done = run("adopt", "--leave", text=given)
         self.assertEqual(done.returncode, 0)
         self.assertEqual(done.stderr.decode().splitlines()[-8:], [*messages, *indexes, f"alpine\t{IMAGE}"])
         self.assertEqual([one.words() for one in findings.findings_of(done.stdout)][0], "88 1 DiffOp")
 
     def test_faulty_definitions_are_refused(self):
-        self.refused(b"\x0a", ["not adopted: fault 81 1"])
-        self.refused(b"", ["not adopted: fault 83", "nothing is written"])
-        self.refused(base.definition(self.local, b"\x0b"), ["not adopted: fault 82 1 4", "nothing is written"])
+        self.check_refused(b"\x0a", ["not adopted: fault 81 1"])
+        self.check_refused(b"", ["not adopted: fault 83", "nothing is written"])
+        self.check_refused(base.definition(self.local, b"\x0b"), ["not adopted: fault 82 1 4", "nothing is written"])
         unknown = base.definition(self.local, base.inputs(b"x"))
-        self.refused(unknown, ["not adopted: fault 86 1 0", "nothing is written"])
+        self.check_refused(unknown, ["not adopted: fault 86 1 0", "nothing is written"])
 
     def test_output_files_are_written_completely_or_not_at_all(self):
         given = self.file(b"given", base.ending(self.image))
@@ -309,7 +309,7 @@ class Adopt(Folder):
         self.assertFalse(os.path.exists(self.place(b"s")))
 
 
-class Changed(Folder):
+class RandomDefinitions(Folder):
     """Random definitions, and the program."""
 
     def definitions(self):
@@ -343,7 +343,7 @@ class Changed(Folder):
         place = self.place(b"out")
         words = ["--all", "--rules", EXAMPLES / "foreign.rules", EXAMPLES / "foreign.llb", "-o", place]
         self.assertEqual(run("adopt", *words).returncode, 0)
-        self.passes(run("lint", place))
+        self.check_success(run("lint", place))
         trees = [f"alpine={EXAMPLES / 'failure' / 'empty.tree'}", f"context={EXAMPLES / 'tour.tree'}"]
         with open(place, "rb") as data:
             done = subprocess.run([base.llbm, "run", *trees], stdin=data, capture_output=True, timeout=60)
@@ -361,7 +361,7 @@ class Changed(Folder):
         place, tree = self.place(b"out"), self.file(b"tree", b"d 0755 0 0 /\nf 0644 0 0 61 /a\n")
         done = run("adopt", given, "--all", "--rules", rules, "-o", place)
         self.assertEqual(done.returncode, 0, done.stderr)
-        self.passes(run("lint", place))
+        self.check_success(run("lint", place))
         words = [base.llbm, "run", f"alpine={os.fsdecode(tree)}"]
         with open(place, "rb") as data:
             done = subprocess.run(words, stdin=data, capture_output=True, timeout=60)

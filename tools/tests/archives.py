@@ -59,11 +59,11 @@ class TreeOfTar(Folder):
         """Runs the tool on an archive on standard input."""
         return run("tree-of-tar", *words, text=given)
 
-    def reads_as(self, given, lines, errors=NOTHING, words=()):
+    def check_text(self, given, lines, errors=NOTHING, words=()):
         """Checks that the archive has the text of these lines."""
-        self.passes(self.read_tar(given, *words), self.text(lines), errors)
+        self.check_success(self.read_tar(given, *words), self.text(lines), errors)
 
-    def refused(self, given, cause, words=()):
+    def check_refused(self, given, cause, words=()):
         """Checks that the archive is refused, with this cause on the last line."""
         done = self.read_tar(given, *words)
         self.assertEqual((done.returncode, done.stdout), (2, b""), done.stderr)
@@ -78,18 +78,18 @@ class TreeOfTar(Folder):
             "d 0700 3 4 /", "d 1750 1000 4294967295 /a", "f 4755 0 0 - /a/x", "f 0644 0 0 0a /a-b",
             "f 0640 1 2 68690a00ff /b",
         ]
-        self.reads_as(given, lines)
+        self.check_text(given, lines)
 
     def test_empty_parts_and_dots_of_paths_are_dropped(self):
         given = tar(entry("./a/", mode=0o700), entry("/b", b"b"), entry(".//a/./c", b"c"))
-        self.reads_as(given, ["d 0755 0 0 /", "d 0700 0 0 /a", "f 0644 0 0 63 /a/c", "f 0644 0 0 62 /b"])
+        self.check_text(given, ["d 0755 0 0 /", "d 0700 0 0 /a", "f 0644 0 0 63 /a/c", "f 0644 0 0 62 /b"])
 
     def test_directories_without_an_entry_have_a_default(self):
         lines = ["d 0755 0 0 /", "d 0755 0 0 /a", "d 0755 0 0 /a/b", "f 0644 5 6 78 /a/b/c"]
-        self.reads_as(tar(entry("a/b/c", b"x", owner=(5, 6))), lines)
-        self.reads_as(tar(), lines[:1])
+        self.check_text(tar(entry("a/b/c", b"x", owner=(5, 6))), lines)
+        self.check_text(tar(), lines[:1])
         owned = [line.replace(" 0 0 ", " 7 8 ").replace(" 5 6 ", " 7 8 ") for line in lines]
-        self.reads_as(tar(entry("a/b/c", b"x", owner=(5, 6))), owned, words=["--owner", "7:8"])
+        self.check_text(tar(entry("a/b/c", b"x", owner=(5, 6))), owned, words=["--owner", "7:8"])
 
     def test_the_last_of_several_entries_is_used(self):
         given = tar(
@@ -98,13 +98,13 @@ class TreeOfTar(Folder):
             entry("d/f", b"f"),
         )
         lines = ["d 0755 0 0 /", "f 0600 0 0 32 /a", "d 0755 0 0 /b", "f 0644 0 0 63 /b/c", "d 0755 0 0 /d"]
-        self.reads_as(given, [*lines, "f 0644 0 0 66 /d/f", "f 0644 0 0 65 /e"])
+        self.check_text(given, [*lines, "f 0644 0 0 66 /d/f", "f 0644 0 0 65 /e"])
         errors = b"/a: left out: a symbolic link\nleft out: 1 symbolic link\n"
-        self.reads_as(tar(entry("a", b"a"), other("a", tarfile.SYMTYPE, linkname="b")), lines[:1], errors)
+        self.check_text(tar(entry("a", b"a"), other("a", tarfile.SYMTYPE, linkname="b")), lines[:1], errors)
 
     def test_a_file_above_an_entry_is_refused(self):
-        self.refused(tar(entry("a", b"a"), entry("a/b", b"b")), "^/a: a file with entries below it$")
-        self.refused(tar(entry("a/b/c"), entry("a", b"a")), "^/a: a file with entries below it$")
+        self.check_refused(tar(entry("a", b"a"), entry("a/b", b"b")), "^/a: a file with entries below it$")
+        self.check_refused(tar(entry("a/b/c"), entry("a", b"a")), "^/a: a file with entries below it$")
 
     def no_files(self):
         """Returns an archive with a file and all kinds of other entries, and the messages about those."""
@@ -124,12 +124,12 @@ class TreeOfTar(Folder):
 
     def test_other_kinds_are_named_counted_and_left_out(self):
         given, errors = self.no_files()
-        self.reads_as(given, ["d 0755 0 0 /", "f 0644 0 0 61 /a", "d 0755 0 0 /b"], errors)
+        self.check_text(given, ["d 0755 0 0 /", "f 0644 0 0 61 /a", "d 0755 0 0 /b"], errors)
 
     def test_a_strict_run_refuses_an_archive_with_other_kinds(self):
         given, errors = self.no_files()
         self.check_run(self.read_tar(given, "--strict"), 2, b"", errors + b"refused: something was left out\n")
-        self.reads_as(tar(entry("a", b"a")), ["d 0755 0 0 /", "f 0644 0 0 61 /a"], words=["--strict"])
+        self.check_text(tar(entry("a", b"a")), ["d 0755 0 0 /", "f 0644 0 0 61 /a"], words=["--strict"])
 
     def test_extended_attributes_are_left_out(self):
         headers = {"SCHILY.xattr.user.a": "1", "SCHILY.acl.access": "u::rw", "comment": "none"}
@@ -138,8 +138,8 @@ class TreeOfTar(Folder):
         errors += b"/a: left out: an extended attribute, SCHILY.xattr.user.a\n"
         errors += b"/b: left out: an extended attribute, LIBARCHIVE.xattr.x\nleft out: 3 extended attributes\n"
         lines = ["d 0755 0 0 /", "f 0644 0 0 61 /a", "d 0755 0 0 /b"]
-        self.reads_as(given, lines, errors)
-        self.refused(given, "^refused: something was left out$", ["--strict"])
+        self.check_text(given, lines, errors)
+        self.check_refused(given, "^refused: something was left out$", ["--strict"])
 
     def test_invalid_names_are_left_out(self):
         names = ["\udcff", "new\nline", "\x7f", "x/../y", "..", "b" * 256]
@@ -147,39 +147,39 @@ class TreeOfTar(Folder):
         shown = [r"/../below", "/" + "b" * 256 + "/below", r"/new\nline/below", r"/x/../y/below", r"/\x7f/below"]
         errors = "".join(f"{path}: left out: not a valid name\n" for path in [*shown, r"/\xff/below"])
         errors += "left out: 6 entries with invalid names\n"
-        self.reads_as(given, ["d 0755 0 0 /", "d 0755 0 0 /a"], errors.encode())
+        self.check_text(given, ["d 0755 0 0 /", "d 0755 0 0 /a"], errors.encode())
         errors = b"/: left out: not a valid name\nleft out: 1 entry with an invalid name\n"
-        self.reads_as(tar(entry(".", b"x")), ["d 0755 0 0 /"], errors)
+        self.check_text(tar(entry(".", b"x")), ["d 0755 0 0 /"], errors)
 
     def test_longer_paths_are_left_out(self):
         lines = [f"d 0755 0 0 /{'/'.join([LONG] * count)}" for count in range(129)]
         for form in [tarfile.PAX_FORMAT, tarfile.GNU_FORMAT]:
-            self.reads_as(tar(entry("/".join([LONG] * 128)), form=form), lines)
+            self.check_text(tar(entry("/".join([LONG] * 128)), form=form), lines)
         deep = "/".join("a" * 129)
         errors = f"/{deep}: left out: more than 128 names\nleft out: 1 path that is too long\n"
-        self.reads_as(tar(entry(deep, b"")), lines[:1], errors.encode())
+        self.check_text(tar(entry(deep, b"")), lines[:1], errors.encode())
 
     def test_each_format_of_tar_is_read(self):
         for form in [tarfile.USTAR_FORMAT, tarfile.GNU_FORMAT, tarfile.PAX_FORMAT]:
             path = "d" * 90 + "/" + "f" * 99
             given = tar(entry("d" * 90), entry(path, b"x", owner=(2097151, 0), uname="user", mtime=77), form=form)
-            self.reads_as(given, ["d 0755 0 0 /", f"d 0755 0 0 /{'d' * 90}", f"f 0644 2097151 0 78 /{path}"])
+            self.check_text(given, ["d 0755 0 0 /", f"d 0755 0 0 /{'d' * 90}", f"f 0644 2097151 0 78 /{path}"])
 
     def test_larger_owners_are_left_out(self):
         given = tar(entry("a", b"a", owner=(4294967295, 0)), entry("b", owner=(0, 4294967296)), entry("b/c"))
         errors = b"/b: left out: an owner that is not below 2^32\n/b/c: left out: below an entry that is left out\n"
         errors += b"left out: 1 entry with an owner above the limit, 1 entry below one that is left out\n"
-        self.reads_as(given, ["d 0755 0 0 /", "f 0644 4294967295 0 61 /a"], errors)
+        self.check_text(given, ["d 0755 0 0 /", "f 0644 4294967295 0 61 /a"], errors)
         lines = ["d 0755 0 0 /", "f 0644 0 0 61 /a", "d 0755 0 0 /b", "d 0755 0 0 /b/c"]
-        self.reads_as(given, lines, words=["--owner", "0:0"])
+        self.check_text(given, lines, words=["--owner", "0:0"])
 
     def test_packed_archives_are_read(self):
         given = tar(entry("a", b"x" * 100_000), entry("b"))
         text = self.text(["d 0755 0 0 /", f"f 0644 0 0 {'78' * 100_000} /a", "d 0755 0 0 /b"])
         for packed in [given, gzip.compress(given), bz2.compress(given), lzma.compress(given)]:
             place = self.file(b"any name", packed)
-            self.passes(run("tree-of-tar", place), text, NOTHING)
-            self.passes(self.read_tar(packed), text, NOTHING)
+            self.check_success(run("tree-of-tar", place), text, NOTHING)
+            self.check_success(self.read_tar(packed), text, NOTHING)
 
     def test_standard_input_is_read_from_its_position(self):
         given = tar(entry("a", b"a"))
@@ -187,11 +187,12 @@ class TreeOfTar(Folder):
             with open(self.file(b"x.tar", before + given), "rb", buffering=0) as file:
                 file.seek(len(before))
                 done = subprocess.run(command("tree-of-tar"), stdin=file, capture_output=True, timeout=120)
-            self.passes(done, self.text(["d 0755 0 0 /", "f 0644 0 0 61 /a"]), NOTHING)
+            self.check_success(done, self.text(["d 0755 0 0 /", "f 0644 0 0 61 /a"]), NOTHING)
 
     @unittest.skipIf(importlib.util.find_spec("compression"), "this Python has zstd")
     def test_an_unsupported_form_of_packing_is_refused(self):
-        self.refused(b"\x28\xb5\x2f\xfd" + bytes(100), "^the archive is packed by compression.zstd, which this Python ")
+        packed = b"\x28\xb5\x2f\xfd" + bytes(100)
+        self.check_refused(packed, "^the archive is packed by compression.zstd, which this Python ")
 
     @unittest.skipUnless(shutil.which("tar"), "there is no tar")
     def test_archives_of_another_program_are_read(self):
@@ -204,22 +205,22 @@ class TreeOfTar(Folder):
         for words in [[], ["--sparse"], ["--format=pax", "--sparse"], ["--format=v7"], ["--format=ustar", "-z"]]:
             made = subprocess.run(["tar", "-C", self.place(b"in"), *words, "-cf", "-", "."], capture_output=True)
             self.assertEqual(made.returncode, 0, made.stderr)
-            self.passes(self.read_tar(made.stdout, "--owner", "0:0"), wanted, NOTHING)
+            self.check_success(self.read_tar(made.stdout, "--owner", "0:0"), wanted, NOTHING)
 
     def test_other_files_are_refused(self):
-        self.refused(b"", "^the archive is empty$")
-        self.refused(b"d 0755 0 0 /\n", "^byte 0: not a header of an entry: truncated header$")
-        self.refused(b"x" * 2000, "^byte 0: not a header of an entry: ")
+        self.check_refused(b"", "^the archive is empty$")
+        self.check_refused(b"d 0755 0 0 /\n", "^byte 0: not a header of an entry: truncated header$")
+        self.check_refused(b"x" * 2000, "^byte 0: not a header of an entry: ")
 
     def test_damage_after_the_first_entry_is_refused(self):
         given = tar(entry("a", b"a" * 700), entry("b", b"b"))
         self.assertEqual(len(given), 20 * BLOCK)
-        self.refused(given[: 2 * BLOCK], "^the archive is cut off: unexpected end of data$")
-        self.refused(given[: 3 * BLOCK], "^the archive has no end$")
-        self.refused(given[: 3 * BLOCK + 100], "^byte 1536: not a header of an entry: truncated header$")
+        self.check_refused(given[: 2 * BLOCK], "^the archive is cut off: unexpected end of data$")
+        self.check_refused(given[: 3 * BLOCK], "^the archive has no end$")
+        self.check_refused(given[: 3 * BLOCK + 100], "^byte 1536: not a header of an entry: truncated header$")
         changed = given[: 3 * BLOCK] + b"c" + given[3 * BLOCK + 1 :]
-        self.refused(changed, "^byte 1536: not a header of an entry: bad checksum$")
-        self.passes(self.read_tar(given[: 6 * BLOCK]), self.read_tar(given).stdout, NOTHING)
+        self.check_refused(changed, "^byte 1536: not a header of an entry: bad checksum$")
+        self.check_success(self.read_tar(given[: 6 * BLOCK]), self.read_tar(given).stdout, NOTHING)
 
     def test_impossible_sizes_are_refused(self):
         first, rest = tar(entry("a", b"a"))[:BLOCK], tar(entry("a", b"a"))[BLOCK:]
@@ -228,19 +229,19 @@ class TreeOfTar(Folder):
             (b"\x80" + b"\x7f" * 11, "^the archive is cut off: "),
             (b"\x80\0\0\0\x7f" + b"\xff" * 7, "^the archive is cut off: "),
         ]:
-            self.refused(resum(first[:124] + size + first[136:]) + rest, cause)
+            self.check_refused(resum(first[:124] + size + first[136:]) + rest, cause)
 
     def test_many_headers_before_an_entry_are_refused(self):
         header = tar(entry("a", b"", pax_headers={"comment": "x"}))[: 2 * BLOCK]
-        self.refused(header * 3000 + tar(entry("a", b"a")), "not a header of an entry: ")
+        self.check_refused(header * 3000 + tar(entry("a", b"a")), "not a header of an entry: ")
 
     def test_damaged_packing_is_refused(self):
         given = gzip.compress(tar(entry("a", os.urandom(2000))))
-        self.refused(given[:-100], "^the archive could not be unpacked: ")
-        self.refused(given[:-8] + b"\0" * 8, "^the archive could not be unpacked: ")
-        self.refused(given[:100] + bytes(50) + given[150:], "^the archive could not be unpacked: ")
+        self.check_refused(given[:-100], "^the archive could not be unpacked: ")
+        self.check_refused(given[:-8] + b"\0" * 8, "^the archive could not be unpacked: ")
+        self.check_refused(given[:100] + bytes(50) + given[150:], "^the archive could not be unpacked: ")
         for pack in [bz2.compress, lzma.compress]:
-            self.refused(pack(tar(entry("a", b"a")))[:-20], "^the archive could not be unpacked: ")
+            self.check_refused(pack(tar(entry("a", b"a")))[:-20], "^the archive could not be unpacked: ")
 
     def test_a_missing_archive_is_refused(self):
         self.file(b"a", b"")
@@ -325,7 +326,7 @@ class TarOfTree(Folder):
         lines += [f"f 0644 0 0 61 {longest[-1][11:]}/a", "f 0000 4294967295 0 00ff /\N{GREEK SMALL LETTER ALPHA} b  "]
         text = self.text(lines)
         self.assertEqual(text.count(b"\n"), 132)
-        self.passes(run("tree-of-tar", text=self.pack(lines)), text, NOTHING)
+        self.check_success(run("tree-of-tar", text=self.pack(lines)), text, NOTHING)
 
     @unittest.skipUnless(shutil.which("tar"), "there is no tar")
     def test_another_program_unpacks_the_archive(self):
@@ -336,7 +337,7 @@ class TarOfTree(Folder):
         words = ["tar", "-C", self.place(b"out"), "-p", "-xf", self.at / "x.tar"]
         done = subprocess.run(words, capture_output=True)
         self.assertEqual((done.returncode, done.stderr), (0, b""))
-        self.passes(self.read(), self.text(lines), NOTHING)
+        self.check_success(self.read(), self.text(lines), NOTHING)
 
     def test_the_archive_is_a_new_file(self):
         self.pack(["d 0755 0 0 /"], self.at / "x.tar")
@@ -365,7 +366,7 @@ class TarOfTree(Folder):
         settings = {"env": {**os.environ, "TMPDIR": str(held)}}
         given = self.pack(["d 0755 0 0 /"], self.at / "x.tar", **settings)
         self.assertEqual(given, b"")
-        self.passes(run("tree-of-tar", self.at / "x.tar", **settings), b"d 0755 0 0 /\n", NOTHING)
+        self.check_success(run("tree-of-tar", self.at / "x.tar", **settings), b"d 0755 0 0 /\n", NOTHING)
         self.assertEqual((os.listdir(held), sorted(os.listdir(self.at))), ([], ["held", "x.tar"]))
 
     def test_failing_standard_streams_are_reported(self):

@@ -93,7 +93,7 @@ class Folder(unittest.TestCase):
         if done.stdout != output:
             self.fail(f"{done.stdout[:2000]} is not {output[:2000]}")
 
-    def passes(self, done, output=b"", errors=b""):
+    def check_success(self, done, output=b"", errors=b""):
         """Checks that the run ended with status 0, and its output."""
         self.check_run(done, 0, output, errors)
 

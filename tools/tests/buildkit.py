@@ -28,7 +28,7 @@ def held(field, message):
     return [value for number, _, value in definition.records(message) if number == field]
 
 
-class Stored(unittest.TestCase):
+class StoredDefinitions(unittest.TestCase):
     """The stored definitions are whole ones, as a client writes them, not only entries."""
 
     def test_the_folder_has_these_examples(self):
@@ -113,7 +113,7 @@ class Check(Folder):
             self.assertEqual(self.check(*words), (2, ""), words)
 
 
-class Run(unittest.TestCase):
+class StoredRuns(unittest.TestCase):
     """The stored definitions, run by the program."""
 
     def setUp(self):

@@ -21,23 +21,23 @@ class DiffOfTrees(Folder):
         """Writes a tree text with these lines below the root's."""
         return self.file(name, self.text(["d 0755 0 0 /", *lines]))
 
-    def differ(self, first, second, *lines, errors=b"", words=()):
+    def check_lines(self, first, second, *lines, errors=b"", words=()):
         """Checks that these lines are the differences between the trees."""
         done = run("diff-of-trees", *words, first, second)
         self.check_run(done, 1 if lines else 0, self.text(lines), errors)
 
     def test_equal_trees_have_no_differences(self):
         first = self.tree(b"first", "d 0755 1 2 /a", "f 0644 3 4 6869 /a/b")
-        self.differ(first, first)
-        self.differ(first, self.tree(b"second", "d 0755 1 2 /a", "f 0644 3 4 6869 /a/b"))
+        self.check_lines(first, first)
+        self.check_lines(first, self.tree(b"second", "d 0755 1 2 /a", "f 0644 3 4 6869 /a/b"))
 
     def test_paths_of_one_tree_are_added_or_removed(self):
         first = self.tree(b"first", "d 0700 1 2 /a", "f 0644 0 0 6869 /a/b")
         second = self.tree(b"second", "f 0600 3 4 - /c d")
         removed = ["directory mode 0700 owner 1:2 /a", f"file mode 0644 owner 0:0 {contents(b'hi')} /a/b"]
         new = f"file mode 0600 owner 3:4 {contents(b'')} /c d"
-        self.differ(first, second, *(f"removed {line}" for line in removed), f"added {new}")
-        self.differ(second, first, *(f"added {line}" for line in removed), f"removed {new}")
+        self.check_lines(first, second, *(f"removed {line}" for line in removed), f"added {new}")
+        self.check_lines(second, first, *(f"added {line}" for line in removed), f"removed {new}")
 
     def test_changed_paths_have_the_changed_properties(self):
         one, two = contents(b"a"), contents(b"bc")
@@ -52,18 +52,18 @@ class DiffOfTrees(Folder):
             ("d 0755 0 0", "d 0700 0 0", "mode 0755 -> 0700"),
         ]:
             first, second = self.tree(b"first", f"{before} /x y"), self.tree(b"second", f"{after} /x y")
-            self.differ(first, second, f"changed {line} /x y")
+            self.check_lines(first, second, f"changed {line} /x y")
 
     def test_the_root_is_compared(self):
         first, second = self.file(b"first", b"d 0755 0 0 /\n"), self.file(b"second", b"d 0711 0 9 /\n")
-        self.differ(first, second, "changed mode 0755 -> 0711 owner 0:0 -> 0:9 /")
+        self.check_lines(first, second, "changed mode 0755 -> 0711 owner 0:0 -> 0:9 /")
 
     def test_lines_are_in_path_order(self):
         first = self.tree(b"first", "d 0755 0 0 /a", "d 0755 0 0 /a/b", "d 0755 0 0 /b")
         second = self.tree(b"second", "d 0700 0 0 /a", "d 0755 0 0 /a-b", "d 0755 0 0 /c")
         lines = ["changed mode 0755 -> 0700 /a", "removed directory mode 0755 owner 0:0 /a/b"]
         lines += ["added directory mode 0755 owner 0:0 /a-b", "removed directory mode 0755 owner 0:0 /b"]
-        self.differ(first, second, *lines, "added directory mode 0755 owner 0:0 /c")
+        self.check_lines(first, second, *lines, "added directory mode 0755 owner 0:0 /c")
 
     def test_texts_directories_and_archives_can_be_mixed(self):
         self.make(b"a/b", b"hi", mode=0o640)
@@ -74,25 +74,25 @@ class DiffOfTrees(Folder):
         archive = self.file(b"x.tar", given)
         directory = self.place(b"in")
         for first, second, count in [(text, directory, 1), (directory, archive, 2), (archive, text, 1)]:
-            self.differ(first, second, errors=NOTHING * count)
+            self.check_lines(first, second, errors=NOTHING * count)
         done = run("diff-of-trees", "-", archive, text=self.text(["d 0755 OWN /", *lines]))
-        self.passes(done, errors=NOTHING)
+        self.check_success(done, errors=NOTHING)
         os.rename(directory, self.place(b"in.tar"))
-        self.differ(self.place(b"in.tar"), archive, errors=NOTHING * 2)
+        self.check_lines(self.place(b"in.tar"), archive, errors=NOTHING * 2)
 
     def test_directories_and_archives_can_have_one_owner(self):
         self.make(b"a", b"hi")
         archive = self.file(b"x.tar", tar(entry("a", b"hi", owner=(7, 8))))
         words = ["--owner", "1:2"]
-        self.differ(self.place(b"in"), archive, errors=NOTHING * 2, words=words)
+        self.check_lines(self.place(b"in"), archive, errors=NOTHING * 2, words=words)
         text = self.tree(b"text", "f 0644 1 2 6869 /a")
-        self.differ(text, archive, "changed owner 0:0 -> 1:2 /", errors=NOTHING, words=words)
+        self.check_lines(text, archive, "changed owner 0:0 -> 1:2 /", errors=NOTHING, words=words)
 
     def test_what_is_left_out_is_named_or_refused(self):
         archive = self.file(b"x.tar", tar(entry("a", b"a"), other("b", tarfile.SYMTYPE, linkname="a")))
         text = self.tree(b"text", "f 0644 0 0 61 /a")
         errors = b"/b: left out: a symbolic link\nleft out: 1 symbolic link\n"
-        self.differ(text, archive, errors=errors)
+        self.check_lines(text, archive, errors=errors)
         errors += b"refused: something was left out\n" + archive + b": could not be read as a tree\n"
         self.check_run(run("diff-of-trees", "--strict", text, archive), 2, b"", errors)
         self.make(b"a", b"a")

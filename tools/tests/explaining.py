@@ -17,7 +17,7 @@ ORDINARY = {"k": "3", "i": "1", "N": "12", "V": "7", "C": "0", "P": "5", "WORD":
 class Definitions(unittest.TestCase):
     """Parsing of definitions."""
 
-    def unreadable(self, cause, call, *given):
+    def check_unreadable(self, cause, call, *given):
         """Checks that the call is refused for this cause."""
         with self.assertRaises(definition.Unreadable) as caught:
             call(*given)
@@ -37,7 +37,7 @@ class Definitions(unittest.TestCase):
             (b"\x00\x00", "a record has the field 0"), (base.varint(1 << 32), "a record has the field 536870912"),
             (b"\x0b", "a record has the wire type 3"), (b"\x0f", "a record has the wire type 7"),
         ]:
-            self.unreadable(cause, list, definition.records(data))
+            self.check_unreadable(cause, list, definition.records(data))
 
     def test_the_last_member_of_a_oneof_is_used(self):
         first, second = base.source("local://a"), base.file_op(base.rm("/a"))
@@ -52,9 +52,9 @@ class Definitions(unittest.TestCase):
         self.assertEqual(definition.read("Input", base.number(2, 5) + base.number(2, -1)), {"index": -1})
 
     def test_malformed_fields_are_refused(self):
-        self.unreadable("digest has the wire type 0", definition.read, "Input", base.number(1, 5))
-        self.unreadable("digest is not UTF-8", definition.read, "Input", base.part(1, b"\xff"))
-        self.unreadable("def has the wire type 0", definition.entries_of, base.number(1, 5))
+        self.check_unreadable("digest has the wire type 0", definition.read, "Input", base.number(1, 5))
+        self.check_unreadable("digest is not UTF-8", definition.read, "Input", base.part(1, b"\xff"))
+        self.check_unreadable("def has the wire type 0", definition.entries_of, base.number(1, 5))
         self.assertEqual(definition.entries_of(base.number(9, 5) + base.part(2, "x") + base.part(1, "ab")), [b"ab"])
 
     def test_a_script_is_split_into_commands(self):
@@ -221,7 +221,7 @@ class Explain(Folder):
         for tool in [TOOLS / "explain", link]:
             for settings in [{}, {"env": {**os.environ, "PYTHONSAFEPATH": "1"}}]:
                 done = run(tool, "fault", "1", cwd=self.folder, **settings)
-                self.passes(done, f"1: {self.sentences(1)[0]}\n".encode())
+                self.check_success(done, f"1: {self.sentences(1)[0]}\n".encode())
 
     def test_a_missing_page_is_reported(self):
         tools = os.path.join(os.fsdecode(self.folder), "tools")
@@ -238,7 +238,7 @@ class Explain(Folder):
             done = run_into(output, "explain", "fault", "1")
         self.assertEqual((done.returncode, done.stderr), (3, b"a read or a write failed: No space left on device\n"))
         self.check_run(run_closed(0, "explain"), 3, b"", b"a read or a write failed: standard input is closed\n")
-        self.passes(run_closed(0, "explain", "fault", "1"), f"1: {self.sentences(1)[0]}\n".encode())
+        self.check_success(run_closed(0, "explain", "fault", "1"), f"1: {self.sentences(1)[0]}\n".encode())
         self.assertEqual(run_closed(1, "explain", "fault", "1").returncode, 3)
         self.check_run(run_closed(2, "explain", "fault", "7"), 2, b"")
 

@@ -74,7 +74,7 @@ class Messages(unittest.TestCase):
                 self.assertEqual(messages.TABLE[name][number][0], field.name)
 
 
-class Made(unittest.TestCase):
+class RandomInputs(unittest.TestCase):
     """Random inputs and changes."""
 
     def test_random_definitions_are_graphs_and_random_trees_are_valid(self):
@@ -99,7 +99,7 @@ class Made(unittest.TestCase):
         self.assertGreater(len(changes), 40)
 
 
-class Held(unittest.TestCase):
+class RunRules(unittest.TestCase):
     """The rules that runs have to meet."""
 
     def test_a_tree_text_has_its_first_fault(self):

@@ -42,7 +42,7 @@ class GraphOfShow(Folder):
             shapes.add(done.stdout.splitlines()[1].partition(b"=")[2].partition(b",")[0])
         self.assertEqual(len(shapes), 4)
 
-    def refused(self, lines, number, cause, end=b"\n"):
+    def check_refused(self, lines, number, cause, end=b"\n"):
         """Checks that the lines are refused at this number for this cause, and that nothing is written."""
         with self.subTest(lines=lines):
             done = self.show(lines, end)
@@ -59,23 +59,23 @@ class GraphOfShow(Folder):
             b"result \xc2\xb2.0",
         ]
         for line in faults:
-            self.refused([line, b"result 0.0"], 1, form)
-            self.refused([self.lines[0], line, b"result 0.0"], 2, form)
+            self.check_refused([line, b"result 0.0"], 1, form)
+            self.check_refused([self.lines[0], line, b"result 0.0"], 2, form)
 
     def test_wrong_numbers_are_refused(self):
-        self.refused([self.lines[1]], 1, "the number of the vertex is not 0")
-        self.refused([self.lines[0]] * 2, 2, "the number of the vertex is not 1")
+        self.check_refused([self.lines[1]], 1, "the number of the vertex is not 0")
+        self.check_refused([self.lines[0]] * 2, 2, "the number of the vertex is not 1")
         for edge in ["0.1", "1.0", "2.0"]:
             line = f"1 merge steps 2 outputs 1 inputs 0.0 {edge}".encode()
-            self.refused([self.lines[0], line, b"result 0.0"], 2, f"{edge} is not an output of a vertex above")
-        self.refused(self.lines[:3] + [b"result 2.1"], 4, "2.1 is not an output of a vertex above")
+            self.check_refused([self.lines[0], line, b"result 0.0"], 2, f"{edge} is not an output of a vertex above")
+        self.check_refused(self.lines[:3] + [b"result 2.1"], 4, "2.1 is not an output of a vertex above")
 
     def test_texts_with_a_faulty_end_are_refused(self):
-        self.refused([], 1, "there is no result", b"")
-        self.refused(self.lines[:3], 4, "there is no result")
-        self.refused(self.lines, 4, "the line does not end with a newline", b"")
-        self.refused(self.lines + [b"rest"], 5, "the line does not end with a newline", b"")
-        self.refused(self.lines + [b"result 2.0"], 5, "the result is not the last line")
+        self.check_refused([], 1, "there is no result", b"")
+        self.check_refused(self.lines[:3], 4, "there is no result")
+        self.check_refused(self.lines, 4, "the line does not end with a newline", b"")
+        self.check_refused(self.lines + [b"rest"], 5, "the line does not end with a newline", b"")
+        self.check_refused(self.lines + [b"result 2.0"], 5, "the result is not the last line")
 
     def test_command_lines_are_refused(self):
         self.assertEqual(run("graph-of-show", "word").returncode, 2)
@@ -127,7 +127,7 @@ class Labels(Folder):
   3 -> result [label="0"];
 }
 """
-        self.passes(done, digraph.encode())
+        self.check_success(done, digraph.encode())
 
     def label(self, entry, kind):
         """Returns the label of a definition's only vertex, as the digraph has it."""

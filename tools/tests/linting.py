@@ -45,7 +45,7 @@ BY_NAME = part(3, part(1, part(1, part(1, "root"))))
 class Reading(unittest.TestCase):
     """Parsing of ops, and their first faults by number."""
 
-    def faulty(self, fault, entry):
+    def check_fault(self, fault, entry):
         """Checks that the entry is not an op, with this fault number."""
         with self.assertRaises(op_reading.Faulty, msg=entry) as caught:
             op_reading.read_op(entry)
@@ -58,7 +58,7 @@ class Reading(unittest.TestCase):
             (2, ends + b"\x02"), (2, ends + b"\x80"), (2, b"\x98\x06" + ends + b"\x02"), (3, b"\x00"), (3, b"\x03"),
             (3, base.varint(1 << 32)), (4, b"\x0b"), (4, b"\x0c"), (4, b"\x0e"), (4, b"\x0f"),
         ]:
-            self.faulty(fault, entry)
+            self.check_fault(fault, entry)
 
     def test_the_first_fault_of_an_entry_is_found(self):
         bad = part(1, b"\xff")
@@ -69,7 +69,7 @@ class Reading(unittest.TestCase):
             (12, part(3, part(2, part(2, b"\xff")))), (13, part(1, b"") * 1_025), (12, part(1, bad) * 1_025),
             (13, part(3, part(2, b"") * 1_025)), (13, b"\x7a\x80\x80\x80\x08" + bytes(1 << 24)),
         ]:
-            self.faulty(fault, entry)
+            self.check_fault(fault, entry)
 
     def test_a_member_that_was_replaced_is_not_parsed(self):
         op = op_reading.read_op(part(3, part(1, b"\xff")) + part(4, part(2, MADE)))
@@ -96,7 +96,7 @@ class Reading(unittest.TestCase):
 class Scripts(unittest.TestCase):
     """Words that are scripts, and words that are not."""
 
-    def shell(self, text, fault):
+    def check_shell_text(self, text, fault):
         """Checks the fault of a text for the shell."""
         self.assertEqual(script_faults.fault_of(["/bin/sh", "-c", text]), fault, text)
 
@@ -110,7 +110,7 @@ class Scripts(unittest.TestCase):
             ("apk", "71 apk"), ("true && apk", "71 apk"), ("true && rm ; apk", "72 1"), ("rm ; apk", "72 0"),
             (f"{alpha} ; rm", f"71 {alpha}"), ("true true", "72 0"), ("true;", "73 4"), ("rm && rm &&& rm", "73 9"),
         ]:
-            self.shell(text, fault)
+            self.check_shell_text(text, fault)
 
     def test_words_without_the_shell_have_their_faults(self):
         for words, fault in [
@@ -222,39 +222,39 @@ class Findings(unittest.TestCase):
     def setUp(self):
         self.origin = base.source("local://src")
 
-    def found(self, data, *lines):
+    def check_findings(self, data, *lines):
         """Checks the findings of a definition."""
         self.assertEqual([finding.words() for finding in findings.findings_of(data)], list(lines))
 
     def test_accepted_definitions_have_no_findings(self):
-        self.found(base.ending(self.origin))
-        self.found(base.ending(self.origin, exec_of(ROOT_MOUNT)))
+        self.check_findings(base.ending(self.origin))
+        self.check_findings(base.ending(self.origin, exec_of(ROOT_MOUNT)))
         unreached = [base.source("git://a"), base.source("local://")]
-        self.found(base.definition(self.origin, *unreached, base.inputs(self.origin)))
+        self.check_findings(base.definition(self.origin, *unreached, base.inputs(self.origin)))
 
     def test_some_faults_leave_no_rows_to_check(self):
-        self.found(b"\x0a", "81 1")
-        self.found(number(1, 0), "81 11")
-        self.found(b"", "83")
-        self.found(base.definition(self.origin, self.origin), "83")
-        self.found(base.definition(b"\x0b"), "82 0 4", "83")
+        self.check_findings(b"\x0a", "81 1")
+        self.check_findings(number(1, 0), "81 11")
+        self.check_findings(b"", "83")
+        self.check_findings(base.definition(self.origin, self.origin), "83")
+        self.check_findings(base.definition(b"\x0b"), "82 0 4", "83")
 
     def test_faults_of_the_terminal_are_found(self):
         wrong = base.source("git://a")
-        self.found(base.definition(self.origin, b""), "85")
-        self.found(base.definition(wrong, self.origin), "85", "88 0 Source")
-        self.found(base.definition(wrong, base.inputs(b"none")), "86 1 0", "88 0 Source")
-        self.found(base.definition(wrong, b"\x0b"), "82 1 4", "88 0 Source")
+        self.check_findings(base.definition(self.origin, b""), "85")
+        self.check_findings(base.definition(wrong, self.origin), "85", "88 0 Source")
+        self.check_findings(base.definition(wrong, base.inputs(b"none")), "86 1 0", "88 0 Source")
+        self.check_findings(base.definition(wrong, b"\x0b"), "82 1 4", "88 0 Source")
         terminal = base.inputs(self.origin)
-        self.found(base.definition(terminal, self.origin, base.merge(terminal), terminal))
-        self.found(base.definition(self.origin, base.inputs((self.origin, 1))), "90 1 0")
-        self.found(base.definition(self.origin, base.inputs((self.origin, -1), b"none")), "90 1 0")
+        self.check_findings(base.definition(terminal, self.origin, base.merge(terminal), terminal))
+        self.check_findings(base.definition(self.origin, base.inputs((self.origin, 1))), "90 1 0")
+        self.check_findings(base.definition(self.origin, base.inputs((self.origin, -1), b"none")), "90 1 0")
 
     def test_each_entry_has_its_findings(self):
         run_it = exec_of(mount(given=4), mount("/s", kind=1, output=-1), args=["apk"], on=[self.origin])
         files = base.file_op(action(b""), on=[(run_it, 0), (self.origin, 1)])
         last = base.merge(files, b"none", run_it)
-        self.found(
+        self.check_findings(
             base.ending(self.origin, run_it, files, last),
             "86 3 1", "88 1 SecretMount", "89 1 MountInput", "89 1 Script 71 apk", "88 2 Action", "90 2 0", "90 2 1",
             "90 3 0", "90 3 2",
@@ -262,34 +262,35 @@ class Findings(unittest.TestCase):
 
     def test_the_programs_own_fault_comes_first(self):
         broken, remote = base.source("local://"), base.source("git://a")
-        self.found(base.ending(broken, remote, base.merge(broken, remote)), "88 1 Source", "89 0 LocalName")
-        self.found(base.ending(broken, base.merge((broken, 1), broken)), "89 0 LocalName", "90 1 0")
+        self.check_findings(base.ending(broken, remote, base.merge(broken, remote)), "88 1 Source", "89 0 LocalName")
+        self.check_findings(base.ending(broken, base.merge((broken, 1), broken)), "89 0 LocalName", "90 1 0")
         user = base.merge((self.origin, 5))
-        self.found(base.ending(self.origin, user, base.merge((user, 7), b"none")), "86 2 1", "90 1 0", "90 2 0")
+        data = base.ending(self.origin, user, base.merge((user, 7), b"none"))
+        self.check_findings(data, "86 2 1", "90 1 0", "90 2 0")
 
     def test_indexes_are_not_checked_if_outputs_cannot_be_numbered(self):
         twice = base.file_op(MADE, MADE)
-        self.found(base.ending(part(7, b""), base.merge((part(7, b""), 4))), "88 0 DiffOp")
-        self.found(base.ending(twice, base.merge((twice, 4))), "89 0 ActionOutput")
+        self.check_findings(base.ending(part(7, b""), base.merge((part(7, b""), 4))), "88 0 DiffOp")
+        self.check_findings(base.ending(twice, base.merge((twice, 4))), "89 0 ActionOutput")
 
     def test_entries_that_are_not_ops_are_skipped(self):
         faulty, remote = b"\x0b", base.source("git://a")
-        self.found(base.definition(faulty, remote, self.origin, base.inputs(self.origin)), "82 0 4")
+        self.check_findings(base.definition(faulty, remote, self.origin, base.inputs(self.origin)), "82 0 4")
         reached = base.merge(faulty)
-        self.found(base.ending(remote, faulty, faulty, reached), "82 1 4", "88 0 Source")
+        self.check_findings(base.ending(remote, faulty, faulty, reached), "82 1 4", "88 0 Source")
         unknown = base.merge(b"none")
-        self.found(base.ending(unknown, faulty, reached), "82 1 4", "86 0 0")
+        self.check_findings(base.ending(unknown, faulty, reached), "82 1 4", "86 0 0")
 
     def test_a_fault_of_a_reachable_row_comes_first(self):
         lost = base.merge(b"other")
-        self.found(base.ending(lost, self.origin, base.merge(b"none", self.origin)), "86 2 0", "86 0 0")
+        self.check_findings(base.ending(lost, self.origin, base.merge(b"none", self.origin)), "86 2 0", "86 0 0")
 
     def test_cycles_and_collisions_are_found(self):
         one, two, last = base.merge(b"a"), base.merge(b"b"), base.inputs(b"b")
         named = {one: base.digest(b"b"), two: base.digest(b"a"), last: "last", self.origin: "last"}
         with mock.patch.object(definition, "digest_of", named.__getitem__):
-            self.found(base.definition(one, two, last), "87")
-            self.found(base.definition(self.origin, last), "84 1")
+            self.check_findings(base.definition(one, two, last), "87")
+            self.check_findings(base.definition(self.origin, last), "84 1")
 
 
 class Lint(Folder):
@@ -307,7 +308,7 @@ class Lint(Folder):
         self.check_run(run("lint", text=data), 1, lines)
         self.check_run(run("lint", self.file(b"definition", data)), 1, lines)
         self.check_run(run("lint", text=b"\x0a"), 1, b"fault 81 1\n")
-        self.passes(run("lint", text=base.ending(base.source("local://a"))))
+        self.check_success(run("lint", text=base.ending(base.source("local://a"))))
 
     def test_explain_reads_the_lines(self):
         data = base.ending(part(7, b""), base.merge(part(7, b"")), exec_of(args=["/bin/sh", "-c", ";"]))

@@ -21,8 +21,8 @@ class Trees(Folder):
     def test_a_small_tree_has_these_lines(self):
         lines = ["d 0755 0 0 /", "d 0755 0 0 /d000", "d 0755 0 0 /d000/s00000"]
         last = "f 0644 0 0 00000000 /d000/s00000/f000000"
-        self.passes(run("bigtree", "1", "1", "4"), self.text([*lines, last]))
-        self.passes(run("bigtree", "0", "0"), b"d 0755 0 0 /\n")
+        self.check_success(run("bigtree", "1", "1", "4"), self.text([*lines, last]))
+        self.check_success(run("bigtree", "0", "0"), b"d 0755 0 0 /\n")
 
     def test_the_numbers_of_files_and_directories_are_as_requested(self):
         for files, directories, size, prefix in [(100, 10, 16, "d"), (7, 9, 0, "q"), (5, 4, 3, "long")]:
@@ -57,11 +57,11 @@ class Definitions(Folder):
         return [definition.op_of(row, entries[row]) for row in graph.rows], graph
 
     def test_small_definitions_have_these_bytes(self):
-        self.passes(run("bigdef", "source", "1"), definition_of(source("local://p")))
+        self.check_success(run("bigdef", "source", "1"), definition_of(source("local://p")))
         sources = [source("local://p"), source("local://q")]
         lay = part(1, part(1, digest(sources[0]))), part(1, part(1, digest(sources[1])))
         merged = b"".join(lay) + part(6, part(1, b"") + part(1, number(1, 1)))
-        self.passes(run("bigdef", "lay", "1"), definition_of(*sources, merged))
+        self.check_success(run("bigdef", "lay", "1"), definition_of(*sources, merged))
 
     def test_each_kind_has_its_numbers_of_vertices_and_edges(self):
         for kind, count, vertices, edges in [

@@ -96,7 +96,7 @@ class Names(unittest.TestCase):
         self.assertEqual((no_graph[0].vertex, names.names_of_vertices(no_graph)), (None, []))
 
 
-class Shown(Folder):
+class ToolsWithNames(Folder):
     """The tools that show names."""
 
     def setUp(self):

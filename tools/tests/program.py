@@ -77,7 +77,7 @@ class WithProgram(Folder):
     def test_the_example_is_built(self):
         tree = EXAMPLES / "tour.tree"
         given = (EXAMPLES / "tour.definition").read_bytes()
-        self.passes(run("directory-of-tree", self.at / "source", text=tree.read_bytes()))
+        self.check_success(run("directory-of-tree", self.at / "source", text=tree.read_bytes()))
         text = self.output("run", f"source={tree}", given=given)
         for workers in ["--workers=1", "--workers=4"]:
             done = self.build(given, workers, f"source={self.at / 'source'}", result=workers)
@@ -137,7 +137,7 @@ class WithProgram(Folder):
             sources = [text for text in texts if text.parent.name == name or text.parent == EXAMPLES]
             for text in sources:
                 if not (self.at / text.stem).exists():
-                    self.passes(run("directory-of-tree", self.at / text.stem, text=text.read_bytes()))
+                    self.check_success(run("directory-of-tree", self.at / text.stem, text=text.read_bytes()))
             yield name, given, [f"{text.stem}={self.at / text.stem}" for text in sources]
 
     def without_progress(self, done):

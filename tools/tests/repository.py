@@ -181,7 +181,7 @@ class Lines(Folder):
     def test_lines_that_are_too_long_are_named(self):
         wide = "\N{GREEK SMALL LETTER ALPHA}".encode()
         self.add("a/b", b"a" * 160 + b"\n" + wide * 160)
-        self.passes(self.look())
+        self.check_success(self.look())
         self.add("a/b", b"a" * 161 + b"\n\n" + wide * 200 + b"\n")
         self.add("z", b"a" * 162)
         (self.at / "untracked").write_bytes(b"a" * 161)
@@ -193,7 +193,7 @@ class Lines(Folder):
         self.add("binary", b"\xff" * 161)
         self.add("gone", b"a" * 161)
         (self.at / "gone").unlink()
-        self.passes(self.look())
+        self.check_success(self.look())
         for name in ["a/crates.txt", "examples/a/run", "examples/printed"]:
             self.add(name, b"a" * 161)
         self.assertEqual(self.look().stdout.count(b": 161 columns\n"), 3)

@@ -91,15 +91,15 @@ class Progress(Builds):
 
     def setUp(self):
         super().setUp()
-        self.shows(SHOWN)
+        self.set_graph(SHOWN)
 
-    def shows(self, text):
+    def set_graph(self, text):
         """Sets the graph that the program shows."""
         (self.at / "shown").write_text(text)
 
-    def nothing_is_left(self, also=()):
+    def check_nothing_is_left(self, also=()):
         """Checks that there is no result and no temporary file."""
-        super().nothing_is_left({"shown", *also})
+        super().check_nothing_is_left({"shown", *also})
 
     def follow(self, *words):
         """Runs a build with progress."""
@@ -107,7 +107,7 @@ class Progress(Builds):
 
     def test_there_is_a_line_for_each_vertex(self):
         self.make(b"a", b"a")
-        self.does(DONE)
+        self.set_behavior(DONE)
         self.file(b"definition", self.given + named(self.files, "copy\nit") + named(self.origin, "x" * 101))
         done = self.follow("src=in", "--workers", "3")
         self.assertEqual((done.returncode, done.stdout), (0, b""))
@@ -117,50 +117,51 @@ class Progress(Builds):
         given = f"show\nstep --workers 3 src\n{COMMANDS}tree 1 1\nquit\n"
         self.assertEqual((self.at / "given").read_text(), given)
         self.assertEqual((self.at / "out/a").read_text(), "hi")
-        self.nothing_is_left({"out"})
+        self.check_nothing_is_left({"out"})
 
     def test_the_default_is_one_worker(self):
-        self.does(DONE)
+        self.set_behavior(DONE)
         self.assertEqual(self.follow().returncode, 0)
         self.assertIn("step --workers 1\n", (self.at / "given").read_text())
 
     def test_a_failure_is_reported_as_by_a_run(self):
-        self.does(FAILED)
+        self.set_behavior(FAILED)
         words = ["failed", "1", "action", "0", "fault", "21"]
         explained = run("explain", "--definition", self.place(b"definition"), *words)
         meaning = [f"  {line}" for line in explained.stdout.decode().splitlines()]
         lines = ["running definition", "[1/2] vertex 0 source done", "[2/2] vertex 1 file failed"]
-        self.ends(self.follow(), 1, *lines, "failed 1 action 0 fault 21", *meaning, "nothing is written")
+        self.check_end(self.follow(), 1, *lines, "failed 1 action 0 fault 21", *meaning, "nothing is written")
         self.assertTrue((self.at / "given").read_text().endswith(f"{COMMANDS}status\nquit\n"))
 
     def test_a_refusal_is_reported_as_by_a_run(self):
-        self.shows("")
+        self.set_graph("")
         for line, status in [("fault 121 src", 2), ("fault 83", 2), ("fault 123", 3)]:
-            self.does(f'sys.stderr.write("{line}\\n")\nsys.exit({status})\n')
+            self.set_behavior(f'sys.stderr.write("{line}\\n")\nsys.exit({status})\n')
             explained = run("explain", "--definition", self.place(b"definition"), *line.split(" "))
             meaning = [f"  {text}" for text in explained.stdout.decode().splitlines()]
-            self.ends(self.follow(), status, "running definition", line, *meaning, "nothing is written")
+            self.check_end(self.follow(), status, "running definition", line, *meaning, "nothing is written")
 
     def test_a_session_that_ends_too_early_is_an_error(self):
         early = "the session ended before the result was out"
-        self.does("sys.exit(0)")
-        self.ends(self.follow(), 3, "running definition", early)
+        self.set_behavior("sys.exit(0)")
+        self.check_end(self.follow(), 3, "running definition", early)
         cut = 'sys.exit(sys.stdout.write("5 st") * 0) if line == "break settle 1\\n" else line'
-        self.does(SOURCE + f"sys.stdin = ({cut} for line in sys.stdin)\n")
-        self.ends(self.follow(), 3, "running definition", "[1/2] vertex 0 source done", early)
-        self.does(DONE + 'answers["tree 1 1"] = []\n')
+        self.set_behavior(SOURCE + f"sys.stdin = ({cut} for line in sys.stdin)\n")
+        self.check_end(self.follow(), 3, "running definition", "[1/2] vertex 0 source done", early)
+        self.set_behavior(DONE + 'answers["tree 1 1"] = []\n')
         lines = ["[1/2] vertex 0 source done", "[2/2] vertex 1 file done"]
-        self.ends(self.follow(), 3, "running definition", *lines, early)
-        self.does(DONE)
-        self.shows("")
+        self.check_end(self.follow(), 3, "running definition", *lines, early)
+        self.set_behavior(DONE)
+        self.set_graph("")
         lines = ["[1/?] vertex 0 source done", "[2/?] vertex 1 file done"]
-        self.ends(self.follow(), 3, "running definition", *lines, early)
+        self.check_end(self.follow(), 3, "running definition", *lines, early)
 
     def test_a_killed_session_has_the_status_of_its_signal(self):
-        self.does("os.kill(os.getpid(), signal.SIGKILL)")
-        self.ends(self.follow(), 137, "running definition", "nothing is written")
-        self.does(SOURCE + 'sys.stdin = (line if line == "next\\n" else os.kill(os.getpid(), 9) for line in sys.stdin)')
-        self.ends(self.follow(), 137, "running definition", "nothing is written")
+        self.set_behavior("os.kill(os.getpid(), signal.SIGKILL)")
+        self.check_end(self.follow(), 137, "running definition", "nothing is written")
+        killed = 'sys.stdin = (line if line == "next\\n" else os.kill(os.getpid(), 9) for line in sys.stdin)'
+        self.set_behavior(SOURCE + killed)
+        self.check_end(self.follow(), 137, "running definition", "nothing is written")
 
     def test_an_unexpected_answer_is_an_error(self):
         explained = run("explain", "fault", "174").stdout.decode().splitlines()
@@ -171,28 +172,28 @@ class Progress(Builds):
             (claim + 'answers["go"] += ["fault 174"]', ["fault 174", *meaning]),
             (claim + 'answers["go"] += ["2 settle 0 -> 1 done\\nstop"]', ["stop"]),
         ]:
-            self.does(does)
+            self.set_behavior(does)
             end = "the session gave an unexpected answer"
-            self.ends(self.follow(), 3, "running definition", *lines, end)
+            self.check_end(self.follow(), 3, "running definition", *lines, end)
 
     def test_a_result_that_is_not_a_tree_is_refused(self):
-        self.does(DONE + 'answers["tree 1 1"] = ["none"]\n')
+        self.set_behavior(DONE + 'answers["tree 1 1"] = ["none"]\n')
         done = self.follow()
         self.assertEqual(done.returncode, 2)
         line = b"line 1: neither d MODE UID GID PATH nor f MODE UID GID CONTENT PATH"
         self.assertEqual(done.stderr.splitlines()[-2:], [line, b"nothing is written"])
-        self.nothing_is_left()
+        self.check_nothing_is_left()
 
     def test_the_result_can_be_an_archive(self):
-        self.does(DONE)
+        self.set_behavior(DONE)
         done = self.build("--progress", "definition", "out.tar")
         self.assertEqual(done.returncode, 0)
         wanted = run("tar-of-tree", text=b"d 0755 0 0 /\nf 0640 0 0 6869 /a\n").stdout
         self.assertEqual((self.at / "out.tar").read_bytes(), wanted)
-        self.nothing_is_left({"out.tar"})
+        self.check_nothing_is_left({"out.tar"})
 
     def test_an_interrupt_leaves_nothing(self):
-        self.does(SOURCE + "time.sleep(0)\n" + 'answers["go"] = ["2 step 0 -> read"]\n')
+        self.set_behavior(SOURCE + "time.sleep(0)\n" + 'answers["go"] = ["2 step 0 -> read"]\n')
         words = ["--llbm", self.llbm, "--progress", "definition", "out"]
         child = subprocess.Popen(command("build", *words), stderr=subprocess.PIPE, **self.settings)
         self.addCleanup(child.stderr.close)
@@ -201,4 +202,4 @@ class Progress(Builds):
         child.send_signal(signal.SIGTERM)
         self.assertEqual(child.stderr.read(), b"running definition\ninterrupted: nothing is written\n")
         self.assertEqual(child.wait(60), 128 + signal.SIGTERM)
-        self.nothing_is_left()
+        self.check_nothing_is_left()

@@ -41,7 +41,7 @@ class TreeOfDirectory(Folder):
             "f 0644 OWN - /empty",
             "f 4755 OWN 0a /\N{GREEK SMALL LETTER ALPHA}",
         ]
-        self.passes(self.read(b"in"), self.text(lines), NOTHING)
+        self.check_success(self.read(b"in"), self.text(lines), NOTHING)
 
     def test_names_are_sorted_by_their_bytes_in_each_directory(self):
         self.make(b"")
@@ -49,13 +49,13 @@ class TreeOfDirectory(Folder):
         for name in names:
             self.make(name.encode())
         order = ["", "B", "a", "a/a", "a/a/z", "a/a-", "a/b", "a-b", *names[-2:]]
-        self.passes(self.read(b"in"), self.text(f"d 0755 OWN /{name}" for name in order), NOTHING)
+        self.check_success(self.read(b"in"), self.text(f"d 0755 OWN /{name}" for name in order), NOTHING)
 
     def test_all_entries_can_have_one_owner(self):
         self.make(b"a", b"a")
         for user, group in [(0, 0), (1000, 100), (4294967295, 0)]:
             done = run("tree-of-directory", "--owner", f"{user}:{group}", self.place(b"in"))
-            self.passes(done, self.text([f"d 0755 {user} {group} /", f"f 0644 {user} {group} 61 /a"]), NOTHING)
+            self.check_success(done, self.text([f"d 0755 {user} {group} /", f"f 0644 {user} {group} 61 /a"]), NOTHING)
 
     def test_command_lines_are_refused(self):
         for owner in ["", "0", "0:", "00:0", "0:4294967296", "-1:0", "root:root", "0:0:0", "0:0\n"]:
@@ -78,12 +78,12 @@ class TreeOfDirectory(Folder):
 
     def test_other_kinds_are_named_counted_and_left_out(self):
         errors = self.make_no_files()
-        self.passes(self.read(b"in"), self.text(["d 0755 OWN /", "f 0644 OWN 61 /a"]), errors)
+        self.check_success(self.read(b"in"), self.text(["d 0755 OWN /", "f 0644 OWN 61 /a"]), errors)
 
     def test_a_strict_run_has_status_1_if_something_is_left_out(self):
         self.make(b"b/c", b"c")
         lines = ["d 0755 OWN /", "d 0755 OWN /b", "f 0644 OWN 63 /b/c"]
-        self.passes(self.read(b"in", "--strict"), self.text(lines), NOTHING)
+        self.check_success(self.read(b"in", "--strict"), self.text(lines), NOTHING)
         errors = self.make_no_files()
         lines.insert(1, "f 0644 OWN 61 /a")
         self.check_run(self.read(b"in", "--strict"), 1, self.text(lines), errors)
@@ -103,7 +103,7 @@ class TreeOfDirectory(Folder):
         errors = [rb"/new\nline", rb"/\x7f", rb"/\xed\xa0\x80", rb"/\xff"]
         errors = b"".join(path + b": left out: not a valid name\n" for path in errors)
         errors += b"left out: 4 entries with invalid names\n"
-        self.passes(done, self.text(["d 0755 OWN /", "d 0755 OWN /a"]), errors)
+        self.check_success(done, self.text(["d 0755 OWN /", "d 0755 OWN /a"]), errors)
 
     def test_the_text_leaves_itself_out(self):
         self.make(b"a", b"a")
@@ -191,8 +191,8 @@ class RoundTrip(Folder):
 
     def round_trip(self, text):
         """Checks that the directory of a text has that text."""
-        self.passes(self.write(text))
-        self.passes(self.read(), text, NOTHING)
+        self.check_success(self.write(text))
+        self.check_success(self.read(), text, NOTHING)
 
     def test_a_directory_survives_the_round_trip(self):
         self.make(b"")
@@ -222,18 +222,18 @@ class RoundTrip(Folder):
 
     def test_a_longer_path_is_left_out(self):
         lines = [f"d 0755 OWN /{'/'.join('a' * count)}" for count in range(129)]
-        self.passes(self.write(self.text(lines)))
+        self.check_success(self.write(self.text(lines)))
         deep = self.place(b"out", *[b"a"] * 129)
         os.makedirs(os.path.join(deep, b"below"))
         errors = b"/a" * 129 + b": left out: more than 128 names\nleft out: 1 path that is too long\n"
-        self.passes(self.read(), self.text(lines), errors)
+        self.check_success(self.read(), self.text(lines), errors)
 
     def test_owners_survive_the_round_trip_for_root(self):
         lines = ["d 0755 1 2 /", "d 6755 3 4 /a", "f 6755 4294967294 5 61 /a/b"]
-        self.passes(self.write(self.text(lines)))
+        self.check_success(self.write(self.text(lines)))
         owned = self.read()
         if IS_ROOT:
-            self.passes(owned, self.text(lines), NOTHING)
+            self.check_success(owned, self.text(lines), NOTHING)
         else:
             self.assertEqual(owned.stdout.splitlines()[0], b"d 0755 %b /" % self.mine)
 
@@ -244,7 +244,7 @@ class RoundTrip(Folder):
             errors = b"/a: could not be written: the system has no such owner\n"
             self.assertEqual((done.returncode, done.stderr), (3, errors))
         else:
-            self.passes(done)
+            self.check_success(done)
 
 
 class DirectoryOfTree(Folder):
@@ -252,7 +252,7 @@ class DirectoryOfTree(Folder):
 
     def test_the_result_of_the_first_run_is_written(self):
         text = b"d 0755 0 0 /\nf 0644 0 0 6869 /a\n"
-        self.passes(self.write(text))
+        self.check_success(self.write(text))
         with open(self.place(b"out", b"a"), "rb") as file:
             self.assertEqual(file.read(), b"hi")
         self.assertEqual(stat.S_IMODE(os.stat(self.place(b"out", b"a")).st_mode), 0o644)
@@ -260,8 +260,8 @@ class DirectoryOfTree(Folder):
     def test_an_empty_directory_is_accepted(self):
         os.mkdir(self.place(b"out"), 0o700)
         text = self.text(["d 0711 OWN /", "d 0755 OWN /a"])
-        self.passes(self.write(text))
-        self.passes(self.read(), text, NOTHING)
+        self.check_success(self.write(text))
+        self.check_success(self.read(), text, NOTHING)
 
     def test_other_places_are_refused(self):
         self.make(b"full/a", b"a")
@@ -282,7 +282,7 @@ class DirectoryOfTree(Folder):
         held = self.place(b"held")
         os.mkdir(held)
         settings = {"env": {**os.environ, "TMPDIR": os.fsdecode(held)}}
-        self.passes(self.write(b"d 0755 0 0 /\n", **settings))
+        self.check_success(self.write(b"d 0755 0 0 /\n", **settings))
         self.assertEqual(self.write(b"d 0755 0 0 /\nx\n", b"other", **settings).returncode, 2)
         self.assertEqual(os.listdir(held), [])
 
@@ -330,7 +330,7 @@ class DirectoryOfTree(Folder):
         self.assertEqual(done.returncode, 0, done.stderr)
         return int(done.stderr)
 
-    def refused(self, text, number, cause):
+    def check_refused(self, text, number, cause):
         """Checks that the text is refused at this line for this cause, and that nothing is written."""
         with self.subTest(text=text[-60:]):
             done = self.write(text)
@@ -360,28 +360,28 @@ class DirectoryOfTree(Folder):
             (b"f 0644 0 0 61 /", "the root is not a directory"),
         ]
         for line, cause in faults:
-            self.refused(b"d 0755 0 0 /\n" + line + b"\nd 0755 0 0 /z\n", 2, cause)
+            self.check_refused(b"d 0755 0 0 /\n" + line + b"\nd 0755 0 0 /z\n", 2, cause)
 
     def test_texts_with_a_faulty_end_are_refused(self):
-        self.refused(b"", 1, "the text is empty")
-        self.refused(b"d 0755 0 0 /", 1, "the line does not end with a newline")
-        self.refused(b"d 0755 0 0 /\nd 0755 0 0 /a", 2, "the line does not end with a newline")
-        self.refused(b"f 0644 0 0 - /\n", 1, "the root is not a directory")
+        self.check_refused(b"", 1, "the text is empty")
+        self.check_refused(b"d 0755 0 0 /", 1, "the line does not end with a newline")
+        self.check_refused(b"d 0755 0 0 /\nd 0755 0 0 /a", 2, "the line does not end with a newline")
+        self.check_refused(b"f 0644 0 0 - /\n", 1, "the root is not a directory")
 
     def test_paths_out_of_order_are_refused(self):
         order = "the path does not come after that of the line before"
-        self.refused(b"d 0755 0 0 /a\n", 1, "the first line is not the root's")
+        self.check_refused(b"d 0755 0 0 /a\n", 1, "the first line is not the root's")
         for first, second in [("/a", "/a"), ("/b", "/a"), ("/a-b", "/a"), ("/a", "/")]:
-            self.refused(f"d 0755 0 0 /\nd 0755 0 0 {first}\nd 0755 0 0 {second}\n".encode(), 3, order)
-        self.refused(b"d 0755 0 0 /\nd 0755 0 0 /a\nd 0755 0 0 /a-b\nd 0755 0 0 /a/b\n", 4, order)
+            self.check_refused(f"d 0755 0 0 /\nd 0755 0 0 {first}\nd 0755 0 0 {second}\n".encode(), 3, order)
+        self.check_refused(b"d 0755 0 0 /\nd 0755 0 0 /a\nd 0755 0 0 /a-b\nd 0755 0 0 /a/b\n", 4, order)
 
     def test_missing_parents_are_refused(self):
         cause = "the parent of the path is not a directory"
-        self.refused(b"d 0755 0 0 /\nd 0755 0 0 /a/b\n", 2, cause)
-        self.refused(b"d 0755 0 0 /\nf 0644 0 0 - /a\nd 0755 0 0 /a/b\n", 3, cause)
-        self.refused(b"d 0755 0 0 /\nd 0755 0 0 /a\nd 0755 0 0 /a/b\nd 0755 0 0 /b/c\n", 4, cause)
+        self.check_refused(b"d 0755 0 0 /\nd 0755 0 0 /a/b\n", 2, cause)
+        self.check_refused(b"d 0755 0 0 /\nf 0644 0 0 - /a\nd 0755 0 0 /a/b\n", 3, cause)
+        self.check_refused(b"d 0755 0 0 /\nd 0755 0 0 /a\nd 0755 0 0 /a/b\nd 0755 0 0 /b/c\n", 4, cause)
 
     def test_the_first_fault_of_the_first_faulty_line_is_reported(self):
         mode, order = "the mode is not four octal digits", "the path does not come after that of the line before"
-        self.refused(b"d 0755 0 0 /\nd 9 0 0 /b/c\nd 0755 0 0 /a\n", 2, mode)
-        self.refused(b"d 0755 0 0 /\nd 0755 0 0 /b\nd 0755 0 0 /a/c\n", 3, order)
+        self.check_refused(b"d 0755 0 0 /\nd 9 0 0 /b/c\nd 0755 0 0 /a\n", 2, mode)
+        self.check_refused(b"d 0755 0 0 /\nd 0755 0 0 /b\nd 0755 0 0 /a/c\n", 3, order)
