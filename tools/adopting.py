@@ -1,7 +1,8 @@
-"""Makes of a foreign definition one that the program takes: op by op, with new digests, and what is keyed by these.
+"""Changes a foreign definition into one that the program accepts, op by op.
 
-An entry is known by the SHA-256 of its bytes, and inputs, metadata and the places of `Source` name it by that. So an
-entry that changes changes all that are after it; entries are written inputs first, each with the new digests of them.
+An entry is identified by the SHA-256 of its bytes: inputs, metadata and the locations in `Source` name it by that. So a
+change of an entry changes all entries downstream. Entries are rewritten inputs first, with the new digests of their
+inputs.
 """
 
 import functools
@@ -32,8 +33,8 @@ NOTHING = ["true"]
 MOST_CHARACTERS = 60
 
 
-class Wishes(NamedTuple):
-    """What is wished beyond local sources: what is dropped, rules for words, and whether all others run nothing."""
+class Settings(NamedTuple):
+    """What to change besides sources: what to drop, rules for words, and whether all other executions run nothing."""
 
     dropped: frozenset[str] = frozenset()
     rules: tuple[Rule, ...] = ()
@@ -41,7 +42,7 @@ class Wishes(NamedTuple):
 
 
 class Adopted(NamedTuple):
-    """A definition, what was changed by rows, its local sources with the identifiers they had, and what is left."""
+    """The adopted definition, the changes by row, its local sources with their old identifiers, and what is left."""
 
     data: bytes
     changes: list[tuple[int, str]]
@@ -51,32 +52,32 @@ class Adopted(NamedTuple):
 
 
 def words_shown(words: list[str]) -> str:
-    """Words for a person to read."""
+    """Returns words in one line for a person, shortened."""
     return shortened(shlex.join(words), MOST_CHARACTERS)
 
 
 def name_of_secret(held: bytes) -> str:
-    """The variable that a secret is given in: its name (2), or else its ID (1)."""
+    """Returns the environment variable of a secret: its name (2), or else its ID (1)."""
     fields = names.fields_of(held)
     return names.text_of(fields, 2) or names.text_of(fields, 1)
 
 
 class Entry:
-    """One entry while it is changed; what was changed is kept in words."""
+    """One entry while it is changed, with a description of each change."""
 
-    def __init__(self, wishes: Wishes, local: dict[str, str], name: str) -> None:
-        self.wishes = wishes
+    def __init__(self, settings: Settings, local: dict[str, str], name: str) -> None:
+        self.settings = settings
         self.local = local
         self.name = name
         self.changes: list[str] = []
         self.used: Rule | None = None
 
     def drops(self, kind: str) -> bool:
-        """Whether something of this kind is dropped."""
-        return kind in self.wishes.dropped
+        """Returns whether things of this kind are dropped."""
+        return kind in self.settings.dropped
 
     def changed_op(self, digest: str, entry: bytes, op: dict) -> bytes:
-        """The op without the new digests of its inputs."""
+        """Returns the changed op; its inputs still have their old digests."""
         if op["kind"] == "source" and digest in self.local:
             self.changes.append(f"source {op['source']['identifier']} is {op_rules.LOCAL}{self.local[digest]}")
             return self.member(entry, SOURCE, lambda held: with_text(held, 1, op_rules.LOCAL + self.local[digest]))
@@ -90,17 +91,17 @@ class Entry:
         return entry
 
     def member(self, entry: bytes, field: int, change: Callable[[list[Record]], list[Record]]) -> bytes:
-        """The entry with the member of its kind changed."""
+        """Returns the entry with the member of its kind changed."""
         return changed(entry, lambda records: with_message(records, field, lambda held: changed(held, change), KINDS))
 
-    def execution(self, digest: str, told: dict, records: list[Record]) -> list[Record]:
-        """An execution with other words, and without what is dropped."""
+    def execution(self, digest: str, exec_op: dict, records: list[Record]) -> list[Record]:
+        """Returns the records of an execution with its new words, and without what is dropped."""
         records = with_each(records, 2, self.mount)
-        if self.drops(SECRETS) and told["secretenv"]:
-            shown = ", ".join(map(name_of_secret, told["secretenv"]))
+        if self.drops(SECRETS) and exec_op["secretenv"]:
+            shown = ", ".join(map(name_of_secret, exec_op["secretenv"]))
             self.changes.append(f"dropped: secret environment {shown}")
             records = without(records, 5)
-        old = told["meta"]["args"] if told["meta"] else []
+        old = exec_op["meta"]["args"] if exec_op["meta"] else []
         new = self.words(digest, old)
         if new == old:
             return records
@@ -108,14 +109,14 @@ class Entry:
         return with_message(records, 1, lambda held: changed(held, lambda meta: with_texts(meta, 1, new)))
 
     def words(self, digest: str, old: list[str]) -> list[str]:
-        """The new words of an execution."""
-        self.used = rule_for(self.wishes.rules, digest, self.name, old)
+        """Returns the new words of an execution."""
+        self.used = rule_for(self.settings.rules, digest, self.name, old)
         if self.used:
             return self.used.words or old
-        return NOTHING if self.wishes.run_nothing else old
+        return NOTHING if self.settings.run_nothing else old
 
     def mount(self, held: bytes) -> bytes | None:
-        """A mount, none where it is dropped."""
+        """Returns a mount, or None if it is dropped."""
         mount = op_reading.read("Mount", held)
         for kind, number, shown in [(SECRETS, op_rules.SECRET, "secret"), (SSH, op_rules.SSH, "SSH")]:
             if self.drops(kind) and mount["mountType"] == number:
@@ -124,7 +125,7 @@ class Entry:
         return held
 
     def action(self, number: int, held: bytes) -> bytes:
-        """An action without what is dropped."""
+        """Returns an action without what is dropped."""
         kind = op_reading.read("FileAction", held)["kind"]
         for field in OWNERS:
             if op_reading.MESSAGES["FileAction"][field].name == kind:
@@ -135,7 +136,7 @@ class Entry:
         return held
 
     def action_member(self, number: int, field: int, records: list[Record]) -> list[Record]:
-        """A copy without its unpacking, and what has an owner without names of owners."""
+        """Returns the records of an action without unpacking, and without owners that are given by name."""
         unpacks = [record.held for record in records if record.field == UNPACK and field == COPY]
         if self.drops(UNPACKS) and unpacks and unpacks[-1]:
             self.changes.append(f"dropped: unpacking by action {number}")
@@ -147,11 +148,11 @@ class Entry:
         )
 
     def owner(self, number: int, held: bytes, records: list[Record]) -> list[Record]:
-        """An owner without what is given by a name."""
-        told = op_reading.read("ChownOpt", held)
+        """Returns the records of an owner without those that are given by name."""
+        owner = op_reading.read("ChownOpt", held)
         for field, who in [(1, "user"), (2, "group")]:
-            if told[who] and told[who]["kind"] == "byName":
-                shown = names.text_of(names.fields_of(told[who]["byName"]), 1)
+            if owner[who] and owner[who]["kind"] == "byName":
+                shown = names.text_of(names.fields_of(owner[who]["byName"]), 1)
                 self.changes.append(f"dropped: {who} {shown} of action {number}")
                 records = without(records, field)
         return records
@@ -160,12 +161,12 @@ class Entry:
 class Adoption:
     """A definition while it is adopted."""
 
-    def __init__(self, data: bytes, wishes: Wishes) -> None:
+    def __init__(self, data: bytes, settings: Settings) -> None:
         self.records = op_reading.read_definition(data)
         self.entries = op_reading.entries_in(self.records)
         self.digests = [definition.digest_of(entry) for entry in self.entries]
         self.names = [name.text for name in names.names_of(data)]
-        self.wishes = wishes
+        self.settings = settings
         self.rows: dict[str, int] = {}
         self.ops: dict[int, dict] = {}
         self.read()
@@ -178,7 +179,7 @@ class Adoption:
         self.used: set[int] = set()
 
     def read(self) -> None:
-        """The ops of the rows that are ops."""
+        """Reads the op of each row that is one."""
         for row, (digest, entry) in enumerate(zip(self.digests, self.entries)):
             if self.rows.setdefault(digest, row) == row:
                 try:
@@ -187,31 +188,31 @@ class Adoption:
                     continue
 
     def name_sources(self) -> None:
-        """The names of the sources that become local ones, by the order of their rows."""
+        """Chooses a name for each source that becomes a local one, in the order of the rows."""
         sources = {row: op["source"]["identifier"] for row, op in self.ops.items() if op["kind"] == "source"}
         given = LocalNames(list(sources.values()))
         for row, identifier in sources.items():
             if is_known(identifier):
-                self.local[self.digests[row]] = given.give(identifier)
+                self.local[self.digests[row]] = given.new_name(identifier)
                 self.sources.append((self.local[self.digests[row]], identifier))
             elif identifier.startswith(op_rules.LOCAL):
                 self.sources.append((identifier[len(op_rules.LOCAL) :], identifier))
 
     def order(self) -> list[int]:
-        """The rows that are ops, inputs first."""
-        named = {row: [self.rows.get(told["digest"]) for told in op["inputs"]] for row, op in self.ops.items()}
+        """Returns the rows that are ops, inputs first."""
+        named = {row: [self.rows.get(edge["digest"]) for edge in op["inputs"]] for row, op in self.ops.items()}
         return definition.order_of({row: [one for one in rows if one in self.ops] for row, rows in named.items()})
 
     def input(self, held: bytes) -> bytes:
-        """An input with the new digest of what it names."""
+        """Returns an input with the new digest of the entry that it names."""
         digest = op_reading.read("Input", held)["digest"]
         new = self.new.get(digest, digest)
         return held if new == digest else changed(held, lambda records: with_text(records, 1, new))
 
     def adopt_row(self, row: int) -> None:
-        """An entry is made anew, after those that it names."""
+        """Rewrites an entry, after the entries that its inputs name."""
         digest = self.digests[row]
-        one = Entry(self.wishes, self.local, self.names[row])
+        one = Entry(self.settings, self.local, self.names[row])
         entry = one.changed_op(digest, self.entries[row], self.ops[row])
         linked = changed(entry, lambda records: with_each(records, 1, self.input))
         if linked != entry:
@@ -223,7 +224,7 @@ class Adoption:
             self.used.add(one.used.line)
 
     def renamed(self, held: bytes) -> bytes:
-        """An entry of a map with the new digest as its key; one that does not read stays."""
+        """Returns an entry of a map with the new digest as its key; an entry that cannot be parsed stays as it is."""
         try:
             records = op_reading.records_in(held)
         except op_reading.Faulty:
@@ -233,7 +234,7 @@ class Adoption:
         return held if new == key else written(with_text(records, 1, new))
 
     def source(self, held: bytes) -> bytes:
-        """`Source` with the new digests as keys of its places; one that does not read stays."""
+        """Returns `Source` with the new digests as keys of its locations; if it cannot be parsed it stays as it is."""
         try:
             records = op_reading.records_in(held)
         except op_reading.Faulty:
@@ -241,21 +242,21 @@ class Adoption:
         return written(with_each(records, 1, lambda one: self.renamed(one) if isinstance(one, bytes) else one))
 
     def result(self) -> bytes:
-        """The definition with all that was made anew."""
+        """Returns the definition with all changes."""
         made = iter([self.made.get(digest, entry) for digest, entry in zip(self.digests, self.entries)])
         records = with_each(self.records, 1, lambda _: next(made))
         metadata = with_each(records, 2, self.renamed)
         return written(with_message(metadata, 3, self.source))
 
     def others(self) -> list[str]:
-        """What else there is to tell: rules that fit nothing."""
-        unused = [rule.line for rule in self.wishes.rules if rule.line not in self.used]
+        """Returns the warnings: rules that fit no execution."""
+        unused = [rule.line for rule in self.settings.rules if rule.line not in self.used]
         return [f"rules: line {line} fits no execution" for line in unused]
 
 
-def adopt(data: bytes, wishes: Wishes) -> Adopted:
-    """The definition adopted, as far as it can be."""
-    adoption = Adoption(data, wishes)
+def adopt(data: bytes, settings: Settings) -> Adopted:
+    """Returns the definition, adopted as far as possible."""
+    adoption = Adoption(data, settings)
     for row in adoption.order():
         adoption.adopt_row(row)
     result = adoption.result()

@@ -1,16 +1,15 @@
-"""The rules by which `adopt` gives executions other words.
+"""The rules by which `adopt` replaces the words of executions.
 
-A file of rules is UTF-8; a rule stands on a line, and empty lines and lines that begin with `#` are dropped:
+A file of rules is UTF-8, with one rule on a line; empty lines and lines that begin with `#` are skipped:
 
     digest DIGEST => NEW ..
     name NAME => NEW ..
     words OLD .. => NEW ..
 
-Words are parted by spaces and quoted as in a POSIX shell, so that a word with spaces stands between quotes; `=>` is a
-word by itself, the first such of its line. A rule is that of the execution whose entry has this digest in the
-definition that is given, of each whose name in its metadata is this one, or of each that has just these words. The
-first rule that fits an execution holds. Its new words have to be a script of llbm; where there are none, the execution
-keeps its own.
+Words are separated by spaces and quoted as in a POSIX shell; `=>` is the first word of this form on the line. A rule
+applies to the execution whose entry has this digest in the given definition, to each execution with this name in its
+metadata, or to each with exactly these words. The first rule that applies is used. Its new words have to be a script of
+llbm; if there are none, the execution keeps its words.
 """
 
 import shlex
@@ -23,11 +22,11 @@ KINDS = ("digest", "name", "words")
 
 
 class BadRules(Exception):
-    """A line is no rule; the words tell which and why."""
+    """A line is not a rule; the message says which and why."""
 
 
 class Rule(NamedTuple):
-    """A rule: its line, what it looks at, what that has to be, and the new words, none to keep the old ones."""
+    """A rule: its line number, what it compares, the wanted value, and the new words (empty: keep the old ones)."""
 
     line: int
     kind: str
@@ -35,12 +34,12 @@ class Rule(NamedTuple):
     words: list[str]
 
     def fits(self, digest: str, name: str, args: list[str]) -> bool:
-        """Whether it is a rule of this execution."""
+        """Returns whether the rule applies to an execution."""
         return self.wanted == {"digest": (digest,), "name": (name,), "words": tuple(args)}[self.kind]
 
 
 def rule_of(number: int, line: str) -> Rule:
-    """The rule that stands on a line."""
+    """Returns the rule on a line."""
     try:
         words = shlex.split(line)
     except ValueError as fault:
@@ -53,23 +52,23 @@ def rule_of(number: int, line: str) -> Rule:
     place = rest.index(ARROW)
     wanted, new = tuple(rest[:place]), rest[place + 1 :]
     if len(wanted) != 1 and kind != "words":
-        raise BadRules(f"line {number}: one word stands between {kind} and {ARROW}")
+        raise BadRules(f"line {number}: exactly one word goes between {kind} and {ARROW}")
     fault = script_faults.fault_of(new) if new else None
     if fault:
-        raise BadRules(f"line {number}: the new words are no script: fault {fault}")
+        raise BadRules(f"line {number}: the new words are not a script: fault {fault}")
     return Rule(number, kind, wanted, new)
 
 
 def rules_in(data: bytes) -> list[Rule]:
-    """The rules of a file."""
+    """Returns the rules in a file."""
     try:
         lines = data.decode("utf-8").split("\n")
     except UnicodeDecodeError as fault:
-        raise BadRules("they are not UTF-8") from fault
-    kept = [(number, line.strip(" \t\r")) for number, line in enumerate(lines, 1)]
-    return [rule_of(number, line) for number, line in kept if line and not line.startswith("#")]
+        raise BadRules("not UTF-8") from fault
+    stripped = [(number, line.strip(" \t\r")) for number, line in enumerate(lines, 1)]
+    return [rule_of(number, line) for number, line in stripped if line and not line.startswith("#")]
 
 
 def rule_for(rules: list[Rule], digest: str, name: str, args: list[str]) -> Rule | None:
-    """The first rule that fits an execution."""
+    """Returns the first rule that applies to an execution, or None."""
     return next((rule for rule in rules if rule.fits(digest, name, args)), None)

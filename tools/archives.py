@@ -1,7 +1,7 @@
 """Tar archives as the tools of this folder read them: unpacked, and entry by entry up to the first damaged header.
 
-What Python's tarfile passes over in silence is refused here: a damaged header after the first entry, and an archive
-that is cut off where an entry ends.
+This refuses what Python's tarfile accepts silently: a damaged header after the first entry, and an archive that is cut
+off at the end of an entry.
 """
 
 import contextlib
@@ -23,30 +23,30 @@ UNREADABLE = (ArithmeticError, AttributeError, LookupError, RecursionError, Type
 
 
 def is_archive(place: str) -> bool:
-    """Whether what is at a place is read as an archive: by its name, where it is no directory."""
+    """Returns whether a path is read as an archive: by its name, unless it is a directory."""
     return place.endswith(ENDINGS) and not os.path.isdir(place)
 
 
-def unpack(packed: BinaryIO, module: str, kept: BinaryIO) -> None:
-    """What is packed in the form of a module of the standard library is kept, once all of it is unpacked."""
+def unpack(packed: BinaryIO, module: str, stored: BinaryIO) -> None:
+    """Unpacks a stream with a module of the standard library; an error is raised as Refused."""
     try:
         opened = importlib.import_module(module).open(packed, "rb")
     except ImportError as fault:
         raise Refused(f"the archive is packed by {module}, which this Python does not have") from fault
     try:
-        shutil.copyfileobj(opened, kept, PIECE)
+        shutil.copyfileobj(opened, stored, PIECE)
     except OSError as fault:
         if fault.errno is not None:
             raise
         raise Refused(f"the archive could not be unpacked: {fault}") from fault
     except MemoryError:
         raise
-    except Exception as fault:  # each of these modules has a type of its own
+    except Exception as fault:  # each of these modules raises its own types
         raise Refused(f"the archive could not be unpacked: {fault}") from fault
 
 
 def open_unpacked(given: BinaryIO, first: BinaryIO, second: BinaryIO) -> BinaryIO:
-    """The bare archive of what is given: as it is, where it is one and can be read twice, else in a temporary file."""
+    """Returns the unpacked archive: the given stream if it is plain and seekable, else a temporary file."""
     if not given.seekable() or given.tell():
         shutil.copyfileobj(given, first, PIECE)
         given = first
@@ -62,28 +62,28 @@ def open_unpacked(given: BinaryIO, first: BinaryIO, second: BinaryIO) -> BinaryI
 
 
 class Member(tarfile.TarInfo):
-    """An entry of an archive. A header that does not read is refused, and no end of the archive."""
+    """An entry of an archive. A header that cannot be parsed is an error; it does not end the archive."""
 
     @classmethod
     def fromtarfile(cls, archive: tarfile.TarFile) -> "Member":
-        """The entry at the place where the archive is read."""
+        """Returns the entry at the current position of the archive."""
         place = archive.fileobj.tell()
         try:
             member = super().fromtarfile(archive)
         except tarfile.EOFHeaderError:
             raise
         except tarfile.EmptyHeaderError as fault:
-            raise Refused("the archive has no end" if place else "there is no archive") from fault
+            raise Refused("the archive has no end" if place else "the archive is empty") from fault
         except (tarfile.HeaderError, tarfile.ReadError, *UNREADABLE) as fault:
-            raise Refused(f"byte {place}: no header of an entry: {fault}") from fault
+            raise Refused(f"byte {place}: not a header of an entry: {fault}") from fault
         if member.size < 0 or archive.offset <= place:
-            raise Refused(f"byte {place}: no header of an entry: its size is negative")
+            raise Refused(f"byte {place}: not a header of an entry: its size is negative")
         return member
 
 
 @contextlib.contextmanager
 def reading(what: str) -> Iterator[None]:
-    """What does not read here is refused; a place that no file can have does not read either."""
+    """Turns parse errors into Refused, also offsets that no file can have."""
     try:
         yield
     except (tarfile.ReadError, *UNREADABLE) as fault:
@@ -95,19 +95,19 @@ def reading(what: str) -> Iterator[None]:
 
 
 def members_of(archive: tarfile.TarFile) -> Iterator[Member]:
-    """The entries of an archive, in their order."""
+    """Yields the entries of an archive, in order."""
     with reading("the archive is cut off"):
         yield from archive
 
 
 def open_archive(bare: BinaryIO) -> tarfile.TarFile:
-    """A bare archive, of which the first header reads."""
-    with reading("no archive"):
+    """Opens an unpacked archive; its first header has to be valid."""
+    with reading("not an archive"):
         return tarfile.open(fileobj=bare, mode="r:", tarinfo=Member, encoding="utf-8", errors="surrogateescape")
 
 
 def content_of(archive: tarfile.TarFile, member: Member) -> Iterator[bytes]:
-    """The content of a file, piece after piece."""
+    """Yields the content of a file, piece by piece."""
     with reading(f"{member.name}: the content could not be read"), archive.extractfile(member) as content:
         while piece := content.read(PIECE):
             yield piece

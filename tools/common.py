@@ -1,4 +1,4 @@
-"""What the tools of this folder share: the rules of names, words for a person, and the standard streams."""
+"""What the tools of this folder share: the rules for names, text for a person, and the standard streams."""
 
 import contextlib
 import os
@@ -11,7 +11,7 @@ NAME = re.compile(rb"[^\x00-\x1f/\x7f]{1,255}")
 
 
 def is_name(name: bytes) -> bool:
-    """Whether these bytes are a name of a tree."""
+    """Returns whether these bytes are a valid name in a tree."""
     if not NAME.fullmatch(name) or name in (b".", b".."):
         return False
     try:
@@ -22,29 +22,29 @@ def is_name(name: bytes) -> bool:
 
 
 def printable(text: str) -> str:
-    """A text for a person to read: what cannot be printed is escaped."""
+    """Returns a text with non-printable characters escaped."""
     return "".join(c if c.isprintable() else c.encode("unicode_escape").decode() for c in text)
 
 
 def shortened(text: str, most: int) -> str:
-    """A text of at most that many characters; dots stand for what is left out."""
+    """Returns a text, cut with `...` if it has more than `most` characters."""
     return text if len(text) <= most else text[: most - 3] + "..."
 
 
 def say(text: str) -> None:
-    """One line on standard error, where it takes one; what cannot be printed is escaped."""
+    """Prints one line on standard error, if it is open, with non-printable characters escaped."""
     with contextlib.suppress(OSError, AttributeError):
         os.write(sys.stderr.fileno(), f"{printable(text)}\n".encode("utf-8"))
 
 
 def check_open(stream: object, name: str) -> None:
-    """Whether a standard stream is there."""
+    """Raises OSError if a standard stream is closed."""
     if stream is None:
         raise OSError(None, f"{name} is closed")
 
 
 def data_in(file: str | None) -> bytes:
-    """The bytes of a file, or of standard input for none; of those that are too many only so many as tell it."""
+    """Returns the bytes of a file, or of standard input for None; at most one byte more than the limit."""
     if file is None:
         check_open(sys.stdin, "standard input")
         return sys.stdin.buffer.read(MOST_BYTES + 1)
@@ -52,11 +52,11 @@ def data_in(file: str | None) -> bytes:
         return opened.read(MOST_BYTES + 1)
 
 
-def give_up_output() -> None:
-    """What is still to be written to standard output goes nowhere, so that no one fails at it once more."""
+def discard_output() -> None:
+    """Redirects standard output to /dev/null, so that buffered output does not fail again at exit."""
     os.dup2(os.open(os.devnull, os.O_WRONLY), 1)
 
 
-def told(fault: OSError) -> str:
-    """A failed read or write in words."""
+def os_error_text(fault: OSError) -> str:
+    """Returns a failed read or write as one line."""
     return f"{fault.filename or 'a read or a write failed'}: {fault.strerror}"

@@ -1,7 +1,7 @@
-"""What a definition says, as far as the tools of this folder tell of it: its entries, their ops, the numbered graph.
+"""Reads the parts of a definition that the tools of this folder print: its entries, their ops, the numbered graph.
 
-The wire, the messages and the numbering are those of docs/FORMATS.md. Only the fields that are told are read; the
-others are passed over, and nothing is looked for that the program would refuse besides.
+The wire format, the messages and the numbering are those of docs/FORMATS.md. Other fields are skipped, and most rules
+of the program are not checked.
 """
 
 import hashlib
@@ -23,11 +23,11 @@ SHELL = ["/bin/sh", "-c"]
 
 
 class Unreadable(Exception):
-    """Bytes are no definition or no op, or entries are no graph; the words tell why."""
+    """The bytes are not a definition or not an op, or the entries are not a graph; the message says why."""
 
 
 class Field(NamedTuple):
-    """A field of a message: `number`, `text`, `bytes`, or the name of a message; `member` tells one of a oneof."""
+    """A field of a message: `number`, `text`, `bytes`, or the name of a message; `member` marks one of a oneof."""
 
     name: str
     kind: str
@@ -74,7 +74,7 @@ class Graph(NamedTuple):
 
 
 def varint(data: bytes, place: int) -> tuple[int, int]:
-    """The number that is spelled at a place, and the place after it."""
+    """Returns the varint at a position, and the position after it."""
     number = 0
     for count, byte in enumerate(data[place : place + 10]):
         number |= (byte & 127) << 7 * count
@@ -86,7 +86,7 @@ def varint(data: bytes, place: int) -> tuple[int, int]:
 
 
 def payload(data: bytes, place: int, form: int) -> tuple[int | bytes, int]:
-    """What a record of this wire type holds at a place, and the place after it."""
+    """Returns the value of a record with this wire type, and the position after it."""
     if form == VARINT:
         return varint(data, place)
     if form == LENGTH:
@@ -101,7 +101,7 @@ def payload(data: bytes, place: int, form: int) -> tuple[int | bytes, int]:
 
 
 def records(data: bytes) -> Iterator[tuple[int, int, int | bytes]]:
-    """The records that bytes spell: field, wire type and what it holds."""
+    """Yields the records in these bytes: field, wire type and value."""
     place = 0
     while place < len(data):
         tag, place = varint(data, place)
@@ -113,7 +113,7 @@ def records(data: bytes) -> Iterator[tuple[int, int, int | bytes]]:
 
 
 def value_of(field: Field, form: int, held: int | bytes) -> int | str | bytes:
-    """What a record gives to its field; that of a message is still bytes."""
+    """Returns the value of a record for its field; a message is still bytes."""
     if form != (VARINT if field.kind == "number" else LENGTH):
         raise Unreadable(f"{field.name} has the wire type {form}")
     if field.kind == "number":
@@ -127,7 +127,7 @@ def value_of(field: Field, form: int, held: int | bytes) -> int | str | bytes:
 
 
 def take(found: dict, field: Field, value: int | str | bytes) -> None:
-    """A field takes a value: one more, the last one, or, of a message, what its bytes go on with."""
+    """Stores a value of a field: appends it, replaces the old one, or extends a message's bytes."""
     if field.member and found.get("kind") != field.name:
         found.pop(found.get("kind"), None)
         found["kind"] = field.name
@@ -139,17 +139,17 @@ def take(found: dict, field: Field, value: int | str | bytes) -> None:
         found[field.name] = value
 
 
-def looked_into(field: Field, held: bytes | list[bytes]) -> dict | list[dict]:
-    """What the message or the messages of a field say."""
+def parsed_messages(field: Field, held: bytes | list[bytes]) -> dict | list[dict]:
+    """Parses the message or the messages of a field."""
     if field.repeated:
         return [read(field.kind, one) for one in held]
     return read(field.kind, held)
 
 
 def read(message: str, data: bytes) -> dict:
-    """What a message says, by the names of its fields; `kind` is the member of a oneof that is set.
+    """Parses a message into a dict by field names; `kind` is the member of a oneof that is set.
 
-    What is absent is left out. A field that is not in the table is passed over.
+    Absent fields are left out, and fields that are not in the table are skipped.
     """
     fields = MESSAGES[message]
     found = {}
@@ -158,38 +158,38 @@ def read(message: str, data: bytes) -> dict:
             take(found, fields[number], value_of(fields[number], form, held))
     for field in fields.values():
         if field.kind in MESSAGES and field.name in found:
-            found[field.name] = looked_into(field, found[field.name])
+            found[field.name] = parsed_messages(field, found[field.name])
     return found
 
 
 def entries_of(data: bytes) -> list[bytes]:
-    """The entries of a definition."""
+    """Returns the entries of a definition."""
     if len(data) > MOST_BYTES:
         raise Unreadable(f"a definition has at most {MOST_BYTES:,} bytes")
     return read("Definition", data).get("def", [])
 
 
 def entries_in(place: str) -> list[bytes]:
-    """The entries of the definition in a file."""
+    """Returns the entries of the definition in a file."""
     with open(place, "rb") as file:
         return entries_of(file.read(MOST_BYTES + 1))
 
 
 def digest_of(entry: bytes) -> str:
-    """The text by which inputs name an entry."""
+    """Returns the digest by which inputs name an entry."""
     return "sha256:" + hashlib.sha256(entry).hexdigest()
 
 
 def op_of(row: int, entry: bytes) -> dict:
-    """The op of the entry of a row."""
+    """Parses the op in the entry of a row."""
     try:
         return read("Op", entry)
     except Unreadable as fault:
-        raise Unreadable(f"row {row} is no op: {fault}") from fault
+        raise Unreadable(f"row {row} is not an op: {fault}") from fault
 
 
 class Rows:
-    """The rows of a definition: its entries under their digests. A digest names the first row that has it."""
+    """The rows of a definition: its entries by digest. A digest names the first row that has it."""
 
     def __init__(self, entries: list[bytes]) -> None:
         self.ops = [op_of(row, entry) for row, entry in enumerate(entries)]
@@ -201,26 +201,26 @@ class Rows:
             raise Unreadable("there are fewer than two distinct rows")
         self.terminal = self.named.pop(digests[-1])
 
-    def row_of(self, row: int, number: int, told: dict) -> int:
-        """The row that an input names."""
-        named = self.named.get(told.get("digest", ""))
+    def row_of(self, row: int, number: int, edge: dict) -> int:
+        """Returns the row that an input names."""
+        named = self.named.get(edge.get("digest", ""))
         if named is None:
             raise Unreadable(f"input {number} of row {row} names no row")
         return named
 
     def links(self, row: int) -> list[int]:
-        """The rows that the inputs of a row name."""
-        return [self.row_of(row, number, told) for number, told in enumerate(self.ops[row].get("inputs", []))]
+        """Returns the rows that the inputs of a row name."""
+        return [self.row_of(row, number, edge) for number, edge in enumerate(self.ops[row].get("inputs", []))]
 
     def result(self) -> tuple[int, int]:
-        """The row and the output of the result: the terminal's first input."""
+        """Returns the row and the output of the result: the terminal's first input."""
         inputs = self.ops[self.terminal].get("inputs", [])
         if not inputs:
             raise Unreadable("the terminal has no input")
         return self.row_of(self.terminal, 0, inputs[0]), inputs[0].get("index", 0)
 
     def reached(self, start: int) -> dict[int, list[int]]:
-        """The rows that are reached from a row, with the rows that their inputs name."""
+        """Returns the rows that are reachable from a row, each with the rows that its inputs name."""
         links = {}
         left = [start]
         while left:
@@ -232,7 +232,7 @@ class Rows:
 
 
 def order_of(links: dict[int, list[int]]) -> list[int]:
-    """The rows by vertex number: each time the least one whose inputs are all numbered."""
+    """Returns the rows in vertex order: each time the smallest row whose inputs are all numbered."""
     missing = {row: set(named) for row, named in links.items()}
     users = {row: [] for row in links}
     for row, named in missing.items():
@@ -254,7 +254,7 @@ def order_of(links: dict[int, list[int]]) -> list[int]:
 
 
 def graph_of(entries: list[bytes]) -> Graph:
-    """The graph of the entries, numbered as the program numbers it."""
+    """Returns the graph of the entries, numbered as the program does."""
     rows = Rows(entries)
     start, index = rows.result()
     links = rows.reached(start)
@@ -262,45 +262,45 @@ def graph_of(entries: list[bytes]) -> Graph:
     numbers = {row: number for number, row in enumerate(order)}
     inputs = []
     for row in order:
-        indexes = [told.get("index", 0) for told in rows.ops[row].get("inputs", [])]
+        indexes = [edge.get("index", 0) for edge in rows.ops[row].get("inputs", [])]
         inputs.append([(numbers[named], output) for named, output in zip(links[row], indexes)])
     return Graph(order, inputs, (numbers[start], index))
 
 
 def inputs_of(op: dict) -> list[str]:
-    """The inputs of an op by digest and output."""
-    return [f"{told.get('digest', '')}, output {told.get('index', 0)}" for told in op.get("inputs", [])]
+    """Returns the inputs of an op by digest and output."""
+    return [f"{edge.get('digest', '')}, output {edge.get('index', 0)}" for edge in op.get("inputs", [])]
 
 
 def action_text(action: dict) -> str:
-    """An action by its kind and paths."""
+    """Describes an action by its kind and paths."""
     kind = action.get("kind")
     if kind is None:
         return "no action"
-    told = action[kind]
+    member = action[kind]
     if kind == "copy":
-        return f"copy {told.get('src', '')} -> {told.get('dest', '')}"
-    return f"{kind} {told.get('path', '')}"
+        return f"copy {member.get('src', '')} -> {member.get('dest', '')}"
+    return f"{kind} {member.get('path', '')}"
 
 
 def actions_of(op: dict) -> list[str]:
-    """The actions of a file op by their kinds and paths."""
+    """Describes the actions of a file op by their kinds and paths."""
     return [action_text(action) for action in op.get("file", {}).get("actions", [])]
 
 
 def args_of(op: dict) -> list[str]:
-    """The words of an exec."""
+    """Returns the words of an exec."""
     return op.get("exec", {}).get("meta", {}).get("args", [])
 
 
 def script_of(op: dict) -> str:
-    """The script of an exec: the text for the shell, or else its words, quoted where they have to be."""
+    """Returns the script of an exec: the text for the shell, or else its words, quoted where necessary."""
     args = args_of(op)
     return args[2] if args[:2] == SHELL and len(args) == 3 else shlex.join(args)
 
 
 def commands_of(op: dict) -> list[str]:
-    """The commands of an exec's script."""
+    """Returns the commands of an exec's script."""
     args = args_of(op)
     if args[:2] != SHELL or len(args) != 3:
         return [shlex.join(args)]
@@ -309,7 +309,7 @@ def commands_of(op: dict) -> list[str]:
 
 
 def texts_of(op: dict) -> list[str]:
-    """What an op does, in a text or, for a file op, one for each action; for other kinds none."""
+    """Describes what an op does: one text for each action of a file op, one for an exec or a source, else none."""
     kind = op.get("kind")
     if kind == "source":
         return [op["source"].get("identifier", "")]

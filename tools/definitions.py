@@ -1,12 +1,12 @@
-"""Reads the definitions of specs/, and the clauses of functions, and finds what a statement rests on.
+"""Reads the definitions of specs/ and the clauses of functions, and finds what a statement depends on.
 
-A definition is an item of a file `crates/CRATE/specs/FILE.antt` with the comment above it. A name in it is looked
-up among the items of its own file, then in the file's `use` lines, where `pub use` hands a name on. What the
-toolchain's library defines is not followed. A name that a Rust item of src/ declares (`specs.declared`) is a type
-to be read there.
+A definition is an item of a file `crates/CRATE/specs/FILE.antt` with the comment above it. A name in it is looked up
+among the items of its own file, then in the file's `use` lines; `pub use` re-exports a name. Definitions of the
+toolchain's library are not followed. A name that a Rust item of src/ declares (`specs.declared`) is a type to be read
+there.
 
-A name that only a variable or a field has is taken for the definition of the same name where there is one, so that
-a list can be too long by a few definitions, and is never too short.
+A name of a variable or a field is treated as the definition with the same name if there is one, so a list can be too
+long by a few definitions, but never too short.
 """
 
 import dataclasses
@@ -42,13 +42,13 @@ class Definition:
         return hash(self) == hash(other)
 
     def text(self) -> str:
-        """Its lines without comments."""
+        """Returns the lines without comments."""
         return "\n".join(line.split("-- ")[0] for line in self.lines if not line.lstrip().startswith("--"))
 
 
 @dataclasses.dataclass
 class Unit:
-    """What a file defines, and what its `use` lines bring: a definition under a name, or a whole file under a word."""
+    """The items of a file, and what its `use` lines import: definitions by name, and whole files by alias."""
 
     items: dict[str, Definition] = dataclasses.field(default_factory=dict)
     brought: dict[str, tuple[str, str]] = dataclasses.field(default_factory=dict)
@@ -56,7 +56,7 @@ class Unit:
 
 
 def read_use(unit: Unit, text: str) -> None:
-    """Takes in one `use` line."""
+    """Adds the imports of one `use` line."""
     found = USE.match(" ".join(text.split()))
     if not found:
         return
@@ -69,8 +69,8 @@ def read_use(unit: Unit, text: str) -> None:
             unit.brought[other.strip() or name.strip()] = (path, name.strip())
 
 
-def begun(line: str) -> str | None:
-    """The name of the definition that a line begins, if it begins one."""
+def name_defined_on(line: str) -> str | None:
+    """Returns the name of the definition that begins on a line, or None."""
     if found := TYPE.match(line):
         return found[1]
     if found := SIGNED.match(line):
@@ -79,7 +79,7 @@ def begun(line: str) -> str | None:
 
 
 def read_unit(crate: str, file: str, text: str) -> Unit:
-    """A file of specs/."""
+    """Parses a file of specs/."""
     unit, current, comment, use = Unit(), None, [], ""
     for number, line in enumerate(text.split("\n"), 1):
         if use or re.match(r"(?:pub )?use ", line):
@@ -94,7 +94,7 @@ def read_unit(crate: str, file: str, text: str) -> Unit:
             comment.append(line)
         elif not line.strip():
             comment = []
-        elif name := None if line[0].isspace() else begun(line):
+        elif name := None if line[0].isspace() else name_defined_on(line):
             current = Definition(crate, file, name, number - len(comment), [*comment, line])
             unit.items.setdefault(name, current)
             comment = []
@@ -107,52 +107,52 @@ def read_unit(crate: str, file: str, text: str) -> Unit:
 
 
 class Library:
-    """All definitions of the repository, read as they are asked for."""
+    """All definitions of the repository, read on demand."""
 
     def __init__(self, root: pathlib.Path = ROOT) -> None:
         self.root = root
         self.units: dict[tuple[str, str], Unit | None] = {}
 
     def unit(self, crate: str, file: str) -> Unit | None:
-        """The file of this name, if it is there."""
+        """Returns the file with this name, or None."""
         if (crate, file) not in self.units:
             path = self.root / "crates" / crate / "specs" / f"{file}.antt"
             there = path.is_file()
             self.units[crate, file] = read_unit(crate, file, path.read_text("utf-8")) if there else None
         return self.units[crate, file]
 
-    def placed(self, path: str, name: str) -> Definition | str | None:
-        """What a path and a name lead to: a definition, a type of src/, or nothing of this repository."""
+    def resolve_path(self, path: str, name: str) -> Definition | str | None:
+        """Resolves a path and a name to a definition or a type of src/, or None if it is not of this repository."""
         parts = path.removesuffix(".TheVariants").split(".")
         if parts[0] != "Rattle" or parts[2:3] != ["specs"] or not (self.root / "crates" / parts[1]).is_dir():
             return None
         if parts[3:4] == ["declared"]:
             return f"{parts[1]}/src/{'/'.join(parts[4:-1]) or 'lib'}.rt {parts[-1]}"
         unit = self.unit(parts[1], parts[3]) if len(parts) == 4 else None
-        return self.looked_up(unit, name) if unit else None
+        return self.resolve(unit, name) if unit else None
 
-    def looked_up(self, unit: Unit, word: str) -> Definition | str | None:
-        """What a word of a file is."""
+    def resolve(self, unit: Unit, word: str) -> Definition | str | None:
+        """Resolves a word of a file."""
         head, dot, rest = word.partition(".")
         if dot and head in unit.words:
-            return self.placed(unit.words[head], rest)
+            return self.resolve_path(unit.words[head], rest)
         if head in unit.items:
             return unit.items[head]
         if head in unit.brought:
-            return self.placed(*unit.brought[head])
+            return self.resolve_path(*unit.brought[head])
         return None
 
     def used(self, unit: Unit, text: str) -> Iterator[Definition | str]:
-        """What the words of a text are, in their order."""
+        """Yields what the words of a text resolve to, in order."""
         for word in WORD.findall(text):
-            if word and (found := self.looked_up(unit, word)) is not None:
+            if word and (found := self.resolve(unit, word)) is not None:
                 yield found
         for sign in INFIX.findall(text):
-            if (found := self.looked_up(unit, f"◌{sign}◌")) is not None:
+            if (found := self.resolve(unit, f"◌{sign}◌")) is not None:
                 yield found
 
     def cone(self, unit: Unit, text: str) -> tuple[list[Definition], list[str]]:
-        """All that a statement rests on, nearest first: the definitions, and the types of src/."""
+        """Returns all that a statement depends on, nearest first: the definitions, and the types of src/."""
         reached, types, left = {}, {}, list(self.used(unit, text))
         while left:
             later = []
@@ -167,7 +167,7 @@ class Library:
 
 
 def contract(file: pathlib.Path, name: str) -> tuple[Unit, str]:
-    """The clauses of a public function, and the `ghost use` lines of its file."""
+    """Returns the clauses of a public function, and the `ghost use` lines of its file."""
     unit, clauses, inside, depth = Unit(), [], False, 0
     text = file.read_text("utf-8")
     for use in re.findall(r"^\s*ghost use [^;]*;", text, re.M):

@@ -1,7 +1,7 @@
-"""What docs/FAULTS.md says of a line of the program, `fault ..` or `failed ..`, and what a definition says besides.
+"""Explains a line of the program, `fault ..` or `failed ..`, with docs/FAULTS.md and with a definition.
 
-The page's tables are taken as they stand: that of all faults, those of names after a number, those of lines for a
-number, and that of failures.
+It reads the tables of the page: that of all faults, those of names after a number, those of lines for a number, and
+that of failures.
 """
 
 import pathlib
@@ -28,11 +28,11 @@ MOST_ACTIONS = 16
 
 
 class NoPage(Exception):
-    """The page is not there, or a table of it is missing."""
+    """The page is missing, or a table of it is."""
 
 
 class NoLine(Exception):
-    """A line is no fault and no failure of the program; the words tell why."""
+    """A line is neither a fault nor a failure of the program; the message says why."""
 
 
 class Cause(NamedTuple):
@@ -70,7 +70,7 @@ class Failure(NamedTuple):
 
 
 class Place(NamedTuple):
-    """Where in a definition a line leads: a row and an input of it, or a vertex and an action or a command of it."""
+    """The part of a definition that a line names: a row with an input, or a vertex with an action or a command."""
 
     row: int | None = None
     input: int | None = None
@@ -80,19 +80,19 @@ class Place(NamedTuple):
 
 
 class Answer(NamedTuple):
-    """What a line means, a text for each fault in it, and where in a definition it leads."""
+    """The explanation of a line, one text for each fault in it, and the part of a definition that it names."""
 
     texts: list[str]
     place: Place
 
 
 def cells_of(line: str) -> list[str]:
-    """The cells of a table's row."""
+    """Returns the cells of a table's row."""
     return [cell.strip() for cell in line.strip().strip("|").split(" | ")]
 
 
 def tables_in(text: str) -> list[tuple[list[str], list[list[str]]]]:
-    """The tables of a page, each with its head and its rows."""
+    """Returns the tables of a page, each with its head and its rows."""
     tables = []
     for block in re.findall(r"(?:^\|.*\n)+", text, re.MULTILINE):
         head, _, *rows = map(cells_of, block.splitlines())
@@ -101,12 +101,12 @@ def tables_in(text: str) -> list[tuple[list[str], list[list[str]]]]:
 
 
 def bare(cell: str) -> str:
-    """A cell without the marks of code around it."""
+    """Returns a cell without backquotes."""
     return cell.strip("`")
 
 
 def words_of(cell: str) -> tuple[str, ...]:
-    """The words of a cell, none for a dash."""
+    """Returns the words of a cell; a dash has none."""
     return () if cell == "-" else tuple(bare(cell).split(" "))
 
 
@@ -124,7 +124,7 @@ class Page:
             raise NoPage("a table of the faults is missing")
 
     def take(self, head: str, rows: list[list[str]]) -> None:
-        """A table is taken by the first cell of its head; one with another head is passed over."""
+        """Reads a table, by the first cell of its head; other tables are skipped."""
         after = re.fullmatch(r"Name after ([0-9]+)", head)
         instead = re.fullmatch(r"Line for ([0-9]+)", head)
         if instead:
@@ -141,17 +141,17 @@ class Page:
                 self.causes.setdefault(int(number), []).append(Cause(bare(name), words_of(arguments), *rest))
 
     def causes_of(self, number: int) -> list[Cause]:
-        """What a number means: its rows that the program prints, or else all of them, no sentence twice."""
+        """Returns the rows of a number, without repeated sentences: those that the program prints, or else all."""
         rows = self.causes.get(number)
         if rows is None:
             raise NoLine(f"there is no fault {number}")
-        said = {}
+        rows_by_sentence = {}
         for row in [row for row in rows if row.status != "-"] or rows:
-            said.setdefault(row.sentence, row)
-        return list(said.values())
+            rows_by_sentence.setdefault(row.sentence, row)
+        return list(rows_by_sentence.values())
 
     def failure(self, prefix: str) -> Failure:
-        """The failure whose line begins so."""
+        """Returns the failure whose line has this prefix."""
         for row in self.failures:
             if row.line.startswith(prefix):
                 return row
@@ -159,7 +159,7 @@ class Page:
 
 
 def read_page() -> Page:
-    """The page beside this folder."""
+    """Reads the page in docs/."""
     try:
         return Page(PAGE.read_text("utf-8"))
     except (OSError, ValueError, TypeError) as fault:
@@ -167,16 +167,16 @@ def read_page() -> Page:
 
 
 def decimal(words: list[str]) -> str:
-    """The number that stands first; it is taken away."""
+    """Removes the first word, and returns it; it has to be a number."""
     if not words:
         raise NoLine("a number is missing")
     if not re.fullmatch(NUMBER, words[0]):
-        raise NoLine(f"{words[0]!r} is no number")
+        raise NoLine(f"{words[0]!r} is not a number")
     return words.pop(0)
 
 
 class Reader:
-    """Reads the words of one line, which are taken away from left to right."""
+    """Reads the words of one line from left to right, and removes them."""
 
     def __init__(self, page: Page, words: list[str]) -> None:
         self.page = page
@@ -185,10 +185,10 @@ class Reader:
         self.count = 0
 
     def fault(self) -> list[str]:
-        """What a fault means, and after it what the names and the faults in its arguments mean."""
+        """Explains a fault, and then the names and the faults in its arguments."""
         self.count += 1
         if self.count > MOST_FAULTS:
-            raise NoLine("no fault has that many inside it")
+            raise NoLine("too many faults inside one another")
         number = int(decimal(self.words))
         first, *others = self.page.causes_of(number)
         given, inside = self.arguments(number, first.arguments)
@@ -199,7 +199,7 @@ class Reader:
         return texts + inside
 
     def arguments(self, number: int, arguments: tuple[str, ...]) -> tuple[list[str], list[str]]:
-        """How the arguments after a number are shown, and what they mean."""
+        """Returns how the arguments after a number are shown, and their explanations."""
         given, inside = [], []
         for argument in arguments:
             shown, texts = self.argument(number, argument)
@@ -208,7 +208,7 @@ class Reader:
         return given, inside
 
     def argument(self, number: int, argument: str) -> tuple[list[str], list[str]]:
-        """How an argument is shown, none for a fault, and what it means itself, none for a number or a text."""
+        """Returns how an argument is shown (not at all for a fault), and its explanations (for a fault or a name)."""
         if argument == FAULT:
             return [], self.fault()
         if argument in NAMES:
@@ -223,7 +223,7 @@ class Reader:
         return [f"{argument.strip('[]')} = {text}"], []
 
     def number(self, argument: str) -> str:
-        """The number that stands first; those of a row and of an input are kept."""
+        """Reads a number; those of a row and of an input are stored."""
         value = decimal(self.words)
         if argument == "k":
             self.place = self.place._replace(row=int(value))
@@ -232,33 +232,33 @@ class Reader:
         return value
 
     def name(self, number: int) -> tuple[str, list[str]]:
-        """A name that stands after a number, and what it and its arguments mean."""
+        """Reads a name after a number, and explains it with its arguments."""
         known = self.page.names.get(number, {})
         if not self.words:
             raise NoLine(f"a name is missing after {number}")
         name = self.words.pop(0)
         if name not in known:
-            raise NoLine(f"{name!r} is no name after {number}")
+            raise NoLine(f"{name!r} is not a name after {number}")
         _, inside = self.arguments(number, known[name].arguments)
         return name, [f"{name}: {known[name].sentence} {known[name].advice}", *inside]
 
 
 def answer_to_action(page: Page, vertex: str, action: str, number: str) -> Answer:
-    """What it means that an action failed."""
+    """Explains that an action failed."""
     row = page.failure("failed V action")
     text = f"failed (V = {vertex}, A = {action}, N = {number}): {row.sentence} {row.advice}"
     return Answer([text, *Reader(page, [number]).fault()], Place(vertex=int(vertex), action=int(action)))
 
 
 def answer_to_command(page: Page, vertex: str, command: str, status: str) -> Answer:
-    """What it means that a command failed."""
+    """Explains that a command failed."""
     row = page.failure("failed V command")
     text = f"failed (V = {vertex}, C = {command}, S = {status}): {row.sentence} {row.advice}"
     return Answer([text], Place(vertex=int(vertex), command=int(command)))
 
 
 def answer_to(page: Page, line: str) -> Answer:
-    """What a line of the program means."""
+    """Explains a line of the program."""
     action, command = ACTION.fullmatch(line), COMMAND.fullmatch(line)
     if action:
         return answer_to_action(page, *action.groups())
@@ -270,30 +270,30 @@ def answer_to(page: Page, line: str) -> Answer:
     reader = Reader(page, words)
     texts = reader.fault()
     if words:
-        raise NoLine(f"{' '.join(words)!r} is too much")
+        raise NoLine(f"{' '.join(words)!r} is unexpected")
     return Answer(texts, reader.place)
 
 
 def one(word: str, texts: list[str], number: int) -> list[str]:
-    """The text of that number, if there is one."""
+    """Returns the text with this number, if there is one."""
     return [f"{word} {number}: {text}" for text in texts[number : number + 1]]
 
 
 def first_actions(texts: list[str]) -> list[str]:
-    """A line for each of the first actions, and one for all others."""
+    """Returns a line for each of the first actions, and one that counts the others."""
     lines = [f"action {number}: {text}" for number, text in enumerate(texts[:MOST_ACTIONS])]
     left = len(texts) - MOST_ACTIONS
     return [*lines, f"and {left} more"] if left > 0 else lines
 
 
-def told_by(op: dict, place: Place) -> list[str]:
-    """The input that the place has, and what the op does."""
+def texts_at(op: dict, place: Place) -> list[str]:
+    """Describes the input that the place names, and what the op does."""
     inputs = [] if place.input is None else one("input", definition.inputs_of(op), place.input)
     return [*inputs, *done_by(op, place)]
 
 
 def done_by(op: dict, place: Place) -> list[str]:
-    """What an op does: the action or the command where the place has one, else all."""
+    """Describes what an op does: the action or the command that the place names, else everything."""
     kind = op.get("kind")
     if kind == "source":
         return [f"identifier: {op['source'].get('identifier', '')}"]
@@ -306,8 +306,8 @@ def done_by(op: dict, place: Place) -> list[str]:
     return [*commands, f"script: {definition.script_of(op)}"]
 
 
-class Told:
-    """A definition of which lines tell."""
+class Entries:
+    """The entries of a definition that lines name by row or by vertex."""
 
     def __init__(self, data: bytes) -> None:
         self.entries = definition.entries_of(data)
@@ -315,7 +315,7 @@ class Told:
         self.rows: list[int] | None = None
 
     def row_of(self, vertex: int) -> int:
-        """The row of a vertex."""
+        """Returns the row of a vertex."""
         if self.rows is None:
             self.rows = definition.graph_of(self.entries).rows
         if vertex >= len(self.rows):
@@ -323,14 +323,14 @@ class Told:
         return self.rows[vertex]
 
     def texts(self, place: Place) -> list[str]:
-        """What is at the place where a line leads, a text for each line."""
+        """Describes what a line names, one text for each line."""
         if place.vertex is not None:
             row = self.row_of(place.vertex)
             return self.entry(f"vertex {place.vertex}, row {row}", row, place)
         return [] if place.row is None else self.entry(f"row {place.row}", place.row, place)
 
     def entry(self, prefix: str, row: int, place: Place) -> list[str]:
-        """An entry's digest, its kind, its name if it has one, and what it tells of the place."""
+        """Describes an entry: its digest, its kind, its name if it has one, and what the place names in it."""
         if row >= len(self.entries):
             raise definition.Unreadable(f"it has no row {row}")
         prefix = f"{prefix}: {definition.digest_of(self.entries[row])}"
@@ -338,35 +338,35 @@ class Told:
         try:
             op = definition.read("Op", self.entries[row])
         except definition.Unreadable as fault:
-            return [f"{prefix}, no op: {fault}", *named]
-        return [f"{prefix}, {op.get('kind', 'no kind')}", *named, *map(printable, told_by(op, place))]
+            return [f"{prefix}, not an op: {fault}", *named]
+        return [f"{prefix}, {op.get('kind', 'no kind')}", *named, *map(printable, texts_at(op, place))]
 
 
 class Explainer:
-    """Explains lines by the page and, where a file is given, by the definition in it."""
+    """Explains lines by the page and, if a file is given, by the definition in it."""
 
     def __init__(self, page: Page, file: str | None = None) -> None:
         self.page = page
-        self.told: Told | None = None
+        self.entries: Entries | None = None
         self.cause = ""
         if file is not None:
             self.read(file)
 
     def read(self, file: str) -> None:
-        """The definition in a file; where it has no entries, why."""
+        """Reads the definition in a file; if it is not one, stores why."""
         try:
-            self.told = Told(data_in(file))
+            self.entries = Entries(data_in(file))
         except definition.Unreadable as fault:
             self.cause = str(fault)
 
     def lines(self, line: str) -> list[str]:
-        """What a line means, and what the definition says of it."""
+        """Explains a line, with what the definition says about it."""
         answer = answer_to(self.page, line)
         if self.cause:
             return [*answer.texts, f"the definition: {self.cause}"]
-        if self.told is None:
+        if self.entries is None:
             return answer.texts
         try:
-            return answer.texts + self.told.texts(answer.place)
+            return answer.texts + self.entries.texts(answer.place)
         except definition.Unreadable as fault:
             return [*answer.texts, f"the definition: {fault}"]

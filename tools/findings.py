@@ -1,8 +1,8 @@
-"""All findings of a definition: each fault that the program would tell of it, were it the first one.
+"""Finds every fault in a definition that the program would print if it were the first one.
 
-The program tells the first fault of docs/FORMATS.md, under Loading, and stops. Here what stands behind it is looked at
-as well, as far as it can be: an entry that is no op is passed over, each feature and each rule of an op is a finding of
-its own, and the index of an input is looked at where the outputs that it names can be numbered.
+The program prints the first fault, in the order of docs/FORMATS.md under Loading, and stops. This module also checks
+what comes after it, as far as possible: an entry that is not an op is skipped, each feature and each rule of an op is a
+separate finding, and the index of an input is checked if the outputs of the entry that it names can be numbered.
 """
 
 from typing import NamedTuple
@@ -15,19 +15,19 @@ DEFINITION, ENTRY, TOO_FEW, COLLISION, NO_RESULT, UNKNOWN, CYCLE, FEATURE, RULE,
 
 
 class Finding(NamedTuple):
-    """A fault by its number, the row that it is of, if any, and what else is printed after these."""
+    """A fault: its number, its row if it has one, and the rest of its line."""
 
     number: int
     row: int | None = None
     rest: str = ""
 
     def words(self) -> str:
-        """The words of the program after `fault`."""
+        """Returns the words of the program after `fault`."""
         return " ".join([str(self.number), *([] if self.row is None else [str(self.row)]), *filter(None, [self.rest])])
 
 
 class Rows:
-    """The rows of a definition under their digests, and what is found of them."""
+    """The rows of a definition by digest, and what is found in them."""
 
     def __init__(self, entries: list[bytes]) -> None:
         self.found: list[Finding] = []
@@ -41,7 +41,7 @@ class Rows:
             self.add(row, entry)
 
     def add(self, row: int, entry: bytes) -> None:
-        """A row is read, unless it stands before."""
+        """Reads a row, unless it is equal to an earlier one."""
         self.bytes.append(entry)
         self.terminal = self.named.setdefault(definition.digest_of(entry), row)
         if self.terminal != row:
@@ -53,17 +53,17 @@ class Rows:
         except op_reading.Faulty as fault:
             self.found.append(Finding(ENTRY, row, str(fault.number)))
 
-    def row_of(self, told: dict) -> int | None:
-        """The row that an input names, which is never the terminal."""
-        row = self.named.get(told["digest"])
+    def row_of(self, edge: dict) -> int | None:
+        """Returns the row that an input names, which is never the terminal, or None."""
+        row = self.named.get(edge["digest"])
         return None if row == self.terminal else row
 
     def links(self, row: int) -> list[int | None]:
-        """The rows that the inputs of a row name."""
-        return [self.row_of(told) for told in self.ops[row]["inputs"]]
+        """Returns the rows that the inputs of a row name."""
+        return [self.row_of(edge) for edge in self.ops[row]["inputs"]]
 
     def start(self) -> int | None:
-        """The row of the result, where it is known."""
+        """Returns the row of the result, or None if it is not known."""
         if self.terminal not in self.ops:
             return None
         links = self.links(self.terminal)[:1]
@@ -74,7 +74,7 @@ class Rows:
         return links[0] if links else None
 
     def reach(self, start: int | None) -> None:
-        """The rows that are reached for sure, and whether these are all."""
+        """Finds the rows that are certainly reachable, and whether these are all."""
         left = [start]
         while left:
             row = left.pop()
@@ -84,28 +84,28 @@ class Rows:
                 self.sure.add(row)
                 left.extend(self.links(row))
 
-    def looked_at(self) -> list[int]:
-        """The rows that are reached; where it is not known which, all but the terminal."""
+    def rows_to_check(self) -> list[int]:
+        """Returns the reachable rows, or all but the terminal if they are not known."""
         return sorted(self.sure if self.is_known else self.ops.keys() - {self.terminal})
 
-    def look_at(self, row: int) -> None:
-        """What is found of a row: inputs that name no row, features and rules."""
+    def check_row(self, row: int) -> None:
+        """Checks a row: inputs that name no row, features and rules."""
         op = self.ops[row]
         unknown = [number for number, named in enumerate(self.links(row)) if named is None]
         self.found += [Finding(UNKNOWN, row, str(number)) for number in unknown]
         self.found += [Finding(FEATURE, row, name) for name in op_rules.features_of(op)]
         self.found += [Finding(RULE, row, name) for name in op_rules.rules_of(op)]
 
-    def look_at_indexes(self, row: int, most: int | None = None) -> None:
-        """What is found of the indexes of a row's inputs, or of its first ones."""
-        for number, told in enumerate(self.ops[row]["inputs"][:most]):
-            named = self.row_of(told)
+    def check_indexes(self, row: int, most: int | None = None) -> None:
+        """Checks the indexes of a row's inputs, or of its first ones."""
+        for number, edge in enumerate(self.ops[row]["inputs"][:most]):
+            named = self.row_of(edge)
             count = op_rules.count_of(self.ops[named]) if named in self.ops else None
-            if count is not None and not 0 <= told["index"] < count:
+            if count is not None and not 0 <= edge["index"] < count:
                 self.found.append(Finding(INDEX, row, str(number)))
 
-    def look_for_cycle(self, rows: list[int]) -> None:
-        """Whether rows name one another in a circle."""
+    def check_for_cycle(self, rows: list[int]) -> None:
+        """Checks whether rows name one another in a cycle."""
         links = {row: [named for named in self.links(row) if named in self.ops] for row in rows}
         links = {row: [named for named in named_rows if named in links] for row, named_rows in links.items()}
         try:
@@ -113,25 +113,25 @@ class Rows:
         except definition.Unreadable:
             self.found.append(Finding(CYCLE))
 
-    def look(self) -> None:
-        """All that is found of rows that are at least two."""
+    def check(self) -> None:
+        """Checks all rows; there are at least two."""
         self.reach(self.start())
-        rows = self.looked_at()
-        self.look_for_cycle(rows)
+        rows = self.rows_to_check()
+        self.check_for_cycle(rows)
         for row in rows:
-            self.look_at(row)
-            self.look_at_indexes(row)
+            self.check_row(row)
+            self.check_indexes(row)
         if self.terminal in self.ops:
-            self.look_at_indexes(self.terminal, 1)
+            self.check_indexes(self.terminal, 1)
 
     def rank(self, finding: Finding) -> tuple[int, bool, int]:
-        """By which the program's own fault is the least: its number, then that it is sure, then its row."""
+        """Returns the sort key that puts the program's own fault first: number, then reachability, then row."""
         row = self.terminal if finding.row is None else finding.row
         return finding.number, finding.number >= UNKNOWN and row not in {*self.sure, self.terminal}, row
 
 
 def ordered(rows: Rows) -> list[Finding]:
-    """The findings: the program's own fault, then all others by their rows, those of none first."""
+    """Returns the findings: the program's own fault first, then the others by row, those without a row first."""
     if not rows.found:
         return []
     first = min(rows.found, key=rows.rank)
@@ -140,7 +140,7 @@ def ordered(rows: Rows) -> list[Finding]:
 
 
 def findings_of(data: bytes) -> list[Finding]:
-    """All findings of a definition, of which the first one is the program's own fault; none where it is taken."""
+    """Returns all findings of a definition, the program's own fault first; empty if the program accepts it."""
     try:
         entries = op_reading.entries_in(op_reading.read_definition(data))
     except op_reading.Faulty as fault:
@@ -151,5 +151,5 @@ def findings_of(data: bytes) -> list[Finding]:
     if len(rows.named) < 2:
         rows.found.append(Finding(TOO_FEW))
     else:
-        rows.look()
+        rows.check()
     return ordered(rows)

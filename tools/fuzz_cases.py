@@ -1,6 +1,6 @@
-"""The cases of tools/fuzz: which inputs a case has, how it is tried, and what is kept of one that finds something.
+"""The cases of tools/fuzz: their inputs, how they are tried, and what is stored of a case that fails.
 
-A case is made from the seed and its number alone, so that it is the same in every run.
+A case depends only on the seed and its number, so it is the same in every run.
 """
 
 import os
@@ -27,14 +27,14 @@ KINDS = ["run"] * 5 + ["session"] * 4 + ["entries"] * 3 + ["text"] * 3 + ["tree"
 
 
 def definition_of_source(name: str) -> bytes:
-    """The definition whose result is a local source."""
+    """Returns the definition whose result is a local source."""
     source = messages.made("Op", source=messages.made("SourceOp", identifier=f"local://{name}"))
     terminal = messages.made("Op", inputs=(messages.edge(messages.encoded(source)),))
     return messages.definition_of([messages.encoded(source), messages.encoded(terminal)])
 
 
 class Examples(NamedTuple):
-    """What the cases begin with: definitions, texts of entries, texts of trees, and sessions."""
+    """The inputs that cases start from: definitions, texts of entries, texts of trees, and sessions."""
 
     definitions: list[bytes]
     texts: list[bytes]
@@ -43,7 +43,7 @@ class Examples(NamedTuple):
 
 
 class Found(NamedTuple):
-    """What a case found: its number, its kind, which rule does not hold, the runs, and the files that they read."""
+    """A finding: the number and the kind of its case, the broken rule, the runs, and the files that they read."""
 
     number: int
     kind: str
@@ -53,7 +53,7 @@ class Found(NamedTuple):
 
 
 def examples_in(folder: pathlib.Path, program: Runner) -> Examples:
-    """The examples of a folder; the program makes definitions of their texts."""
+    """Returns the examples in a folder; the program assembles the texts."""
     texts = [place.read_bytes() for place in sorted([*folder.glob("*.text"), *folder.glob("*/*.text")])]
     definitions = [place.read_bytes() for place in sorted(folder.glob("*.definition"))]
     for text in texts:
@@ -66,7 +66,7 @@ def examples_in(folder: pathlib.Path, program: Runner) -> Examples:
 
 
 class Case:
-    """One case while it is tried: its own generator, the runs so far, and the files that they read."""
+    """One case while it is tried: its random generator, the runs so far, and the files that they read."""
 
     def __init__(self, tried: "Cases", number: int) -> None:
         self.tried = tried
@@ -77,31 +77,31 @@ class Case:
         self.files: dict[str, bytes] = {}
 
     def run(self, *words: str, given: bytes = b"") -> Ran:
-        """A run, which is as a run may be."""
+        """Runs the program, and checks the rules for every run."""
         ran = self.tried.runner.run(*words, given=given)
         self.runs.append(ran)
         self.tried.rules.check(ran)
         return ran
 
     def file(self, name: str, content: bytes) -> str:
-        """A file of the case."""
+        """Writes a file of the case."""
         self.files[name] = content
         pathlib.Path(name).write_bytes(content)
         return name
 
     def made_definition(self) -> bytes:
-        """A definition that is made, or one of the examples."""
+        """Returns a random definition, or one of the examples."""
         if one_in(self.dice, 6):
             return self.dice.choice(self.tried.examples.definitions)
         return messages.definition_of([messages.encoded(op) for op in fuzz_made.ops(self.dice)])
 
     def definition(self) -> bytes:
-        """A definition, changed in half of the cases."""
+        """Returns a definition, in half of the cases a changed one."""
         data = self.made_definition()
         return data if one_in(self.dice, 2) else fuzz_changed.changed_definition(self.dice, data)
 
     def sources(self, data: bytes) -> list[str]:
-        """The words that give trees to the local sources of a definition, now and then not to all of them."""
+        """Returns words with trees for the local sources of a definition; now and then one is missing."""
         names = [name for name in self.tried.names if b"local://" + name.encode() in data]
         if names and one_in(self.dice, 40):
             names.pop()
@@ -113,63 +113,65 @@ class Case:
         return words
 
     def try_run(self) -> None:
-        """One and several workers print the same; what `show` refuses is refused."""
+        """Checks that one and several workers print the same, and that `run` refuses what `show` refuses."""
         data = self.definition()
         words = self.sources(data)
         one = self.run("run", *words, given=data)
         if one.status == 0:
-            need(tree_fault(one.out) is None, "the result's text is no tree's")
+            need(tree_fault(one.out) is None, "the result is not the text of a tree")
         if one.status == 2:
             self.compare_refusals(one, self.run("show", given=data))
         several = self.run("run", "--workers", str(self.dice.choice([2, 2, 3, 4, 8])), *words, given=data)
         if caches_in(data) == []:
-            need(several[2:] == one[2:], "several workers answer otherwise than one")
+            need(several[2:] == one[2:], "several workers print something else than one")
 
     def compare_refusals(self, ran: Ran, shown: Ran) -> None:
-        """A run of a definition is refused as its graph is, or since a local source has no tree."""
+        """Checks that a run is refused as its graph is, or because a local source has no tree."""
         if shown.status == 0:
-            need(ran.err.startswith(b"fault 121 "), "a run refuses what show takes")
+            need(ran.err.startswith(b"fault 121 "), "run refuses what show accepts")
         else:
-            need(ran.err == shown.err, "a run and show refuse otherwise")
+            need(ran.err == shown.err, "run and show refuse in different ways")
 
     def try_entries(self) -> None:
-        """`dis` and `asm` give the entries back; `show` and the tools' own reader see one graph."""
+        """Checks that `dis` and `asm` return the same entries, and that `show` and the tools' reader agree."""
         data = self.definition()
         text = self.run("dis", given=data)
         if text.status == 2:
             shown = self.run("show", given=data)
-            need(shown.err == b"fault 81 " + text.err.removeprefix(b"fault "), "dis and show refuse otherwise")
+            need(shown.err == b"fault 81 " + text.err.removeprefix(b"fault "), "dis and show refuse in different ways")
             return
         again = self.run("asm", given=text.out)
         need(again.status == 0, "asm refuses what dis prints")
-        need(again.out == messages.definition_of(definition.entries_of(data)), "asm of dis gives other entries")
+        need(again.out == messages.definition_of(definition.entries_of(data)), "asm of dis returns other entries")
         if one_in(self.dice, 2):
-            need(self.run("dis", given=again.out).out == text.out, "dis of asm of dis is another text")
+            need(self.run("dis", given=again.out).out == text.out, "dis of asm of dis prints another text")
         elif (shown := self.run("show", given=data)).status == 0:
             graph = Graph(shown.out)
-            told = definition.graph_of(definition.entries_of(data))
-            need((told.inputs, told.result) == (graph.inputs, graph.result), "show has another graph than the entries")
+            read = definition.graph_of(definition.entries_of(data))
+            agree = (read.inputs, read.result) == (graph.inputs, graph.result)
+            need(agree, "show prints another graph than the entries have")
 
     def try_text(self) -> None:
-        """A text of entries; one that is made comes back word for word."""
+        """Checks texts of entries; an unchanged random text comes back word for word."""
         if one_in(self.dice, 4):
             ops = fuzz_made.ops(self.dice)
             text, entries = messages.text_of(ops), [messages.encoded(op) for op in ops]
-            need(self.run("asm", given=text).out == messages.definition_of(entries), "asm of a made text")
-            need(self.run("dis", given=messages.definition_of(entries)).out == text, "dis of a made definition")
+            data = messages.definition_of(entries)
+            need(self.run("asm", given=text).out == data, "asm of a random text returns other entries")
+            need(self.run("dis", given=data).out == text, "dis of a random definition prints another text")
             return
         is_made = one_in(self.dice, 2)
         text = messages.text_of(fuzz_made.ops(self.dice)) if is_made else self.dice.choice(self.tried.examples.texts)
         ran = self.run("asm", given=fuzz_changed.changed_text(self.dice, text, "text"))
         if ran.status == 2:
             line = FAULTY_LINE.match(ran.err)
-            need(line is not None and int(line[1]) <= ran.given.count(b"\n") + 1, "the faulty line is none of the text")
+            need(line is not None and int(line[1]) <= ran.given.count(b"\n") + 1, "the faulty line is not in the text")
         elif ran.status == 0:
             shown = self.run("dis", given=ran.out)
-            need(self.run("asm", given=shown.out).out == ran.out, "asm of dis of asm gives other entries")
+            need(self.run("asm", given=shown.out).out == ran.out, "asm of dis of asm returns other entries")
 
     def try_tree(self) -> None:
-        """A text of a tree is printed as it is, or refused at its first faulty line."""
+        """Checks that a tree text is printed as it is, or refused at its first faulty line."""
         text = self.dice.choice(self.tried.examples.trees) if one_in(self.dice, 3) else fuzz_made.tree(self.dice)
         if not one_in(self.dice, 8):
             text = fuzz_changed.changed_text(self.dice, text, "tree")
@@ -178,15 +180,16 @@ class Case:
         if fault is None:
             need((ran.status, ran.out) == (0, text), "a tree's text is not printed as it is")
         else:
-            need((ran.status, ran.err) == (2, f"fault {fault}\n".encode()), f"a tree's text without fault {fault}")
+            refused = (ran.status, ran.err) == (2, f"fault {fault}\n".encode())
+            need(refused, f"a tree's text is not refused with fault {fault}")
 
     def session_words(self, data: bytes, words: list[str], workers: int) -> list[str]:
-        """The words of a session."""
+        """Returns the words that start a session."""
         given = ["--workers", str(workers)] if workers != 2 or one_in(self.dice, 2) else []
         return ["step", self.file(DEFINITION, data), *given, *words]
 
     def try_session(self) -> None:
-        """A session ends where a run ends, whatever was done and taken back in it before."""
+        """Checks that a session ends like a run, whatever was done and undone in it before."""
         data = self.definition()
         words = self.sources(data)
         ran = self.run("run", *words, given=data)
@@ -194,21 +197,21 @@ class Case:
         step = self.session_words(data, words, workers)
         if ran.status == 2:
             refused = self.run(*step, given=b"status\n")
-            need(refused[2:] == ran[2:], "a session and a run refuse otherwise")
+            need(refused[2:] == ran[2:], "a session and a run refuse in different ways")
             return
         graph = Graph(self.run("show", given=data).out)
         commands = self.commands(graph, workers)
         ends = ["clear", "go", "status", "tree %d %d" % graph.result]
         lines = ["status", *(line for command in commands for line in (command, "status")), *ends]
         held = self.run(*step, given="".join(line + "\n" for line in lines).encode())
-        need(held.status == 0, "a session does not end well")
+        need(held.status == 0, "a session fails")
         caches = caches_in(data)
         if caches is not None and not any(b"\n" in cache for cache in caches):
             self.tried.rules.check_answers(held.out)
             self.compare_session(Session(len(graph.steps), held.out), commands, ran if caches == [] else None)
 
     def commands(self, graph: Graph, workers: int) -> list[str]:
-        """Commands that each move by one event, or some of all kinds."""
+        """Returns commands that each move by one event, or commands of all kinds."""
         most = min(graph.events(), MOST_COMMANDS)
         if one_in(self.dice, 2):
             there, back = self.dice.randint(0, most), self.dice.randint(0, most)
@@ -217,28 +220,28 @@ class Case:
         return [fuzz_made.command(self.dice, len(graph.steps), workers) for _ in range(count)]
 
     def compare_session(self, session: Session, commands: list[str], ran: Ran | None) -> None:
-        """What the commands are answered fits to each other, and the end to a run without caches."""
-        need(session.answer() == [], "a session begins with no status")
+        """Checks that the answers of a session are consistent, and that it ends like a run without caches."""
+        need(session.answer() == [], "a session does not begin with a status")
         session.status()
         for command in commands:
             before, answers = session.count, session.answer()
             session.status()
-            need(command != "back" or session.count in (before, before - 1), "back takes several events back")
+            need(command != "back" or session.count in (before, before - 1), "back undoes several events")
             need(command[:2] in ("go", "tr") or len(answers) <= 1, f"{command} has several answers")
         answers = session.answer()
-        need(answers[-1:] == [b"end"], "go does not come to the end")
+        need(answers[-1:] == [b"end"], "go does not reach the end")
         last = session.status()
         tree = session.answer()
-        need(session.place == len(session.lines), "a session answers more than it was asked")
+        need(session.place == len(session.lines), "a session has more answers than commands")
         if ran is None:
             return
         failed = [b"failed " + line.replace(b" failed", b"") for line in last if b" failed" in line]
-        need(b"".join(line + b"\n" for line in failed) == ran.err, "a session and a run fail otherwise")
+        need(b"".join(line + b"\n" for line in failed) == ran.err, "a session and a run fail in different ways")
         printed = b"".join(line + b"\n" for line in tree)
-        need(printed == (ran.out if ran.status == 0 else b"none\n"), "a session ends otherwise than a run")
+        need(printed == (ran.out if ran.status == 0 else b"none\n"), "a session and a run end in different ways")
 
     def try_commands(self) -> None:
-        """Lines that are mostly no commands: each answer is one that a session has."""
+        """Checks the answers to lines that are mostly not commands."""
         data = self.made_definition()
         text = self.dice.choice(self.tried.examples.sessions)
         if one_in(self.dice, 2):
@@ -250,7 +253,7 @@ class Case:
             self.tried.rules.check_answers(held.out)
 
     def found(self) -> Found | None:
-        """What the case finds."""
+        """Tries the case, and returns its finding if there is one."""
         try:
             {
                 "run": self.try_run, "session": self.try_session, "entries": self.try_entries, "text": self.try_text,
@@ -277,12 +280,12 @@ class Cases:
             pathlib.Path(name).write_bytes(text)
 
     def found(self, number: int) -> Found | None:
-        """What the case of that number finds."""
+        """Tries the case with this number, and returns its finding if there is one."""
         return Case(self, number).found()
 
 
-def keep(found: Found, seed: int, folder: pathlib.Path, program: str) -> pathlib.Path:
-    """The files of a case that found something, and the lines that run it again, in a folder of its own."""
+def store(found: Found, seed: int, folder: pathlib.Path, program: str) -> pathlib.Path:
+    """Stores a finding in its own folder: the files of the case, and the commands that repeat it."""
     place = folder / f"case-{seed}-{found.number}"
     place.mkdir(parents=True, exist_ok=True)
     lines = []
@@ -298,7 +301,7 @@ def keep(found: Found, seed: int, folder: pathlib.Path, program: str) -> pathlib
     return place
 
 
-def told(found: Found, program: str) -> str:
-    """A finding in a line: the case, the rule, and the last run."""
+def finding_line(found: Found, program: str) -> str:
+    """Returns a finding as a line: the case, the rule, and the last run."""
     last = found.runs[-1].line(os.path.basename(program), f"input-{len(found.runs) - 1}") if found.runs else "-"
     return f"case {found.number} ({found.kind}): {found.cause}: {last}"

@@ -1,6 +1,6 @@
 """Changes inputs of the program at random: bytes, lines, and the records of messages.
 
-All that is random comes from the generator that is handed in, so that equal seeds make equal changes.
+All randomness comes from the generator that is passed in, so equal seeds make equal changes.
 """
 
 import random
@@ -46,13 +46,13 @@ STRANGE_LINES = {"text": LINES, "tree": TREE_LINES, "commands": SESSION_LINES}
 
 
 def piece(dice: random.Random, data: bytes) -> tuple[int, int]:
-    """A place in bytes and one at or after it, mostly near."""
+    """Returns a random position in bytes and one at or shortly after it."""
     start = dice.randrange(len(data) + 1)
     return start, min(len(data), start + dice.choice([1, 1, 2, 4, 8, 64]))
 
 
 def changed_bytes(dice: random.Random, data: bytes) -> bytes:
-    """Bytes with one small change."""
+    """Returns the bytes with one small change."""
     start, end = piece(dice, data)
     kind = dice.randrange(7)
     if kind == 0:
@@ -71,14 +71,14 @@ def changed_bytes(dice: random.Random, data: bytes) -> bytes:
 
 
 def changed_much(dice: random.Random, data: bytes) -> bytes:
-    """Bytes with a few small changes."""
+    """Returns the bytes with a few small changes."""
     for _ in range(dice.choice([1, 1, 1, 2, 3, 6])):
         data = changed_bytes(dice, data)
     return data
 
 
 def changed_lines(dice: random.Random, text: bytes, kind: str) -> bytes:
-    """A text with a few changes of its lines."""
+    """Returns a text with a few changed lines."""
     lines = text.split(b"\n")
     for _ in range(dice.choice([1, 1, 2, 4])):
         place = dice.randrange(len(lines))
@@ -104,12 +104,12 @@ def changed_lines(dice: random.Random, text: bytes, kind: str) -> bytes:
 
 
 def changed_text(dice: random.Random, text: bytes, kind: str) -> bytes:
-    """A text with a few changes of its lines or of its bytes."""
+    """Returns a text with a few changes to its lines or its bytes."""
     return changed_lines(dice, text, kind) if one_in(dice, 2) else changed_much(dice, text)
 
 
 def some_text(dice: random.Random) -> bytes:
-    """A text for a field of a message."""
+    """Returns a random text for a field of a message."""
     maker = dice.choice([fuzz_made.path, fuzz_made.pattern, fuzz_made.script, None])
     if maker is None:
         return dice.choice(STRANGE_TEXTS)
@@ -117,7 +117,7 @@ def some_text(dice: random.Random) -> bytes:
 
 
 def some_value(dice: random.Random, kind: str, value: object) -> object:
-    """Another value for a field of this kind."""
+    """Returns another value for a field of this kind."""
     if kind == TRUTH:
         return dice.choice([0, 1, 2])
     if kind == NUMBER:
@@ -128,7 +128,7 @@ def some_value(dice: random.Random, kind: str, value: object) -> object:
 
 
 def some_message(dice: random.Random, name: str) -> Message:
-    """A message of this name, whose fields are made up."""
+    """Returns a random message of this type."""
     message = []
     for number, (_, kind) in sorted(TABLE[name].items()):
         if one_in(dice, 2):
@@ -137,7 +137,7 @@ def some_message(dice: random.Random, name: str) -> Message:
 
 
 def messages_in(name: str, message: Message) -> list[tuple[str, Message]]:
-    """A message and all that are in it, with their names."""
+    """Returns a message and all messages inside it, with their types."""
     found = [(name, message)]
     for field, value in message:
         kind = TABLE[name].get(field, ("", ""))[1]
@@ -147,7 +147,7 @@ def messages_in(name: str, message: Message) -> list[tuple[str, Message]]:
 
 
 def change_message(dice: random.Random, name: str, message: Message) -> None:
-    """One record of a message is changed in place, goes, or comes."""
+    """Changes, removes or adds one record of a message, in place."""
     choice = dice.randrange(10) if message else 9
     place = dice.randrange(len(message)) if message else 0
     field, value = message[place] if message else (0, 0)
@@ -170,7 +170,7 @@ def change_message(dice: random.Random, name: str, message: Message) -> None:
 
 
 def add_record(dice: random.Random, name: str, message: Message) -> None:
-    """A record is put somewhere into a message."""
+    """Adds a random record to a message."""
     place = dice.randint(0, len(message))
     if one_in(dice, 4):
         message.insert(place, (0, Raw(dice.choice(STRANGE_RECORDS))))
@@ -180,9 +180,9 @@ def add_record(dice: random.Random, name: str, message: Message) -> None:
 
 
 def changed_op(dice: random.Random, entry: bytes) -> bytes:
-    """An entry with a few changes of its messages; one that is no op is changed by its bytes."""
+    """Returns an entry with a few changes to its messages, or to its bytes if it is not an op."""
     try:
-        op = messages.taken_apart("Op", entry)
+        op = messages.parsed("Op", entry)
     except Unreadable:
         return changed_bytes(dice, entry)
     for _ in range(dice.choice([1, 1, 1, 2, 3])):
@@ -191,17 +191,17 @@ def changed_op(dice: random.Random, entry: bytes) -> bytes:
 
 
 def changed_entries(dice: random.Random, entries: list[bytes]) -> list[bytes]:
-    """Entries of which one or two are changed; mostly the inputs name the changed ones then."""
+    """Returns entries of which one or two are changed; in most cases the inputs then name the changed ones."""
     after = list(entries)
     for _ in range(dice.choice([1, 1, 2])):
         place = dice.randrange(len(after))
         change = changed_bytes if one_in(dice, 8) else changed_op
         after[place] = change(dice, after[place])
-    return after if one_in(dice, 8) else messages.remade(entries, after)
+    return after if one_in(dice, 8) else messages.with_new_digests(entries, after)
 
 
 def moved_entries(dice: random.Random, entries: list[bytes]) -> list[bytes]:
-    """Entries in another order, or one more or less of them."""
+    """Returns the entries in another order, or with one added or removed."""
     entries = list(entries)
     place, other = dice.randrange(len(entries)), dice.randrange(len(entries))
     kind = dice.randrange(4)
@@ -217,7 +217,7 @@ def moved_entries(dice: random.Random, entries: list[bytes]) -> list[bytes]:
 
 
 def changed_definition(dice: random.Random, data: bytes) -> bytes:
-    """A definition with changes of its entries or, now and then, of its bytes."""
+    """Returns a definition with changes to its entries or, now and then, to its bytes."""
     try:
         entries = definition.entries_of(data)
     except Unreadable:

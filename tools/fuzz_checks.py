@@ -1,6 +1,6 @@
-"""What must hold of every run of the program, and of the runs of one input beside each other.
+"""Checks the rules for every run of the program, and for several runs with the same input.
 
-The rules are those of docs/FORMATS.md and docs/FAULTS.md. A rule that does not hold raises Broken.
+The rules are those of docs/FORMATS.md and docs/FAULTS.md. A broken rule raises Broken.
 """
 
 import re
@@ -33,11 +33,11 @@ OTHER_ANSWER = re.compile(rb"stop|end|none|back [0-9]+|[df] [0-7]{4} [0-9]+ [0-9
 
 
 class Broken(Exception):
-    """A rule does not hold; the words tell which."""
+    """A rule is broken; the message says which."""
 
 
 def need(holds: bool, cause: str) -> None:
-    """A rule holds, or this is the cause that it does not."""
+    """Raises Broken with this cause unless the rule holds."""
     if not holds:
         raise Broken(cause)
 
@@ -49,24 +49,24 @@ class Graph:
         *lines, last = text.split(b"\n")[:-1] or [b""]
         found = [VERTEX.fullmatch(line) for line in lines]
         result = RESULT.fullmatch(last)
-        need(all(found) and result is not None and text.endswith(b"\n"), "the graph's text is none")
+        need(all(found) and result is not None and text.endswith(b"\n"), "the text of the graph is invalid")
         need([int(one[1]) for one in found] == list(range(len(found))), "the graph's vertices are not numbered from 0")
         self.steps = [int(one[3]) for one in found]
         self.inputs = [edges_of(one[5]) for one in found]
         self.result = (int(result[1]), int(result[2]))
 
     def events(self) -> int:
-        """How many events a run has at most where nothing is cancelled."""
+        """Returns how many events a run has at most if nothing is cancelled."""
         return sum(self.steps) + 2 * len(self.steps)
 
 
 def edges_of(text: bytes) -> list[tuple[int, int]]:
-    """The inputs of a vertex."""
+    """Returns the inputs of a vertex."""
     return [] if text == b"-" else [tuple(map(int, one.split(b"."))) for one in text.split(b" ")]
 
 
 def entry_at(line: bytes) -> tuple[bytes, ...] | None:
-    """The path of a tree's line, none where it is no line of an entry."""
+    """Returns the path on a tree's line, or None if the line is not an entry."""
     found = ENTRY.fullmatch(line)
     if not found or any(int(owner) >= MOST_OF_A_NUMBER for owner in found.groups()[:4] if owner is not None):
         return None
@@ -77,7 +77,7 @@ def entry_at(line: bytes) -> tuple[bytes, ...] | None:
 
 
 def tree_fault(text: bytes) -> str | None:
-    """The first fault of a tree's text, `NUMBER LINE`, none where it is a tree's."""
+    """Returns the first fault of a tree text as `NUMBER LINE`, or None if it is valid."""
     if not text:
         return "31 1"
     directories, before = set(), None
@@ -97,13 +97,13 @@ def tree_fault(text: bytes) -> str | None:
 
 
 class Rules:
-    """What must hold of a run, by the page of faults."""
+    """The rules for every run, by the page of faults."""
 
     def __init__(self, page: faults.Page) -> None:
         self.page = page
 
     def check(self, ran: Ran) -> None:
-        """The run ended as a run may."""
+        """Checks that the run ended in an allowed way."""
         need(ran.status is not None, "it does not end in time")
         need(ran.status >= 0, f"signal {-ran.status}")
         need(ran.status <= LAST_STATUS, f"status {ran.status}")
@@ -116,9 +116,9 @@ class Rules:
             raise Broken("standard error is not UTF-8") from fault
 
     def check_error(self, status: int, text: str) -> None:
-        """What is told on standard error fits to the status."""
+        """Checks that standard error fits the status."""
         if status == 0:
-            need(not text, "words on standard error with status 0")
+            need(not text, "text on standard error with status 0")
             return
         need(text.endswith("\n"), f"no line on standard error with status {status}")
         lines = text[:-1].split("\n") if status == 1 else [text[:-1]]
@@ -127,7 +127,7 @@ class Rules:
             self.check_line(line, str(status))
 
     def check_line(self, line: str, status: str) -> None:
-        """A line is known to the page, and its fault comes with that status."""
+        """Checks that the page has a line, and that its fault belongs to this status."""
         try:
             faults.answer_to(self.page, line)
         except faults.NoLine as fault:
@@ -137,30 +137,30 @@ class Rules:
             need(any(cause.status == status for cause in causes), f"{line[:40]} with status {status}")
 
     def check_answers(self, text: bytes) -> None:
-        """All answers of a session are lines that it has."""
-        need(not text or text.endswith(b"\n"), "an answer of a session has no end")
+        """Checks that all answers of a session are lines that a session prints."""
+        need(not text or text.endswith(b"\n"), "the answers of a session do not end with a newline")
         for line in text.split(b"\n")[:-1]:
             if line.startswith(b"fault "):
                 self.check_line(line.decode("utf-8", "replace"), "0")
             elif not (RECORD.fullmatch(line) or STATUS.fullmatch(line) or OTHER_ANSWER.fullmatch(line)):
-                raise Broken(f"an answer that no session has: {line[:60]!r}")
+                raise Broken(f"an unexpected answer of a session: {line[:60]!r}")
 
 
 def caches_in(data: bytes) -> list[bytes] | None:
-    """The IDs of all cache mounts of a definition, none where its bytes can't be told apart."""
+    """Returns the IDs of all cache mounts of a definition, or None if it cannot be parsed."""
     found = []
     try:
         for entry in definition.entries_of(data):
             for kind, _, exec_op in definition.records(entry):
                 if kind == messages.NUMBERS["Op"]["exec"] and isinstance(exec_op, bytes):
-                    found += ids_in(messages.taken_apart("ExecOp", exec_op))
+                    found += ids_in(messages.parsed("ExecOp", exec_op))
     except Unreadable:
         return None
     return found
 
 
 def ids_in(exec_op: messages.Message) -> list[bytes]:
-    """The IDs of the cache mounts of an exec, or what may be one."""
+    """Returns the IDs of the cache mounts of an exec, also uncertain ones."""
     found = []
     for field, mount in exec_op:
         if field != messages.NUMBERS["ExecOp"]["mounts"] or not isinstance(mount, list):
@@ -172,7 +172,7 @@ def ids_in(exec_op: messages.Message) -> list[bytes]:
 
 
 def id_bytes(options: object) -> bytes:
-    """The ID of a cache's options, all that may be it."""
+    """Returns the ID in a cache's options, joined if it occurs several times."""
     if not isinstance(options, list):
         return b"\n"
     return b"".join(value for field, value in options if field == 1 and isinstance(value, bytes)) or b"-"
@@ -190,11 +190,11 @@ class Session:
         self.records: list[bytes] = []
 
     def is_status(self) -> bool:
-        """Whether the next line is one of a status."""
+        """Returns whether the next line is one of a status."""
         return self.place < len(self.lines) and STATUS.fullmatch(self.lines[self.place]) is not None
 
     def answer(self) -> list[bytes]:
-        """The lines up to the next status; events and their undoing are counted."""
+        """Returns the lines up to the next status, and counts events and undone events."""
         start = self.place
         while self.place < len(self.lines) and not self.is_status():
             self.take(self.lines[self.place])
@@ -202,7 +202,7 @@ class Session:
         return self.lines[start : self.place]
 
     def take(self, line: bytes) -> None:
-        """A line may be an event or tell that one was taken back."""
+        """Counts a line if it is an event or undoes one."""
         event = RECORD.fullmatch(line)
         if event:
             self.count += 1
@@ -211,15 +211,15 @@ class Session:
             self.records = [*self.records[: self.count - 1], line]
         elif line.startswith(b"back "):
             self.count -= 1
-            told = line.decode("utf-8", "replace")
-            need(told == f"back {self.count}", f"{told} where {self.count} events are left")
+            text = line.decode("utf-8", "replace")
+            need(text == f"back {self.count}", f"{text} where {self.count} events are left")
 
     def status(self) -> list[bytes]:
-        """The status of all vertices, which is the same each time when the record is the same."""
+        """Returns the status of all vertices, which depends on the record alone."""
         lines = self.lines[self.place : self.place + self.vertices]
         found = [STATUS.fullmatch(line) for line in lines]
         need(len(lines) == self.vertices and all(found), "a status is missing")
-        need([int(one[1]) for one in found] == list(range(self.vertices)), "a status is not that of all vertices")
+        need([int(one[1]) for one in found] == list(range(self.vertices)), "a status is not one of all vertices")
         self.place += self.vertices
         before = self.known.setdefault(self.count, lines)
         need(before == lines, f"another status after the same {self.count} events")

@@ -1,6 +1,6 @@
-"""Makes random inputs of the program that mostly keep its rules: ops, trees and sessions.
+"""Makes random inputs of the program that mostly obey its rules: ops, trees and sessions.
 
-All that is random comes from the generator that is handed in, so that equal seeds make equal inputs.
+All randomness comes from the generator that is passed in, so equal seeds make equal inputs.
 """
 
 import random
@@ -40,17 +40,17 @@ APPLETS = [
 
 
 def one_in(dice: random.Random, count: int) -> bool:
-    """Whether one of that many cases comes."""
+    """Returns true in one of `count` cases."""
     return dice.random() * count < 1
 
 
 def path(dice: random.Random) -> str:
-    """A path, now and then a strange one."""
+    """Returns a path, now and then a strange one."""
     return dice.choice(STRANGE_PATHS if one_in(dice, 25) else PATHS)
 
 
 def pattern(dice: random.Random) -> str:
-    """A pattern, now and then a wrong one."""
+    """Returns a pattern, now and then a wrong one."""
     atoms = [dice.choice(ATOMS) for _ in range(dice.randint(1, 5))]
     if one_in(dice, 12):
         atoms.insert(dice.randint(0, len(atoms)), dice.choice(WRONG_ATOMS))
@@ -58,7 +58,7 @@ def pattern(dice: random.Random) -> str:
 
 
 def owner(dice: random.Random) -> Message | None:
-    """An owner, mostly none."""
+    """Returns an owner, in most cases none."""
     if not one_in(dice, 5):
         return None
     ids = [made("UserOpt", byID=dice.choice([0, 1, 7, 4294967295])) if one_in(dice, 2) else None for _ in range(2)]
@@ -68,7 +68,7 @@ def owner(dice: random.Random) -> Message | None:
 
 
 def copy(dice: random.Random) -> Message:
-    """A copy."""
+    """Returns a copy."""
     wild = one_in(dice, 3)
     values = {
         "src": pattern(dice) if wild else path(dice),
@@ -89,36 +89,36 @@ def copy(dice: random.Random) -> Message:
 
 
 def mkfile(dice: random.Random) -> Message:
-    """A mkfile."""
+    """Returns a mkfile."""
     data = bytes(dice.randrange(256) for _ in range(dice.choice([0, 1, 2, 9])))
     mode = dice.choice(MODES)
     return made("FileActionMkFile", path=path(dice), mode=mode, data=data, owner=owner(dice), timestamp=-1)
 
 
 def mkdir(dice: random.Random) -> Message:
-    """A mkdir."""
+    """Returns a mkdir."""
     parents = not one_in(dice, 4)
     return made("FileActionMkDir", path=path(dice), mode=dice.choice(MODES), makeParents=parents, owner=owner(dice))
 
 
 def rm(dice: random.Random) -> Message:
-    """An rm."""
+    """Returns an rm."""
     wild = one_in(dice, 2)
     text = pattern(dice) if wild else path(dice)
     return made("FileActionRm", path=text, allowNotFound=not one_in(dice, 4), allowWildcard=wild)
 
 
 def outputs(dice: random.Random, count: int) -> list[int]:
-    """The outputs of actions or of mounts: some of them have one, numbered from 0, each once."""
+    """Returns the outputs of actions or mounts: some have one, numbered from 0, each once."""
     places = sorted(dice.sample(range(count), dice.randint(1, min(count, 3))))
     numbers = list(range(len(places)))
     dice.shuffle(numbers)
-    told = dict(zip(places, numbers))
-    return [told.get(place, -1) for place in range(count)]
+    output_of = dict(zip(places, numbers))
+    return [output_of.get(place, -1) for place in range(count)]
 
 
 def file_op(dice: random.Random, inputs: tuple[Message, ...]) -> tuple[Message, int]:
-    """A file op on inputs, and how many outputs it has."""
+    """Returns a file op on inputs, and how many outputs it has."""
     count = dice.randint(1, 5)
     actions = []
     for place, output in enumerate(numbers := outputs(dice, count)):
@@ -132,7 +132,7 @@ def file_op(dice: random.Random, inputs: tuple[Message, ...]) -> tuple[Message, 
 
 
 def call(dice: random.Random) -> list[str]:
-    """A call of an applet, now and then a wrong one."""
+    """Returns a call of an applet, now and then a wrong one."""
     words = []
     for word in dice.choice(APPLETS):
         if word == "P":
@@ -149,7 +149,7 @@ def call(dice: random.Random) -> list[str]:
 
 
 def script(dice: random.Random) -> str:
-    """Calls with separators between them."""
+    """Returns calls with separators between them."""
     words = call(dice)
     for _ in range(dice.choice([0, 1, 2, 3, 5])):
         words += [dice.choice(SEPARATORS), *call(dice)]
@@ -159,7 +159,7 @@ def script(dice: random.Random) -> str:
 
 
 def args(dice: random.Random) -> tuple[str, ...]:
-    """The words of an exec."""
+    """Returns the words of an exec."""
     if one_in(dice, 6):
         words = call(dice)
         return (*words[:-1], dice.choice(WORDS + STRANGE_WORDS)) if one_in(dice, 3) else tuple(words)
@@ -167,20 +167,20 @@ def args(dice: random.Random) -> tuple[str, ...]:
 
 
 def cache_mount(dice: random.Random, dest: str, most: int) -> Message:
-    """A cache mount."""
+    """Returns a cache mount."""
     options = made("CacheOpt", ID=dice.choice(IDS), sharing=dice.randrange(3))
     values = {"input": dice.randint(-1, most), "selector": dice.choice(["", "", "/a"]), "dest": dest, "output": -1}
     return made("Mount", **values, mountType=3, cacheOpt=options)
 
 
 def mounts(dice: random.Random, count: int) -> tuple[tuple[Message, ...], int]:
-    """Mounts that show some of that many inputs, and how many of them have an output."""
+    """Returns mounts that show some of `count` inputs, and how many of the mounts have an output."""
     dests = ["/", *dice.sample(["/in", "/tmp", "/cache", "/a", "/a/b", "//d/."], dice.choice([0, 1, 2, 2, 3]))]
     numbers = outputs(dice, len(dests))
-    made_mounts, kept = [], 0
+    made_mounts, output_count = [], 0
     for dest, output in zip(dests, numbers):
         kind = "bind" if dest == "/" or output >= 0 else dice.choice(["bind", "bind", "tmpfs", "cache"])
-        kept += output >= 0
+        output_count += output >= 0
         if kind == "cache" and not one_in(dice, 3):
             made_mounts.append(cache_mount(dice, dest, count - 1))
         elif kind == "tmpfs":
@@ -192,11 +192,11 @@ def mounts(dice: random.Random, count: int) -> tuple[tuple[Message, ...], int]:
             made_mounts.append(made("Mount", **values, dest=dest, output=output, readonly=one_in(dice, 4)))
     if one_in(dice, 4):
         dice.shuffle(made_mounts)
-    return tuple(made_mounts), kept
+    return tuple(made_mounts), output_count
 
 
 def exec_op(dice: random.Random, inputs: tuple[Message, ...]) -> tuple[Message, int]:
-    """An exec on inputs, and how many outputs it has."""
+    """Returns an exec on inputs, and how many outputs it has."""
     shown, count = mounts(dice, len(inputs))
     env = tuple(dice.choices(ENTRIES, k=dice.choice([0, 0, 1, 2])))
     meta = made("Meta", args=args(dice), env=env, cwd=dice.choice(["/", "", "/a", "/in", "/work"]))
@@ -204,14 +204,14 @@ def exec_op(dice: random.Random, inputs: tuple[Message, ...]) -> tuple[Message, 
 
 
 def merge_op(dice: random.Random, inputs: tuple[Message, ...]) -> tuple[Message, int]:
-    """A merge of inputs; it has one output."""
+    """Returns a merge of inputs, which has one output."""
     places = [dice.randint(-1 if one_in(dice, 6) else 0, len(inputs) - 1) for _ in range(dice.randint(1, 4))]
     merged = tuple(made("MergeInput", input=place) for place in places)
     return made("Op", inputs=inputs, merge=made("MergeOp", inputs=merged)), 1
 
 
 def source_op(dice: random.Random) -> tuple[Message, int]:
-    """A source, now and then one that is not taken or not given; it has one output."""
+    """Returns a source, now and then an unsupported or a missing one; it has one output."""
     identifier = "local://" + dice.choice(SOURCES)
     if one_in(dice, 60):
         identifier = dice.choice(["docker-image://a", "local://", "local://missing", "git://a", "", "local:///"])
@@ -220,7 +220,7 @@ def source_op(dice: random.Random) -> tuple[Message, int]:
 
 
 class Entries:
-    """Ops that are made one after the other, with how many outputs each has."""
+    """Ops that are made one after another, with how many outputs each has."""
 
     def __init__(self, dice: random.Random) -> None:
         self.dice = dice
@@ -229,13 +229,13 @@ class Entries:
         self.outputs: list[int] = []
 
     def add(self, op: Message, outputs_of_it: int) -> None:
-        """One op more."""
+        """Adds an op."""
         self.ops.append(op)
         self.bytes.append(messages.encoded(op))
         self.outputs.append(outputs_of_it)
 
     def some_edge(self) -> Message:
-        """An edge to an output, rather of a late entry."""
+        """Returns an edge to an output, more often of a late entry."""
         place = max(self.dice.randrange(len(self.ops)), self.dice.randrange(len(self.ops)))
         index = self.dice.randrange(self.outputs[place])
         if one_in(self.dice, 150):
@@ -243,7 +243,7 @@ class Entries:
         return messages.edge(self.bytes[place], index)
 
     def some_op(self) -> tuple[Message, int]:
-        """An op on some of the entries before."""
+        """Returns an op on some of the earlier entries."""
         most = 0 if not self.ops else self.dice.choice([0, 1, 1, 2, 2, 3])
         inputs = tuple(self.some_edge() for _ in range(most))
         kind = self.dice.choice(["file", "file", "exec", "exec", "merge", "source"])
@@ -253,7 +253,7 @@ class Entries:
 
 
 def ops(dice: random.Random) -> list[Message]:
-    """The canonical ops of a definition, the last of which names the result."""
+    """Returns the canonical ops of a definition; the last one names the result."""
     entries = Entries(dice)
     for _ in range(dice.choice([1, 2, 3, 4, 5, 6, 8, 12])):
         entries.add(*entries.some_op())
@@ -262,7 +262,7 @@ def ops(dice: random.Random) -> list[Message]:
 
 
 def tree(dice: random.Random) -> bytes:
-    """The text of a tree."""
+    """Returns the text of a random tree."""
     places: dict[tuple[bytes, ...], bool] = {(): True}
     for _ in range(dice.choice([0, 2, 5, 12])):
         above = dice.choice([place for place, is_dir in places.items() if is_dir])
@@ -277,8 +277,8 @@ def tree(dice: random.Random) -> bytes:
 
 
 def command(dice: random.Random, vertices: int, workers: int) -> str:
-    """A command of a session over that many vertices, mostly one that can be granted."""
+    """Returns a session command for this many vertices and workers, in most cases a valid one."""
     vertex = dice.randrange(vertices + (1 if one_in(dice, 10) else 0))
     worker = dice.randrange(workers + (1 if one_in(dice, 20) else 0))
-    told = dice.choice(COMMANDS)
-    return told.replace("V", str(vertex)).replace("W", str(worker)).replace("I", str(dice.randrange(2)))
+    template = dice.choice(COMMANDS)
+    return template.replace("V", str(vertex)).replace("W", str(worker)).replace("I", str(dice.randrange(2)))

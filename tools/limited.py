@@ -1,7 +1,7 @@
-"""Runs a program under limits of memory, processor time, sizes of files and the clock.
+"""Runs a program with limits on memory, processor time, file sizes and elapsed time.
 
-A process that calls `limit_runs` hands the limits on to all that it starts. What a program reads and writes on its
-standard streams is kept in memory, so that no pipe can fill.
+A process that calls `limit_runs` passes the limits on to all processes that it starts. The standard streams of a
+program are files in memory, so that no pipe can fill up.
 """
 
 import os
@@ -20,9 +20,9 @@ DEFAULT_SIGNALS = [signal.SIGXCPU, signal.SIGXFSZ, signal.SIGPIPE, signal.SIGINT
 
 
 class Ran(NamedTuple):
-    """A run: its words, what it was given, its exit status, and what it wrote.
+    """A run: its words, its input, its exit status, and its output.
 
-    The status is minus the number of a signal that ended it, and None where it had to be ended since it took too long.
+    The status is negative if a signal ended it (minus its number), and None if it ran out of time.
     """
 
     words: tuple[str, ...]
@@ -32,20 +32,20 @@ class Ran(NamedTuple):
     err: bytes
 
     def line(self, program: str, given: str) -> str:
-        """The line for a shell that runs it again, what it is given being in a file."""
+        """Returns the shell command that repeats the run, with its input in a file."""
         return f"{shlex.join([program, *self.words])} < {shlex.quote(given)}"
 
 
 def limit(kind: int, most: int) -> None:
-    """A limit of this process and of all that it starts."""
+    """Sets a limit for this process and all processes that it starts."""
     _, hard = resource.getrlimit(kind)
     resource.setrlimit(kind, (most if hard == resource.RLIM_INFINITY else min(most, hard), hard))
 
 
 def memory_of(program: str) -> int:
-    """The bound on the memory of a program in megabytes; none for one that is built with an address sanitizer.
+    """Returns the memory limit for a program in megabytes; 0 (none) for one that is built with an address sanitizer.
 
-    Such a program takes more addresses than any bound leaves it. It is asked to bound its memory itself.
+    Such a program reserves more addresses than any limit allows, so it is asked to limit its memory itself.
     """
     with open(program, "rb") as file:
         if SANITIZER not in file.read():
@@ -55,9 +55,9 @@ def memory_of(program: str) -> int:
 
 
 def limit_runs(megabytes: int) -> None:
-    """Limits all that this process starts, their memory where a number is given.
+    """Limits all processes that this process starts, and their memory if a number is given.
 
-    The bound on processor time holds for each of them by itself, and this process does not heed it.
+    The limit on processor time is for each process by itself; this process ignores it.
     """
     signal.signal(signal.SIGXCPU, signal.SIG_IGN)
     resource.setrlimit(resource.RLIMIT_CORE, (0, 0))
@@ -68,19 +68,19 @@ def limit_runs(megabytes: int) -> None:
 
 
 def emptied(stream: int, content: bytes = b"") -> None:
-    """A stream in memory holds this content and is at its beginning."""
+    """Replaces the content of a stream in memory, and rewinds it."""
     os.ftruncate(stream, 0)
     os.pwrite(stream, content, 0)
     os.lseek(stream, 0, os.SEEK_SET)
 
 
 def content_of(stream: int) -> bytes:
-    """All that a stream in memory holds."""
+    """Returns the content of a stream in memory."""
     return os.pread(stream, os.fstat(stream).st_size, 0)
 
 
 class Runner:
-    """Runs one program again and again in the folder of this process."""
+    """Runs one program repeatedly, in the folder of this process."""
 
     def __init__(self, program: str, seconds: float) -> None:
         self.program = program
@@ -89,7 +89,7 @@ class Runner:
         self.actions = [(os.POSIX_SPAWN_DUP2, stream, place) for place, stream in enumerate(self.streams)]
 
     def run(self, *words: str, given: bytes = b"") -> Ran:
-        """A run with these words and this on its standard input."""
+        """Runs the program with these words and this input."""
         emptied(self.streams[0], given)
         emptied(self.streams[1])
         emptied(self.streams[2])
@@ -100,7 +100,7 @@ class Runner:
         return Ran(words, given, status, content_of(self.streams[1]), content_of(self.streams[2]))
 
     def ended(self, process: int) -> int | None:
-        """The exit status of a process; one that takes too long is ended."""
+        """Waits for a process, and returns its exit status; one that takes too long is killed."""
         handle = os.pidfd_open(process)
         try:
             poll = select.poll()
@@ -115,5 +115,5 @@ class Runner:
 
 
 def has_ended(process: int) -> bool:
-    """Whether a child of this process has ended; it is not waited for, and can still be."""
+    """Returns whether a child of this process has ended, without reaping it."""
     return os.waitid(os.P_PID, process, os.WEXITED | os.WNOHANG | os.WNOWAIT) is not None

@@ -1,4 +1,4 @@
-"""Short names of local sources, made of the identifiers of other sources."""
+"""Makes short names of local sources from the identifiers of other sources."""
 
 import re
 
@@ -11,12 +11,12 @@ NO_NAME = "source"
 
 
 def is_known(identifier: str) -> bool:
-    """Whether it is an image, a git repository, a file from HTTP or an OCI layout."""
+    """Returns whether it is an image, a git repository, a file from HTTP or an OCI layout."""
     return identifier.partition("://")[0] in SCHEMES and "://" in identifier
 
 
 def short_name(identifier: str) -> str:
-    """The last part of an identifier without tag, digest, fragment and query, of at most 32 plain characters."""
+    """Returns the last part of an identifier without tag, digest, fragment and query: at most 32 plain characters."""
     scheme, _, rest = identifier.partition("://")
     rest = re.split("[#?]", rest)[0]
     if scheme in IMAGES:
@@ -30,13 +30,13 @@ def short_name(identifier: str) -> str:
 
 
 class LocalNames:
-    """The names that are taken: those of the local sources of a definition, and those that are given here."""
+    """The names that are taken: by the local sources of a definition, and by this class."""
 
     def __init__(self, identifiers: list[str]) -> None:
         self.taken = {identifier[len(LOCAL) :] for identifier in identifiers if identifier.startswith(LOCAL)}
 
-    def give(self, identifier: str) -> str:
-        """A name of its own for an identifier: with `-2` and so on where it is taken."""
+    def new_name(self, identifier: str) -> str:
+        """Returns a new name for an identifier, with `-2` and so on if it is taken."""
         short = name = short_name(identifier)
         count = 1
         while name in self.taken:

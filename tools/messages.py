@@ -1,7 +1,7 @@
-"""Writes the messages of a definition, and reads them as records that can be changed.
+"""Writes the messages of a definition, and parses them into records that can be changed.
 
-The messages are those of docs/FORMATS.md, all of them. A message here is a list of records; a record is the number of
-its field and its value: a number, bytes (strings too), a message, or a Raw, which is a whole record as it is spelled.
+It has all messages of docs/FORMATS.md. A message here is a list of records; a record is the number of its field and its
+value: a number, bytes (also for a string), a message, or a Raw, which is a whole encoded record.
 """
 
 import re
@@ -63,11 +63,11 @@ Message = list[tuple[int, Value]]
 
 
 class Raw(bytes):
-    """A whole record, tag and all, as it is spelled."""
+    """A whole encoded record, with its tag."""
 
 
 def varint(number: int) -> bytes:
-    """The bytes of a number of 64 bits, a negative one in two's complement."""
+    """Returns the varint of a 64-bit number; a negative one in two's complement."""
     number &= (1 << 64) - 1
     found = bytearray()
     while number > 127:
@@ -78,12 +78,12 @@ def varint(number: int) -> bytes:
 
 
 def part(field: int, value: bytes) -> bytes:
-    """The record of a string, of bytes or of a message."""
+    """Returns the record of a string, of bytes or of a message."""
     return varint(field << 3 | LENGTH) + varint(len(value)) + value
 
 
 def record(field: int, value: Value) -> bytes:
-    """The bytes of a record."""
+    """Returns the bytes of a record."""
     if isinstance(value, Raw):
         return value
     if isinstance(value, int):
@@ -92,24 +92,24 @@ def record(field: int, value: Value) -> bytes:
 
 
 def encoded(message: Message) -> bytes:
-    """The bytes of a message, its records in their order."""
+    """Returns the bytes of a message, its records in order."""
     return b"".join([record(field, value) for field, value in message])
 
 
 def is_default(value: Value) -> bool:
-    """Whether the value is left out; a message never is."""
+    """Returns whether a value is left out as a default; a message never is."""
     return not isinstance(value, list) and not value
 
 
 def given(kind: str, value: Value) -> Value:
-    """A value as that of a record: a text as bytes, a truth as a number."""
+    """Returns a value as a record holds it: a text as bytes, a boolean as a number."""
     if kind in (NUMBER, TRUTH):
         return int(value)
     return value.encode("utf-8", "surrogateescape") if isinstance(value, str) else value
 
 
 def made(name: str, **values: Value) -> Message:
-    """A message of these fields in canonical order: defaults are left out, and a tuple is a repeated field."""
+    """Returns a message in canonical order: defaults are left out, and a tuple is a repeated field."""
     message = []
     for number, (field, kind) in sorted(TABLE[name].items()):
         if field not in values or values[field] is None:
@@ -122,27 +122,27 @@ def made(name: str, **values: Value) -> Message:
 
 
 def digest_of(entry: bytes) -> bytes:
-    """The text by which inputs name an entry."""
+    """Returns the digest by which inputs name an entry."""
     return definition.digest_of(entry).encode()
 
 
 def edge(entry: bytes, index: int = 0) -> Message:
-    """An input that is an output of an entry."""
+    """Returns an input that names an output of an entry."""
     return made("Input", digest=digest_of(entry), index=index)
 
 
 def definition_of(entries: list[bytes]) -> bytes:
-    """The definition of these entries."""
+    """Returns the definition with these entries."""
     return b"".join([part(1, entry) for entry in entries])
 
 
 def spelled(field: int, form: int, held: Value) -> Raw:
-    """A record of eight or of four bytes."""
+    """Returns a record of eight or of four bytes."""
     return Raw(varint(field << 3 | form) + held)
 
 
-def taken_apart(name: str, data: bytes) -> Message:
-    """The records of a message, and of the messages in it that can be read; raises Unreadable."""
+def parsed(name: str, data: bytes) -> Message:
+    """Parses a message, and the messages inside it as far as possible; raises Unreadable."""
     message = []
     for field, form, held in definition.records(data):
         kind = TABLE[name].get(field, ("", BYTES))[1]
@@ -150,17 +150,17 @@ def taken_apart(name: str, data: bytes) -> Message:
             held = spelled(field, form, held)
         elif form != VARINT and kind in TABLE:
             try:
-                held = taken_apart(kind, held)
+                held = parsed(kind, held)
             except Unreadable:
                 pass
         message.append((field, held))
     return message
 
 
-def remade(before: list[bytes], after: list[bytes]) -> list[bytes]:
-    """Changed entries whose inputs name what they named before: the digest of an entry before is that of it after.
+def with_new_digests(before: list[bytes], after: list[bytes]) -> list[bytes]:
+    """Returns the changed entries with inputs that name the changed digests in place of the old ones.
 
-    Both lists have the same length. What would name itself keeps the digest of before.
+    Both lists have the same length. An entry that would name itself keeps the old digest.
     """
     places = {}
     for place, entry in enumerate(before):
@@ -185,7 +185,7 @@ def remade(before: list[bytes], after: list[bytes]) -> list[bytes]:
 
 
 def quoted(text: bytes) -> str:
-    """A string of the text of entries."""
+    """Returns a string as it is written in the text of entries."""
     shown = []
     for letter in text.decode("utf-8"):
         if letter in '"\\':
@@ -198,7 +198,7 @@ def quoted(text: bytes) -> str:
 
 
 def value_text(name: str, kind: str, value: Value, labels: dict[bytes, int]) -> str:
-    """The text of a value that is no message."""
+    """Returns the text of a value that is not a message."""
     if kind == TRUTH:
         return "true" if value else "false"
     if kind == NUMBER:
@@ -211,7 +211,7 @@ def value_text(name: str, kind: str, value: Value, labels: dict[bytes, int]) -> 
 
 
 def lines_of(message: Message, name: str, labels: dict[bytes, int], level: int) -> list[str]:
-    """The lines of a canonical message."""
+    """Returns the lines of a canonical message."""
     lines = []
     for number, value in message:
         field, kind = TABLE[name][number]
@@ -223,7 +223,7 @@ def lines_of(message: Message, name: str, labels: dict[bytes, int], level: int) 
 
 
 def text_of(ops: list[Message]) -> bytes:
-    """The text of the entries that canonical ops are."""
+    """Returns the text of entries for canonical ops."""
     lines, labels = [], {}
     for number, op in enumerate(ops):
         lines += ["op {", *lines_of(op, "Op", labels, 1), "}"]

@@ -1,10 +1,10 @@
-"""The names that a definition has for people: of each entry its name and its place in the source that it was made of.
+"""The names that a definition has for people: the name of each entry, and its place in the source that it was made
+from.
 
-Both are told in what the program passes over. `metadata` is a map from digests to messages: of these `description` (2),
-a map of texts, has the name under `llb.customname`, or else the command of a Dockerfile under
-`com.docker.dockerfile.v1.command`; its group is under `llb.customnamegroup`, or the name of `progress_group` (6).
-`Source` has `locations` (1), a map from digests to places, and `infos` (2), the files that these are in. What of it
-does not read is passed over, since nothing depends on it.
+The program skips both. `metadata` is a map from digests to messages: in these `description` (2), a map of texts, has
+the name under `llb.customname`, or else the command of a Dockerfile under `com.docker.dockerfile.v1.command`; the group
+is under `llb.customnamegroup`, or else it is the name in `progress_group` (6). `Source` has `locations` (1), a map from
+digests to places, and `infos` (2), the files of these. What cannot be parsed is skipped, since nothing depends on it.
 """
 
 from typing import NamedTuple
@@ -20,7 +20,7 @@ Fields = dict[int, list[int | bytes]]
 
 
 class Name(NamedTuple):
-    """What is told of an entry: row, digest, the number of its vertex if it is one, and texts, empty for none."""
+    """The name of an entry: row, digest, the number of its vertex if it is one, and texts, empty if absent."""
 
     row: int
     digest: str
@@ -30,14 +30,14 @@ class Name(NamedTuple):
     place: str
 
     def shown(self) -> str:
-        """The name, a group of another name, and the place in one text for a person; empty where there is none."""
+        """Returns the name, the group if it differs, and the place as one text; empty if there are none."""
         group = f"[{self.group}]" if self.group not in ("", self.text) else ""
         place = f"({self.place})" if self.place else ""
         return printable(" ".join(filter(None, [self.text, group, place])))
 
 
 def fields_of(data: bytes) -> Fields:
-    """What the records of a message hold, by field; nothing where it does not read."""
+    """Returns the values of the records of a message, by field; empty if it cannot be parsed."""
     found: Fields = {}
     try:
         for field, _, held in definition.records(data):
@@ -48,42 +48,42 @@ def fields_of(data: bytes) -> Fields:
 
 
 def parts_of(fields: Fields, number: int) -> list[bytes]:
-    """The bytes that a field holds, one for each of its records."""
+    """Returns the byte values of a field, one for each record."""
     return [held for held in fields.get(number, []) if isinstance(held, bytes)]
 
 
 def message_of(fields: Fields, number: int) -> Fields:
-    """The message that a field holds once."""
+    """Returns the message in a field that is not repeated."""
     return fields_of(b"".join(parts_of(fields, number)))
 
 
 def text_of(fields: Fields, number: int) -> str:
-    """The text that a field holds."""
+    """Returns the text in a field."""
     held = parts_of(fields, number)[-1:]
     return held[0].decode("utf-8", "backslashreplace") if held else ""
 
 
 def number_of(fields: Fields, number: int) -> int:
-    """The number that a field holds, of 32 bits, which is never below 0."""
+    """Returns the number in a field, as 31 bits, so that it is never negative."""
     held = [held for held in fields.get(number, []) if isinstance(held, int)]
     return held[-1] & 0x7FFF_FFFF if held else 0
 
 
 def map_of(fields: Fields, number: int) -> dict[str, Fields]:
-    """A map from texts, of which each entry is a message of key (1) and value (2)."""
+    """Returns a map from texts; each entry is a message with key (1) and value (2)."""
     entries = map(fields_of, parts_of(fields, number))
     return {text_of(entry, 1): entry for entry in entries}
 
 
 def texts_of(metadata: Fields) -> tuple[str, str]:
-    """The name and the group that the metadata of an entry tells."""
-    told = {key: text_of(entry, 2) for key, entry in map_of(metadata, 2).items()}
-    name = told.get(CUSTOM_NAME) or told.get(COMMAND, "")
-    return name, told.get(CUSTOM_GROUP) or text_of(message_of(metadata, 6), 2)
+    """Returns the name and the group in the metadata of an entry."""
+    description = {key: text_of(entry, 2) for key, entry in map_of(metadata, 2).items()}
+    name = description.get(CUSTOM_NAME) or description.get(COMMAND, "")
+    return name, description.get(CUSTOM_GROUP) or text_of(message_of(metadata, 6), 2)
 
 
 def place_of(locations: Fields, files: list[str]) -> str:
-    """The first place of an entry: its file, and the lines of its first range."""
+    """Returns the first place of an entry: its file, and the lines of its first range."""
     for location in map(fields_of, parts_of(locations, 1)):
         source = number_of(location, 1)
         if source >= len(files):
@@ -96,7 +96,7 @@ def place_of(locations: Fields, files: list[str]) -> str:
 
 
 def vertices_of(entries: list[bytes]) -> dict[int, int]:
-    """The vertex of each row that has one; none where the entries are no graph."""
+    """Returns the vertex of each row that has one; empty if the entries are not a graph."""
     try:
         return {row: vertex for vertex, row in enumerate(definition.graph_of(entries).rows)}
     except definition.Unreadable:
@@ -104,7 +104,7 @@ def vertices_of(entries: list[bytes]) -> dict[int, int]:
 
 
 def names_of(data: bytes) -> list[Name]:
-    """The name of each entry of a definition, in their order. Of equal entries the first one has the vertex."""
+    """Returns the name of each entry of a definition, in order. Among equal entries the first one has the vertex."""
     entries = definition.entries_of(data)
     fields = fields_of(data)
     metadata = map_of(fields, 2)
@@ -122,5 +122,5 @@ def names_of(data: bytes) -> list[Name]:
 
 
 def names_of_vertices(names: list[Name]) -> list[Name]:
-    """The names of the vertices, by their numbers."""
+    """Returns the names of the vertices, by number."""
     return sorted((name for name in names if name.vertex is not None), key=lambda name: name.vertex)

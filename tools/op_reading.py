@@ -1,9 +1,8 @@
-"""Reads the messages of a definition as the program does: all fields of docs/FORMATS.md, and the first fault of each.
+"""Parses the messages of a definition as the program does: all fields of docs/FORMATS.md, and the first fault of each.
 
-A record is kept with its bytes as they stand, so that a message can be written again with some of them changed. What a
-message says is a dict by the names of its fields, with defaults for what is absent, and `extra`, the records of fields
-that it does not name. `definition.py` reads less of a definition and tells of a fault in words; this module has its
-number.
+A record keeps its encoded bytes, so that a message can be written again with some of its records changed. A parsed
+message is a dict by the names of its fields, with defaults for absent ones, and `extra`, the records of unknown fields.
+`definition.py` parses less of a definition and describes a fault in words; this module has its number.
 """
 
 from collections.abc import Iterator
@@ -25,7 +24,7 @@ NUMBERS = {*SIGNED, "uint32", "bool"}
 
 
 class Faulty(Exception):
-    """Bytes are no such message; the number is that of the first fault."""
+    """The bytes are not such a message; the number is that of the first fault."""
 
     def __init__(self, number: int) -> None:
         super().__init__(f"fault {number}")
@@ -33,7 +32,7 @@ class Faulty(Exception):
 
 
 class Record(NamedTuple):
-    """A record: its field, its wire type, what it holds, and its bytes as they stand."""
+    """A record: its field, its wire type, its value, and its encoded bytes."""
 
     field: int
     form: int
@@ -42,7 +41,7 @@ class Record(NamedTuple):
 
 
 class Field(NamedTuple):
-    """A field of a message: a kind of number, `string`, `bytes` or a message's name; `member` is one of a oneof."""
+    """A field of a message: a kind of number, `string`, `bytes` or a message's name; `member` marks one of a oneof."""
 
     name: str
     kind: str
@@ -51,12 +50,12 @@ class Field(NamedTuple):
 
 
 def once(**kinds: str) -> list[Field]:
-    """Fields that stand once."""
+    """Returns fields that are not repeated."""
     return [Field(name, kind) for name, kind in kinds.items()]
 
 
 def numbered(first: int, fields: list[Field]) -> dict[int, Field]:
-    """Fields by their numbers, from a first one on."""
+    """Returns fields with consecutive numbers."""
     return dict(enumerate(fields, first))
 
 
@@ -130,7 +129,7 @@ DEFINITION = {
 
 
 def varint(data: bytes, place: int) -> tuple[int, int]:
-    """The number that is spelled at a place, and the place after it."""
+    """Returns the varint at a position, and the position after it."""
     number = 0
     for count, byte in enumerate(data[place : place + 10]):
         if count == 9 and byte > 1:
@@ -142,7 +141,7 @@ def varint(data: bytes, place: int) -> tuple[int, int]:
 
 
 def record_at(data: bytes, place: int) -> tuple[Record, int]:
-    """The record that begins at a place, and the place after it."""
+    """Returns the record at a position, and the position after it."""
     tag, after = varint(data, place)
     field, form = tag >> 3, tag & 7
     if not 1 <= field <= MOST_FIELDS:
@@ -161,12 +160,12 @@ def record_at(data: bytes, place: int) -> tuple[Record, int]:
 
 
 def form_of(field: Field) -> int:
-    """The wire type of a field."""
+    """Returns the wire type of a field."""
     return VARINT if field.kind in NUMBERS else LENGTH
 
 
 def records_of(fields: dict[int, Field], data: bytes) -> Iterator[Record]:
-    """The records that bytes spell, up to the first fault; a named field has the wire type of its kind."""
+    """Yields the records in these bytes, up to the first fault; a known field needs the wire type of its kind."""
     place = 0
     while place < len(data):
         record, place = record_at(data, place)
@@ -177,12 +176,12 @@ def records_of(fields: dict[int, Field], data: bytes) -> Iterator[Record]:
 
 
 def records_in(data: bytes) -> list[Record]:
-    """The records that bytes spell, whatever their fields."""
+    """Returns the records in these bytes, whatever their fields."""
     return list(records_of({}, data))
 
 
 def text_in(held: bytes) -> str:
-    """The text of a string."""
+    """Decodes a string."""
     try:
         return held.decode("utf-8")
     except UnicodeDecodeError as fault:
@@ -190,7 +189,7 @@ def text_in(held: bytes) -> str:
 
 
 def number_in(kind: str, held: int) -> int:
-    """The number of a kind that a varint gives."""
+    """Converts a varint to a number of this kind."""
     if kind == "bool":
         return int(held != 0)
     width = SIGNED.get(kind, 32)
@@ -199,7 +198,7 @@ def number_in(kind: str, held: int) -> int:
 
 
 def counted(members: set[int], number: int, records: list[Record]) -> list[Record]:
-    """The records of a field; those of a member of a oneof only after the last record of another member."""
+    """Returns the records of a field; for a member of a oneof only those after the last other member."""
     if number in members:
         for place in range(len(records) - 1, -1, -1):
             if records[place].field in members and records[place].field != number:
@@ -209,12 +208,12 @@ def counted(members: set[int], number: int, records: list[Record]) -> list[Recor
 
 
 def joined(records: list[Record]) -> bytes:
-    """What the records of a message that stands once hold, one after the other."""
+    """Returns the joined values of the records of a message that is not repeated."""
     return b"".join(record.held for record in records)
 
 
 def value_of(field: Field, records: list[Record]) -> object:
-    """What a field says by its records; a message that is absent is None."""
+    """Returns the value of a field from its records; None for an absent message."""
     if field.kind in MESSAGES:
         if field.repeated:
             return [read(field.kind, record.held) for record in records]
@@ -230,7 +229,7 @@ def value_of(field: Field, records: list[Record]) -> object:
 
 
 def read(message: str, data: bytes) -> dict:
-    """What a message says; of a oneof `kind` is the member that is set, and the others are absent."""
+    """Parses a message; `kind` is the member of a oneof that is set, the others are absent."""
     fields = MESSAGES[message]
     records = list(records_of(fields, data))
     for record in records:
@@ -238,25 +237,25 @@ def read(message: str, data: bytes) -> dict:
             text_in(record.held)
     members = {number for number, field in fields.items() if field.member}
     last = next((record.field for record in reversed(records) if record.field in members), None)
-    told: dict = {"kind": fields[last].name if last else None}
+    found: dict = {"kind": fields[last].name if last else None}
     for number, field in fields.items():
         if not field.member or number == last:
-            told[field.name] = value_of(field, counted(members, number, records))
-    if any(field.repeated and len(told[field.name]) > MOST_OF_A_FIELD for field in fields.values()):
+            found[field.name] = value_of(field, counted(members, number, records))
+    if any(field.repeated and len(found[field.name]) > MOST_OF_A_FIELD for field in fields.values()):
         raise Faulty(OVER_LIMIT)
-    told["extra"] = b"".join(record.text for record in records if record.field not in fields)
-    return told
+    found["extra"] = b"".join(record.text for record in records if record.field not in fields)
+    return found
 
 
 def read_op(entry: bytes) -> dict:
-    """The op of an entry."""
+    """Parses the op in an entry."""
     if len(entry) > MOST_OF_AN_ENTRY:
         raise Faulty(OVER_LIMIT)
     return read("Op", entry)
 
 
 def read_definition(data: bytes) -> list[Record]:
-    """The records of a definition."""
+    """Parses a definition into records."""
     if len(data) > MOST_BYTES:
         raise Faulty(OVER_LIMIT)
     records = list(records_of(DEFINITION, data))
@@ -267,5 +266,5 @@ def read_definition(data: bytes) -> list[Record]:
 
 
 def entries_in(records: list[Record]) -> list[bytes]:
-    """The entries among the records of a definition."""
+    """Returns the entries among the records of a definition."""
     return [record.held for record in records if record.field == 1]

@@ -1,6 +1,6 @@
-"""What keeps an op from being taken: the features of fault 88 and the rules of fault 89, each by itself, in order.
+"""The features of fault 88 and the rules of fault 89 that keep an op from being accepted, each checked separately.
 
-An op is a dict of `op_reading.read_op`. Definitions: docs/FORMATS.md under Loading.
+An op is a dict from `op_reading.read_op`. The definitions are in docs/FORMATS.md under Loading.
 """
 
 from collections.abc import Callable, Iterable, Iterator
@@ -18,7 +18,7 @@ Path = tuple[bytes, ...]
 
 
 def path_of(text: str) -> Path | None:
-    """The path that a text reads as, if it reads as one."""
+    """Parses a path, or returns None if it is invalid."""
     path: list[bytes] = []
     for part in text.encode("utf-8").split(b"/"):
         if part in (b"", b"."):
@@ -33,57 +33,57 @@ def path_of(text: str) -> Path | None:
 
 
 def is_input(count: int, number: int) -> bool:
-    """Whether a number is one of so many inputs, or none."""
+    """Returns whether a number is an input (below `count`), or -1 for none."""
     return NONE <= number < count
 
 
 def are_apart(values: Iterable[object]) -> bool:
-    """Whether no two of the values that are there are the same."""
+    """Returns whether the values that are not None are distinct."""
     there = [value for value in values if value is not None]
     return len(set(there)) == len(there)
 
 
 def outputs_of(parts: list[dict]) -> list[int]:
-    """The outputs of actions or of mounts, without those that are none."""
+    """Returns the outputs of actions or mounts that have one."""
     return [part["output"] for part in parts if part["output"] != NONE]
 
 
 def are_outputs(parts: list[dict]) -> bool:
-    """Whether the outputs are numbered from 0, each once."""
+    """Returns whether the outputs are numbered from 0, each once."""
     outputs = outputs_of(parts)
     return sorted(outputs) == list(range(len(outputs)))
 
 
 def members_of(op: dict) -> list[dict]:
-    """What the actions of a file op do, of those that have a member."""
+    """Returns the members of the actions of a file op, where they have one."""
     actions = op["file"]["actions"] if op["kind"] == "file" else []
     return [action[action["kind"]] for action in actions if action["kind"]]
 
 
 def copies_of(op: dict) -> list[dict]:
-    """The copies of a file op."""
+    """Returns the copies of a file op."""
     actions = op["file"]["actions"] if op["kind"] == "file" else []
     return [action["copy"] for action in actions if action["kind"] == "copy"]
 
 
 def mounts_of(op: dict) -> list[dict]:
-    """The mounts of an exec."""
+    """Returns the mounts of an exec."""
     return op["exec"]["mounts"] if op["kind"] == "exec" else []
 
 
 def has_mount(op: dict, kind: int) -> bool:
-    """Whether an exec has a mount of a type."""
+    """Returns whether an exec has a mount of this type."""
     return any(mount["mountType"] == kind for mount in mounts_of(op))
 
 
 def is_by_name(owner: dict | None) -> bool:
-    """Whether a user or a group is given by its name."""
+    """Returns whether a user or a group is given by name."""
     users = [owner["user"], owner["group"]] if owner else []
     return any(user is not None and user["kind"] == "byName" for user in users)
 
 
 def is_remote(op: dict) -> bool:
-    """Whether a source is not local."""
+    """Returns whether a source is not local."""
     return op["kind"] == "source" and not op["source"]["identifier"].startswith(LOCAL)
 
 
@@ -103,12 +103,12 @@ FEATURES: dict[str, Callable[[dict], bool]] = {
 
 
 def features_of(op: dict) -> list[str]:
-    """The features of an op that are not taken."""
+    """Returns the features of an op that are not supported."""
     return [name for name, has in FEATURES.items() if has(op)]
 
 
 def take_inputs(count: int, actions: list[dict]) -> bool:
-    """Whether each action reads an input, the result of an action before it, or nothing."""
+    """Returns whether each action reads an input, the result of an earlier action, or nothing."""
     for place, action in enumerate(actions):
         if not is_input(count + place, action["input"]):
             return False
@@ -118,14 +118,14 @@ def take_inputs(count: int, actions: list[dict]) -> bool:
 
 
 def broken_in_file(count: int, actions: list[dict]) -> Iterator[tuple[bool, str]]:
-    """The rules on file ops, each with whether it is broken."""
+    """Yields the rules for file ops, each with whether it is broken."""
     yield not actions, "NoActions"
     yield not take_inputs(count, actions), "ActionInput"
     yield not are_outputs(actions), "ActionOutput"
 
 
 def key_of(inputs: list[dict], mount: dict) -> tuple | None:
-    """Which cache a mount shows, if it shows one."""
+    """Returns the key of the cache that a mount shows, or None if it shows no cache."""
     options = mount["cacheOpt"]
     if mount["mountType"] != CACHE or options is None:
         return None
@@ -137,7 +137,7 @@ def key_of(inputs: list[dict], mount: dict) -> tuple | None:
 
 
 def broken_in_paths(dests: list[Path | None], mounts: list[dict], meta: dict | None) -> Iterator[tuple[bool, str]]:
-    """The rules on where mounts are, each with whether it is broken."""
+    """Yields the rules about the paths of mounts, each with whether it is broken."""
     others = [mount["selector"] for mount in mounts] + ([meta["cwd"]] if meta else [])
     yield () not in dests, "NoRoot"
     yield None in dests or any(path_of(text) is None for text in others), "BadPath"
@@ -145,7 +145,7 @@ def broken_in_paths(dests: list[Path | None], mounts: list[dict], meta: dict | N
 
 
 def broken_in_mounts(inputs: list[dict], mounts: list[dict]) -> Iterator[tuple[bool, str]]:
-    """The rules on what mounts show and give, each with whether it is broken."""
+    """Yields the rules about inputs and outputs of mounts, each with whether it is broken."""
     caches = [mount for mount in mounts if mount["mountType"] == CACHE]
     showing = caches + [mount for mount in mounts if mount["mountType"] == BIND]
     silent = caches + [mount for mount in mounts if mount["mountType"] == TMPFS]
@@ -159,7 +159,7 @@ def broken_in_mounts(inputs: list[dict], mounts: list[dict]) -> Iterator[tuple[b
 
 
 def broken_in_exec(inputs: list[dict], execution: dict) -> Iterator[tuple[bool, str]]:
-    """The rules on execs, each with whether it is broken. Words are read as a script where there are some."""
+    """Yields the rules for execs, each with whether it is broken. Words are parsed as a script if there are any."""
     meta, mounts = execution["meta"], execution["mounts"]
     args = meta["args"] if meta else []
     yield meta is None, "NoMeta"
@@ -172,7 +172,7 @@ def broken_in_exec(inputs: list[dict], execution: dict) -> Iterator[tuple[bool, 
 
 
 def broken_in(op: dict) -> Iterator[tuple[bool, str]]:
-    """The rules on an op of its kind, each with whether it is broken."""
+    """Yields the rules for an op of its kind, each with whether it is broken."""
     kind, inputs = op["kind"], op["inputs"]
     yield kind is None, "NoKind"
     if kind == "source":
@@ -186,12 +186,12 @@ def broken_in(op: dict) -> Iterator[tuple[bool, str]]:
 
 
 def rules_of(op: dict) -> list[str]:
-    """The rules that an op breaks."""
+    """Returns the rules that an op breaks."""
     return [name for is_broken, name in broken_in(op) if is_broken]
 
 
 def count_of(op: dict) -> int | None:
-    """The number of outputs of an op; none where it is of no kind that is taken, or has no such number."""
+    """Returns the number of outputs of an op; None if its kind is not supported or they are not countable."""
     if op["kind"] in ("source", "merge"):
         return 1
     parts = op["file"]["actions"] if op["kind"] == "file" else mounts_of(op)

@@ -1,4 +1,4 @@
-"""A session of `llbm step` that a build drives from vertex to vertex, and the names of vertices.
+"""A session of `llbm step` that a build runs vertex by vertex, and the names of vertices.
 
 The commands and their answers are those of docs/FORMATS.md, under "A stepping session" and "The lines of a record".
 """
@@ -23,7 +23,7 @@ class Closed(Exception):
 
 
 class Unexpected(Exception):
-    """The session answered with this line, which is none of those that a build goes on with."""
+    """The session answered with a line that the build does not expect."""
 
 
 class Settled(NamedTuple):
@@ -35,7 +35,7 @@ class Settled(NamedTuple):
 
 
 def names_in(data: bytes) -> dict[int, str]:
-    """The names of a definition's vertices in its metadata, of those that have one."""
+    """Returns the names of a definition's vertices that have one in its metadata."""
     try:
         found = names.names_of_vertices(names.names_of(data))
     except definition.Unreadable:
@@ -51,7 +51,7 @@ class Session:
         self.answers = child.stdout
 
     def ask(self, *commands: str) -> None:
-        """Commands go to the session; that it is gone is met where its answer is read."""
+        """Sends commands; if the session has ended, reading its answer reports that."""
         if self.commands.closed:
             return
         try:
@@ -61,25 +61,25 @@ class Session:
             self.close()
 
     def close(self) -> None:
-        """No more commands come."""
+        """Closes the command stream."""
         with contextlib.suppress(BrokenPipeError):
             self.commands.close()
 
     def line(self) -> str:
-        """The next line of an answer."""
+        """Returns the next line of an answer."""
         line = self.answers.readline().decode("utf-8", "backslashreplace")
         if not line.endswith("\n"):
             raise Closed
         return line[:-1]
 
     def last(self, *commands: str) -> BinaryIO:
-        """The lines of the answers to the last commands."""
+        """Sends the last commands, and returns the stream of their answers."""
         self.ask(*commands, "quit")
         self.close()
         return self.answers
 
     def settled(self) -> Iterator[Settled]:
-        """The vertices as they settle, by the events that the session chooses, up to its end."""
+        """Yields the vertices as they settle, up to the end; the session chooses the events."""
         while True:
             self.ask("next")
             line = self.line()
@@ -91,7 +91,7 @@ class Session:
             yield self.settle(*claim.groups())
 
     def settle(self, vertex: str, kind: str) -> Settled:
-        """The vertex that was claimed goes on until it has settled."""
+        """Continues until the claimed vertex has settled."""
         self.ask("clear", f"break settle {vertex}", "go")
         before, line = "", self.line()
         while EVENT.fullmatch(line):
@@ -102,7 +102,7 @@ class Session:
         return Settled(int(vertex), kind, settle[2])
 
     def failures(self) -> list[str]:
-        """A line for each vertex that failed, as a run prints it; the session ends."""
+        """Returns a line for each vertex that failed, as a run prints it; the session ends."""
         found = []
         for line in self.last("status"):
             failure = FAILURE.fullmatch(line.decode("utf-8", "backslashreplace").rstrip("\n"))

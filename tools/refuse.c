@@ -1,9 +1,9 @@
-/* Stands between a test and its memory: `tools/refuse` loads it beside the tests of `llb_refusals`, which ask it
-   by the sizes of requests that no allocator grants. A request of ASK + k bytes makes the k-th request from
-   then on fail, and only that one. A request of TELL bytes is granted where that one was refused, and fails
-   where it was not; either way nothing fails from then on. Each request that failed so is counted: one byte is
-   written to the descriptor whose number is in the environment, under REFUSED. It has no headers, so that a
-   compiler without a C library's serves. */
+/* Makes requests for memory fail on demand. `tools/refuse` preloads this library into the tests of `llb_refusals`,
+   which control it by the sizes of requests that no allocator grants (ASK and TELL, as in `growths.rt` there). A
+   request of ASK + k bytes makes the k-th later request fail, and only that one. A request of TELL bytes succeeds
+   if that request has failed, and fails if it has not; either way no further request fails. Each request that
+   failed in this way is counted: one byte is written to the descriptor whose number is in the environment
+   variable REFUSED. No headers are included, so that a compiler without those of a C library can build it. */
 
 typedef unsigned long size;
 
@@ -20,7 +20,7 @@ enum { NO_MEMORY = 12, ORDER = __ATOMIC_SEQ_CST };
 #define MOST 0x100000ul
 #define TELL 0x2000000000000000ul
 
-/* How many requests there are up to the one that fails, 0 where none is to fail; and whether it has failed. */
+/* The number of requests up to the one that fails (0: none will fail), and whether it has failed. */
 static long left, refused;
 
 static void count(void) {
@@ -31,12 +31,12 @@ static void count(void) {
     while (write(to, ".", 1) == 0) {}
 }
 
-static void ask(long k) {
+static void arm(long k) {
     __atomic_store_n(&refused, 0, ORDER);
     __atomic_store_n(&left, k, ORDER);
 }
 
-/* Takes one from what is left, if any is. Whether it was the last. */
+/* Decrements the number of requests left if it is not 0. Returns whether this was the last one. */
 static int is_last(void) {
     long seen = __atomic_load_n(&left, ORDER);
     while (seen > 0)
@@ -46,7 +46,7 @@ static int is_last(void) {
 
 static int fails(size bytes) {
     if (bytes > ASK && bytes < ASK + MOST) {
-        ask((long)(bytes - ASK));
+        arm((long)(bytes - ASK));
     } else if (is_last()) {
         __atomic_store_n(&refused, 1, ORDER);
         count();

@@ -1,4 +1,4 @@
-"""Writes a message again with some of its records changed; all others stay byte for byte, in their order."""
+"""Writes a message with some of its records changed; all others keep their bytes and their order."""
 
 from collections.abc import Callable
 
@@ -7,7 +7,7 @@ from op_reading import Record, counted, joined, records_in
 
 
 def spelled(number: int) -> bytes:
-    """The shortest varint of a number."""
+    """Returns the shortest varint of a number."""
     found = bytearray()
     while number > 127:
         found.append(number & 127 | 128)
@@ -16,27 +16,27 @@ def spelled(number: int) -> bytes:
 
 
 def record_of(field: int, held: bytes) -> Record:
-    """The record of a string, of bytes or of a message."""
+    """Returns the record of a string, of bytes or of a message."""
     return Record(field, LENGTH, held, spelled(field << 3 | LENGTH) + spelled(len(held)) + held)
 
 
 def written(records: list[Record]) -> bytes:
-    """The bytes of records."""
+    """Returns the bytes of records."""
     return b"".join(record.text for record in records)
 
 
 def replaced(records: list[Record], old: list[Record], new: list[Record]) -> list[Record]:
-    """New records stand at the place of the first of the old ones, or before all where there are none."""
-    gone = {id(record) for record in old}
-    place = next((place for place, record in enumerate(records) if id(record) in gone), 0)
+    """Puts new records in place of the first old one, or before all records if there are no old ones."""
+    removed = {id(record) for record in old}
+    place = next((place for place, record in enumerate(records) if id(record) in removed), 0)
     before = records[:place]
-    return [*before, *new, *(record for record in records[place:] if id(record) not in gone)]
+    return [*before, *new, *(record for record in records[place:] if id(record) not in removed)]
 
 
 def with_message(
     records: list[Record], field: int, change: Callable[[bytes], bytes], members: frozenset[int] = frozenset()
 ) -> list[Record]:
-    """A message that stands once, or a member of a oneof, is changed; its records become one."""
+    """Changes a message that is not repeated, or a member of a oneof; its records become one."""
     old = counted(members, field, records)
     held = joined(old)
     new = change(held) if old else held
@@ -44,32 +44,32 @@ def with_message(
 
 
 def with_each(records: list[Record], field: int, change: Callable[[bytes], bytes | None]) -> list[Record]:
-    """Each message of a repeated field is changed, or left out where the change gives none."""
-    kept = []
+    """Changes each message of a repeated field; those for which `change` returns None are removed."""
+    result = []
     for record in records:
         new = change(record.held) if record.field == field else record.held
         if new is not None:
-            kept.append(record if new == record.held else record_of(field, new))
-    return kept
+            result.append(record if new == record.held else record_of(field, new))
+    return result
 
 
 def with_text(records: list[Record], field: int, text: str) -> list[Record]:
-    """The last record of a string takes another text."""
+    """Replaces the last record of a string."""
     old = [record for record in records if record.field == field][-1:]
     return replaced(records, old, [record_of(field, text.encode("utf-8"))])
 
 
 def with_texts(records: list[Record], field: int, texts: list[str]) -> list[Record]:
-    """A repeated string takes other texts."""
+    """Replaces a repeated string."""
     old = [record for record in records if record.field == field]
     return replaced(records, old, [record_of(field, text.encode("utf-8")) for text in texts])
 
 
 def without(records: list[Record], field: int) -> list[Record]:
-    """No record of the field is left."""
+    """Removes all records of a field."""
     return [record for record in records if record.field != field]
 
 
 def changed(data: bytes, change: Callable[[list[Record]], list[Record]]) -> bytes:
-    """The bytes of a message whose records are changed."""
+    """Returns the bytes of a message with changed records."""
     return written(change(records_in(data)))

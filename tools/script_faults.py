@@ -1,4 +1,4 @@
-"""The small shell language of docs/FORMATS.md: whether words are a script, and their first fault."""
+"""The small shell language of docs/FORMATS.md: checks whether words are a script, and finds their first fault."""
 
 import re
 from collections.abc import Callable
@@ -13,12 +13,12 @@ Word = tuple[int, bytes]
 
 
 def exactly(count: int) -> Callable[[list[bytes]], bool]:
-    """A form of so many words."""
+    """Returns a form with exactly `count` words."""
     return lambda words: len(words) == count
 
 
 def after(count: int, is_first: Callable[[bytes], object]) -> Callable[[list[bytes]], bool]:
-    """A form of so many words, of which the first one is of a kind."""
+    """Returns a form with exactly `count` words, whose first word meets a condition."""
     return lambda words: len(words) == count and bool(is_first(words[0]))
 
 
@@ -40,12 +40,12 @@ FORMS: dict[bytes, Callable[[list[bytes]], bool]] = {
 
 
 def words_in(text: bytes) -> list[Word]:
-    """The words between the spaces of a text, each with its place."""
+    """Returns the words between the spaces of a text, each with its position."""
     return [(found.start(), found[0]) for found in re.finditer(rb"[^ ]+", text)]
 
 
 def bad_place(text: bytes) -> int | None:
-    """The first place at which a text is no script."""
+    """Returns the first position at which a text is not a script, or None."""
     called = False
     for place, word in words_in(text):
         if word in SEPARATORS:
@@ -61,7 +61,7 @@ def bad_place(text: bytes) -> int | None:
 
 
 def calls_in(text: bytes) -> list[list[bytes]]:
-    """The calls of a text: its words between separators."""
+    """Returns the calls of a text: its words between separators."""
     calls: list[list[bytes]] = [[]]
     for _, word in words_in(text):
         if word in SEPARATORS:
@@ -72,7 +72,7 @@ def calls_in(text: bytes) -> list[list[bytes]]:
 
 
 def fault_of_call(number: int, call: list[bytes]) -> str | None:
-    """The fault of the call of that number."""
+    """Returns the fault of the numbered call, or None."""
     name = call[0] if call else b""
     if name not in FORMS:
         return f"71 {name.decode('utf-8', 'backslashreplace')}"
@@ -80,7 +80,7 @@ def fault_of_call(number: int, call: list[bytes]) -> str | None:
 
 
 def fault_of(args: list[str]) -> str | None:
-    """The first fault of words that are to be a script, as the program prints it; none where they are one."""
+    """Returns the first fault of words as a script, as the program prints it, or None if they are one."""
     calls = [[arg.encode("utf-8") for arg in args]]
     if len(args) == 3 and args[:2] == SHELL:
         place = bad_place(calls[0][2])

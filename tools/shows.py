@@ -1,4 +1,4 @@
-"""The lines of `llbm show`: how they are read, with the first faulty one."""
+"""Parses the lines of `llbm show`, up to the first faulty one."""
 
 import re
 from typing import NamedTuple
@@ -18,7 +18,7 @@ Edge = tuple[int, int]
 
 
 class Vertex(NamedTuple):
-    """What the line of a vertex tells."""
+    """The line of a vertex."""
 
     number: int
     kind: str
@@ -28,45 +28,45 @@ class Vertex(NamedTuple):
 
 
 class Show(NamedTuple):
-    """What all lines tell."""
+    """All lines."""
 
     vertices: list[Vertex]
     result: Edge
 
 
 def edge_of(text: str, vertices: list[Vertex]) -> Edge:
-    """Vertex and output of `V.I`, which are there."""
+    """Parses `V.I`, an output of a vertex above."""
     vertex, index = map(int, text.split("."))
     if vertex >= len(vertices) or index >= vertices[vertex].outputs:
-        raise Refused(f"{text} is no output of a vertex above")
+        raise Refused(f"{text} is not an output of a vertex above")
     return vertex, index
 
 
 def vertex_of(line: str, vertices: list[Vertex]) -> Vertex:
-    """What the line of a vertex tells, after those before it."""
-    told = VERTEX.fullmatch(line)
-    if not told:
+    """Parses the line of a vertex."""
+    match = VERTEX.fullmatch(line)
+    if not match:
         raise Refused("neither V KIND steps S outputs O inputs LIST nor result V.I")
-    number, kind, steps, outputs, inputs = told.groups()
+    number, kind, steps, outputs, inputs = match.groups()
     if int(number) != len(vertices):
-        raise Refused(f"the vertex has not the number {len(vertices)}")
+        raise Refused(f"the number of the vertex is not {len(vertices)}")
     edges = [] if inputs == "-" else [edge_of(text, vertices) for text in inputs.split(" ")]
     return Vertex(int(number), kind, int(steps), int(outputs), edges)
 
 
 def read_line(line: str, vertices: list[Vertex], result: Edge | None) -> Edge | None:
-    """A vertex is added, or the result is answered, which is the last line."""
+    """Adds a vertex, or returns the result, which is the last line."""
     if result:
         raise Refused("the result is not the last line")
-    told = RESULT.fullmatch(line)
-    if told:
-        return edge_of(told[1], vertices)
+    match = RESULT.fullmatch(line)
+    if match:
+        return edge_of(match[1], vertices)
     vertices.append(vertex_of(line, vertices))
     return None
 
 
 def show_of(text: str) -> Show:
-    """What the lines tell."""
+    """Parses all lines."""
     *lines, rest = text.split("\n")
     vertices: list[Vertex] = []
     result = None
@@ -76,6 +76,6 @@ def show_of(text: str) -> Show:
         except Refused as fault:
             raise Refused(f"line {number}: {fault}") from fault
     if rest or not result:
-        cause = "the line has no end" if rest else "there is no result"
+        cause = "the line does not end with a newline" if rest else "there is no result"
         raise Refused(f"line {len(lines) + 1}: {cause}")
     return Show(vertices, result)

@@ -1,4 +1,4 @@
-"""How the tools of trees and archives read standard input, write what is ready, and end."""
+"""Standard input, standard output and exit statuses for the tools of trees and archives."""
 
 import contextlib
 import os
@@ -8,7 +8,7 @@ import tempfile
 from collections.abc import Callable, Iterator
 from typing import BinaryIO
 
-from common import give_up_output, say
+from common import discard_output, say
 
 REFUSED, FAILED, INTERRUPTED = 2, 3, 130
 
@@ -16,15 +16,15 @@ PIECE = 1 << 20
 
 
 class Refused(Exception):
-    """What is given is refused; the words say why."""
+    """The input is refused; the message says why."""
 
 
 class Failed(Exception):
-    """A read or a write failed; the words say which."""
+    """A read or a write failed; the message says which."""
 
 
 def exit_status(work: Callable[[], int | None]) -> int:
-    """The exit status of work; what it is refused for or fails for is told on standard error."""
+    """Does the work, prints why it was refused or failed, and returns the exit status."""
     try:
         return work() or 0
     except Refused as fault:
@@ -40,16 +40,16 @@ def exit_status(work: Callable[[], int | None]) -> int:
         return INTERRUPTED
 
 
-def input_given() -> BinaryIO:
-    """Standard input, which is open."""
+def standard_input() -> BinaryIO:
+    """Returns standard input, if it is open."""
     if sys.stdin is None:
         raise Failed("standard input is closed")
     return sys.stdin.buffer
 
 
-def lines_given() -> Iterator[bytes]:
-    """The lines of standard input."""
-    lines = input_given()
+def input_lines() -> Iterator[bytes]:
+    """Yields the lines of standard input."""
+    lines = standard_input()
     try:
         yield from lines
     except OSError as fault:
@@ -57,44 +57,44 @@ def lines_given() -> Iterator[bytes]:
 
 
 @contextlib.contextmanager
-def kept_file(what: str) -> Iterator[BinaryIO]:
-    """An unnamed temporary file (under TMPDIR); where it fails, so does what is kept there."""
+def temporary_file(what: str) -> Iterator[BinaryIO]:
+    """Yields an unnamed temporary file (under TMPDIR); an OSError becomes Failed."""
     try:
-        with tempfile.TemporaryFile() as kept:
-            yield kept
+        with tempfile.TemporaryFile() as stored:
+            yield stored
     except OSError as fault:
-        raise Failed(f"{what} could not be kept: {fault.strerror}") from fault
+        raise Failed(f"{what} could not be stored: {fault.strerror}") from fault
 
 
-def put_out(kept: BinaryIO, what: str) -> None:
-    """All that is kept is written to standard output."""
+def write_output(stored: BinaryIO, what: str) -> None:
+    """Writes a temporary file to standard output."""
     if sys.stdout is None:
         raise Failed(f"{what} could not be written: standard output is closed")
-    kept.seek(0)
+    stored.seek(0)
     try:
-        shutil.copyfileobj(kept, sys.stdout.buffer, PIECE)
+        shutil.copyfileobj(stored, sys.stdout.buffer, PIECE)
         sys.stdout.flush()
     except OSError as fault:
-        give_up_output()
+        discard_output()
         raise Failed(f"{what} could not be written: {fault.strerror}") from fault
     except KeyboardInterrupt:
-        give_up_output()
+        discard_output()
         raise
 
 
 def mode_of_new_files() -> int:
-    """The mode that the system gives to a new file."""
+    """Returns the mode of new files on this system."""
     mask = os.umask(0o077)
     os.umask(mask)
     return 0o666 & ~mask
 
 
-def move_in(kept: BinaryIO, place: str) -> None:
-    """All that is kept is written under a temporary name beside the place, and moved there when it is whole."""
+def write_and_rename(stored: BinaryIO, place: str) -> None:
+    """Writes a temporary file under a temporary name beside a path, and renames it when it is complete."""
     descriptor, beside = tempfile.mkstemp(prefix=".llbm-", dir=os.path.dirname(place) or ".")
     try:
         with open(descriptor, "wb") as file:
-            shutil.copyfileobj(kept, file, PIECE)
+            shutil.copyfileobj(stored, file, PIECE)
             os.fchmod(file.fileno(), mode_of_new_files())
         os.rename(beside, place)
     except BaseException:
@@ -103,12 +103,12 @@ def move_in(kept: BinaryIO, place: str) -> None:
         raise
 
 
-def put_in(kept: BinaryIO, place: str) -> None:
-    """All that is kept is written to a new file, which is there whole or not at all."""
+def write_new_file(stored: BinaryIO, place: str) -> None:
+    """Writes a temporary file to a new path, completely or not at all."""
     if os.path.lexists(place):
-        raise Refused(f"{place}: is there already")
-    kept.seek(0)
+        raise Refused(f"{place}: already exists")
+    stored.seek(0)
     try:
-        move_in(kept, place)
+        write_and_rename(stored, place)
     except OSError as fault:
         raise Failed(f"{place}: {fault.strerror}") from fault

@@ -1,4 +1,4 @@
-"""What the adapter can do, as an `initialize` request is answered, and which of its answers a client has to ask for."""
+"""The capabilities of the adapter, as the response to `initialize` reports them."""
 
 FAILED = "failed"
 CONDITIONS = ("claim", "settle")

@@ -1,6 +1,7 @@
-"""What a launch request asks for: the program, the definition with its text, and the trees of its local sources.
+"""Starts what a launch request asks for: the program, the definition with its text, and the trees of its local sources.
 
-All that the program reads is read before it answers its first command, so that no temporary file outlives the launch.
+The program reads all its files before it answers the first command, so the temporary files are removed after the
+launch.
 """
 
 import functools
@@ -16,10 +17,10 @@ from typing import NamedTuple
 
 import definition
 import faults
-from common import MOST_BYTES, told
+from common import MOST_BYTES, os_error_text
 from debugging import places
 from debugging.arguments import Refused, argument, of_kind
-from debugging.session import Gone, Refusal, Session
+from debugging.session import Refusal, Session, SessionFailed
 
 TOOLS = pathlib.Path(__file__).resolve().parent.parent
 PROGRAM = TOOLS.parent / "crates" / "llbm" / "out" / "llbm"
@@ -37,33 +38,33 @@ Say = Callable[[str], None]
 
 
 class Launched(NamedTuple):
-    """A session at its beginning, its graph, its entries for what lines of it mean, and the text's name and file."""
+    """A session at its beginning, its graph, its entries for explanations, and the name and the file of its text."""
 
     session: Session
     graph: places.Graph
-    told: faults.Told
+    entries: faults.Entries
     name: str
     file: str | None
 
 
 @functools.cache
 def page() -> faults.Page:
-    """The page of faults."""
+    """Returns the page of faults."""
     return faults.read_page()
 
 
-def explained(line: str, entries: faults.Told | None = None) -> list[str]:
-    """What a line of the program means, by the page of faults and the definition; nothing where that is not known."""
+def explained(line: str, entries: faults.Entries | None = None) -> list[str]:
+    """Returns the explanation of a line of the program, or an empty list if there is none."""
     try:
         explainer = faults.Explainer(page())
-        explainer.told = entries
+        explainer.entries = entries
         return explainer.lines(line)
     except (faults.NoLine, faults.NoPage):
         return []
 
 
-def cause_of(words: list[str], otherwise: str, entries: faults.Told | None = None) -> str:
-    """Why the program has ended, in one line: what it said and what that means, or else other words."""
+def cause_of(words: list[str], otherwise: str, entries: faults.Entries | None = None) -> str:
+    """Returns why the program ended, in one line: its message with the explanation, or else another text."""
     if not words:
         return otherwise
     meaning = explained(words[0], entries)
@@ -71,23 +72,23 @@ def cause_of(words: list[str], otherwise: str, entries: faults.Told | None = Non
 
 
 def program_of(arguments: dict) -> str:
-    """The program: the one that is named, or else the one on PATH, or the one that was built here."""
+    """Returns the program: the one that is named, else the one on PATH, else the one that was built here."""
     named = argument(arguments, "llbm", str, "")
     for word in [named] if named else ["llbm", str(PROGRAM)]:
         found = shutil.which(word)
         if found:
             return found
-    raise Refused(f"{named or 'llbm'}: no program is there" + ("" if named else "; the argument llbm names one"))
+    raise Refused(f"{named or 'llbm'}: there is no such program" + ("" if named else "; the argument llbm names one"))
 
 
 def file_content(place: str) -> bytes:
-    """The bytes of a file, as far as the program reads one."""
+    """Returns the bytes of a file, at most one byte more than the limit."""
     with open(place, "rb") as file:
         return file.read(MOST_BYTES + 1)
 
 
-def output_of(program: str, command: str, given: bytes, entries: faults.Told | None = None) -> bytes:
-    """What a command of the program makes of its input."""
+def output_of(program: str, command: str, given: bytes, entries: faults.Entries | None = None) -> bytes:
+    """Returns the output of a command of the program."""
     done = subprocess.run([program, command], input=given, capture_output=True)
     if done.returncode:
         words = done.stderr.decode("utf-8", "backslashreplace").splitlines()
@@ -96,7 +97,7 @@ def output_of(program: str, command: str, given: bytes, entries: faults.Told | N
 
 
 def entries_of(data: bytes, name: str) -> list[bytes]:
-    """The entries of a definition."""
+    """Returns the entries of a definition."""
     try:
         return definition.entries_of(data)
     except definition.Unreadable as fault:
@@ -104,7 +105,7 @@ def entries_of(data: bytes, name: str) -> list[bytes]:
 
 
 def definition_of(program: str, arguments: dict) -> tuple[bytes, bytes | None]:
-    """The bytes of the definition, and the text of its entries, where the launch names a file of it."""
+    """Returns the bytes of the definition, and the text of its entries if the launch names its file."""
     file, text_file = argument(arguments, "definition", str, ""), argument(arguments, "text", str, "")
     if not file and not text_file:
         raise Refused("definition is missing")
@@ -119,14 +120,14 @@ def definition_of(program: str, arguments: dict) -> tuple[bytes, bytes | None]:
 
 
 def is_tar(path: str, begin: bytes) -> bool:
-    """Whether a file of this name that begins so is a tar, packed or not, rather than a tree text."""
+    """Returns whether a file with this name and beginning is a tar, packed or not, and not a tree text."""
     if TREE_TEXT.match(begin):
         return False
     return path.endswith(TAR_NAMES) or begin.startswith(PACKED) or begin[TAR_PLACE:].startswith(TAR_MAGIC)
 
 
 def text_by(tool: str, path: str, name: str, place: str, say: Say) -> None:
-    """A tool beside this folder writes the tree text of a path to a place, all as of 0:0; what it says is told."""
+    """Runs a tool that writes the tree text of a path to a file, with owner 0:0; its messages go to `say`."""
     if not (TOOLS / tool).is_file():
         raise Refused(f"sources: {name}: tools/{tool}, which reads it, is missing")
     with open(place, "wb") as text:
@@ -143,7 +144,7 @@ def text_by(tool: str, path: str, name: str, place: str, say: Say) -> None:
 
 
 def source_file(name: str, path: str, place: str, say: Say) -> str:
-    """The file of the tree text of a local source; that of a directory or a tar is made at a place."""
+    """Returns the file with the tree text of a local source; for a directory or a tar it is written to `place`."""
     if os.path.isdir(path):
         text_by("tree-of-directory", path, name, place, say)
         return place
@@ -156,7 +157,7 @@ def source_file(name: str, path: str, place: str, say: Say) -> str:
 
 
 def source_words(arguments: dict, folder: str, say: Say) -> list[str]:
-    """The words that give the program its local sources."""
+    """Returns the command-line words for the program's local sources."""
     words = []
     for number, (name, path) in enumerate(argument(arguments, "sources", dict, {}).items()):
         of_kind(path, f"sources: {name}", str)
@@ -167,48 +168,49 @@ def source_words(arguments: dict, folder: str, say: Say) -> list[str]:
 
 
 def workers_of(arguments: dict) -> int:
-    """The number of workers."""
+    """Returns the number of workers."""
     workers = argument(arguments, "workers", int, USUAL_WORKERS)
     if not 1 <= workers <= MOST_WORKERS:
         raise Refused(f"workers is not a number from 1 to {MOST_WORKERS}")
     return workers
 
 
-def begun(command: list[str], workers: int, vertices: int, entries: faults.Told) -> Session:
-    """A session that has answered its first command, so that nothing stands in its way."""
+def start_session(command: list[str], workers: int, vertices: int, entries: faults.Entries) -> Session:
+    """Starts a session, and checks that it answers its first command."""
     session = Session(command, workers, vertices)
     try:
         session.status()
-    except (Gone, Refusal) as fault:
+    except (SessionFailed, Refusal) as fault:
         session.end()
-        raise Refused(cause_of(session.said(), str(fault), entries)) from fault
+        raise Refused(cause_of(session.error_lines(), str(fault), entries)) from fault
     return session
 
 
-def started(arguments: dict, folder: str, say: Say) -> Launched:
-    """What is asked for, with temporary files in a folder."""
+def start(arguments: dict, folder: str, say: Say) -> Launched:
+    """Starts what a launch request asks for, with temporary files in a folder."""
     program, workers = program_of(arguments), workers_of(arguments)
     data, text = definition_of(program, arguments)
     entries = entries_of(data, "the definition")
-    told = faults.Told(data)
-    shown = output_of(program, "show", data, told).decode("ascii", "backslashreplace")
+    named_entries = faults.Entries(data)
+    shown = output_of(program, "show", data, named_entries).decode("ascii", "backslashreplace")
     text = output_of(program, "dis", data) if text is None else text
     graph = places.graph_of(shown, text.decode("utf-8"), entries)
     words = source_words(arguments, folder, say)
     file = os.path.join(folder, "definition")
     pathlib.Path(file).write_bytes(data)
-    session = begun([program, "step", file, "--workers", str(workers), *words], workers, len(graph.vertices), told)
+    command = [program, "step", file, "--workers", str(workers), *words]
+    session = start_session(command, workers, len(graph.vertices), named_entries)
     name = os.path.basename(argument(arguments, "definition", str, ""))
     place = argument(arguments, "text", str, "")
-    return Launched(session, graph, told, f"{name}.text", os.path.abspath(place) if place else None)
+    return Launched(session, graph, named_entries, f"{name}.text", os.path.abspath(place) if place else None)
 
 
 def launch(arguments: dict, say: Say) -> Launched:
-    """What a launch request asks for. What stands in its way is refused, and nothing is left then."""
+    """Starts what a launch request asks for. If that fails it is refused, and no temporary file remains."""
     try:
         with tempfile.TemporaryDirectory(prefix="llbm-debug-") as folder:
-            return started(arguments, folder, say)
+            return start(arguments, folder, say)
     except OSError as fault:
-        raise Refused(told(fault)) from fault
+        raise Refused(os_error_text(fault)) from fault
     except ValueError as fault:
         raise Refused(f"a path or a name can't be used: {fault}") from fault

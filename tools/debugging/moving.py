@@ -1,7 +1,7 @@
-"""How a run goes on and back: by single events, each of which may meet a breakpoint.
+"""Moves a run forwards and backwards by single events, each of which may hit a breakpoint.
 
-A motion does one event at a time, so that a request is heeded between two of them. It ends with a stop, or with the
-run. Forwards and backwards it stops in the same states: those after an event that meets a breakpoint.
+A motion does one event at a time, so that requests are handled between two of them. It ends with a stop, or with the
+run. Forwards and backwards it stops in the same states: those after an event that hits a breakpoint.
 """
 
 from collections.abc import Callable
@@ -14,7 +14,7 @@ CLAIM, SETTLE = "claim", "settle"
 
 
 class Ended(Exception):
-    """The run is complete: there is no event that could be done."""
+    """The run is complete: no event is left to do."""
 
 
 class Breakpoint(NamedTuple):
@@ -26,7 +26,7 @@ class Breakpoint(NamedTuple):
 
 
 class Stop(NamedTuple):
-    """Why a motion has ended: the protocol's reason, words for a person, the worker, and the breakpoints it met."""
+    """Why a motion stopped: the protocol's reason, a description, the worker, and the breakpoints that were hit."""
 
     reason: str
     description: str
@@ -38,18 +38,18 @@ Motion = Callable[[], Stop | None]
 
 
 class Mover:
-    """A session with its breakpoints. Each event that is done or taken back is told."""
+    """Moves a session forwards and backwards between breakpoints, and reports each event that is done or undone."""
 
-    def __init__(self, session: Session, tell: Callable[[Event, str], None]) -> None:
+    def __init__(self, session: Session, report: Callable[[Event, str], None]) -> None:
         self.session = session
-        self.tell = tell
+        self.report = report
         self.breakpoints: list[Breakpoint] = []
         self.stops_at_failures = False
-        self.heeds_breakpoints = True
+        self.stops_at_breakpoints = True
 
     def met(self, event: Event) -> Stop | None:
-        """The stop after an event that fails or that meets breakpoints."""
-        if not self.heeds_breakpoints:
+        """Returns the stop after an event that fails or hits breakpoints, or None."""
+        if not self.stops_at_breakpoints:
             return None
         hits = tuple(one.number for one in self.breakpoints if (one.kind, one.vertex) == (event.kind, event.vertex))
         if self.stops_at_failures and event.fails():
@@ -59,28 +59,28 @@ class Mover:
         return None
 
     def do(self, command: str) -> Event:
-        """Does a command that adds an event, and tells it."""
+        """Does a command that adds an event, and reports it."""
         event = self.session.event(command)
         if event is None:
             raise Ended
-        self.tell(event, event.line)
+        self.report(event, event.line)
         return event
 
     def undo(self) -> Event:
-        """Takes the last event back, and tells it."""
+        """Undoes the last event, and reports it."""
         event = self.session.back()
-        self.tell(event, f"back {len(self.session.record)}")
+        self.report(event, f"back {len(self.session.record)}")
         return event
 
     def forwards(self) -> Motion:
-        """The motion of chosen events to the first that meets a breakpoint."""
+        """Returns the motion forwards to the first event that hits a breakpoint."""
         return lambda: self.met(self.do("next"))
 
     def backwards(self) -> Motion:
-        """The motion back to the state after an event that meets a breakpoint, or to the beginning."""
+        """Returns the motion back to the state after an event that hits a breakpoint, or to the beginning."""
 
         def motion() -> Stop | None:
-            """One event back."""
+            """Undoes one event."""
             event = self.undo()
             record = self.session.record
             return self.met(record[-1]) if record else Stop("entry", "the beginning of the run", event.worker)
@@ -88,13 +88,13 @@ class Mover:
         return motion
 
     def one_back(self) -> Motion:
-        """The motion of one event back."""
+        """Returns the motion one event back."""
         return lambda: Stop("step", "one event was taken back", self.undo().worker)
 
     def claim(self, worker: int) -> Event | None:
-        """The claim of the least vertex that is ready and whose locked caches are free; none where there is none."""
-        for vertex, look in enumerate(self.session.status()):
-            if look != "ready":
+        """Claims the first vertex that is ready and whose locked caches are free, if there is one."""
+        for vertex, status in enumerate(self.session.status()):
+            if status != "ready":
                 continue
             try:
                 return self.do(f"claim {worker} {vertex}")
@@ -104,9 +104,9 @@ class Mover:
         return None
 
     def own_event(self, worker: int) -> Event:
-        """A worker's next event: the claim of the least vertex that it can have, a micro-step, or the settle.
+        """Does a worker's next event: the claim of the first vertex that it can have, a micro-step, or the settle.
 
-        Where it is idle and can have none, it is the event that the program chooses, of another worker.
+        If the worker is idle and can claim nothing, the program chooses the event of another worker.
         """
         if self.session.runs[worker] is None:
             return self.claim(worker) or self.do("next")
@@ -118,20 +118,20 @@ class Mover:
         return self.do(f"settle {worker}")
 
     def into(self, worker: int) -> Motion:
-        """The motion of a worker's next event."""
+        """Returns the motion of a worker's next event."""
 
         def motion() -> Stop:
-            """The one event."""
+            """Does the one event."""
             event = self.own_event(worker)
             return self.met(event) or Stop("step", event.line, event.worker)
 
         return motion
 
     def out(self, worker: int) -> Motion:
-        """The motion of a worker's events to the settle of what it runs."""
+        """Returns the motion of a worker's events up to its settle."""
 
         def motion() -> Stop | None:
-            """One of the events."""
+            """Does one of the events."""
             event = self.own_event(worker)
             over = event.worker != worker or event.kind == SETTLE
             return self.met(event) or (Stop("step", event.line, event.worker) if over else None)
@@ -139,5 +139,5 @@ class Mover:
         return motion
 
     def over(self, worker: int) -> Motion:
-        """The motion of a running worker's next event, or of an idle worker's next vertex, to its settle."""
+        """Returns the motion of a running worker's next event, or of an idle worker's next whole vertex."""
         return self.out(worker) if self.session.runs[worker] is None else self.into(worker)

@@ -7,27 +7,27 @@ FAILURE = 1
 
 
 class Outgoing:
-    """The side of an adapter that sends."""
+    """The sending side of an adapter."""
 
     def __init__(self, writer: Writer) -> None:
         self.writer = writer
 
     def event(self, name: str, body: dict | None = None) -> None:
-        """An event goes out."""
+        """Sends an event."""
         self.writer.send({"type": "event", "event": name, **({} if body is None else {"body": body})})
 
     def output(self, text: str, category: str = "console", **more: object) -> None:
-        """A line is told to the client."""
+        """Sends a line of output to the client."""
         self.event("output", {"category": category, "output": f"{printable(text)}\n", **more})
 
     def respond(self, request: int, command: str, body: dict | None) -> None:
-        """A request has succeeded."""
+        """Sends the response to a request that succeeded."""
         more = {} if body is None else {"body": body}
         self.writer.send({"type": "response", "request_seq": request, "success": True, "command": command, **more})
 
     def fail(self, request: int, command: str, cause: str) -> None:
-        """A request has failed, for a cause in one line."""
+        """Sends the response to a request that failed, with the cause in one line."""
         cause = printable(cause)
         body = {"error": {"id": FAILURE, "format": cause, "showUser": True}}
-        told = {"type": "response", "request_seq": request, "success": False, "command": command}
-        self.writer.send({**told, "message": cause, "body": body})
+        response = {"type": "response", "request_seq": request, "success": False, "command": command}
+        self.writer.send({**response, "message": cause, "body": body})

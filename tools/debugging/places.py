@@ -1,4 +1,4 @@
-"""Where the vertices of a graph are in the text of its entries."""
+"""Finds the vertices of a graph in the text of its entries."""
 
 import re
 from typing import NamedTuple
@@ -14,7 +14,7 @@ VERTEX = re.compile(
 
 
 class Vertex(NamedTuple):
-    """What is known of a vertex: the program's line of it, and its entry with the lines where that is."""
+    """A vertex as the program shows it, with its entry and the lines of that."""
 
     kind: str
     steps: int
@@ -27,7 +27,7 @@ class Vertex(NamedTuple):
 
 
 class Graph(NamedTuple):
-    """The vertices by number, the result, the text of the entries, and for each entry its lines and its vertex."""
+    """The vertices by number, the result, the text of the entries, and the lines and the vertex of each entry."""
 
     vertices: list[Vertex]
     result: str
@@ -36,7 +36,7 @@ class Graph(NamedTuple):
     vertex_of: list[int | None]
 
     def entry_at(self, line: int) -> int | None:
-        """The entry that has a line of the text."""
+        """Returns the entry on a line of the text, or None."""
         for entry, (first, last) in enumerate(self.lines):
             if first <= line <= last:
                 return entry
@@ -44,7 +44,7 @@ class Graph(NamedTuple):
 
 
 def lines_of(text: str) -> list[tuple[int, int]]:
-    """The first and the last line of each entry in a text of entries, counted from 1."""
+    """Returns the first and the last line of each entry in a text of entries, counted from 1."""
     found = []
     depth, first = 0, 0
     for number, line in enumerate(text.split("\n"), 1):
@@ -61,24 +61,24 @@ def lines_of(text: str) -> list[tuple[int, int]]:
 
 
 def vertices_by_entry(entries: list[bytes], rows: list[int]) -> list[int | None]:
-    """The vertex of each entry; an entry that is equal to an earlier one has the vertex of that one."""
+    """Returns the vertex of each entry; an entry that is equal to an earlier one has the same vertex."""
     first: dict[bytes, int] = {}
     numbers = {row: vertex for vertex, row in enumerate(rows)}
     return [numbers.get(first.setdefault(entry, row)) for row, entry in enumerate(entries)]
 
 
 def vertex_of(line: str, row: int, entry: bytes, place: tuple[int, int]) -> Vertex:
-    """The vertex of a line of `llbm show`, whose entry has a row and a place in the text."""
-    told = VERTEX.fullmatch(line)
-    if not told:
-        raise Refused(f"the program shows what is no vertex: {line[:200]}")
-    _, kind, steps, outputs, inputs = told.groups()
+    """Returns the vertex on a line of `llbm show`, given the row and the lines of its entry."""
+    match = VERTEX.fullmatch(line)
+    if not match:
+        raise Refused(f"the program printed an unexpected line for a vertex: {line[:200]}")
+    _, kind, steps, outputs, inputs = match.groups()
     named = [] if inputs == "-" else inputs.split(" ")
     return Vertex(kind, int(steps), int(outputs), named, row, definition.op_of(row, entry), *place)
 
 
 def graph_of(shown: str, text: str, entries: list[bytes]) -> Graph:
-    """The graph that `llbm show` prints as `shown`, of these entries, which stand in the text."""
+    """Returns the graph from the output of `llbm show`, the text of the entries, and the entries."""
     lines = lines_of(text)
     if len(lines) != len(entries):
         raise Refused(f"the text has {len(lines)} entries, and the definition {len(entries)}")
@@ -86,8 +86,8 @@ def graph_of(shown: str, text: str, entries: list[bytes]) -> Graph:
         rows = definition.graph_of(entries).rows
     except definition.Unreadable as fault:
         raise Refused(f"the definition: {fault}") from fault
-    *told, last = shown.splitlines() or [""]
-    if len(told) != len(rows) or not last.startswith("result "):
-        raise Refused(f"the program shows {len(told)} vertices, and the definition has {len(rows)}")
-    vertices = [vertex_of(line, row, entries[row], lines[row]) for line, row in zip(told, rows)]
+    *vertex_lines, last = shown.splitlines() or [""]
+    if len(vertex_lines) != len(rows) or not last.startswith("result "):
+        raise Refused(f"the program shows {len(vertex_lines)} vertices, and the definition has {len(rows)}")
+    vertices = [vertex_of(line, row, entries[row], lines[row]) for line, row in zip(vertex_lines, rows)]
     return Graph(vertices, last.removeprefix("result "), text, lines, vertices_by_entry(entries, rows))

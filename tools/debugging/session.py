@@ -1,9 +1,9 @@
-"""A stepping session of the program, as docs/FORMATS.md has it: commands go in, and each answer is read to its end.
+"""A stepping session of the program, as in docs/FORMATS.md: sends commands, and reads each answer to its end.
 
-Where an answer ends is known from its command: an event and `back` are answered by one line, `status` by one for each
-vertex. Only a tree has no known end: an empty line after it is no command, and the fault that answers it is the end.
-The commands `break`, `clear` and `go` are not used: without them a run can be paused between any two events, and the
-same breakpoints hold backwards.
+The command determines where its answer ends: an event and `back` have an answer of one line, `status` one line for each
+vertex. Only a tree has no known length: an empty line is sent after it, which is not a command, and the fault that
+answers it marks the end. The commands `break`, `clear` and `go` are not used: without them a run can be paused between
+any two events, and breakpoints work backwards too.
 """
 
 import contextlib
@@ -15,8 +15,8 @@ from typing import NamedTuple
 LINE = re.compile(r"([0-9]+) (claim|step|settle|cancel) ([0-9]+)(?: ([0-9]+))? -> (.+)")
 
 
-class Gone(Exception):
-    """The program has ended, or it prints what no session prints; the words tell which."""
+class SessionFailed(Exception):
+    """The program has ended, or it printed a line that no session prints; the message says which."""
 
     def __init__(self, cause: str, status: int, words: list[str]) -> None:
         super().__init__(cause)
@@ -25,7 +25,7 @@ class Gone(Exception):
 
 
 class Refusal(Exception):
-    """The program refuses a command; the words are its line, `fault ..`."""
+    """The program refuses a command; the message is its line, `fault ..`."""
 
 
 class Run(NamedTuple):
@@ -36,7 +36,7 @@ class Run(NamedTuple):
 
 
 class Event(NamedTuple):
-    """An event of the record: its line, what it did to which vertex, and what its worker ran before it."""
+    """An event of the record: its line, kind, worker, vertex and reply, and what the worker ran before it."""
 
     line: str
     kind: str
@@ -46,12 +46,12 @@ class Event(NamedTuple):
     before: Run | None
 
     def fails(self) -> bool:
-        """Whether it settles a vertex that failed."""
+        """Returns whether the event settles a vertex that failed."""
         return self.kind == "settle" and self.reply == f"{self.vertex} failed"
 
 
 def after(event: Event) -> Run | None:
-    """What the worker of an event runs after it."""
+    """Returns what the worker of an event runs after it."""
     if event.kind == "claim":
         return Run(event.vertex, 0)
     if event.kind == "step":
@@ -60,7 +60,7 @@ def after(event: Event) -> Run | None:
 
 
 class Session:
-    """The program, its record so far, and what each worker runs."""
+    """The running program, its record so far, and what each worker runs."""
 
     def __init__(self, command: list[str], workers: int, vertices: int) -> None:
         self.vertices = vertices
@@ -71,27 +71,27 @@ class Session:
         self.child = subprocess.Popen(command, stdin=subprocess.PIPE, stdout=subprocess.PIPE, stderr=self.words)
 
     def send(self, *lines: str) -> None:
-        """Lines go to the program."""
+        """Sends lines to the program."""
         self.lines += len(lines)
         try:
             self.child.stdin.write("".join(f"{line}\n" for line in lines).encode("ascii"))
             self.child.stdin.flush()
         except OSError as fault:
-            raise self.gone() from fault
+            raise self.ended() from fault
 
     def raw(self) -> bytes:
-        """The next line of the program, without its end."""
+        """Returns the program's next line, without its line end."""
         line = self.child.stdout.readline()
         if not line.endswith(b"\n"):
-            raise self.gone()
+            raise self.ended()
         return line[:-1]
 
     def line(self) -> str:
-        """The next line of the program as a text."""
+        """Returns the program's next line as a text."""
         return self.raw().decode("utf-8", "backslashreplace")
 
     def ask(self, command: str) -> str:
-        """The answer of one line to a command."""
+        """Sends a command, and returns its answer of one line."""
         self.send(command)
         answer = self.line()
         if answer.startswith("fault "):
@@ -99,27 +99,27 @@ class Session:
         return answer
 
     def event(self, command: str) -> Event | None:
-        """The event that a command adds; none where it is `next` and the board is complete."""
+        """Does a command that adds an event, and returns it; None if `next` finds the run complete."""
         answer = self.ask(command)
         return None if answer == "end" else self.added(answer)
 
     def added(self, line: str) -> Event:
-        """The event of a line, which is added to the record."""
-        told = LINE.fullmatch(line)
-        if not told or int(told[1]) != len(self.record) + 1 or int(told[3]) >= len(self.runs):
+        """Adds the event on a line to the record, and returns it."""
+        match = LINE.fullmatch(line)
+        if not match or int(match[1]) != len(self.record) + 1 or int(match[3]) >= len(self.runs):
             raise self.broken(line)
-        worker, before = int(told[3]), self.runs[int(told[3])]
-        claims = told[2] == "claim"
-        if claims != bool(told[4]) or claims != (before is None):
+        worker, before = int(match[3]), self.runs[int(match[3])]
+        claims = match[2] == "claim"
+        if claims != bool(match[4]) or claims != (before is None):
             raise self.broken(line)
-        vertex = int(told[4]) if claims else before.vertex
-        event = Event(line, told[2], worker, vertex, told[5], before)
+        vertex = int(match[4]) if claims else before.vertex
+        event = Event(line, match[2], worker, vertex, match[5], before)
         self.record.append(event)
         self.runs[worker] = after(event)
         return event
 
     def back(self) -> Event:
-        """The event that is taken back: the last one of the record."""
+        """Undoes the last event of the record, and returns it."""
         answer = self.ask("back")
         if not self.record or answer != f"back {len(self.record) - 1}":
             raise self.broken(answer)
@@ -128,57 +128,58 @@ class Session:
         return event
 
     def status(self) -> list[str]:
-        """How each vertex is, by number, without its number."""
+        """Returns the status of each vertex, by number."""
         self.send("status")
-        looks = []
+        statuses = []
         for vertex in range(self.vertices):
             line = self.line()
             if line.startswith("fault "):
                 raise Refusal(line)
-            number, _, look = line.partition(" ")
+            number, _, status = line.partition(" ")
             if number != str(vertex):
                 raise self.broken(line)
-            looks.append(look)
-        return looks
+            statuses.append(status)
+        return statuses
 
     def tree(self, vertex: int, output: int) -> list[bytes] | None:
-        """The lines of the tree of an output, none where there is no such output."""
+        """Returns the lines of the tree of an output, or None if there is no such output."""
         self.send(f"tree {vertex} {output}", "")
         first = self.raw()
         if first == b"none" or first.startswith(b"fault "):
-            self.heed_end(self.raw())
+            self.check_end(self.raw())
             if first != b"none":
                 raise Refusal(first.decode("utf-8", "backslashreplace"))
             return None
         lines = [first]
         while lines[-1][:2] in (b"d ", b"f "):
             lines.append(self.raw())
-        self.heed_end(lines.pop())
+        self.check_end(lines.pop())
         return lines
 
-    def heed_end(self, line: bytes) -> None:
-        """Whether a line is the answer to the empty line after a tree."""
+    def check_end(self, line: bytes) -> None:
+        """Checks that a line is the answer to the empty line after a tree."""
         if line not in (b"fault 173 %d" % self.lines, b"fault 174"):
             raise self.broken(line.decode("utf-8", "backslashreplace"))
 
-    def said(self) -> list[str]:
-        """What the program said on standard error."""
+    def error_lines(self) -> list[str]:
+        """Returns the program's lines on standard error."""
         self.words.seek(0)
         return self.words.read().decode("utf-8", "backslashreplace").splitlines()
 
-    def gone(self) -> Gone:
-        """That the program has ended. One that has only closed its output is ended."""
+    def ended(self) -> SessionFailed:
+        """Returns the error for a program that has ended; one that only closed its output is stopped."""
         status = self.end()
         cause = f"by signal {-status}" if status < 0 else f"with status {status}"
-        return Gone(f"the program has ended {cause}", status if status >= 0 else 128 - status, self.said())
+        status = status if status >= 0 else 128 - status
+        return SessionFailed(f"the program has ended {cause}", status, self.error_lines())
 
-    def broken(self, line: str) -> Gone:
-        """That a line is none of a session. The program is ended."""
+    def broken(self, line: str) -> SessionFailed:
+        """Returns the error for a line that no session prints, and stops the program."""
         self.end()
-        return Gone(f"the program prints what no session prints: {line[:200]}", 1, self.said())
+        return SessionFailed(f"the program printed an unexpected line: {line[:200]}", 1, self.error_lines())
 
     def end(self) -> int:
-        """The program is ended. It writes no files, so that nothing is half done. It may be ended twice."""
+        """Stops the program. It writes no files, so nothing is left half done. It may be called twice."""
         if self.child.poll() is None:
             self.child.kill()
         with contextlib.suppress(OSError):

@@ -1,4 +1,4 @@
-"""A tree of a session for a person to look at: folder by folder, with contents as text or in hexadecimal."""
+"""A tree of a session as a person looks at it: directory by directory, with contents as text or in hexadecimal."""
 
 import binascii
 import re
@@ -13,11 +13,11 @@ NO_TEXT = re.compile("[\x00-\x08\x0b\x0c\x0e-\x1f\x7f-\x9f]")
 
 
 class NoPath(Exception):
-    """Nothing is at a path of a tree; the words tell why."""
+    """Nothing is at a path of a tree; the message says why."""
 
 
 class Node(NamedTuple):
-    """An entry of a tree: a directory with what its names lead to, or a file with its content in hexadecimal."""
+    """An entry of a tree: a directory with its entries by name, or a file with its content in hexadecimal."""
 
     mode: str
     owner: str
@@ -25,18 +25,18 @@ class Node(NamedTuple):
     content: bytes
 
     def is_directory(self) -> bool:
-        """Whether it is a directory."""
+        """Returns whether it is a directory."""
         return self.names is not None
 
 
 def directory_of(line: bytes) -> tuple[str, Node]:
-    """The path and the node of the line of a directory."""
+    """Returns the path and the node on a directory's line."""
     _, mode, user, group, path = line.decode("utf-8").split(" ", 4)
     return path, Node(mode, f"{user}:{group}", {}, b"")
 
 
 def file_of(line: bytes) -> tuple[str, Node]:
-    """The path and the node of the line of a file."""
+    """Returns the path and the node on a file's line."""
     _, mode, user, group, content, path = line.split(b" ", 5)
     if not CONTENT.fullmatch(content):
         raise ValueError("a content is not hexadecimal")
@@ -45,7 +45,7 @@ def file_of(line: bytes) -> tuple[str, Node]:
 
 
 def tree_of(lines: list[bytes]) -> Node:
-    """The root of the tree whose text has these lines, each of which has its directory before it."""
+    """Returns the root of the tree with these lines; each directory comes before its entries."""
     path, root = directory_of(lines[0])
     directories = {"": root}
     for line in lines[1:]:
@@ -58,7 +58,7 @@ def tree_of(lines: list[bytes]) -> Node:
 
 
 def names_in(text: str) -> list[str]:
-    """The names of a path, read from the root: no empty parts and no `.`, and `..` removes the last one."""
+    """Returns the names of a path from the root: empty parts and `.` are dropped, `..` removes the last name."""
     names: list[str] = []
     for part in text.split("/"):
         if part == "..":
@@ -69,7 +69,7 @@ def names_in(text: str) -> list[str]:
 
 
 def node_at(root: Node, text: str) -> Node:
-    """The node at a path."""
+    """Returns the node at a path."""
     node, path = root, ""
     for name in names_in(text):
         if not node.is_directory():
@@ -82,12 +82,12 @@ def node_at(root: Node, text: str) -> Node:
 
 
 def counted(number: int, one: str, many: str) -> str:
-    """A number and what is counted."""
+    """Returns a number with the word for what is counted."""
     return f"{number:,} {one if number == 1 else many}"
 
 
 def text_in(content: bytes) -> str | None:
-    """The text that bytes are, none where they are no UTF-8 or hold control characters."""
+    """Decodes bytes as text, or returns None if they are not UTF-8 or have control characters."""
     try:
         text = content.decode("utf-8")
     except UnicodeDecodeError:
@@ -96,7 +96,7 @@ def text_in(content: bytes) -> str | None:
 
 
 def shown(node: Node) -> tuple[str, str]:
-    """How the content of a file is shown: what it is, with its length, and as much of it as is shown."""
+    """Returns how a file's content is shown: its description with its length, and the part that is shown."""
     content = binascii.unhexlify(node.content)
     length = counted(len(content), "byte", "bytes")
     if not content:
@@ -108,8 +108,8 @@ def shown(node: Node) -> tuple[str, str]:
     return f"text of {length}{cut}", content[:MOST_SHOWN].decode("utf-8", "ignore")
 
 
-def looks_of(node: Node) -> str:
-    """A node in one line: mode, owner, and how many names or which content it has."""
+def summary_of(node: Node) -> str:
+    """Describes a node in one line: mode, owner, and the number of names or the content."""
     prefix = f"{node.mode} {node.owner}"
     if node.is_directory():
         return f"{prefix}, {counted(len(node.names), 'name', 'names')}"
@@ -117,8 +117,8 @@ def looks_of(node: Node) -> str:
     return f"{prefix}, {what}: {printable(content)}" if content else f"{prefix}, {what}"
 
 
-def whole_of(node: Node) -> str:
-    """A node in some lines: the names of a directory, with `/` after those of directories, or the content of a file."""
+def description_of(node: Node) -> str:
+    """Describes a node in several lines: the names in a directory, or the content of a file."""
     if not node.is_directory():
         what, content = shown(node)
         return f"{what}:\n{content}" if content else what

@@ -1,4 +1,4 @@
-"""Messages of the Debug Adapter Protocol: JSON under a head with its length, read from a descriptor, and written."""
+"""Messages of the Debug Adapter Protocol: JSON after a header with its length, read from and written to descriptors."""
 
 import json
 import os
@@ -11,11 +11,11 @@ HEAD_END = b"\r\n\r\n"
 
 
 class Malformed(Exception):
-    """What came in is no message, and where the next one begins is not known; the words tell why."""
+    """The input is not a message, and where the next one begins is unknown; the message says why."""
 
 
 def length_in(head: bytes) -> int:
-    """The length of the content that a head tells."""
+    """Returns the Content-Length in a message head."""
     for line in head.split(b"\r\n"):
         name, _, value = line.partition(b":")
         if name.strip().lower() == b"content-length":
@@ -27,24 +27,24 @@ def length_in(head: bytes) -> int:
 
 
 class Reader:
-    """The messages that come in on a descriptor."""
+    """Reads messages from a descriptor."""
 
     def __init__(self, descriptor: int) -> None:
         self.descriptor = descriptor
         self.held = bytearray()
 
     def waits(self) -> bool:
-        """Whether the next message has begun, or the input has ended."""
+        """Returns whether the next message has begun, or the input has ended."""
         return bool(self.held) or bool(select.select([self.descriptor], [], [], 0)[0])
 
     def fill(self) -> bool:
-        """More bytes are held, if there are any."""
+        """Reads more bytes, and returns whether there were any."""
         piece = os.read(self.descriptor, PIECE)
         self.held += piece
         return bool(piece)
 
     def content(self) -> bytes | None:
-        """The content of the next message, none where the input ends before it."""
+        """Returns the content of the next message, or None if the input ends before it."""
         while HEAD_END not in self.held:
             if len(self.held) > MOST_HEAD:
                 raise Malformed("the head of a message has no end")
@@ -64,14 +64,14 @@ class Reader:
 
 
 class Writer:
-    """The messages that go out on a descriptor, numbered from 1."""
+    """Writes messages to a descriptor, numbered from 1."""
 
     def __init__(self, descriptor: int) -> None:
         self.descriptor = descriptor
         self.count = 0
 
     def send(self, message: dict) -> None:
-        """A message goes out under the next number."""
+        """Sends a message with the next number."""
         self.count += 1
         content = json.dumps({"seq": self.count, **message}).encode("ascii")
         rest = memoryview(b"Content-Length: %d\r\n\r\n%s" % (len(content), content))

@@ -1,5 +1,6 @@
-"""Tests of the debug adapter that need no program: its messages, its reading of texts and trees, and programs of the
-tests' own, which crash or say what no session says."""
+"""Tests of the debug adapter that do not need the program: its messages, its parsing of texts and trees, and its
+behavior with fake programs, which crash or print what no session prints.
+"""
 
 import json
 import os
@@ -22,34 +23,34 @@ if words[0] == "show":
 elif words[0] == "dis":
     print("op {{\\n}}\\nop {{\\n}}")
 else:
-    def said(text):
+    def send(text):
         sys.stdout.write(text)
         sys.stdout.flush()
-    def heard():
+    def receive():
         return sys.stdin.readline().strip()
     exec(open(os.path.join(os.path.dirname(sys.argv[0]), "does")).read())
 """
 
-BEGINS = "heard()\nsaid('0 ready\\n')\nheard()\n"
+BEGINS = "receive()\nsend('0 ready\\n')\nreceive()\n"
 CRASHES = BEGINS + "sys.stderr.write('out of luck\\n')\nsys.exit(7)\n"
 KILLED = BEGINS + "os.kill(os.getpid(), signal.SIGKILL)\n"
-BABBLES = BEGINS + "said('1 claim 0 0 -> source 1\\n')\nheard()\nsaid('3 step 0 -> read\\n')\nheard()\n"
-CUT = BEGINS + "said('1 claim 0 0 -> sou')\n"
-CLOSES = BEGINS + "os.close(1)\nheard()\n"
+BABBLES = BEGINS + "send('1 claim 0 0 -> source 1\\n')\nreceive()\nsend('3 step 0 -> read\\n')\nreceive()\n"
+CUT = BEGINS + "send('1 claim 0 0 -> sou')\n"
+CLOSES = BEGINS + "os.close(1)\nreceive()\n"
 DONE = """
-heard()
-said('0 ready\\n')
+receive()
+send('0 ready\\n')
 number = 1
 while True:
-    line = heard()
+    line = receive()
     number += 1
-    if line == 'next': said('end\\n')
-    elif line == 'status': said('0 done\\n')
+    if line == 'next': send('end\\n')
+    elif line == 'status': send('0 done\\n')
     elif line == 'tree 0 0':
-        heard()
+        receive()
         number += 1
-        said(open(os.path.join(os.path.dirname(sys.argv[0]), 'tree')).read())
-        said(f'fault 173 {number}\\n')
+        send(open(os.path.join(os.path.dirname(sys.argv[0]), 'tree')).read())
+        send(f'fault 173 {number}\\n')
     elif not line: sys.exit()
 """
 
@@ -65,33 +66,33 @@ class WithAdapter(Folder):
         self.environment = {**os.environ, "TMPDIR": str(held)}
 
     def client(self):
-        """A client of a new adapter."""
+        """Returns a client of a new adapter."""
         client = protocol.Client(command("debug-adapter"), env=self.environment)
         self.addCleanup(client.close)
         return client
 
     def opened(self, **habits):
-        """A client that has done its initialize."""
+        """Returns a client that has sent `initialize`."""
         client = self.client()
         client.ask("initialize", adapterID="llbm", **habits)
         return client
 
-    def no_file_is_left(self):
-        """No temporary file is there."""
+    def check_no_file_is_left(self):
+        """Checks that no temporary file remains."""
         self.assertEqual(os.listdir(self.at / "held"), [])
 
 
 class Messages(WithAdapter):
     """Messages that come in."""
 
-    def ends(self, client, status, told):
-        """The adapter ends with this status and says this."""
+    def check_end(self, client, status, errors):
+        """Checks that the adapter ends with this status and this text on standard error."""
         client.child.stdin.close()
         self.assertIsNone(client.receive())
-        self.assertEqual((client.child.wait(60), client.child.stderr.read().decode()), (status, told))
+        self.assertEqual((client.child.wait(60), client.child.stderr.read().decode()), (status, errors))
 
-    def test_what_is_no_message_ends_the_adapter(self):
-        for head, told in [
+    def test_input_that_is_not_a_message_ends_the_adapter(self):
+        for head, errors in [
             (b"\r\n\r\n", "a message has no Content-Length\n"),
             (b"Content-Length: x\r\n\r\n", "Content-Length is not a number of at most 67,108,864\n"),
             (b"Content-Length: -1\r\n\r\n", "Content-Length is not a number of at most 67,108,864\n"),
@@ -102,13 +103,13 @@ class Messages(WithAdapter):
         ]:
             client = self.client()
             client.write(b"", head)
-            self.ends(client, 2, told)
+            self.check_end(client, 2, errors)
 
     def test_the_end_of_the_input_ends_the_adapter(self):
-        self.ends(self.client(), 0, "")
-        self.ends(self.opened(), 0, "")
+        self.check_end(self.client(), 0, "")
+        self.check_end(self.opened(), 0, "")
 
-    def test_heads_with_more_fields_and_messages_in_pieces(self):
+    def test_messages_can_come_in_pieces_and_with_more_fields(self):
         client = self.client()
         client.waiting = {1: "initialize", 2: "disconnect"}
         content = json.dumps({"seq": 1, "type": "request", "command": "initialize", "arguments": {"adapterID": "a"}})
@@ -119,17 +120,17 @@ class Messages(WithAdapter):
             client.write(b"", whole[place : place + 50])
         self.assertTrue(client.response(1)["success"])
         self.assertTrue(client.response(2)["success"])
-        self.ends(client, 0, "")
+        self.check_end(client, 0, "")
 
-    def test_messages_that_are_no_requests_are_refused(self):
-        for content, number, name, told in [
-            (b"{", 0, "", "the message is no JSON: "),
-            (b"\xff", 0, "", "the message is no JSON: "),
-            (b"[" * 100_000, 0, "", "the message is no JSON: "),
-            (b"[]", 0, "", "the message is no request"),
-            (b'{"seq": 5, "type": "event", "command": "threads"}', 5, "threads", "the message is no request"),
-            (b'{"seq": 5, "type": "request"}', 5, "", "the message is no request"),
-            (b'{"seq": true, "type": "request", "command": 1}', 0, "", "the message is no request"),
+    def test_messages_that_are_not_requests_are_refused(self):
+        for content, number, name, message in [
+            (b"{", 0, "", "the message is not JSON: "),
+            (b"\xff", 0, "", "the message is not JSON: "),
+            (b"[" * 100_000, 0, "", "the message is not JSON: "),
+            (b"[]", 0, "", "the message is not a request"),
+            (b'{"seq": 5, "type": "event", "command": "threads"}', 5, "threads", "the message is not a request"),
+            (b'{"seq": 5, "type": "request"}', 5, "", "the message is not a request"),
+            (b'{"seq": true, "type": "request", "command": 1}', 0, "", "the message is not a request"),
             (b'{"seq": 5, "type": "request", "command": "a\\nb"}', 5, "a\nb", "the request a\\nb is not known"),
             (b'{"seq": 5, "type": "request", "command": "initialize", "arguments": []}', 5, "initialize",
              "arguments is not an object"),
@@ -139,57 +140,57 @@ class Messages(WithAdapter):
             client.write(content)
             response = client.response(number)
             self.assertFalse(response["success"])
-            self.assertTrue(response["message"].startswith(told), response)
+            self.assertTrue(response["message"].startswith(message), response)
             client.ask("initialize", adapterID="llbm")
             self.assertEqual(client.leave(), 0)
 
-    def test_command_lines(self):
+    def test_command_lines_with_words_are_refused(self):
         done = base.run("debug-adapter", "--help")
         self.assertEqual((done.returncode, done.stderr), (0, b""))
         self.assertEqual(base.run("debug-adapter", "word").returncode, 2)
 
-    def test_closed_streams(self):
+    def test_closed_streams_are_reported(self):
         for descriptor, name in [(0, "standard input"), (1, "standard output")]:
             done = base.run_closed(descriptor, "debug-adapter")
-            told = f"a read or a write failed: {name} is closed\n"
-            self.assertEqual((done.returncode, done.stderr.decode()), (3, told))
+            errors = f"a read or a write failed: {name} is closed\n"
+            self.assertEqual((done.returncode, done.stderr.decode()), (3, errors))
 
 
 class Order(WithAdapter):
-    """Requests that come at a wrong time, before anything is launched."""
+    """Requests that come too early or too late."""
 
-    def test_before_initialize(self):
+    def test_requests_before_initialize_are_refused(self):
         client = self.client()
-        self.assertEqual(client.refused("launch", definition="a"), "launch: initialize comes first")
-        self.assertEqual(client.refused("threads"), "threads: initialize comes first")
+        self.assertEqual(client.refused("launch", definition="a"), "launch: initialize has to come first")
+        self.assertEqual(client.refused("threads"), "threads: initialize has to come first")
         self.assertEqual(client.leave(), 0)
 
-    def test_initialize(self):
+    def test_initialize_checks_its_arguments(self):
         client = self.client()
         self.assertEqual(client.refused("initialize"), "adapterID is missing")
         self.assertEqual(client.refused("initialize", adapterID=1), "adapterID is not a text")
-        told = client.refused("initialize", adapterID="a", linesStartAt1=1)
-        self.assertEqual(told, "linesStartAt1 is not true or false")
-        told = client.refused("initialize", adapterID="a", pathFormat="uri")
-        self.assertEqual(told, "pathFormat is not path, the only form that is known")
+        message = client.refused("initialize", adapterID="a", linesStartAt1=1)
+        self.assertEqual(message, "linesStartAt1 is not true or false")
+        message = client.refused("initialize", adapterID="a", pathFormat="uri")
+        self.assertEqual(message, "pathFormat is not path, the only form that is known")
         body = client.ask("initialize", adapterID="a", pathFormat="path")
         for name in ["ConfigurationDoneRequest", "ConditionalBreakpoints", "EvaluateForHovers", "StepBack"]:
             self.assertIs(body[f"supports{name}"], True)
         self.assertEqual([one["filter"] for one in body["exceptionBreakpointFilters"]], ["failed"])
-        told = client.refused("initialize", adapterID="a")
-        self.assertEqual(told, "initialize: initialize is done, and nothing is launched")
+        message = client.refused("initialize", adapterID="a")
+        self.assertEqual(message, "initialize: initialize is done, and nothing is launched yet")
 
-    def test_before_launch(self):
+    def test_requests_before_launch_are_refused(self):
         client = self.opened()
         for name in ["configurationDone", "threads", "continue", "next", "stepBack", "pause", "evaluate", "terminate"]:
-            told = client.refused(name, threadId=1, expression="0")
-            self.assertEqual(told, f"{name}: initialize is done, and nothing is launched")
+            message = client.refused(name, threadId=1, expression="0")
+            self.assertEqual(message, f"{name}: initialize is done, and nothing is launched yet")
         self.assertEqual(client.refused("attach"), "the request attach is not known")
         self.assertEqual(client.leave(), 0)
 
 
 class WithFake(WithAdapter):
-    """Programs of the tests' own."""
+    """A test with a fake program."""
 
     def setUp(self):
         super().setUp()
@@ -200,12 +201,12 @@ class WithFake(WithAdapter):
         self.program.chmod(0o755)
         self.given = {"definition": self.definition, "sources": {"src": self.tree}, "llbm": str(self.program)}
 
-    def does(self, text):
-        """The program does this in a session."""
+    def set_behavior(self, text):
+        """Sets what the program does in a session."""
         (self.at / "does").write_text(text)
 
     def launched(self, **more):
-        """A client whose run is about to begin."""
+        """Returns a client that has launched a run."""
         client = self.opened()
         client.ask("launch", **{**self.given, **more})
         client.until("initialized")
@@ -213,7 +214,7 @@ class WithFake(WithAdapter):
 
 
 class Crashes(WithFake):
-    """A program that does not do what a session does."""
+    """A program that does not behave like a session."""
 
     def test_a_crash_ends_the_run(self):
         for does, code, lines in [
@@ -221,84 +222,85 @@ class Crashes(WithFake):
             (KILLED, 137, ["the program has ended by signal 9"]),
             (CUT, 0, ["the program has ended with status 0"]),
             (CLOSES, 137, ["the program has ended by signal 9"]),
-            (BABBLES, 1, ["the program prints what no session prints: 3 step 0 -> read"]),
+            (BABBLES, 1, ["the program printed an unexpected line: 3 step 0 -> read"]),
         ]:
-            self.does(does)
+            self.set_behavior(does)
             client = self.launched()
             client.ask("configurationDone")
             self.assertEqual(client.ended(), code, does)
             self.assertEqual(client.lines("stderr"), lines)
             self.assertEqual(client.refused("threads"), "threads: the run has ended")
             self.assertEqual(client.leave(), 0)
-            self.no_file_is_left()
+            self.check_no_file_is_left()
 
-    def test_a_crash_at_a_request(self):
-        self.does(CRASHES)
+    def test_a_crash_during_a_request_ends_the_run(self):
+        self.set_behavior(CRASHES)
         client = self.launched(stopOnEntry=True)
         client.ask("configurationDone")
         client.stopped()
-        told = client.refused("evaluate", expression="0")
-        self.assertEqual(told, "the program has ended with status 7")
+        message = client.refused("evaluate", expression="0")
+        self.assertEqual(message, "the program has ended with status 7")
         self.assertEqual(client.ended(), 7)
         self.assertEqual(client.leave(), 0)
 
-    def test_a_program_that_does_not_heed_its_end_is_ended(self):
-        self.does(BEGINS + "while True: signal.pause()\n")
+    def test_a_program_that_ignores_the_end_is_killed(self):
+        self.set_behavior(BEGINS + "while True: signal.pause()\n")
         client = self.launched(stopOnEntry=True)
         client.ask("configurationDone")
         client.stopped()
         self.assertEqual(client.leave(), 0)
         self.assertEqual(client.ended(), 0)
 
-    def test_a_tree_that_is_none_ends_the_run(self):
-        self.does(DONE)
+    def test_an_invalid_tree_ends_the_run(self):
+        self.set_behavior(DONE)
         for text in ["d 0755 0 0 /\nf 0644 0 0 6 /a\n", "d 0755 0 0 /\nf 0644 0 0 - /a/b\n", "d /\n", "f 0644 0 /\n"]:
             (self.at / "tree").write_text(text)
             client = self.launched(stopOnEntry=True)
             client.ask("configurationDone")
             client.stopped()
-            told = client.refused("evaluate", expression="0.0:/")
-            self.assertTrue(told.startswith("the program prints what no session prints: a tree that is none"), told)
+            message = client.refused("evaluate", expression="0.0:/")
+            wanted = "the program printed an unexpected line: not a tree"
+            self.assertTrue(message.startswith(wanted), message)
             self.assertEqual(client.ended(), 1)
             self.assertEqual(client.leave(), 0)
 
-    def test_a_graph_that_is_none(self):
-        self.does(DONE)
+    def test_an_invalid_graph_is_refused(self):
+        self.set_behavior(DONE)
         client = self.opened()
-        for shown, told in [
+        for shown, message in [
             ("x", "the program shows 0 vertices, and the definition has 1"),
             ("", "the program shows 0 vertices, and the definition has 1"),
-            ("0 source\\nresult 0.0", "the program shows what is no vertex: 0 source"),
+            ("0 source\\nresult 0.0", "the program printed an unexpected line for a vertex: 0 source"),
         ]:
             line = "0 source steps 1 outputs 1 inputs -\\nresult 0.0"
             self.program.write_text(FAKE.replace(line, shown))
-            self.assertEqual(client.refused("launch", **self.given), told)
+            self.assertEqual(client.refused("launch", **self.given), message)
 
-    def test_a_program_that_does_not_begin(self):
+    def test_a_program_that_does_not_begin_is_refused(self):
         client = self.opened()
-        for does, told in [
+        for does, message in [
             ("sys.exit(3)", "the program has ended with status 3"),
             ("sys.stderr.write('fault 122\\n')\nsys.exit(2)", "fault 122: 122: "),
-            ("said('x\\n')", "the program prints what no session prints: x"),
+            ("send('x\\n')", "the program printed an unexpected line: x"),
         ]:
-            self.does(does)
-            self.assertTrue(client.refused("launch", **self.given).startswith(told))
-        self.does(DONE)
-        for words, told in [
-            ({"llbm": "/nowhere/llbm"}, "/nowhere/llbm: no program is there"),
-            ({"llbm": self.definition}, f"{self.definition}: no program is there"),
+            self.set_behavior(does)
+            self.assertTrue(client.refused("launch", **self.given).startswith(message))
+        self.set_behavior(DONE)
+        for words, message in [
+            ({"llbm": "/nowhere/llbm"}, "/nowhere/llbm: there is no such program"),
+            ({"llbm": self.definition}, f"{self.definition}: there is no such program"),
         ]:
-            self.assertEqual(client.refused("launch", **{**self.given, **words}), told)
+            self.assertEqual(client.refused("launch", **{**self.given, **words}), message)
         client.ask("launch", **self.given)
-        self.no_file_is_left()
+        self.check_no_file_is_left()
 
-    def test_a_program_that_can_not_be_started(self):
+    def test_a_program_that_cannot_be_started_is_refused(self):
         self.program.write_text("#!/nowhere\n")
-        told = self.opened().refused("launch", **self.given)
-        self.assertEqual(told, f"{self.program}: No such file or directory")
+        message = self.opened().refused("launch", **self.given)
+        self.assertEqual(message, f"{self.program}: No such file or directory")
 
-    def test_the_program_on_the_path(self):
-        self.does(DONE)
+    def test_the_program_on_the_path_is_used(self):
+        self.set_behavior(DONE)
         self.environment["PATH"] = f"{self.at}:{os.environ['PATH']}"
         client = self.opened()
         client.ask("launch", definition=self.definition, sources={"src": self.tree})
@@ -306,25 +308,26 @@ class Crashes(WithFake):
         self.assertEqual(client.ended(), 0)
 
     def test_a_terminated_adapter_leaves_no_program(self):
-        self.does(BEGINS + f"open({str(self.at / 'gone')!r}, 'w').write(str(os.getpid()))\nsaid('x')\nheard()\n")
+        writes = f"open({str(self.at / 'gone')!r}, 'w').write(str(os.getpid()))\n"
+        self.set_behavior(BEGINS + writes + "send('x')\nreceive()\n")
         client = self.launched(stopOnEntry=True)
         client.ask("configurationDone")
         client.child.terminate()
         self.assertEqual(client.child.wait(60), 143)
-        self.no_file_is_left()
+        self.check_no_file_is_left()
 
 
 class Launches(WithFake):
-    """What a launch gives."""
+    """Arguments of a launch."""
 
     def setUp(self):
         super().setUp()
-        self.does(DONE)
+        self.set_behavior(DONE)
 
-    def test_launches_are_refused(self):
+    def test_launches_with_wrong_arguments_are_refused(self):
         client = self.opened()
         name = "can't be the name of a local source on a command line"
-        for words, told in [
+        for words, message in [
             ({"definition": None}, "definition is missing"),
             ({"definition": 1}, "definition is not a text"),
             ({"definition": "/nowhere/x"}, "/nowhere/x: No such file or directory"),
@@ -342,10 +345,10 @@ class Launches(WithFake):
             ({"stopOnEntry": 1}, "stopOnEntry is not true or false"),
             ({"llbm": 1}, "llbm is not a text"),
         ]:
-            self.assertEqual(client.refused("launch", **{**self.given, **words}), told, words)
-            self.no_file_is_left()
+            self.assertEqual(client.refused("launch", **{**self.given, **words}), message, words)
+            self.check_no_file_is_left()
         client.ask("launch", **{**self.given, "workers": None})
-        again = "launch: a launch is done, and configurationDone is to come"
+        again = "launch: a launch is done, and configurationDone has to come next"
         self.assertEqual(client.refused("launch", **self.given), again)
 
     def test_workers_are_threads(self):
@@ -353,13 +356,13 @@ class Launches(WithFake):
             threads = self.launched(workers=workers).ask("threads")["threads"]
             self.assertEqual(threads, [{"id": n + 1, "name": f"worker {n}, idle"} for n in range(count)])
 
-    def test_a_directory_with_what_has_no_place_in_a_tree(self):
+    def test_what_is_left_out_of_a_directory_is_reported(self):
         self.make(b"a", b"a")
         os.symlink("a", self.place(b"in", b"link"))
         client = self.launched(sources={"src": str(self.at / "in")})
         self.assertIn("src: /link: left out: a symbolic link", client.lines("console"))
 
-    def test_a_tar_without_the_tool_that_reads_it(self):
+    def test_a_tar_needs_the_tool_that_reads_it(self):
         for name, begin, is_tar in [
             ("a", b"a".ljust(257, b"\0") + b"ustar\x0000", True), ("a", b"\x1f\x8b\x08", True), ("a.tgz", b"x", True),
             ("a.tar", b"d 0755 0 0 /\n", False), ("a", b"x", False),
@@ -368,45 +371,45 @@ class Launches(WithFake):
         if (TOOLS / "tree-of-tar").exists():
             self.skipTest("the tool is there")
         place = os.fsdecode(self.file(b"tar", b"a".ljust(257, b"\0") + b"ustar\x0000"))
-        told = self.opened().refused("launch", **{**self.given, "sources": {"src": place}})
-        self.assertEqual(told, "sources: src: tools/tree-of-tar, which reads it, is missing")
+        message = self.opened().refused("launch", **{**self.given, "sources": {"src": place}})
+        self.assertEqual(message, "sources: src: tools/tree-of-tar, which reads it, is missing")
 
 
 class Texts(Folder):
-    """Where entries are in their text."""
+    """Lines of entries in their text."""
 
-    def test_lines_of_entries(self):
+    def test_the_lines_of_entries_are_found(self):
         text = '# a\nop {\n  file {\n    path "a {"\n  }\n\n}\n\n raw -\r\nop {\n}\n# b\n'
         self.assertEqual(places.lines_of(text), [(2, 7), (9, 9), (10, 11)])
         self.assertEqual(places.lines_of(""), [])
 
-    def test_vertices_of_entries(self):
+    def test_the_vertices_of_entries_are_found(self):
         one, two, three = base.source("local://a"), base.source("local://b"), base.source("local://c")
         end = base.merge(two, one)
         self.assertEqual(places.vertices_by_entry([three, two, one, two, end], [1, 2, 4]), [None, 0, 1, 0, 2])
 
 
 class Trees(Folder):
-    """Trees as they are shown."""
+    """Trees as the adapter shows them."""
 
     def tree(self, *lines):
-        """The root of a tree."""
+        """Returns the root of a tree."""
         return trees.tree_of([b"d 0755 1 2 /", *lines])
 
-    def test_folder_by_folder(self):
+    def test_a_tree_is_shown_directory_by_directory(self):
         wide = "\N{GREEK SMALL LETTER ALPHA} b".encode()
         root = self.tree(b"d 0700 0 0 /a", b"f 0644 3 4 6869 /a/b", b"d 0755 0 0 /a-", b"f 0644 0 0 - /a-/" + wide)
-        self.assertEqual(trees.whole_of(root), "2 names:\na/\na-/")
-        self.assertEqual(trees.looks_of(root), "0755 1:2, 2 names")
-        self.assertEqual(trees.looks_of(trees.node_at(root, "a")), "0700 0:0, 1 name")
-        self.assertEqual(trees.looks_of(trees.node_at(root, "/a/b")), "0644 3:4, text of 2 bytes: hi")
-        self.assertEqual(trees.looks_of(trees.node_at(root, f"/x/.././a-//{wide.decode()}/")), "0644 0:0, 0 bytes")
-        for path, told in [("/a/c", "nothing is at /a/c"), ("/a/b/c", "/a/b is a file")]:
-            with self.assertRaisesRegex(trees.NoPath, told):
+        self.assertEqual(trees.description_of(root), "2 names:\na/\na-/")
+        self.assertEqual(trees.summary_of(root), "0755 1:2, 2 names")
+        self.assertEqual(trees.summary_of(trees.node_at(root, "a")), "0700 0:0, 1 name")
+        self.assertEqual(trees.summary_of(trees.node_at(root, "/a/b")), "0644 3:4, text of 2 bytes: hi")
+        self.assertEqual(trees.summary_of(trees.node_at(root, f"/x/.././a-//{wide.decode()}/")), "0644 0:0, 0 bytes")
+        for path, message in [("/a/c", "nothing is at /a/c"), ("/a/b/c", "/a/b is a file")]:
+            with self.assertRaisesRegex(trees.NoPath, message):
                 trees.node_at(root, path)
-        self.assertEqual(trees.whole_of(self.tree()), "0 names")
+        self.assertEqual(trees.description_of(self.tree()), "0 names")
 
-    def test_contents(self):
+    def test_contents_are_shown_as_text_or_hexadecimal(self):
         for content, what, body in [
             (b"a\n\tb\r\n", "text of 6 bytes", "a\n\tb\r\n"),
             ("\N{GREEK SMALL LETTER ALPHA}".encode(), "text of 2 bytes", "\N{GREEK SMALL LETTER ALPHA}"),
@@ -421,9 +424,9 @@ class Trees(Folder):
         ]:
             node = trees.Node("0644", "0:0", None, content.hex().encode())
             self.assertEqual(trees.shown(node), (what, body))
-            self.assertEqual(trees.whole_of(node), f"{what}:\n{body}")
+            self.assertEqual(trees.description_of(node), f"{what}:\n{body}")
 
-    def test_many_names(self):
+    def test_at_most_a_thousand_names_are_shown(self):
         root = self.tree(*(b"f 0644 0 0 - /%04d" % number for number in range(1002)))
-        lines = trees.whole_of(root).split("\n")
+        lines = trees.description_of(root).split("\n")
         self.assertEqual((lines[:2], lines[1000:]), (["1,002 names:", "0000"], ["0999", "and 2 more"]))

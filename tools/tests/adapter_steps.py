@@ -1,4 +1,4 @@
-"""Tests of steps, forwards and back, and of what is seen, by the debug adapter and the program llbm together."""
+"""Tests of steps forwards and back, and of what is shown, in the debug adapter with the program llbm."""
 
 import os
 import pathlib
@@ -14,11 +14,11 @@ class Steps(WithRun):
     """Steps of workers."""
 
     def steps(self, client, *steps):
-        """The lines that steps of these threads add."""
+        """Does steps of these threads, and returns the lines that they add to the record."""
         lines = []
         for command, thread in steps:
             before = len(client.lines())
-            stop = self.goes(client, command, thread)
+            stop = self.move(client, command, thread)
             self.assertEqual(stop["reason"], "step")
             lines += client.lines()[before:]
         return lines
@@ -36,7 +36,7 @@ class Steps(WithRun):
         client.ask("stepIn", threadId=1)
         self.assertEqual(client.ended(), 0)
 
-    def test_over_into_and_out(self):
+    def test_steps_go_over_into_and_out(self):
         client = self.entered()
         self.assertEqual(client.refused("stepOut", threadId=1), "worker 0 is idle: it has no vertex to step out of")
         self.assertEqual(self.steps(client, ("next", 1)), stored_record()[:3])
@@ -45,10 +45,10 @@ class Steps(WithRun):
         self.assertEqual(self.steps(client, ("stepIn", 1), ("next", 1), ("next", 1)), stored_record()[6:9])
         self.assertEqual(self.steps(client, ("stepOut", 1)), stored_record()[9:])
 
-    def test_a_worker_that_can_do_nothing_lets_another_go_on(self):
+    def test_a_worker_that_can_claim_nothing_lets_another_continue(self):
         client = self.entered()
         self.steps(client, ("next", 1), ("next", 1), ("stepIn", 1))
-        stop = self.goes(client, "next", 2)
+        stop = self.move(client, "next", 2)
         self.assertEqual((stop["reason"], stop["threadId"]), ("step", 1))
         self.assertEqual(self.record(client)[-1], "8 step 0 -> ran 0 0")
 
@@ -56,41 +56,41 @@ class Steps(WithRun):
         client = self.entered(self.example("cache"))
         self.assertEqual(self.steps(client, ("stepIn", 1)), ["1 claim 0 0 -> exec 2"])
         self.assertEqual(self.steps(client, ("stepIn", 2)), ["2 step 0 -> ran 0 0"])
-        told = client.refused("evaluate", expression="claim 1 1", context="repl")
-        self.assertTrue(told.startswith("fault 171 135 objects "), told)
+        message = client.refused("evaluate", expression="claim 1 1", context="repl")
+        self.assertTrue(message.startswith("fault 171 135 objects "), message)
         self.assertEqual(self.steps(client, ("stepOut", 1), ("stepIn", 2)), [
             "3 step 0 -> ran 1 0", "4 settle 0 -> 0 done", "5 claim 1 1 -> exec 2",
         ])
 
     def test_a_breakpoint_ends_a_step(self):
         client = self.entered()
-        self.breaks(client, 1)
-        stop = self.goes(client, "next")
+        self.set_breakpoints(client, 1)
+        stop = self.move(client, "next")
         self.assertEqual((stop["reason"], self.record(client)), ("breakpoint", stored_record()[:1]))
-        self.assertEqual(self.goes(client, "stepOut")["reason"], "step")
+        self.assertEqual(self.move(client, "stepOut")["reason"], "step")
         self.assertEqual(self.record(client), stored_record()[:3])
 
-    def test_commands_of_a_console(self):
+    def test_the_console_takes_commands(self):
         client = self.entered()
 
-        def does(command, line):
-            """A command adds a line."""
+        def run_command(command, line):
+            """Does a command that adds a line to the record."""
             body = client.ask("evaluate", expression=command, context="repl")
             self.assertEqual((body["result"], client.lines()[-1]), (line, line))
             self.assertEqual(client.stopped()["reason"], "step")
 
-        does("claim 1 1", "1 claim 1 1 -> file 1")
-        does("step 1", "2 step 1 -> acted 0")
-        does("cancel 1", "3 cancel 1 -> 1 1")
-        does(" claim 0 1 ", "4 claim 0 1 -> file 1")
-        told = client.refused("evaluate", expression="settle 0", context="repl")
-        self.assertTrue(told.startswith("fault 171 138 171: "), told)
-        told = client.refused("evaluate", expression="claim 0 9", context="repl")
-        self.assertTrue(told.startswith("fault 171 132 "), told)
+        run_command("claim 1 1", "1 claim 1 1 -> file 1")
+        run_command("step 1", "2 step 1 -> acted 0")
+        run_command("cancel 1", "3 cancel 1 -> 1 1")
+        run_command(" claim 0 1 ", "4 claim 0 1 -> file 1")
+        message = client.refused("evaluate", expression="settle 0", context="repl")
+        self.assertTrue(message.startswith("fault 171 138 171: "), message)
+        message = client.refused("evaluate", expression="claim 0 9", context="repl")
+        self.assertTrue(message.startswith("fault 171 132 "), message)
         self.assertIn("is neither", client.refused("evaluate", expression="step 0", context="watch"))
         self.assertIn("is neither", client.refused("evaluate", expression="quit", context="repl"))
         for count in [3, 2, 1, 0]:
-            self.goes(client, "stepBack")
+            self.move(client, "stepBack")
             self.assertEqual(len(self.record(client)), count)
         client.ask("continue", threadId=1)
         self.assertEqual(client.ended(), 0)
@@ -98,34 +98,34 @@ class Steps(WithRun):
 
 
 class StepsBack(WithRun):
-    """Steps back, after each of which all is as it was."""
+    """Steps back restore every state exactly."""
 
-    def test_each_state_comes_again(self):
+    def test_each_state_is_restored(self):
         client = self.entered()
         moves = [("stepIn", 1 + number % 2) for number in range(14)]
         states = [self.state(client, 3, 2)]
         for command, thread in moves:
-            self.goes(client, command, thread)
+            self.move(client, command, thread)
             states.append(self.state(client, 3, 2))
         whole = self.record(client)
         for number in reversed(range(14)):
-            stop = self.goes(client, "stepBack", 1 + number % 2)
+            stop = self.move(client, "stepBack", 1 + number % 2)
             self.assertEqual(stop["reason"], "step")
             self.assertEqual(self.record(client), whole[:number])
             self.assertEqual(self.state(client, 3, 2), states[number])
         self.assertEqual(client.refused("stepBack", threadId=1), "the run is at its beginning")
         self.assertEqual(client.refused("reverseContinue", threadId=1), "the run is at its beginning")
         for number, (command, thread) in enumerate(moves, 1):
-            self.goes(client, command, thread)
+            self.move(client, command, thread)
             self.assertEqual(self.state(client, 3, 2), states[number])
         self.assertEqual(self.record(client), whole)
 
     def test_stops_are_the_same_both_ways(self):
         client = self.entered(stopAtEnd=True)
-        self.breaks(client, 1, (7, "settle"), (20, "settle"), 21)
+        self.set_breakpoints(client, 1, (7, "settle"), (20, "settle"), 21)
         stops, states, lengths = [], [], []
         while True:
-            stop = self.goes(client)
+            stop = self.move(client)
             if stop["reason"] == "end":
                 break
             stops.append(stop)
@@ -133,67 +133,67 @@ class StepsBack(WithRun):
             lengths.append(len(self.record(client)))
         self.assertEqual(lengths, [1, 6, 7, 14])
         for number in [2, 1, 0]:
-            self.assertEqual(self.goes(client, "reverseContinue"), stops[number])
+            self.assertEqual(self.move(client, "reverseContinue"), stops[number])
             self.assertEqual(self.record(client), stored_record()[: lengths[number]])
             self.assertEqual(self.state(client, 3, 2), states[number])
-        stop = self.goes(client, "reverseContinue")
+        stop = self.move(client, "reverseContinue")
         self.assertEqual((stop["reason"], self.record(client)), ("entry", []))
         for stop in stops:
-            self.assertEqual(self.goes(client), stop)
+            self.assertEqual(self.move(client), stop)
         self.assertEqual(self.record(client), stored_record())
 
-    def test_a_failure_is_met_backwards_too(self):
+    def test_a_failure_stops_the_run_backwards_too(self):
         client = self.entered(self.example("failure", "empty"), stopAtEnd=True)
         client.ask("setExceptionBreakpoints", filters=["failed"])
-        first = self.goes(client)
+        first = self.move(client)
         self.assertEqual(first["reason"], "exception")
         states = self.state(client, 2, 2)
-        self.assertEqual(self.goes(client, "reverseContinue")["reason"], "entry")
-        self.assertEqual(self.goes(client), first)
+        self.assertEqual(self.move(client, "reverseContinue")["reason"], "entry")
+        self.assertEqual(self.move(client), first)
         self.assertEqual(self.state(client, 2, 2), states)
 
     def test_outputs_are_read_again_after_a_step_back(self):
         client = self.entered(self.example("cache"), workers=1)
         for _ in range(2):
-            self.goes(client, "next")
+            self.move(client, "next")
         self.assertIn("seen-by-second", client.ask("evaluate", expression="1.0:/")["result"])
-        self.goes(client, "reverseContinue")
+        self.move(client, "reverseContinue")
         for command in ["claim 0 1", "step 0", "step 0", "settle 0"]:
             client.ask("evaluate", expression=command, context="repl")
-        told = client.ask("evaluate", expression="1.0:/seen-by-second")["result"]
-        self.assertEqual(told, "text of 7 bytes:\nsecond\n")
+        result = client.ask("evaluate", expression="1.0:/seen-by-second")["result"]
+        self.assertEqual(result, "text of 7 bytes:\nsecond\n")
 
 
-class Looks(WithRun):
+class Inspection(WithRun):
     """Frames, scopes, variables and expressions."""
 
     def test_a_worker_that_runs_has_a_frame(self):
         client = self.entered()
         self.assertEqual(client.ask("stackTrace", threadId=1), {"stackFrames": [], "totalFrames": 0})
-        self.goes(client, "stepIn", 2)
+        self.move(client, "stepIn", 2)
         self.assertEqual(client.ask("stackTrace", threadId=1)["stackFrames"], [])
         frame = client.ask("stackTrace", threadId=2)["stackFrames"][0]
         self.assertEqual((frame["line"], frame["endLine"]), ENTRIES[0])
         self.assertEqual(frame["name"], "0 source: local://source (0 of 1 steps)")
         self.assertEqual(client.ask("stackTrace", threadId=2, startFrame=1)["stackFrames"], [])
         self.assertEqual(client.ask("stackTrace", threadId=2, startFrame=0, levels=20)["stackFrames"], [frame])
-        self.goes(client, "stepOut", 2)
+        self.move(client, "stepOut", 2)
         self.assertIn("(done)", client.ask("stackTrace", threadId=2)["stackFrames"][0]["name"])
-        self.goes(client, "stepIn", 1)
+        self.move(client, "stepIn", 1)
         self.assertEqual(client.ask("stackTrace", threadId=2)["stackFrames"], [])
         names = [one["name"] for one in client.ask("threads")["threads"]]
         self.assertEqual(names, ["worker 0, 1 file: mkdir /out", "worker 1, idle"])
 
     def open(self, client, variable):
-        """What a variable opens to, by names."""
+        """Returns the variables inside a variable, by name."""
         found = client.ask("variables", variablesReference=variable["variablesReference"])["variables"]
         self.assertEqual(len(found), variable["namedVariables"])
         return {one["name"]: one for one in found}
 
-    def test_inputs_and_outputs_folder_by_folder(self):
+    def test_inputs_and_outputs_are_shown_directory_by_directory(self):
         client = self.entered()
-        self.breaks(client, (20, "settle"))
-        self.goes(client)
+        self.set_breakpoints(client, (20, "settle"))
+        self.move(client)
         one, two = self.scope(client, 1, "Inputs")
         self.assertEqual((one["name"], one["value"]), ("input 0, 1.0", "0755 0:0, 1 name"))
         self.assertEqual(two["name"], "input 1, 0.0")
@@ -205,15 +205,15 @@ class Looks(WithRun):
         self.assertEqual(list(out), ["bin", "env"])
         held = self.open(client, out["bin"])["all"]
         self.assertEqual(held["value"], "0444 0:0, text of 13 bytes: hello,\\nworld\\n")
-        told = client.ask("evaluate", expression=held["evaluateName"])
-        self.assertEqual(told["result"], "text of 13 bytes:\nhello,\nworld\n")
+        answer = client.ask("evaluate", expression=held["evaluateName"])
+        self.assertEqual(answer["result"], "text of 13 bytes:\nhello,\nworld\n")
         for variable in [one, two, output]:
             self.assertNotIn("type", variable)
 
-    def test_a_vertex_and_all_vertices(self):
+    def test_a_vertex_and_all_vertices_are_shown(self):
         client = self.entered()
-        self.goes(client, "next")
-        self.goes(client, "stepIn")
+        self.move(client, "next")
+        self.move(client, "stepIn")
         facts = {one["name"]: one["value"] for one in self.scope(client, 1, "Vertex")}
         self.assertEqual(facts, {
             "vertex": "1", "kind": "file", "entry": "1", "progress": "0 of 1 steps", "action 0": "mkdir /out",
@@ -226,21 +226,21 @@ class Looks(WithRun):
         self.assertEqual(self.scope(client, 1, "Inputs"), [])
         self.assertEqual([one["value"] for one in self.scope(client, 1, "Outputs")], ["none"])
 
-    def test_contents(self):
+    def test_contents_are_shown_as_text_or_hexadecimal(self):
         wide = "\N{GREEK SMALL LETTER ALPHA} b"
         contents = {"a": b"", "b": bytes(range(256)), "c": b"x" * 5000, "d ": b"d", wide: b"a\nb"}
         lines = [PRINTED % (content.hex() or "-", name) for name, content in contents.items()]
         text = "".join(line + "\n" for line in ["d 0755 0 0 /", *lines]).encode()
         given = self.made(base.ending(base.source("local://src")), src=text)
         client = self.entered(given, {"supportsVariableType": True})
-        self.goes(client, "next")
+        self.move(client, "next")
         for name, result in [
             ("a", "0 bytes"), ("b", f"hexadecimal of 256 bytes:\n{bytes(range(256)).hex()}"),
             ("c", "text of 5,000 bytes, the first 4,096 shown:\n" + "x" * 4096), (wide, "text of 3 bytes:\na\nb"),
             ("d ", "text of 1 byte:\nd"),
         ]:
-            told = client.ask("evaluate", expression=f"0.0:/{name}")
-            self.assertEqual((told["result"], told["type"]), (result, "file"))
+            answer = client.ask("evaluate", expression=f"0.0:/{name}")
+            self.assertEqual((answer["result"], answer["type"]), (result, "file"))
         (output,) = self.scope(client, 1, "Outputs")
         self.assertEqual(list(self.open(client, output)), list(contents))
         reference = output["variablesReference"]
@@ -248,30 +248,30 @@ class Looks(WithRun):
         self.assertEqual([one["name"] for one in part], ["b", "c"])
         self.assertEqual(client.ask("variables", variablesReference=reference, filter="indexed"), {"variables": []})
 
-    def test_expressions(self):
+    def test_expressions_are_evaluated(self):
         client = self.entered()
-        self.goes(client, "next")
+        self.move(client, "next")
         for expression, result in [
             ("0.0:/text", "2 names:\nhead\ntail"), (" 0.0 ", "1 name:\ntext/"), ("0.0:", "1 name:\ntext/"),
             ("0.0:/text/head", "text of 7 bytes:\nhello,\n"), ("0.0:text/./../text//tail", "text of 6 bytes:\nworld\n"),
             ("0", "0 done\nsource, steps 1, outputs 1, inputs -\nlocal://source"), ("%0", None),
             ("1", "1 ready\nfile, steps 1, outputs 1, inputs -\nmkdir /out"),
         ]:
-            told = client.ask("evaluate", expression=expression, context="hover")["result"]
-            self.assertEqual(told, result or client.ask("evaluate", expression="0")["result"])
+            shown = client.ask("evaluate", expression=expression, context="hover")["result"]
+            self.assertEqual(shown, result or client.ask("evaluate", expression="0")["result"])
         self.assertTrue(client.ask("evaluate", expression="2")["result"].startswith("2 waiting\nexec, steps 6, "))
-        for expression, told in [
+        for expression, message in [
             ("", "'' is neither V.I:/path nor V nor %k"), ("a", "'a' is neither V.I:/path nor V nor %k"),
             ("1:/a", "'1:/a' is neither V.I:/path nor V nor %k"), ("3", "there is no vertex 3"),
             ("3.0:/", "there is no vertex 3"), ("0.1:/", "there is no output 0.1"),
             ("1.0:/", "there is no output 1.0: vertex 1 is ready"), ("0.0:/none", "0.0: nothing is at /none"),
-            ("0.0:/text/head/x", "0.0: /text/head is a file"), ("%3", "entry 3 is no vertex"),
-            ("%9", "entry 9 is no vertex"), ("9" * 5000, "'" + "9" * 57 + "...' is neither V.I:/path nor V nor %k"),
+            ("0.0:/text/head/x", "0.0: /text/head is a file"), ("%3", "entry 3 is not a vertex"),
+            ("%9", "entry 9 is not a vertex"), ("9" * 5000, "'" + "9" * 57 + "...' is neither V.I:/path nor V nor %k"),
         ]:
-            self.assertEqual(client.refused("evaluate", expression=expression), told)
+            self.assertEqual(client.refused("evaluate", expression=expression), message)
         self.assertEqual(client.refused("evaluate"), "expression is missing")
 
-    def test_what_is_not_there(self):
+    def test_unknown_threads_frames_and_references_are_refused(self):
         client = self.entered()
         steps = ["continue", "next", "stepIn", "stepOut", "stepBack", "reverseContinue"]
         for name in [*steps, "stackTrace", "exceptionInfo"]:
@@ -282,21 +282,21 @@ class Looks(WithRun):
         self.assertEqual(client.refused("scopes", frameId=1), "frameId 1 is not known: worker 0 is idle")
         self.assertEqual(client.refused("variables"), "variablesReference is missing")
         for reference in [0, 1, -1, 10**9]:
-            told = client.refused("variables", variablesReference=reference)
-            self.assertEqual(told, f"variablesReference {reference} is not known in this state")
-        self.goes(client, "stepIn")
+            message = client.refused("variables", variablesReference=reference)
+            self.assertEqual(message, f"variablesReference {reference} is not known in this state")
+        self.move(client, "stepIn")
         scope = client.ask("scopes", frameId=1)["scopes"][0]["variablesReference"]
         client.ask("variables", variablesReference=scope)
-        self.goes(client, "stepIn")
+        self.move(client, "stepIn")
         client.ask("scopes", frameId=1)
-        told = client.refused("variables", variablesReference=scope)
-        self.assertEqual(told, f"variablesReference {scope} is not known in this state")
+        message = client.refused("variables", variablesReference=scope)
+        self.assertEqual(message, f"variablesReference {scope} is not known in this state")
         self.assertEqual(client.refused("restart"), "the request restart is not known")
         self.assertEqual(client.refused("configurationDone"), "configurationDone: the run is stopped")
 
 
 class RandomRequests(WithRun):
-    """Requests with arguments of all kinds, each of which has one response of the protocol's form."""
+    """Requests with random arguments; each has one response in the protocol's form."""
 
     VALUES = [
         None, True, 0, 1, 2, -1, 1 << 70, 1.5, "", "0.0:/", "%1", "claim 0 0", "\ud800", "a\0b", [], {}, [None],
@@ -308,7 +308,7 @@ class RandomRequests(WithRun):
     ]
 
     def given(self, chance):
-        """Arguments that fit most requests, or any ones."""
+        """Returns arguments that fit most requests, or arbitrary ones."""
         if chance.random() < 0.3:
             return {name: chance.choice(self.VALUES) for name in chance.sample(self.NAMES, 5)}
         expressions = ["0", "1.0:/out", "%0", "claim 1 0", "step 1", "settle 1", "claim 0 1", "step 0", "cancel 0"]
@@ -334,62 +334,62 @@ class RandomRequests(WithRun):
             self.assertEqual(client.child.stderr.read(), b"")
 
 
-class Ends(WithRun):
-    """Clients that leave in the middle."""
+class Leaving(WithRun):
+    """Clients that leave before the run is over."""
 
     def children(self, client):
-        """The places in /proc of the programs that an adapter has started."""
+        """Returns the paths in /proc of the programs that an adapter has started."""
         number = client.child.pid
-        told = pathlib.Path(f"/proc/{number}/task/{number}/children").read_text()
-        return [f"/proc/{child}" for child in told.split()]
+        numbers = pathlib.Path(f"/proc/{number}/task/{number}/children").read_text()
+        return [f"/proc/{child}" for child in numbers.split()]
 
-    def gone(self, children):
-        """Whether programs that were there are gone."""
+    def check_ended(self, children):
+        """Checks that programs that were running have ended."""
         self.assertEqual(len(children), 1)
         self.assertFalse(os.path.exists(children[0]))
 
-    def test_a_disconnect_in_the_middle(self):
+    def test_a_disconnect_ends_the_program(self):
         client = self.entered()
-        self.goes(client, "stepIn")
+        self.move(client, "stepIn")
         children = self.children(client)
         self.assertEqual(client.leave(), 0)
         self.assertEqual(client.ended(), 0)
-        self.gone(children)
+        self.check_ended(children)
 
-    def test_a_disconnect_before_the_beginning(self):
+    def test_a_disconnect_before_the_run_ends_the_program(self):
         client = self.launched(self.execution)
         children = self.children(client)
         self.assertEqual(client.leave(), 0)
         self.assertEqual(client.ended(), 0)
-        self.gone(children)
+        self.check_ended(children)
 
-    def test_a_disconnect_after_a_failure(self):
+    def test_a_disconnect_after_a_failure_has_exit_code_1(self):
         client = self.entered(self.example("failure", "empty"))
         client.ask("setExceptionBreakpoints", filters=["failed"])
-        self.assertEqual(self.goes(client)["reason"], "exception")
+        self.assertEqual(self.move(client)["reason"], "exception")
         self.assertEqual(client.leave(), 0)
         self.assertEqual(client.ended(), 1)
 
-    def test_a_terminate(self):
+    def test_a_terminate_ends_the_run(self):
         client = self.entered()
-        self.goes(client, "stepIn")
+        self.move(client, "stepIn")
         client.ask("terminate")
         self.assertEqual(client.ended(), 0)
         self.assertEqual(client.refused("terminate"), "terminate: the run has ended")
         self.assertEqual(client.leave(), 0)
 
-    def test_a_client_that_goes_without_a_word(self):
+    def test_the_end_of_the_input_ends_the_program(self):
         client = self.entered()
         children = self.children(client)
         client.child.stdin.close()
         self.assertIsNone(client.receive())
         self.assertEqual(client.child.wait(60), 0)
-        self.gone(children)
+        self.check_ended(children)
 
-    def test_a_client_that_does_not_read(self):
+    def test_a_closed_output_ends_the_program(self):
         client = self.entered()
         children = self.children(client)
         client.child.stdout.close()
         client.send("continue", {"threadId": 1})
         self.assertEqual(client.child.wait(60), 3)
-        self.gone(children)
+        self.check_ended(children)

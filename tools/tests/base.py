@@ -31,26 +31,26 @@ llbm: str | None = None
 
 
 def command(tool, *words, before=()):
-    """The command of a run of a tool, which is counted. The packages of the machine are out of its reach."""
+    """Returns the command that runs a tool without site packages, and counts the run."""
     global runs
     runs += 1
     return [sys.executable, "-S", *before, TOOLS / tool, *words]
 
 
 def run(tool, *words, text=b"", before=(), **settings):
-    """A run of a tool with these words and this text on standard input."""
+    """Runs a tool with these words, and this text on standard input."""
     return subprocess.run(
         command(tool, *words, before=before), input=text, capture_output=True, timeout=120, **settings
     )
 
 
 def run_into(output, tool, *words):
-    """A run of a tool whose standard output is an open file."""
+    """Runs a tool with an open file as its standard output."""
     return subprocess.run(command(tool, *words), stdout=output, stderr=subprocess.PIPE, timeout=120)
 
 
 def run_closed(descriptor, tool, *words):
-    """A run of a tool for which a standard stream is closed."""
+    """Runs a tool with a closed standard stream."""
     return subprocess.run(
         command(tool, *words), capture_output=True, timeout=120, preexec_fn=lambda: os.close(descriptor)
     )
@@ -66,17 +66,17 @@ class Folder(unittest.TestCase):
         self.mine = b"%d %d" % (os.geteuid(), os.stat(self.folder).st_gid)
 
     def place(self, *names):
-        """The path of these names below the folder."""
+        """Returns the path of these names below the folder."""
         return os.path.join(self.folder, *names)
 
     def file(self, name, content):
-        """The path of a new file with this content."""
+        """Writes a file, and returns its path."""
         place = self.place(name)
         pathlib.Path(os.fsdecode(place)).write_bytes(content)
         return place
 
     def make(self, name, content=None, mode=None):
-        """A file with the content below `in`, or a directory for none."""
+        """Makes a file with this content below `in`, or a directory for None."""
         place = self.place(b"in", name)
         os.makedirs(place if content is None else os.path.dirname(place), exist_ok=True)
         if content is not None:
@@ -84,30 +84,30 @@ class Folder(unittest.TestCase):
         os.chmod(place, mode or (0o755 if content is None else 0o644))
 
     def text(self, lines):
-        """The text of these lines, in which OWN is the owner of all that is made here."""
+        """Returns the text of these lines; OWN is replaced by the owner of the files that the test makes."""
         return "".join(line + "\n" for line in lines).encode().replace(b"OWN", self.mine)
 
-    def answers(self, done, status, output, told=b""):
-        """The run ended with this status and output, and with these words on standard error."""
-        self.assertEqual((done.returncode, done.stderr), (status, told))
+    def check_run(self, done, status, output, errors=b""):
+        """Checks the exit status, the output, and the text on standard error of a run."""
+        self.assertEqual((done.returncode, done.stderr), (status, errors))
         if done.stdout != output:
             self.fail(f"{done.stdout[:2000]} is not {output[:2000]}")
 
-    def passes(self, done, output=b"", told=b""):
-        """The run ended well."""
-        self.answers(done, 0, output, told)
+    def check_success(self, done, output=b"", errors=b""):
+        """Checks that the run ended with status 0, and its output."""
+        self.check_run(done, 0, output, errors)
 
     def write(self, text, name=b"out", **settings):
-        """The run that makes a directory of a text."""
+        """Runs the tool that makes a directory of a text."""
         return run("directory-of-tree", self.place(name), text=text, **settings)
 
     def read(self, name=b"out", *words):
-        """The run that makes a text of a directory."""
+        """Runs the tool that makes a text of a directory."""
         return run("tree-of-directory", *words, self.place(name))
 
 
 def varint(number):
-    """The bytes of a number, a negative one as of 64 bits."""
+    """Returns the varint of a number; a negative one has 64 bits."""
     number %= 1 << 64
     found = bytearray()
     while number > 127:
@@ -117,73 +117,73 @@ def varint(number):
 
 
 def number(field, value):
-    """The record of a number."""
+    """Returns the record of a number."""
     return varint(field << 3) + varint(value)
 
 
 def part(field, value):
-    """The record of a string or of bytes, also those of a message."""
+    """Returns the record of a string, of bytes or of a message."""
     value = value.encode() if isinstance(value, str) else value
     return varint(field << 3 | 2) + varint(len(value)) + value
 
 
 def digest(entry):
-    """The text by which inputs name an entry."""
+    """Returns the digest by which inputs name an entry."""
     return "sha256:" + hashlib.sha256(entry).hexdigest()
 
 
 def inputs(*named):
-    """The inputs of an op: entries, or entries with the number of an output."""
+    """Returns the inputs of an op: entries, or pairs of an entry and an output."""
     pairs = [one if isinstance(one, tuple) else (one, 0) for one in named]
     return b"".join(part(1, part(1, digest(entry)) + number(2, output)) for entry, output in pairs)
 
 
 def source(identifier):
-    """A source op."""
+    """Returns a source op."""
     return part(3, part(1, identifier))
 
 
 def file_op(*actions, on=()):
-    """A file op of these actions on these inputs."""
+    """Returns a file op with these actions and inputs."""
     return inputs(*on) + part(4, b"".join(part(2, action) for action in actions))
 
 
 def copy(src, dest):
-    """A copy."""
+    """Returns a copy."""
     return part(4, part(1, src) + part(2, dest))
 
 
 def mkfile(path):
-    """A mkfile of no bytes."""
+    """Returns a mkfile without content."""
     return number(1, -1) + part(5, part(1, path))
 
 
 def mkdir(path):
-    """A mkdir."""
+    """Returns a mkdir."""
     return number(1, -1) + part(6, part(1, path))
 
 
 def rm(path):
-    """An rm."""
+    """Returns an rm."""
     return part(7, part(1, path))
 
 
 def exec_op(*args, on=()):
-    """An exec of these words on these inputs, with an empty tree at the root."""
+    """Returns an exec of these words on these inputs, with an empty tree at the root."""
     meta = part(1, b"".join(part(1, arg) for arg in args))
     return inputs(*on) + part(2, meta + part(2, number(1, -1) + part(3, "/")))
 
 
 def merge(*on):
-    """A merge of these inputs."""
+    """Returns a merge of these inputs."""
     return inputs(*on) + part(6, b"".join(part(1, number(1, place)) for place in range(len(on))))
 
 
 def definition(*entries):
-    """A definition of these entries."""
+    """Returns a definition with these entries."""
     return b"".join(part(1, entry) for entry in entries)
 
 
 def ending(*entries):
-    """A definition of these entries, of which the last one gives the result, and of a terminal."""
+    """Returns a definition with these entries and a terminal; the last entry is the result."""
     return definition(*entries, inputs(entries[-1]))

@@ -1,4 +1,4 @@
-"""Tests of `build`, with a program of the tests' own in the place of llbm."""
+"""Tests of `build`, with a fake program in place of llbm."""
 
 import gzip
 import os
@@ -40,7 +40,7 @@ time.sleep(60)
 
 
 class Builds(Folder):
-    """Builds in the test's folder, with a program of the test's own."""
+    """Builds in the test's folder, with a fake program."""
 
     fake = FAKE
 
@@ -58,34 +58,34 @@ class Builds(Folder):
         self.held.mkdir()
         self.settings = {"cwd": self.at, "env": {**os.environ, "TMPDIR": str(self.held)}}
 
-    def does(self, text):
-        """The program does this."""
+    def set_behavior(self, text):
+        """Sets what the program does."""
         (self.at / "does").write_text(text)
 
     def build(self, *words, llbm=None):
-        """A build with these words, in the test's folder."""
+        """Runs a build with these words, in the test's folder."""
         return run("build", "--llbm", llbm or self.llbm, *words, **self.settings)
 
-    def nothing_is_left(self, also=()):
-        """Neither a result nor a temporary file is there."""
+    def check_nothing_is_left(self, also=()):
+        """Checks that there is no result and no temporary file."""
         self.assertEqual(os.listdir(self.held), [])
         known = {"definition", "llbm", "held", "in", "does", "given", *also}
         self.assertEqual(set(os.listdir(self.at)) - known, set())
 
-    def ends(self, done, status, *lines):
-        """The build ended with this status after these lines, and nothing is left."""
+    def check_end(self, done, status, *lines):
+        """Checks that the build ended with this status and these lines, and left nothing."""
         self.assertEqual((done.returncode, done.stdout), (status, b""))
         self.assertEqual(done.stderr.decode().splitlines(), list(lines))
-        self.nothing_is_left()
+        self.check_nothing_is_left()
 
 
 class Build(Builds):
-    """A build from directories to a directory."""
+    """Builds from directories to a directory."""
 
-    def test_a_result(self):
+    def test_the_result_is_a_directory(self):
         self.make(b"a/x", b"x", mode=0o600)
         self.make(b"b")
-        self.does(PRINTS)
+        self.set_behavior(PRINTS)
         done = self.build("--workers", "3", "definition", "out", "src=in/a", "b=in/b", "x=y=in/b")
         self.assertEqual(done.returncode, 2)
         done = self.build("--workers", "3", "definition", "out/", "src=in/a", "b=in/b", "src=in/a")
@@ -96,81 +96,82 @@ class Build(Builds):
         one, two = "d 0755 0 0 /\nf 0600 0 0 78 /x\n", "d 0755 0 0 /\n"
         given = f"src= b= src=\nrun --workers 3\n{one}{two}{one}{len(self.given)}"
         self.assertEqual((self.at / "given").read_text(), given)
-        self.nothing_is_left({"out"})
+        self.check_nothing_is_left({"out"})
         self.assertEqual((self.at / "out/b/a").read_text(), "hi")
         for name, mode in [("out", 0o755), ("out/b", 0o555), ("out/b/a", 0o640)]:
             self.assertEqual(stat.S_IMODE((self.at / name).stat().st_mode), mode)
 
-    def test_without_sources_and_workers_into_another_folder(self):
-        self.does(PRINTS)
+    def test_sources_and_workers_are_optional(self):
+        self.set_behavior(PRINTS)
         (self.at / "in").mkdir()
         done = self.build("definition", self.at / "in" / "out")
         self.assertEqual(done.returncode, 0)
         self.assertEqual((self.at / "given").read_text(), f"\nrun\n{len(self.given)}")
         self.assertEqual(os.listdir(self.at / "in"), ["out"])
-        self.nothing_is_left()
+        self.check_nothing_is_left()
 
     def test_a_failure_is_explained(self):
-        self.does(FAILS)
+        self.set_behavior(FAILS)
         done = self.build("definition", "out")
-        told = run("explain", "--definition", self.place(b"definition"), "failed", "1", "action", "0", "fault", "21")
-        meaning = [f"  {line}" for line in told.stdout.decode().splitlines()]
+        words = ["failed", "1", "action", "0", "fault", "21"]
+        explained = run("explain", "--definition", self.place(b"definition"), *words)
+        meaning = [f"  {line}" for line in explained.stdout.decode().splitlines()]
         self.assertEqual(meaning[-1], "  action 0: copy /none -> /b")
         prefix = ["running definition", "failed 1 action 0 fault 21"]
-        self.ends(done, 1, *prefix, *meaning, "something else", "nothing is written")
+        self.check_end(done, 1, *prefix, *meaning, "something else", "nothing is written")
 
-    def test_the_status_of_the_program(self):
+    def test_the_exit_status_is_that_of_the_program(self):
         for status in [2, 3, 77]:
-            self.does(f"sys.exit({status})")
-            self.ends(self.build("definition", "out"), status, "running definition", "nothing is written")
-        self.does("os.kill(os.getpid(), signal.SIGKILL)")
-        self.ends(self.build("definition", "out"), 137, "running definition", "nothing is written")
+            self.set_behavior(f"sys.exit({status})")
+            self.check_end(self.build("definition", "out"), status, "running definition", "nothing is written")
+        self.set_behavior("os.kill(os.getpid(), signal.SIGKILL)")
+        self.check_end(self.build("definition", "out"), 137, "running definition", "nothing is written")
 
-    def test_a_result_that_is_no_tree(self):
-        self.does('sys.stdout.write("d 0755 0 0 /\\nd 0555 0 0 /a\\nd 0555 0 0 /a/b\\nx\\n")')
+    def test_a_result_that_is_not_a_tree_is_refused(self):
+        self.set_behavior('sys.stdout.write("d 0755 0 0 /\\nd 0555 0 0 /a\\nd 0555 0 0 /a/b\\nx\\n")')
         line = "line 4: neither d MODE UID GID PATH nor f MODE UID GID CONTENT PATH"
         done = self.build("definition", "out")
-        self.ends(done, 2, "running definition", "writing out", line, "nothing is written")
+        self.check_end(done, 2, "running definition", "writing out", line, "nothing is written")
 
-    def test_a_result_that_comes_to_be_there_and_locked_directories_that_go(self):
-        self.does(PRINTS + 'os.mkdir("out")\nopen("out/mine", "w").close()\n')
+    def test_a_result_created_meanwhile_is_kept_and_locked_directories_are_removed(self):
+        self.set_behavior(PRINTS + 'os.mkdir("out")\nopen("out/mine", "w").close()\n')
         done = self.build("definition", "out")
         self.assertEqual(done.returncode, 2)
-        self.assertEqual(done.stderr.splitlines()[-1], b"out: is there already")
+        self.assertEqual(done.stderr.splitlines()[-1], b"out: already exists")
         self.assertEqual(os.listdir(self.at / "out"), ["mine"])
-        self.nothing_is_left({"out"})
+        self.check_nothing_is_left({"out"})
 
-    def test_what_is_not_there(self):
+    def test_missing_files_and_programs_are_refused(self):
         self.make(b"a", b"a")
-        self.does(PRINTS)
-        self.ends(self.build("none", "out"), 2, "none: no file is there")
-        self.ends(self.build("definition", "in"), 2, "in: is there already")
-        self.ends(self.build("definition", "in/a"), 2, "in/a: is there already")
-        self.ends(self.build("definition", "/"), 2, "/: is there already")
-        missing = "none: no program is there; --llbm PROGRAM names another one"
-        self.ends(self.build("definition", "out", llbm="none"), 2, missing)
+        self.set_behavior(PRINTS)
+        self.check_end(self.build("none", "out"), 2, "none: there is no such file")
+        self.check_end(self.build("definition", "in"), 2, "in: already exists")
+        self.check_end(self.build("definition", "in/a"), 2, "in/a: already exists")
+        self.check_end(self.build("definition", "/"), 2, "/: already exists")
+        missing = "none: there is no such program; --llbm PROGRAM names another one"
+        self.check_end(self.build("definition", "out", llbm="none"), 2, missing)
         for name, cause in [("none", "No such file or directory"), ("in/a", "Not a directory")]:
             lines = [f"reading src from {name}", f"{name}: {cause}", "nothing is written"]
-            self.ends(self.build("definition", "out", f"src={name}"), 2, *lines)
-        self.ends(self.build("definition", "none/out"), 2, "none: no directory is there")
+            self.check_end(self.build("definition", "out", f"src={name}"), 2, *lines)
+        self.check_end(self.build("definition", "none/out"), 2, "none: there is no such directory")
         self.assertFalse((self.at / "given").exists())
 
-    def test_a_program_that_does_not_start(self):
+    def test_a_program_that_does_not_start_is_reported(self):
         self.llbm.write_text("#!/nowhere\n")
         done = self.build("definition", "out")
         self.assertEqual(done.returncode, 3)
         self.assertEqual(done.stderr.splitlines()[0], b"running definition")
-        self.nothing_is_left()
+        self.check_nothing_is_left()
 
     def test_command_lines_are_refused(self):
         for words in [[], ["definition"], ["definition", "out", "src"], ["definition", "out", "src="]]:
             self.assertEqual(self.build(*words).returncode, 2, words)
-        self.nothing_is_left()
+        self.check_nothing_is_left()
 
-    def test_archives_as_sources(self):
+    def test_sources_can_be_archives(self):
         given = tar(entry("x", b"x", mode=0o600, owner=(7, 8)))
         tree = b"d 0755 0 0 /\nf 0600 0 0 78 /x\n"
-        self.does(PRINTS)
+        self.set_behavior(PRINTS)
         for name, packed in [("a.tar", given), ("b.tar.gz", gzip.compress(given)), ("c.tgz", gzip.compress(given))]:
             self.file(name.encode(), packed)
             done = self.build("definition", f"out-{name[0]}", f"src={name}")
@@ -180,54 +181,54 @@ class Build(Builds):
         self.make(b"d.tar/x", b"x", mode=0o600)
         self.assertEqual(self.build("definition", "out-d", "src=in/d.tar").returncode, 0)
         self.assertEqual((self.at / "given").read_bytes(), b"src=\nrun\n%b%d" % (tree, len(self.given)))
-        self.nothing_is_left({"a.tar", "b.tar.gz", "c.tgz", "out-a", "out-b", "out-c", "out-d"})
+        self.check_nothing_is_left({"a.tar", "b.tar.gz", "c.tgz", "out-a", "out-b", "out-c", "out-d"})
 
-    def test_archives_that_are_refused(self):
-        self.does(PRINTS)
+    def test_faulty_archives_are_refused(self):
+        self.set_behavior(PRINTS)
         self.file(b"in.tar", b"")
         done = self.build("definition", "out", "src=in.tar")
         self.assertEqual(done.returncode, 2)
-        lines = ["reading src from in.tar", "there is no archive", "nothing is written"]
+        lines = ["reading src from in.tar", "the archive is empty", "nothing is written"]
         self.assertEqual(done.stderr.decode().splitlines(), lines)
         lines = ["reading src from none.tar", "none.tar: No such file or directory", "nothing is written"]
         os.unlink(self.at / "in.tar")
-        self.ends(self.build("definition", "out", "src=none.tar"), 2, *lines)
+        self.check_end(self.build("definition", "out", "src=none.tar"), 2, *lines)
 
-    def test_an_archive_as_the_result(self):
-        self.does(PRINTS)
+    def test_the_result_can_be_an_archive(self):
+        self.set_behavior(PRINTS)
         done = self.build("definition", "out.tar")
         self.assertEqual((done.returncode, done.stdout), (0, b""))
         lines = ["running definition", "writing out.tar", "out.tar is written"]
         self.assertEqual(done.stderr.decode().splitlines(), lines)
-        self.nothing_is_left({"out.tar"})
+        self.check_nothing_is_left({"out.tar"})
         text = b"d 0755 0 0 /\nd 0555 0 0 /b\nf 0640 0 0 6869 /b/a\n"
         self.assertEqual((self.at / "out.tar").read_bytes(), run("tar-of-tree", text=text).stdout)
         self.assertEqual(stat.S_IMODE((self.at / "out.tar").stat().st_mode), 0o644)
         before = (self.at / "out.tar").stat()
         done = self.build("definition", "out.tar")
-        self.assertEqual((done.returncode, done.stderr), (2, b"out.tar: is there already\n"))
+        self.assertEqual((done.returncode, done.stderr), (2, b"out.tar: already exists\n"))
         self.assertTrue(os.path.samestat(before, (self.at / "out.tar").stat()))
 
-    def test_an_archive_that_comes_to_be_there(self):
-        self.does(PRINTS + 'open("out.tar", "w").close()\n')
+    def test_an_archive_created_meanwhile_is_kept(self):
+        self.set_behavior(PRINTS + 'open("out.tar", "w").close()\n')
         done = self.build("definition", "out.tar")
         self.assertEqual(done.returncode, 2)
-        self.assertEqual(done.stderr.splitlines()[-1], b"out.tar: is there already")
+        self.assertEqual(done.stderr.splitlines()[-1], b"out.tar: already exists")
         self.assertEqual((self.at / "out.tar").read_bytes(), b"")
-        self.nothing_is_left({"out.tar"})
+        self.check_nothing_is_left({"out.tar"})
 
     def test_a_packed_result_is_refused(self):
-        self.does(PRINTS)
+        self.set_behavior(PRINTS)
         for name in ["out.tar.gz", "out.tgz", "out.tar.xz"]:
-            self.ends(self.build("definition", name), 2, f"{name}: a result is a directory or a .tar")
-        self.does('sys.stdout.write("x\\n")')
+            self.check_end(self.build("definition", name), 2, f"{name}: a result is a directory or a .tar")
+        self.set_behavior('sys.stdout.write("x\\n")')
         line = "line 1: neither d MODE UID GID PATH nor f MODE UID GID CONTENT PATH"
         lines = ["running definition", "writing out.tar", line, "nothing is written"]
-        self.ends(self.build("definition", "out.tar"), 2, *lines)
+        self.check_end(self.build("definition", "out.tar"), 2, *lines)
 
     def start(self):
-        """A build that waits for its program."""
-        self.does(WAITS)
+        """Starts a build that waits for its program."""
+        self.set_behavior(WAITS)
         child = subprocess.Popen(
             command("build", "--llbm", self.llbm, "definition", "out"), stderr=subprocess.PIPE, **self.settings
         )
@@ -238,23 +239,23 @@ class Build(Builds):
         self.assertEqual(len(os.listdir(self.held)), 1)
         return child
 
-    def test_an_interrupt(self):
+    def test_an_interrupt_leaves_nothing(self):
         for number in [signal.SIGINT, signal.SIGTERM, signal.SIGHUP]:
             child = self.start()
             child.send_signal(number)
             self.assertEqual(child.stderr.read(), b"interrupted: nothing is written\n")
             self.assertEqual(child.wait(60), 128 + number)
-            self.nothing_is_left()
+            self.check_nothing_is_left()
 
-    def test_many_interrupts(self):
+    def test_several_interrupts_leave_nothing(self):
         child = self.start()
         for number in [signal.SIGINT, signal.SIGTERM, signal.SIGINT]:
             child.send_signal(number)
         self.assertIn(child.wait(60), (128 + signal.SIGINT, 128 + signal.SIGTERM))
-        self.nothing_is_left()
+        self.check_nothing_is_left()
 
-    def test_an_interrupt_that_is_ignored_before(self):
-        self.does('sys.stderr.write("waiting\\n")\nsys.stderr.flush()\ntime.sleep(1)\n' + PRINTS)
+    def test_a_signal_that_was_ignored_stays_ignored(self):
+        self.set_behavior('sys.stderr.write("waiting\\n")\nsys.stderr.flush()\ntime.sleep(1)\n' + PRINTS)
         child = subprocess.Popen(
             command("build", "--llbm", self.llbm, "definition", "out"), stderr=subprocess.PIPE, **self.settings,
             preexec_fn=lambda: signal.signal(signal.SIGHUP, signal.SIG_IGN),
@@ -264,4 +265,4 @@ class Build(Builds):
             pass
         child.send_signal(signal.SIGHUP)
         self.assertEqual(child.wait(60), 0)
-        self.nothing_is_left({"out"})
+        self.check_nothing_is_left({"out"})

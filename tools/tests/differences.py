@@ -10,36 +10,36 @@ NOTHING = b"left out: nothing\n"
 
 
 def contents(content):
-    """The contents of a file as a line tells them."""
+    """Returns the contents of a file as a line shows them."""
     return f"contents {len(content)} sha256:{hashlib.sha256(content).hexdigest()}"
 
 
 class DiffOfTrees(Folder):
-    """In what two trees differ."""
+    """The differences between two trees."""
 
     def tree(self, name, *lines):
-        """A file with the text of these lines below the root's."""
+        """Writes a tree text with these lines below the root's."""
         return self.file(name, self.text(["d 0755 0 0 /", *lines]))
 
-    def differ(self, first, second, *lines, told=b"", words=()):
-        """The trees differ by these lines, and the other way round by as many."""
+    def check_lines(self, first, second, *lines, errors=b"", words=()):
+        """Checks that these lines are the differences between the trees."""
         done = run("diff-of-trees", *words, first, second)
-        self.answers(done, 1 if lines else 0, self.text(lines), told)
+        self.check_run(done, 1 if lines else 0, self.text(lines), errors)
 
-    def test_equal_trees(self):
+    def test_equal_trees_have_no_differences(self):
         first = self.tree(b"first", "d 0755 1 2 /a", "f 0644 3 4 6869 /a/b")
-        self.differ(first, first)
-        self.differ(first, self.tree(b"second", "d 0755 1 2 /a", "f 0644 3 4 6869 /a/b"))
+        self.check_lines(first, first)
+        self.check_lines(first, self.tree(b"second", "d 0755 1 2 /a", "f 0644 3 4 6869 /a/b"))
 
-    def test_paths_that_one_tree_has(self):
+    def test_paths_of_one_tree_are_added_or_removed(self):
         first = self.tree(b"first", "d 0700 1 2 /a", "f 0644 0 0 6869 /a/b")
         second = self.tree(b"second", "f 0600 3 4 - /c d")
-        gone = ["directory mode 0700 owner 1:2 /a", f"file mode 0644 owner 0:0 {contents(b'hi')} /a/b"]
+        removed = ["directory mode 0700 owner 1:2 /a", f"file mode 0644 owner 0:0 {contents(b'hi')} /a/b"]
         new = f"file mode 0600 owner 3:4 {contents(b'')} /c d"
-        self.differ(first, second, *(f"removed {line}" for line in gone), f"added {new}")
-        self.differ(second, first, *(f"added {line}" for line in gone), f"removed {new}")
+        self.check_lines(first, second, *(f"removed {line}" for line in removed), f"added {new}")
+        self.check_lines(second, first, *(f"added {line}" for line in removed), f"removed {new}")
 
-    def test_what_differs(self):
+    def test_changed_paths_have_the_changed_properties(self):
         one, two = contents(b"a"), contents(b"bc")
         new = two.removeprefix("contents ")
         for before, after, line in [
@@ -52,20 +52,20 @@ class DiffOfTrees(Folder):
             ("d 0755 0 0", "d 0700 0 0", "mode 0755 -> 0700"),
         ]:
             first, second = self.tree(b"first", f"{before} /x y"), self.tree(b"second", f"{after} /x y")
-            self.differ(first, second, f"changed {line} /x y")
+            self.check_lines(first, second, f"changed {line} /x y")
 
-    def test_the_root(self):
+    def test_the_root_is_compared(self):
         first, second = self.file(b"first", b"d 0755 0 0 /\n"), self.file(b"second", b"d 0711 0 9 /\n")
-        self.differ(first, second, "changed mode 0755 -> 0711 owner 0:0 -> 0:9 /")
+        self.check_lines(first, second, "changed mode 0755 -> 0711 owner 0:0 -> 0:9 /")
 
     def test_lines_are_in_path_order(self):
         first = self.tree(b"first", "d 0755 0 0 /a", "d 0755 0 0 /a/b", "d 0755 0 0 /b")
         second = self.tree(b"second", "d 0700 0 0 /a", "d 0755 0 0 /a-b", "d 0755 0 0 /c")
         lines = ["changed mode 0755 -> 0700 /a", "removed directory mode 0755 owner 0:0 /a/b"]
         lines += ["added directory mode 0755 owner 0:0 /a-b", "removed directory mode 0755 owner 0:0 /b"]
-        self.differ(first, second, *lines, "added directory mode 0755 owner 0:0 /c")
+        self.check_lines(first, second, *lines, "added directory mode 0755 owner 0:0 /c")
 
-    def test_texts_directories_and_archives_at_will(self):
+    def test_texts_directories_and_archives_can_be_mixed(self):
         self.make(b"a/b", b"hi", mode=0o640)
         lines = ["d 0755 OWN /a", "f 0640 OWN 6869 /a/b"]
         text = self.file(b"text", self.text(["d 0755 OWN /", *lines]))
@@ -74,54 +74,54 @@ class DiffOfTrees(Folder):
         archive = self.file(b"x.tar", given)
         directory = self.place(b"in")
         for first, second, count in [(text, directory, 1), (directory, archive, 2), (archive, text, 1)]:
-            self.differ(first, second, told=NOTHING * count)
+            self.check_lines(first, second, errors=NOTHING * count)
         done = run("diff-of-trees", "-", archive, text=self.text(["d 0755 OWN /", *lines]))
-        self.passes(done, told=NOTHING)
+        self.check_success(done, errors=NOTHING)
         os.rename(directory, self.place(b"in.tar"))
-        self.differ(self.place(b"in.tar"), archive, told=NOTHING * 2)
+        self.check_lines(self.place(b"in.tar"), archive, errors=NOTHING * 2)
 
-    def test_one_owner_for_directories_and_archives(self):
+    def test_directories_and_archives_can_have_one_owner(self):
         self.make(b"a", b"hi")
         archive = self.file(b"x.tar", tar(entry("a", b"hi", owner=(7, 8))))
         words = ["--owner", "1:2"]
-        self.differ(self.place(b"in"), archive, told=NOTHING * 2, words=words)
+        self.check_lines(self.place(b"in"), archive, errors=NOTHING * 2, words=words)
         text = self.tree(b"text", "f 0644 1 2 6869 /a")
-        self.differ(text, archive, "changed owner 0:0 -> 1:2 /", told=NOTHING, words=words)
+        self.check_lines(text, archive, "changed owner 0:0 -> 1:2 /", errors=NOTHING, words=words)
 
-    def test_what_is_left_out(self):
+    def test_what_is_left_out_is_named_or_refused(self):
         archive = self.file(b"x.tar", tar(entry("a", b"a"), other("b", tarfile.SYMTYPE, linkname="a")))
         text = self.tree(b"text", "f 0644 0 0 61 /a")
-        told = b"/b: left out: a symbolic link\nleft out: 1 symbolic link\n"
-        self.differ(text, archive, told=told)
-        told += b"refused: something was left out\n" + archive + b": no tree could be read\n"
-        self.answers(run("diff-of-trees", "--strict", text, archive), 2, b"", told)
+        errors = b"/b: left out: a symbolic link\nleft out: 1 symbolic link\n"
+        self.check_lines(text, archive, errors=errors)
+        errors += b"refused: something was left out\n" + archive + b": could not be read as a tree\n"
+        self.check_run(run("diff-of-trees", "--strict", text, archive), 2, b"", errors)
         self.make(b"a", b"a")
         os.symlink(b"a", self.place(b"in", b"link"))
         done = run("diff-of-trees", "--strict", self.place(b"in"), text)
-        told = b"/link: left out: a symbolic link\nleft out: 1 symbolic link\n"
-        self.answers(done, 2, b"", told + self.place(b"in") + b": no tree could be read\n")
+        errors = b"/link: left out: a symbolic link\nleft out: 1 symbolic link\n"
+        self.check_run(done, 2, b"", errors + self.place(b"in") + b": could not be read as a tree\n")
 
-    def test_what_is_refused(self):
+    def test_faulty_and_missing_trees_are_refused(self):
         good = self.tree(b"good", "f 0644 0 0 61 /a")
         bad = self.file(b"bad", b"d 0755 0 0 /\nd 0755 0 0 /b\nd 0755 0 0 /a\n")
-        told = bad + b": line 3: the path is not above that of the line before\n"
-        self.answers(run("diff-of-trees", good, bad), 2, b"", told)
-        self.answers(run("diff-of-trees", bad, good), 2, b"", told)
+        errors = bad + b": line 3: the path does not come after that of the line before\n"
+        self.check_run(run("diff-of-trees", good, bad), 2, b"", errors)
+        self.check_run(run("diff-of-trees", bad, good), 2, b"", errors)
         archive = self.file(b"x.tar", b"x")
         done = run("diff-of-trees", good, archive)
         self.assertEqual((done.returncode, done.stdout), (2, b""))
-        self.assertTrue(done.stderr.endswith(archive + b": no tree could be read\n"))
+        self.assertTrue(done.stderr.endswith(archive + b": could not be read as a tree\n"))
         for name in [b"none", b"good/a"]:
             done = run("diff-of-trees", good, self.place(name))
             self.assertEqual((done.returncode, done.stdout), (2, b""), done.stderr)
-        self.answers(run("diff-of-trees", "-", "-"), 2, b"", b"both trees are to come from standard input\n")
+        self.check_run(run("diff-of-trees", "-", "-"), 2, b"", b"only one tree can come from standard input\n")
         for words in [[], [good], [good, good, good], ["--owner=0", good, good]]:
             self.assertEqual(run("diff-of-trees", *words).returncode, 2, words)
 
-    def test_standard_streams_that_fail(self):
+    def test_failing_standard_streams_are_reported(self):
         good = self.tree(b"good", "f 0644 0 0 61 /a")
-        self.answers(run_closed(0, "diff-of-trees", "-", good), 3, b"", b"standard input is closed\n")
+        self.check_run(run_closed(0, "diff-of-trees", "-", good), 3, b"", b"standard input is closed\n")
         with open("/dev/full", "wb") as output:
             done = run_into(output, "diff-of-trees", good, self.tree(b"other"))
-        told = b"the differences could not be written: No space left on device\n"
-        self.assertEqual((done.returncode, done.stderr), (3, told))
+        errors = b"the differences could not be written: No space left on device\n"
+        self.assertEqual((done.returncode, done.stderr), (3, errors))

@@ -1,4 +1,4 @@
-"""Tests of `explain`, and of what it and others read of a definition."""
+"""Tests of `explain`, and of the parsing of definitions."""
 
 import os
 import random
@@ -15,21 +15,21 @@ ORDINARY = {"k": "3", "i": "1", "N": "12", "V": "7", "C": "0", "P": "5", "WORD":
 
 
 class Definitions(unittest.TestCase):
-    """What is read of a definition."""
+    """Parsing of definitions."""
 
-    def unreadable(self, cause, call, *given):
-        """The call is refused for this cause."""
+    def check_unreadable(self, cause, call, *given):
+        """Checks that the call is refused for this cause."""
         with self.assertRaises(definition.Unreadable) as caught:
             call(*given)
         self.assertEqual(str(caught.exception), cause)
 
-    def test_records(self):
+    def test_bytes_are_parsed_into_records(self):
         data = base.number(1, -1) + base.part(2, "ab") + b"\x1d1234" + b"\x2112345678"
         wanted = [(1, 0, (1 << 64) - 1), (2, 2, b"ab"), (3, 5, b"1234"), (4, 1, b"12345678")]
         self.assertEqual(list(definition.records(data)), wanted)
         self.assertEqual(list(definition.records(b"\x88\x80\x00\x81\x00")), [(1, 0, 1)])
 
-    def test_bytes_that_are_no_records(self):
+    def test_malformed_records_are_refused(self):
         ends, long = "the bytes end inside a record", "a number has more than 64 bits"
         for data, cause in [
             (b"\x08", ends), (b"\x88", ends), (b"\x12\x02a", ends), (b"\x0d123", ends), (b"\x091234567", ends),
@@ -37,27 +37,27 @@ class Definitions(unittest.TestCase):
             (b"\x00\x00", "a record has the field 0"), (base.varint(1 << 32), "a record has the field 536870912"),
             (b"\x0b", "a record has the wire type 3"), (b"\x0f", "a record has the wire type 7"),
         ]:
-            self.unreadable(cause, list, definition.records(data))
+            self.check_unreadable(cause, list, definition.records(data))
 
-    def test_the_last_member_of_a_oneof_holds(self):
+    def test_the_last_member_of_a_oneof_is_used(self):
         first, second = base.source("local://a"), base.file_op(base.rm("/a"))
         self.assertEqual(definition.texts_of(definition.read("Op", first + second)), ["rm /a"])
         self.assertEqual(definition.texts_of(definition.read("Op", second + first)), ["local://a"])
         again = definition.read("Op", second + first + base.file_op(base.rm("/b")))
         self.assertEqual(definition.texts_of(again), ["rm /b"])
 
-    def test_a_singular_message_goes_on(self):
+    def test_the_parts_of_a_singular_message_are_joined(self):
         one, two = base.file_op(base.rm("/a")), base.file_op(base.rm("/b"))
         self.assertEqual(definition.texts_of(definition.read("Op", one + two)), ["rm /a", "rm /b"])
         self.assertEqual(definition.read("Input", base.number(2, 5) + base.number(2, -1)), {"index": -1})
 
-    def test_fields_that_do_not_read(self):
-        self.unreadable("digest has the wire type 0", definition.read, "Input", base.number(1, 5))
-        self.unreadable("digest is not UTF-8", definition.read, "Input", base.part(1, b"\xff"))
-        self.unreadable("def has the wire type 0", definition.entries_of, base.number(1, 5))
+    def test_malformed_fields_are_refused(self):
+        self.check_unreadable("digest has the wire type 0", definition.read, "Input", base.number(1, 5))
+        self.check_unreadable("digest is not UTF-8", definition.read, "Input", base.part(1, b"\xff"))
+        self.check_unreadable("def has the wire type 0", definition.entries_of, base.number(1, 5))
         self.assertEqual(definition.entries_of(base.number(9, 5) + base.part(2, "x") + base.part(1, "ab")), [b"ab"])
 
-    def test_scripts_and_commands(self):
+    def test_a_script_is_split_into_commands(self):
         text = "a  && b c &&d && e&& ; f || g; || h"
         op = definition.read("Op", base.exec_op("/bin/sh", "-c", text))
         self.assertEqual(definition.script_of(op), text)
@@ -66,20 +66,20 @@ class Definitions(unittest.TestCase):
             op = definition.read("Op", base.exec_op(*words))
             self.assertEqual((definition.script_of(op), definition.commands_of(op)), (script, [script]))
 
-    def test_an_entry_that_stands_twice_is_one_row(self):
+    def test_a_repeated_entry_is_one_row(self):
         one, two = base.source("local://a"), base.source("local://b")
         both = base.merge(one, two, one)
         graph = definition.graph_of([two, one, two, both, one, base.inputs(both)])
         self.assertEqual(graph, definition.Graph([0, 1, 3], [[], [], [(1, 0), (0, 0), (1, 0)]], (2, 0)))
 
-    def test_the_terminal_is_the_first_of_its_kind_and_no_vertex(self):
+    def test_the_terminal_is_not_a_vertex_even_if_repeated(self):
         one = base.source("local://a")
         terminal = base.inputs((one, 2))
         graph = definition.graph_of([terminal, one, base.merge(terminal), terminal])
         self.assertEqual(graph, definition.Graph([1], [[]], (0, 2)))
 
     def numbered(self, links, start):
-        """The rows by vertex number, by the rule's own words."""
+        """Returns the rows in vertex order, computed directly from the rule."""
         reached = {start}
         while any(not set(links[row]) <= reached for row in reached):
             reached |= {named for row in reached for named in links[row]}
@@ -88,7 +88,7 @@ class Definitions(unittest.TestCase):
             order.append(min(row for row in reached - set(order) if set(links[row]) <= set(order)))
         return order
 
-    def test_the_numbering_is_that_of_the_rule(self):
+    def test_the_numbering_follows_the_rule(self):
         chance = random.Random(1)
         for _ in range(200):
             count = chance.randint(1, 12)
@@ -117,24 +117,24 @@ class Definitions(unittest.TestCase):
 
 
 class Explain(Folder):
-    """What is said of a line."""
+    """Explanations of lines."""
 
     def setUp(self):
         super().setUp()
         self.page = faults.read_page()
 
-    def told(self, line, *words):
-        """What is said of a line that is given as words."""
+    def explained(self, line, *words):
+        """Returns the explanation of a line that is given as words."""
         done = run("explain", *words, "--", *line.split(" "))
         self.assertEqual((done.returncode, done.stderr), (0, b""), line)
         return done.stdout.decode().splitlines()
 
     def sentences(self, number):
-        """What the page says of a number, for the program's users."""
+        """Returns what the page says about a number that the program prints."""
         return [f"{cause.sentence} {cause.advice}" for cause in self.page.causes_of(number)]
 
     def arguments_of(self, number):
-        """Ordinary arguments of a fault."""
+        """Returns typical arguments of a fault."""
         found = []
         for argument in self.page.causes[number][0].arguments:
             if argument == "FAULT":
@@ -149,20 +149,20 @@ class Explain(Folder):
         lines = [" ".join(["fault", str(number), *self.arguments_of(number)]) for number in self.page.causes]
         done = run("explain", text="\n".join(lines).encode())
         self.assertEqual((done.returncode, done.stderr), (0, b""))
-        told = done.stdout.decode().splitlines()
+        explained = done.stdout.decode().splitlines()
         for number, line in zip(self.page.causes, lines):
-            place = told.index(line)
+            place = explained.index(line)
             first, *others = self.sentences(number)
-            self.assertRegex(told[place + 1], rf"^  {number}( \(.*\))?: {re.escape(first)}$")
-            self.assertEqual(told[place + 2 : place + 2 + len(others)], [f"  or {number}: {text}" for text in others])
+            self.assertRegex(explained[place + 1], rf"^  {number}( \(.*\))?: {re.escape(first)}$")
+            self.assertEqual(explained[place + 2 :][: len(others)], [f"  or {number}: {text}" for text in others])
 
     def test_each_name_has_its_sentence(self):
         for number, prefix in [(88, "fault 88 0 "), (89, "fault 89 0 "), (161, "fault 161 3 ")]:
             rows = self.page.names[number].items()
             lines = [prefix + name + " 71 apk" * len(row.arguments) for name, row in rows]
-            told = run("explain", text="\n".join(lines).encode()).stdout.decode().splitlines()
+            explained = run("explain", text="\n".join(lines).encode()).stdout.decode().splitlines()
             for line, (name, row) in zip(lines, rows):
-                self.assertEqual(told[told.index(line) + 2], f"  {name}: {row.sentence} {row.advice}")
+                self.assertEqual(explained[explained.index(line) + 2], f"  {name}: {row.sentence} {row.advice}")
 
     def test_arguments_are_shown_by_their_letters(self):
         for line, prefix in [
@@ -171,58 +171,59 @@ class Explain(Folder):
             ("fault 183", "183: "), ("fault 183 a", "183 (WORD = a): "),
             ("fault 121 my  src", "121 (NAME = my  src): "), ("fault 121 ", "121 (NAME = ): "),
         ]:
-            self.assertTrue(self.told(line)[0].startswith(prefix), line)
+            self.assertTrue(self.explained(line)[0].startswith(prefix), line)
 
-    def test_faults_inside_one_another_come_after_one_another(self):
+    def test_nested_faults_are_explained_in_order(self):
         for line, numbers in [
             ("fault 82 3 12", ["82", "12"]), ("fault 81 13", ["81", "13"]), ("fault 171 135 a b", ["171", "135"]),
             ("fault 89 0 Script 71 apk", ["89", "Script", "71"]), ("fault 51 26", ["51", "26"]),
             ("failed 2 action 0 fault 21", ["failed", "21"]), ("failed 2 action 0 52", ["failed", "52"]),
         ]:
-            self.assertEqual([text.split(" ")[0].strip(":") for text in self.told(line)], numbers)
+            self.assertEqual([text.split(" ")[0].strip(":") for text in self.explained(line)], numbers)
 
-    def test_a_failure(self):
+    def test_a_failure_is_explained(self):
         action, command = self.page.failure("failed V action"), self.page.failure("failed V command")
         wanted = f"failed (V = 2, A = 0, N = 21): {action.sentence} {action.advice}"
-        self.assertEqual(self.told("failed 2 action 0 fault 21")[0], wanted)
-        self.assertEqual(self.told("failed 2 action 0 21")[0], wanted)
+        self.assertEqual(self.explained("failed 2 action 0 fault 21")[0], wanted)
+        self.assertEqual(self.explained("failed 2 action 0 21")[0], wanted)
         wanted = [f"failed (V = 1, C = 3, S = 1): {command.sentence} {command.advice}"]
-        self.assertEqual(self.told("failed 1 command 3 status 1"), wanted)
-        self.assertEqual(self.told("failed 1 command 3 1"), wanted)
+        self.assertEqual(self.explained("failed 1 command 3 status 1"), wanted)
+        self.assertEqual(self.explained("failed 1 command 3 1"), wanted)
 
-    def test_lines_that_are_none(self):
+    def test_other_lines_are_refused(self):
         for line, cause in [
             ("hello", "neither a fault nor a failure"), ("failed 2", "neither a fault nor a failure"),
             ("Fault 1", "neither a fault nor a failure"), ("failed 1 action 0 fault", "neither a fault nor a failure"),
-            ("fault", "a number is missing"), ("fault 7", "there is no fault 7"), ("fault x", "'x' is no number"),
-            ("fault 01", "'01' is no number"), ("fault 82 3", "a number is missing"), ("fault 83 1", "'1' is too much"),
-            ("fault 89 0", "a name is missing after 89"), ("fault 89 0 DiffOp", "'DiffOp' is no name after 89"),
-            ("fault 89 0 NoRoot 71 x", "'71 x' is too much"), ("fault 89 0 Script", "a number is missing"),
+            ("fault", "a number is missing"), ("fault 7", "there is no fault 7"), ("fault x", "'x' is not a number"),
+            ("fault 01", "'01' is not a number"), ("fault 82 3", "a number is missing"),
+            ("fault 83 1", "'1' is unexpected"),
+            ("fault 89 0", "a name is missing after 89"), ("fault 89 0 DiffOp", "'DiffOp' is not a name after 89"),
+            ("fault 89 0 NoRoot 71 x", "'71 x' is unexpected"), ("fault 89 0 Script", "a number is missing"),
             ("failed 1 action 0 fault 7", "there is no fault 7"),
-            ("fault" + " 51" * 9, "no fault has that many inside it"),
+            ("fault" + " 51" * 9, "too many faults inside one another"),
         ]:
             done = run("explain", *line.split(" "))
-            self.answers(done, 2, b"", cause.encode() + b"\n")
+            self.check_run(done, 2, b"", cause.encode() + b"\n")
 
-    def test_lines_on_standard_input(self):
+    def test_lines_on_standard_input_are_explained(self):
         done = run("explain", text=b"fault 1\n\nhello\r\nfault 2\xff\nfailed 1 command 0 status 1")
         self.assertEqual(done.returncode, 2)
-        told = b"line 3: neither a fault nor a failure\nline 4: '2\\\\xff' is no number\n"
-        self.assertEqual(done.stderr, told)
+        errors = b"line 3: neither a fault nor a failure\nline 4: '2\\\\xff' is not a number\n"
+        self.assertEqual(done.stderr, errors)
         lines = done.stdout.decode().splitlines()
         self.assertEqual(lines[:2], ["fault 1", f"  1: {self.sentences(1)[0]}"])
         self.assertEqual(lines[2:5], ["hello", r"fault 2\xff", "failed 1 command 0 status 1"])
         self.assertEqual(len(lines), 6)
 
-    def test_from_anywhere_and_by_a_link(self):
+    def test_the_tool_runs_from_any_folder_and_by_a_link(self):
         link = os.fsdecode(self.place(b"link"))
         os.symlink(TOOLS / "explain", link)
         for tool in [TOOLS / "explain", link]:
             for settings in [{}, {"env": {**os.environ, "PYTHONSAFEPATH": "1"}}]:
                 done = run(tool, "fault", "1", cwd=self.folder, **settings)
-                self.passes(done, f"1: {self.sentences(1)[0]}\n".encode())
+                self.check_success(done, f"1: {self.sentences(1)[0]}\n".encode())
 
-    def test_without_the_page(self):
+    def test_a_missing_page_is_reported(self):
         tools = os.path.join(os.fsdecode(self.folder), "tools")
         os.mkdir(tools)
         for name in ["explain", "faults.py", "definition.py", "common.py", "names.py"]:
@@ -232,18 +233,18 @@ class Explain(Folder):
         self.assertRegex(done.stderr, rb"\A.*/docs/FAULTS\.md: .*No such file.*\n\Z")
         self.assertEqual(sorted(os.listdir(tools)), ["common.py", "definition.py", "explain", "faults.py", "names.py"])
 
-    def test_standard_streams_that_fail(self):
+    def test_failing_standard_streams_are_reported(self):
         with open("/dev/full", "wb") as output:
             done = run_into(output, "explain", "fault", "1")
         self.assertEqual((done.returncode, done.stderr), (3, b"a read or a write failed: No space left on device\n"))
-        self.answers(run_closed(0, "explain"), 3, b"", b"a read or a write failed: standard input is closed\n")
-        self.passes(run_closed(0, "explain", "fault", "1"), f"1: {self.sentences(1)[0]}\n".encode())
+        self.check_run(run_closed(0, "explain"), 3, b"", b"a read or a write failed: standard input is closed\n")
+        self.check_success(run_closed(0, "explain", "fault", "1"), f"1: {self.sentences(1)[0]}\n".encode())
         self.assertEqual(run_closed(1, "explain", "fault", "1").returncode, 3)
-        self.answers(run_closed(2, "explain", "fault", "7"), 2, b"")
+        self.check_run(run_closed(2, "explain", "fault", "7"), 2, b"")
 
 
 class ExplainWithDefinition(Folder):
-    """What is said of a line with the definition that it comes from."""
+    """Explanations of lines with the definition that they come from."""
 
     def setUp(self):
         super().setUp()
@@ -253,57 +254,58 @@ class ExplainWithDefinition(Folder):
         self.entries = [self.words, self.origin, self.files, self.origin, base.inputs(self.words)]
         self.given = self.file(b"definition", base.definition(*self.entries))
 
-    def told(self, line, given=None):
-        """What is said of a line beyond the page's sentences."""
+    def explained(self, line, given=None):
+        """Returns the explanation of a line beyond the page's sentences."""
         done = run("explain", "--definition", given or self.given, text=line.encode())
         self.assertEqual((done.returncode, done.stderr), (0, b""), line)
         lines = [text.strip() for text in done.stdout.decode().splitlines()]
         page = run("explain", text=line.encode()).stdout.decode().splitlines()
         return lines[len(page):]
 
-    def test_rows(self):
+    def test_the_entry_of_a_row_is_shown(self):
         script = "script: true && cp /none /b"
-        self.assertEqual(self.told("fault 89 0 NoRoot"), [f"row 0: {base.digest(self.words)}, exec", script])
+        self.assertEqual(self.explained("fault 89 0 NoRoot"), [f"row 0: {base.digest(self.words)}, exec", script])
         origin = [f"row 3: {base.digest(self.origin)}, source", "identifier: local://src"]
-        self.assertEqual(self.told("fault 88 3 Source"), origin)
+        self.assertEqual(self.explained("fault 88 3 Source"), origin)
         actions = ["action 0: copy /a -> /b/", "action 1: mkfile /c"]
-        self.assertEqual(self.told("fault 89 2 ActionInput"), [f"row 2: {base.digest(self.files)}, file", *actions])
+        wanted = [f"row 2: {base.digest(self.files)}, file", *actions]
+        self.assertEqual(self.explained("fault 89 2 ActionInput"), wanted)
         given = f"input 0: {base.digest(self.words)}, output 0"
-        self.assertEqual(self.told("fault 86 4 0"), [f"row 4: {base.digest(self.entries[4])}, no kind", given])
-        self.assertEqual(self.told("fault 90 4 1"), [f"row 4: {base.digest(self.entries[4])}, no kind"])
-        self.assertEqual(self.told("fault 83"), [])
+        self.assertEqual(self.explained("fault 86 4 0"), [f"row 4: {base.digest(self.entries[4])}, no kind", given])
+        self.assertEqual(self.explained("fault 90 4 1"), [f"row 4: {base.digest(self.entries[4])}, no kind"])
+        self.assertEqual(self.explained("fault 83"), [])
 
     def test_vertices_are_numbered_by_the_rule(self):
         wanted = [f"vertex 1, row 2: {base.digest(self.files)}, file", "action 1: mkfile /c"]
-        self.assertEqual(self.told("failed 1 action 1 fault 23"), wanted)
+        self.assertEqual(self.explained("failed 1 action 1 fault 23"), wanted)
         wanted = [f"vertex 2, row 0: {base.digest(self.words)}, exec", "command 1: cp /none /b"]
-        self.assertEqual(self.told("failed 2 command 1 status 1"), [*wanted, "script: true && cp /none /b"])
+        self.assertEqual(self.explained("failed 2 command 1 status 1"), [*wanted, "script: true && cp /none /b"])
 
-    def test_numbers_that_are_none_of_the_definition(self):
-        self.assertEqual(self.told("fault 84 5"), ["the definition: it has no row 5"])
-        self.assertEqual(self.told("failed 3 action 0 fault 21"), ["the definition: it has no vertex 3"])
+    def test_numbers_outside_the_definition_are_reported(self):
+        self.assertEqual(self.explained("fault 84 5"), ["the definition: it has no row 5"])
+        self.assertEqual(self.explained("failed 3 action 0 fault 21"), ["the definition: it has no vertex 3"])
         wanted = [f"vertex 1, row 2: {base.digest(self.files)}, file"]
-        self.assertEqual(self.told("failed 1 action 2 fault 21"), wanted)
+        self.assertEqual(self.explained("failed 1 action 2 fault 21"), wanted)
 
-    def test_definitions_that_do_not_read(self):
+    def test_a_definition_that_cannot_be_parsed_is_reported(self):
         given = self.file(b"other", b"\x0a")
-        self.assertEqual(self.told("fault 81 1", given), ["the definition: the bytes end inside a record"])
+        self.assertEqual(self.explained("fault 81 1", given), ["the definition: the bytes end inside a record"])
         given = self.file(b"other", base.definition(self.origin, b"\x0a"))
-        wanted = f"row 1: {base.digest(bytes([10]))}, no op: the bytes end inside a record"
-        self.assertEqual(self.told("fault 82 1 1", given), [wanted])
-        wanted = ["the definition: row 1 is no op: the bytes end inside a record"]
-        self.assertEqual(self.told("failed 0 action 0 fault 21", given), wanted)
+        wanted = f"row 1: {base.digest(bytes([10]))}, not an op: the bytes end inside a record"
+        self.assertEqual(self.explained("fault 82 1 1", given), [wanted])
+        wanted = ["the definition: row 1 is not an op: the bytes end inside a record"]
+        self.assertEqual(self.explained("failed 0 action 0 fault 21", given), wanted)
         done = run("explain", "--definition", self.place(b"none"), "fault", "1")
-        self.answers(done, 3, b"", self.place(b"none") + b": No such file or directory\n")
+        self.check_run(done, 3, b"", self.place(b"none") + b": No such file or directory\n")
 
-    def test_many_actions(self):
+    def test_at_most_sixteen_actions_are_shown(self):
         files = base.file_op(*(base.rm(f"/{place}") for place in range(18)))
         given = self.file(b"other", base.ending(files))
-        told = self.told("fault 89 0 ActionInput", given)
-        self.assertEqual(told[1:], [*(f"action {place}: rm /{place}" for place in range(16)), "and 2 more"])
+        explained = self.explained("fault 89 0 ActionInput", given)
+        self.assertEqual(explained[1:], [*(f"action {place}: rm /{place}" for place in range(16)), "and 2 more"])
 
-    def test_what_cannot_be_printed(self):
+    def test_characters_that_cannot_be_printed_are_escaped(self):
         given = self.file(b"other", base.ending(base.exec_op("write", "/a\n\x1b[1m", "\N{GREEK SMALL LETTER ALPHA}")))
-        told = self.told("failed 0 command 0 status 1", given)
+        explained = self.explained("failed 0 command 0 status 1", given)
         words = "write '/a\\n\\x1b[1m' '\N{GREEK SMALL LETTER ALPHA}'"
-        self.assertEqual(told[1:], [f"command 0: {words}", f"script: {words}"])
+        self.assertEqual(explained[1:], [f"command 0: {words}", f"script: {words}"])

@@ -1,4 +1,4 @@
-"""Tests of `fuzz`, and of the messages and the rules that it tries the program by."""
+"""Tests of `fuzz`, and of its messages and rules."""
 
 import os
 import pathlib
@@ -22,7 +22,7 @@ EXAMPLES = ROOT / "examples"
 
 
 def first_op():
-    """The op of the first run."""
+    """Returns the op of the first run."""
     mkfile = made("FileActionMkFile", path="/a", mode=420, data=b"hi", timestamp=-1)
     action = made("FileAction", input=-1, secondaryInput=-1, mkfile=mkfile)
     return made("Op", file=made("FileOp", actions=(action,)))
@@ -31,25 +31,25 @@ def first_op():
 class Messages(unittest.TestCase):
     """Messages as bytes, as texts, and as records."""
 
-    def test_the_first_run(self):
+    def test_the_first_run_has_the_stored_bytes(self):
         op = first_op()
         ops = [op, made("Op", inputs=(messages.edge(encoded(op)),))]
         data = messages.definition_of([encoded(one) for one in ops])
         self.assertEqual(data, (EXAMPLES / "first-run.definition").read_bytes())
         self.assertEqual(messages.text_of(ops), (EXAMPLES / "first-run.text").read_bytes())
 
-    def test_defaults_are_left_out_but_messages_and_members(self):
+    def test_defaults_are_left_out_except_messages_and_members(self):
         self.assertEqual(made("UserOpt", byID=0), [(2, 0)])
         self.assertEqual(made("MergeInput", input=0), [])
         self.assertEqual(made("ChownOpt", user=[], group=None), [(1, [])])
         self.assertEqual(made("Meta", args=("", "a"), cwd=""), [(1, b""), (1, b"a")])
 
-    def test_records_are_taken_apart_and_joined(self):
+    def test_parsed_records_have_the_same_bytes(self):
         for place in EXAMPLES.glob("*.definition"):
             for entry in definition.entries_of(place.read_bytes()):
-                self.assertEqual(encoded(messages.taken_apart("Op", entry)), entry)
+                self.assertEqual(encoded(messages.parsed("Op", entry)), entry)
         mixed = b"\x09" + b"\x01" * 8 + b"\x0d" + b"\x02" * 4 + b"\x0a\x01\xff"
-        apart = messages.taken_apart("Op", mixed)
+        apart = messages.parsed("Op", mixed)
         self.assertEqual(apart, [(1, Raw(mixed[:9])), (1, Raw(mixed[9:14])), (1, b"\xff")])
         self.assertEqual(encoded(apart), mixed)
 
@@ -57,27 +57,27 @@ class Messages(unittest.TestCase):
         below = encoded(first_op())
         above = encoded(made("Op", inputs=(messages.edge(below),)))
         top = encoded(made("Op", inputs=(messages.edge(above, 3), messages.edge(below))))
-        after = messages.remade([below, above, top], [b"\x32\x00", above, top])
+        after = messages.with_new_digests([below, above, top], [b"\x32\x00", above, top])
         self.assertEqual(after[0], b"\x32\x00")
         self.assertEqual(after[1], encoded(made("Op", inputs=(messages.edge(after[0]),))))
         wanted = made("Op", inputs=(messages.edge(after[1], 3), messages.edge(after[0])))
         self.assertEqual(after[2], encoded(wanted))
 
-    def test_an_entry_that_comes_to_name_itself_keeps_the_digest(self):
+    def test_an_entry_that_would_name_itself_keeps_the_digest(self):
         below = encoded(first_op())
         own = encoded(made("Op", inputs=(messages.edge(below),)))
-        self.assertEqual(messages.remade([below], [own]), [own])
+        self.assertEqual(messages.with_new_digests([below], [own]), [own])
 
-    def test_the_table_has_what_the_reader_has(self):
+    def test_the_table_agrees_with_the_parser(self):
         for name, fields in definition.MESSAGES.items():
             for number, field in fields.items() if name != "Definition" else ():
                 self.assertEqual(messages.TABLE[name][number][0], field.name)
 
 
-class Made(unittest.TestCase):
-    """What is made and changed at random."""
+class RandomInputs(unittest.TestCase):
+    """Random inputs and changes."""
 
-    def test_made_definitions_are_graphs_and_made_trees_are_trees(self):
+    def test_random_definitions_are_graphs_and_random_trees_are_valid(self):
         for seed in range(200):
             ops = fuzz_made.ops(random.Random(seed))
             data = messages.definition_of([encoded(op) for op in ops])
@@ -99,10 +99,10 @@ class Made(unittest.TestCase):
         self.assertGreater(len(changes), 40)
 
 
-class Held(unittest.TestCase):
-    """The rules by which runs are judged."""
+class RunRules(unittest.TestCase):
+    """The rules that runs have to meet."""
 
-    def test_faults_of_trees(self):
+    def test_a_tree_text_has_its_first_fault(self):
         root = b"d 0755 0 0 /\n"
         for text, fault in [
             (root, None), (root + b"f 0644 0 4294967295 - /a\n", None), (b"", "31 1"), (b"d 0755 0 0 /", "31 1"),
@@ -117,7 +117,7 @@ class Held(unittest.TestCase):
         ]:
             self.assertEqual(tree_fault(text), fault, text)
 
-    def test_runs_that_may_be_and_others(self):
+    def test_allowed_runs_pass_and_others_fail(self):
         rules = Rules(faults.read_page())
         for words, status, out, err in [
             (("run",), 0, b"x", b""), (("run",), 1, b"", b"failed 0 action 1 fault 21\nfailed 2 command 0 status 1\n"),
@@ -136,7 +136,7 @@ class Held(unittest.TestCase):
             with self.assertRaisesRegex(Broken, cause):
                 rules.check(Ran(("run",), b"", status, out, err))
 
-    def test_a_session_that_fits(self):
+    def test_a_consistent_session_passes(self):
         text = b"0 ready\n1 claim 0 0 -> file 1\n0 running 0\nback 0\n0 ready\nfault 172\n0 ready\n"
         session = Session(1, text)
         for count in [0, 1, 0, 0]:
@@ -144,7 +144,7 @@ class Held(unittest.TestCase):
             session.status()
             self.assertEqual(session.count, count)
 
-    def test_sessions_that_do_not_fit(self):
+    def test_inconsistent_sessions_fail(self):
         for text, cause in [
             (b"0 ready\n1 claim 0 0 -> file 1\n0 running 0\nback 0\n0 waiting\n", "after the same 0 events"),
             (b"0 ready\n2 claim 0 0 -> file 1\n", "event 2 where event 1"), (b"1 ready\n", "of all vertices"),
@@ -156,7 +156,7 @@ class Held(unittest.TestCase):
                     session.answer()
                     session.status()
 
-    def test_caches_are_seen(self):
+    def test_cache_mounts_are_found(self):
         cache = made("Mount", dest="/c", mountType=3, cacheOpt=made("CacheOpt", ID="k"))
         for mounts, ids in [((cache,), [b"k"]), ((made("Mount", dest="/"),), [])]:
             op = made("Op", exec=made("ExecOp", mounts=mounts))
@@ -165,17 +165,17 @@ class Held(unittest.TestCase):
 
 
 class Fuzz(Folder):
-    """Runs of the tool, on programs that break a rule."""
+    """Runs of the tool on programs that break a rule."""
 
     def program(self, *lines):
-        """A program of these lines for a shell."""
+        """Writes a shell program with these lines."""
         place = self.file(b"program", "\n".join(["#!/bin/sh", *lines, ""]).encode())
         os.chmod(place, 0o755)
         return os.fsdecode(place)
 
     def fuzz(self, program, *words, cases=3):
-        """A run of the tool by the seed 1."""
-        keep = os.fsdecode(self.place(b"kept"))
+        """Runs the tool with the seed 1."""
+        keep = os.fsdecode(self.place(b"stored"))
         return run("fuzz", "60", "--llbm", program, "--seed", "1", "--cases", str(cases), "--keep", keep, *words)
 
     def test_broken_rules_are_found(self):
@@ -190,17 +190,17 @@ class Fuzz(Folder):
             self.assertEqual((done.returncode, done.stderr), (1, b""), line)
             lines = done.stdout.decode().splitlines()
             self.assertEqual(lines[0], "seed 1")
-            self.assertRegex(lines[1], rf"^case 0 \(\w+\): .*{re.escape(cause)}.*: kept in /")
-            self.assertRegex(lines[-1], "^2 cases in [0-9]+ seconds with seed 1: 2 found something$")
+            self.assertRegex(lines[1], rf"^case 0 \(\w+\): .*{re.escape(cause)}.*: stored in /")
+            self.assertRegex(lines[-1], "^2 cases in [0-9]+ seconds with seed 1: 2 failed$")
 
-    def test_a_finding_is_kept_with_its_command(self):
+    def test_a_finding_is_stored_with_its_command(self):
         done = self.fuzz(self.program("exit 9"), cases=1)
-        kept = pathlib.Path(os.fsdecode(self.place(b"kept"))) / "case-1-0"
-        self.assertIn(f"kept in {kept}", done.stdout.decode())
-        command = (kept / "command").read_text().splitlines()[-1]
+        stored = pathlib.Path(os.fsdecode(self.place(b"stored"))) / "case-1-0"
+        self.assertIn(f"stored in {stored}", done.stdout.decode())
+        command = (stored / "command").read_text().splitlines()[-1]
         self.assertRegex(command, r"/program .* < input-0$")
-        self.assertTrue((kept / "input-0").is_file())
-        self.assertRegex((kept / "cause").read_text(), r"^\w+: status 9\n$")
+        self.assertTrue((stored / "input-0").is_file())
+        self.assertRegex((stored / "cause").read_text(), r"^\w+: status 9\n$")
 
     def test_a_seed_makes_the_same_cases(self):
         logs = []
@@ -223,17 +223,17 @@ class Fuzz(Folder):
         done = run_closed(1, "fuzz", "1", "--llbm", "/bin/true")
         self.assertEqual((done.returncode, done.stderr), (3, b"a read or a write failed: standard output is closed\n"))
 
-    def test_the_program_keeps_the_rules(self):
+    def test_the_program_obeys_the_rules(self):
         if base.llbm is None:
-            self.skipTest("the program is needed, which --llbm PROGRAM names")
+            self.skipTest("the program llbm is needed (--llbm PROGRAM)")
         done = self.fuzz(base.llbm, cases=40)
         self.assertEqual((done.returncode, done.stderr), (0, b""), done.stdout)
-        self.assertRegex(done.stdout, rb"^seed 1\n40 cases in [0-9]+ seconds with seed 1: 0 found something\n$")
+        self.assertRegex(done.stdout, rb"^seed 1\n40 cases in [0-9]+ seconds with seed 1: 0 failed\n$")
 
-    def test_workers_that_answer_otherwise_are_found(self):
+    def test_workers_that_print_something_else_are_found(self):
         if base.llbm is None:
-            self.skipTest("the program is needed, which --llbm PROGRAM names")
+            self.skipTest("the program llbm is needed (--llbm PROGRAM)")
         lines = [f'{base.llbm} "$@" || exit', '[ "$2" != --workers ] || echo "d 0755 0 0 /more"']
         done = self.fuzz(self.program(*lines), "--memory", "0", cases=60)
         self.assertEqual(done.returncode, 1)
-        self.assertIn(b"several workers answer otherwise than one", done.stdout)
+        self.assertIn(b"several workers print something else than one", done.stdout)

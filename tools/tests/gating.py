@@ -13,7 +13,7 @@ from tests.base import ROOT, Folder, run
 
 
 def loaded(name):
-    """A tool as a module."""
+    """Loads a tool as a module."""
     loader = importlib.machinery.SourceFileLoader(name, str(ROOT / name))
     module = importlib.util.module_from_spec(importlib.util.spec_from_loader(name, loader))
     loader.exec_module(module)
@@ -24,10 +24,10 @@ TESTS = "tests, 7 runs of the tools, as root"
 
 
 class WithPrograms(Folder):
-    """A test with programs of its own."""
+    """A test with shell programs."""
 
     def program(self, *lines):
-        """A program of these lines for a shell."""
+        """Writes a shell program with these lines."""
         place = self.file(b"program", "\n".join(["#!/bin/sh", *lines, ""]).encode())
         os.chmod(place, 0o755)
         return os.fsdecode(place)
@@ -36,21 +36,21 @@ class WithPrograms(Folder):
 class Gate(WithPrograms):
     """The counts of the gate."""
 
-    def test_counts_of_parts(self):
+    def test_the_last_line_with_counts_counts(self):
         counts_in = loaded("gate").counts_in
         for lines, status, counts in [
             ([], 0, (1, 0)), ([], 1, (0, 1)), (["190 passed, 0 failed"], 0, (190, 0)),
             (["3 passed, 2 failed"], 1, (3, 2)), (["3 passed, 0 failed"], 1, (3, 1)),
-            (["5 as they should be, 0 not"], 0, (5, 0)), (["190 passed, 0 failed (162 edits refused)"], 0, (190, 0)),
+            (["5 passed, 0 failed"], 0, (5, 0)), (["190 passed, 0 failed (162 edits refused)"], 0, (190, 0)),
             (["1 passed, 1 failed", "2 passed, 0 failed"], 0, (2, 0)),
-            (["FAILED (failures=2, errors=1, skipped=4)", f"90 {TESTS}: one failed"], 1, (87, 3)),
-            (["OK", f"90 {TESTS}: all pass"], 0, (90, 0)),
-            (["9 cases in 1 seconds with seed 3: 0 found something"], 0, (1, 0)),
-            (["9 cases in 1 seconds with seed 3: 2 found something"], 1, (0, 2)),
+            (["FAILED (failures=2, errors=1, skipped=4)", f"90 {TESTS}: some failed"], 1, (87, 3)),
+            (["OK", f"90 {TESTS}: all passed"], 0, (90, 0)),
+            (["9 cases in 1 seconds with seed 3: 0 failed"], 0, (1, 0)),
+            (["9 cases in 1 seconds with seed 3: 2 failed"], 1, (0, 2)),
         ]:
             self.assertEqual(tuple(counts_in(lines, status)), counts, lines)
 
-    def test_parts_on_one_program_and_on_both(self):
+    def test_parts_run_on_one_program_or_on_both(self):
         gate = loaded("gate")
         for given, programs in [("/p", ["/p"]), (None, list(map(str, gate.PROGRAMS)))]:
             words = gate.argparse.Namespace(llbm=given, after=given is not None, fuzz=7, seed="3")
@@ -66,9 +66,9 @@ class Gate(WithPrograms):
 
 
 class Tries(WithPrograms):
-    """The tries of a process."""
+    """The tool `tries`."""
 
-    def test_a_program_that_does_nothing(self):
+    def test_a_program_that_does_nothing_fails(self):
         done = run("tries", self.program("exit 0"))
         self.assertEqual((done.returncode, done.stderr), (1, b""))
         *lines, last = done.stdout.decode().splitlines()
@@ -81,9 +81,9 @@ class Tries(WithPrograms):
             done = run("tries", *words)
             self.assertEqual((done.returncode, done.stdout), (2, b""), words)
 
-    def test_the_program_is_as_it_should_be(self):
+    def test_the_program_passes(self):
         if base.llbm is None:
-            self.skipTest("the program is needed, which --llbm PROGRAM names")
+            self.skipTest("the program llbm is needed (--llbm PROGRAM)")
         done = run("tries", base.llbm)
         self.assertEqual((done.returncode, done.stderr), (0, b""), done.stdout)
         self.assertRegex(done.stdout, b"^[0-9]+ passed, 0 failed\n$")
@@ -146,14 +146,14 @@ esac"""
 
 
 class Replay(WithPrograms):
-    """Pages whose commands are replayed."""
+    """The tool `replay`."""
 
     def replay(self, text, *lines):
-        """A run of the tool on a page of this text."""
+        """Runs the tool on a page with this text."""
         page = self.file(b"page", text.encode())
         return run("replay", "--llbm", self.program(*(lines or (ANSWERS,))), page)
 
-    def test_all_forms(self):
+    def test_all_forms_of_commands_are_replayed(self):
         done = self.replay(PAGE)
         self.assertEqual((done.returncode, done.stderr), (0, b""), done.stdout)
         *lines, last = done.stdout.decode().splitlines()
@@ -161,7 +161,7 @@ class Replay(WithPrograms):
         self.assertEqual([line.split(": ", 1)[1].split(",")[0] for line in lines], ["left out", "left out"])
         self.assertIn(":25: left out", lines[0])
 
-    def test_differences_are_told(self):
+    def test_differences_are_printed(self):
         for text, cause in [
             ("    crates/llbm/out/llbm two\n\nprints `three`\n", "prints 'two\\n', not 'three\\n'"),
             ("    crates/llbm/out/llbm bad\n", "status 1, not 0"),
@@ -175,7 +175,7 @@ class Replay(WithPrograms):
             self.assertTrue(line.endswith(cause), line)
             self.assertEqual(last, "0 passed, 1 failed")
 
-    def test_what_is_written_stays_out_of_the_repository(self):
+    def test_files_are_not_written_to_the_repository(self):
         name = "written-by-a-test-of-replay"
         done = self.replay(f"    crates/llbm/out/llbm two > {name}\n    crates/llbm/out/llbm one >> {name}\n")
         self.assertEqual(done.returncode, 0, done.stdout)
@@ -187,15 +187,15 @@ class Replay(WithPrograms):
             done = run("replay", *words)
             self.assertEqual((done.returncode, done.stdout), (2, b""), words)
 
-    def test_the_page_of_the_repository(self):
+    def test_the_page_of_the_repository_is_as_the_program_prints(self):
         if base.llbm is None:
-            self.skipTest("the program is needed, which --llbm PROGRAM names")
+            self.skipTest("the program llbm is needed (--llbm PROGRAM)")
         done = run("replay", "--llbm", base.llbm, ROOT / "README.md")
         self.assertEqual((done.returncode, done.stderr), (0, b""), done.stdout)
 
 
 class Scripts(unittest.TestCase):
-    """The scripts at the top."""
+    """The scripts at the top of the repository."""
 
     def test_the_gate_can_be_run(self):
         self.assertTrue(os.access(pathlib.Path(ROOT, "gate"), os.X_OK))

@@ -1,4 +1,4 @@
-"""Tests of `lint`, of what it reads of ops and scripts, and, beside the program, of its first finding."""
+"""Tests of `lint`, of its parsing of ops and scripts, and of its first finding compared with the program."""
 
 import random
 import shutil
@@ -20,18 +20,18 @@ RUNS = 300
 
 
 def exec_of(*mounts, args=("true",), meta=b"", more=b"", on=()):
-    """An exec of these mounts, words, further fields of its meta and of itself, on these inputs."""
+    """Returns an exec with these mounts, words, inputs, and further fields of its meta and of itself."""
     words = b"".join(part(1, arg) for arg in args)
     return base.inputs(*on) + part(2, part(1, words + meta) + b"".join(part(2, mount) for mount in mounts) + more)
 
 
 def mount(dest="/", output=-1, kind=0, given=-1, more=b""):
-    """A mount at a dest."""
+    """Returns a mount at a destination."""
     return number(1, given) + part(3, dest) + number(4, output) + number(6, kind) + more
 
 
 def action(member, given=-1, output=-1):
-    """An action of a member, which has its field already."""
+    """Returns an action with an encoded member."""
     return number(1, given) + number(2, given) + number(3, output) + member
 
 
@@ -43,24 +43,24 @@ BY_NAME = part(3, part(1, part(1, part(1, "root"))))
 
 
 class Reading(unittest.TestCase):
-    """What is read of ops, and their first faults by number."""
+    """Parsing of ops, and their first faults by number."""
 
-    def faulty(self, fault, entry):
-        """The entry is no op, for a fault of that number."""
+    def check_fault(self, fault, entry):
+        """Checks that the entry is not an op, with this fault number."""
         with self.assertRaises(op_reading.Faulty, msg=entry) as caught:
             op_reading.read_op(entry)
         self.assertEqual(caught.exception.number, fault, entry)
 
-    def test_the_wire(self):
+    def test_faults_of_records_have_their_numbers(self):
         ends = b"\x80" * 9
         for fault, entry in [
             (1, b"\x0a"), (1, b"\x80"), (1, b"\x0a\x02a"), (1, b"\x9d\x06123"), (1, b"\x99\x061234567"), (1, ends),
             (2, ends + b"\x02"), (2, ends + b"\x80"), (2, b"\x98\x06" + ends + b"\x02"), (3, b"\x00"), (3, b"\x03"),
             (3, base.varint(1 << 32)), (4, b"\x0b"), (4, b"\x0c"), (4, b"\x0e"), (4, b"\x0f"),
         ]:
-            self.faulty(fault, entry)
+            self.check_fault(fault, entry)
 
-    def test_the_order_of_faults(self):
+    def test_the_first_fault_of_an_entry_is_found(self):
         bad = part(1, b"\xff")
         for fault, entry in [
             (11, number(1, 0) + b"\x0a"), (1, part(1, bad) + b"\x0a"), (11, part(1, bad) + number(2, 0)),
@@ -69,22 +69,23 @@ class Reading(unittest.TestCase):
             (12, part(3, part(2, part(2, b"\xff")))), (13, part(1, b"") * 1_025), (12, part(1, bad) * 1_025),
             (13, part(3, part(2, b"") * 1_025)), (13, b"\x7a\x80\x80\x80\x08" + bytes(1 << 24)),
         ]:
-            self.faulty(fault, entry)
+            self.check_fault(fault, entry)
 
-    def test_what_was_cleared_is_not_looked_into(self):
-        told = op_reading.read_op(part(3, part(1, b"\xff")) + part(4, part(2, MADE)))
-        self.assertEqual((told["kind"], told["file"]["actions"][0]["kind"]), ("file", "mkdir"))
+    def test_a_member_that_was_replaced_is_not_parsed(self):
+        op = op_reading.read_op(part(3, part(1, b"\xff")) + part(4, part(2, MADE)))
+        self.assertEqual((op["kind"], op["file"]["actions"][0]["kind"]), ("file", "mkdir"))
         again = op_reading.read_op(part(4, b"\xff") + part(3, part(1, "a")) + part(4, part(2, MADE)) * 2)
         self.assertEqual(len(again["file"]["actions"]), 2)
 
-    def test_values(self):
-        told = op_reading.read("Mount", number(1, -1) + number(6, (1 << 33) + 3) + number(5, 7) + part(21, "x"))
-        self.assertEqual((told["input"], told["mountType"], told["readonly"], told["extra"]), (-1, 3, 1, part(21, "x")))
-        self.assertEqual((told["dest"], told["output"], told["cacheOpt"]), ("", 0, None))
+    def test_values_are_converted_to_their_kinds(self):
+        shown = op_reading.read("Mount", number(1, -1) + number(6, (1 << 33) + 3) + number(5, 7) + part(21, "x"))
+        values = [shown[name] for name in ("input", "mountType", "readonly", "extra")]
+        self.assertEqual(values, [-1, 3, 1, part(21, "x")])
+        self.assertEqual((shown["dest"], shown["output"], shown["cacheOpt"]), ("", 0, None))
         self.assertEqual(op_reading.read("UserOpt", number(2, -1))["byID"], (1 << 32) - 1)
         self.assertEqual(op_reading.read("CacheOpt", number(2, (1 << 32) - 1))["sharing"], -1)
 
-    def test_definitions(self):
+    def test_faults_of_definitions_have_their_numbers(self):
         for fault, data in [(1, b"\x0a"), (11, number(2, 0)), (11, number(3, 0)), (13, b"\x0a\x00" * 65_537)]:
             with self.assertRaises(op_reading.Faulty) as caught:
                 op_reading.read_definition(data)
@@ -93,13 +94,13 @@ class Reading(unittest.TestCase):
 
 
 class Scripts(unittest.TestCase):
-    """Words that are scripts, and that are none."""
+    """Words that are scripts, and words that are not."""
 
-    def shell(self, text, fault):
-        """The text for the shell has that fault."""
+    def check_shell_text(self, text, fault):
+        """Checks the fault of a text for the shell."""
         self.assertEqual(script_faults.fault_of(["/bin/sh", "-c", text]), fault, text)
 
-    def test_texts(self):
+    def test_texts_have_their_faults(self):
         alpha = "\N{GREEK SMALL LETTER ALPHA}"
         for text, fault in [
             ("true", None), ("  true  ", None), ("true && false ; rm a || rm b", None), ("", "73 0"),
@@ -109,9 +110,9 @@ class Scripts(unittest.TestCase):
             ("apk", "71 apk"), ("true && apk", "71 apk"), ("true && rm ; apk", "72 1"), ("rm ; apk", "72 0"),
             (f"{alpha} ; rm", f"71 {alpha}"), ("true true", "72 0"), ("true;", "73 4"), ("rm && rm &&& rm", "73 9"),
         ]:
-            self.shell(text, fault)
+            self.check_shell_text(text, fault)
 
-    def test_words_without_the_shell(self):
+    def test_words_without_the_shell_have_their_faults(self):
         for words, fault in [
             (["true"], None), (["rm", "a b;"], None), (["true", "&&", "true"], "72 0"), (["/bin/sh"], "71 /bin/sh"),
             (["/bin/sh", "-c"], "71 /bin/sh"), (["/bin/sh", "-x", "true"], "71 /bin/sh"), ([""], "71 "),
@@ -119,7 +120,7 @@ class Scripts(unittest.TestCase):
         ]:
             self.assertEqual(script_faults.fault_of(words), fault, words)
 
-    def test_forms(self):
+    def test_each_applet_has_its_form(self):
         for form in [
             "true", "false", "mkdir a", "mkdir -p", "mkdir -p a", "rm a", "write a b", "append a b", "cp a b",
             "concat a b", "concat a b c", "chmod 0 a", "chmod 7777 a", "test -e a", "test -f a", "test -d a",
@@ -138,11 +139,11 @@ class Ops(unittest.TestCase):
     """Features and rules of one op."""
 
     def check(self, wanted, call, *entries):
-        """Each entry has just these names."""
+        """Checks that each entry has exactly these names."""
         for entry in entries:
             self.assertEqual(call(op_reading.read_op(entry)), wanted, entry)
 
-    def test_features(self):
+    def test_each_feature_is_found(self):
         for wanted, *entries in [
             (["DiffOp"], part(7, b"")), (["BuildOp"], part(5, b"x")),
             (["Source"], base.source("docker-image://a"), base.source(""), base.source("local:/")),
@@ -162,7 +163,7 @@ class Ops(unittest.TestCase):
         ]:
             self.check(wanted, op_rules.features_of, *entries)
 
-    def test_rules_of_sources_file_ops_and_merges(self):
+    def test_each_rule_of_sources_file_ops_and_merges_is_found(self):
         one = base.source("local://a")
         for wanted, *entries in [
             (["NoKind"], b"", base.inputs(one)), (["LocalName"], base.source("local://")),
@@ -181,7 +182,7 @@ class Ops(unittest.TestCase):
         ]:
             self.check(wanted, op_rules.rules_of, *entries)
 
-    def test_rules_of_execs(self):
+    def test_each_rule_of_execs_is_found(self):
         one = base.source("local://a")
         cache = part(20, part(1, "id"))
         shared = mount("/c", kind=3, more=cache)
@@ -221,111 +222,112 @@ class Findings(unittest.TestCase):
     def setUp(self):
         self.origin = base.source("local://src")
 
-    def found(self, data, *lines):
-        """These are the findings of a definition."""
+    def check_findings(self, data, *lines):
+        """Checks the findings of a definition."""
         self.assertEqual([finding.words() for finding in findings.findings_of(data)], list(lines))
 
-    def test_definitions_that_are_taken(self):
-        self.found(base.ending(self.origin))
-        self.found(base.ending(self.origin, exec_of(ROOT_MOUNT)))
+    def test_accepted_definitions_have_no_findings(self):
+        self.check_findings(base.ending(self.origin))
+        self.check_findings(base.ending(self.origin, exec_of(ROOT_MOUNT)))
         unreached = [base.source("git://a"), base.source("local://")]
-        self.found(base.definition(self.origin, *unreached, base.inputs(self.origin)))
+        self.check_findings(base.definition(self.origin, *unreached, base.inputs(self.origin)))
 
-    def test_what_ends_the_reading(self):
-        self.found(b"\x0a", "81 1")
-        self.found(number(1, 0), "81 11")
-        self.found(b"", "83")
-        self.found(base.definition(self.origin, self.origin), "83")
-        self.found(base.definition(b"\x0b"), "82 0 4", "83")
+    def test_some_faults_leave_no_rows_to_check(self):
+        self.check_findings(b"\x0a", "81 1")
+        self.check_findings(number(1, 0), "81 11")
+        self.check_findings(b"", "83")
+        self.check_findings(base.definition(self.origin, self.origin), "83")
+        self.check_findings(base.definition(b"\x0b"), "82 0 4", "83")
 
-    def test_the_terminal(self):
+    def test_faults_of_the_terminal_are_found(self):
         wrong = base.source("git://a")
-        self.found(base.definition(self.origin, b""), "85")
-        self.found(base.definition(wrong, self.origin), "85", "88 0 Source")
-        self.found(base.definition(wrong, base.inputs(b"none")), "86 1 0", "88 0 Source")
-        self.found(base.definition(wrong, b"\x0b"), "82 1 4", "88 0 Source")
+        self.check_findings(base.definition(self.origin, b""), "85")
+        self.check_findings(base.definition(wrong, self.origin), "85", "88 0 Source")
+        self.check_findings(base.definition(wrong, base.inputs(b"none")), "86 1 0", "88 0 Source")
+        self.check_findings(base.definition(wrong, b"\x0b"), "82 1 4", "88 0 Source")
         terminal = base.inputs(self.origin)
-        self.found(base.definition(terminal, self.origin, base.merge(terminal), terminal))
-        self.found(base.definition(self.origin, base.inputs((self.origin, 1))), "90 1 0")
-        self.found(base.definition(self.origin, base.inputs((self.origin, -1), b"none")), "90 1 0")
+        self.check_findings(base.definition(terminal, self.origin, base.merge(terminal), terminal))
+        self.check_findings(base.definition(self.origin, base.inputs((self.origin, 1))), "90 1 0")
+        self.check_findings(base.definition(self.origin, base.inputs((self.origin, -1), b"none")), "90 1 0")
 
     def test_each_entry_has_its_findings(self):
         run_it = exec_of(mount(given=4), mount("/s", kind=1, output=-1), args=["apk"], on=[self.origin])
         files = base.file_op(action(b""), on=[(run_it, 0), (self.origin, 1)])
         last = base.merge(files, b"none", run_it)
-        self.found(
+        self.check_findings(
             base.ending(self.origin, run_it, files, last),
             "86 3 1", "88 1 SecretMount", "89 1 MountInput", "89 1 Script 71 apk", "88 2 Action", "90 2 0", "90 2 1",
             "90 3 0", "90 3 2",
         )
 
-    def test_the_first_line_is_the_programs(self):
+    def test_the_programs_own_fault_comes_first(self):
         broken, remote = base.source("local://"), base.source("git://a")
-        self.found(base.ending(broken, remote, base.merge(broken, remote)), "88 1 Source", "89 0 LocalName")
-        self.found(base.ending(broken, base.merge((broken, 1), broken)), "89 0 LocalName", "90 1 0")
+        self.check_findings(base.ending(broken, remote, base.merge(broken, remote)), "88 1 Source", "89 0 LocalName")
+        self.check_findings(base.ending(broken, base.merge((broken, 1), broken)), "89 0 LocalName", "90 1 0")
         user = base.merge((self.origin, 5))
-        self.found(base.ending(self.origin, user, base.merge((user, 7), b"none")), "86 2 1", "90 1 0", "90 2 0")
+        data = base.ending(self.origin, user, base.merge((user, 7), b"none"))
+        self.check_findings(data, "86 2 1", "90 1 0", "90 2 0")
 
-    def test_outputs_that_cannot_be_numbered(self):
+    def test_indexes_are_not_checked_if_outputs_cannot_be_numbered(self):
         twice = base.file_op(MADE, MADE)
-        self.found(base.ending(part(7, b""), base.merge((part(7, b""), 4))), "88 0 DiffOp")
-        self.found(base.ending(twice, base.merge((twice, 4))), "89 0 ActionOutput")
+        self.check_findings(base.ending(part(7, b""), base.merge((part(7, b""), 4))), "88 0 DiffOp")
+        self.check_findings(base.ending(twice, base.merge((twice, 4))), "89 0 ActionOutput")
 
-    def test_entries_that_are_no_ops(self):
+    def test_entries_that_are_not_ops_are_skipped(self):
         faulty, remote = b"\x0b", base.source("git://a")
-        self.found(base.definition(faulty, remote, self.origin, base.inputs(self.origin)), "82 0 4")
+        self.check_findings(base.definition(faulty, remote, self.origin, base.inputs(self.origin)), "82 0 4")
         reached = base.merge(faulty)
-        self.found(base.ending(remote, faulty, faulty, reached), "82 1 4", "88 0 Source")
+        self.check_findings(base.ending(remote, faulty, faulty, reached), "82 1 4", "88 0 Source")
         unknown = base.merge(b"none")
-        self.found(base.ending(unknown, faulty, reached), "82 1 4", "86 0 0")
+        self.check_findings(base.ending(unknown, faulty, reached), "82 1 4", "86 0 0")
 
-    def test_an_input_of_a_row_that_is_reached_goes_first(self):
+    def test_a_fault_of_a_reachable_row_comes_first(self):
         lost = base.merge(b"other")
-        self.found(base.ending(lost, self.origin, base.merge(b"none", self.origin)), "86 2 0", "86 0 0")
+        self.check_findings(base.ending(lost, self.origin, base.merge(b"none", self.origin)), "86 2 0", "86 0 0")
 
-    def test_circles_and_collisions(self):
+    def test_cycles_and_collisions_are_found(self):
         one, two, last = base.merge(b"a"), base.merge(b"b"), base.inputs(b"b")
         named = {one: base.digest(b"b"), two: base.digest(b"a"), last: "last", self.origin: "last"}
         with mock.patch.object(definition, "digest_of", named.__getitem__):
-            self.found(base.definition(one, two, last), "87")
-            self.found(base.definition(self.origin, last), "84 1")
+            self.check_findings(base.definition(one, two, last), "87")
+            self.check_findings(base.definition(self.origin, last), "84 1")
 
 
 class Lint(Folder):
-    """The tool."""
+    """The tool `lint`."""
 
     def named(self, entry, name):
-        """The metadata by which an entry has a name."""
+        """Returns metadata that gives an entry a name."""
         return part(2, part(1, base.digest(entry)) + part(2, part(2, part(1, "llb.customname") + part(2, name))))
 
-    def test_lines(self):
+    def test_each_finding_is_a_line_with_the_name_of_its_entry(self):
         wrong = base.source("git://a\t\n")
         apk = exec_of(ROOT_MOUNT, args=["apk\nadd\t"], on=[wrong])
         data = base.ending(wrong, apk) + self.named(apk, "[2/2] RUN\tapk")
         lines = b"fault 88 0 Source\nfault 89 1 Script 71 apk\\nadd\\t\t[2/2] RUN\\tapk\n"
-        self.answers(run("lint", text=data), 1, lines)
-        self.answers(run("lint", self.file(b"definition", data)), 1, lines)
-        self.answers(run("lint", text=b"\x0a"), 1, b"fault 81 1\n")
-        self.passes(run("lint", text=base.ending(base.source("local://a"))))
+        self.check_run(run("lint", text=data), 1, lines)
+        self.check_run(run("lint", self.file(b"definition", data)), 1, lines)
+        self.check_run(run("lint", text=b"\x0a"), 1, b"fault 81 1\n")
+        self.check_success(run("lint", text=base.ending(base.source("local://a"))))
 
-    def test_lines_are_explained(self):
+    def test_explain_reads_the_lines(self):
         data = base.ending(part(7, b""), base.merge(part(7, b"")), exec_of(args=["/bin/sh", "-c", ";"]))
         lines = run("lint", text=data).stdout.split(b"\n")
         done = run("explain", text=b"\n".join(line.split(b"\t")[0] for line in lines))
         self.assertEqual((done.returncode, done.stderr), (0, b""))
 
-    def test_words_and_streams_that_are_refused(self):
+    def test_command_lines_and_closed_streams_are_refused(self):
         self.assertEqual(run("lint", "a", "b").returncode, 2)
         self.assertEqual(run("lint", "--none").returncode, 2)
-        self.answers(run("lint", self.place(b"none")), 3, b"", self.place(b"none") + b": No such file or directory\n")
-        self.answers(run_closed(0, "lint"), 3, b"", b"a read or a write failed: standard input is closed\n")
+        self.check_run(run("lint", self.place(b"none")), 3, b"", self.place(b"none") + b": No such file or directory\n")
+        self.check_run(run_closed(0, "lint"), 3, b"", b"a read or a write failed: standard input is closed\n")
         with open("/dev/full", "wb") as output:
             done = run_into(output, "lint", self.file(b"definition", b"\x0a"))
         self.assertEqual((done.returncode, done.stderr), (3, b"a read or a write failed: No space left on device\n"))
 
 
 def ops_of_all_kinds(chance):
-    """Entries of which many break a rule, upward on one another."""
+    """Returns a definition with random entries, many of which break a rule."""
     entries = [base.source(chance.choice(["local://a", "local://b", "git://a", "local://"]))]
     for _ in range(chance.randint(1, 4)):
         on = [(chance.choice([*entries, b"none", part(7, b"")]), chance.choice([0, 0, 0, 1])) for _ in range(2)]
@@ -348,7 +350,7 @@ def ops_of_all_kinds(chance):
 
 
 def with_bytes_changed(chance, data):
-    """The same bytes with some of them changed, put in, or taken out."""
+    """Returns the bytes with some of them changed, inserted or removed."""
     data = bytearray(data)
     for _ in range(chance.randint(1, 3)):
         place = chance.randrange(len(data) + 1)
@@ -357,7 +359,7 @@ def with_bytes_changed(chance, data):
 
 
 def with_field_changed(chance, data, message="Op"):
-    """A message with a record of it, or of a message in it, left out, doubled, or with another value."""
+    """Returns a message with a random record removed, doubled or changed, at any depth."""
     records = op_reading.records_in(data)
     if not records:
         return data + number(chance.randint(1, 8), 1)
@@ -378,7 +380,7 @@ def with_field_changed(chance, data, message="Op"):
 
 
 def with_entries_changed(chance, data, change=with_field_changed):
-    """A definition with an entry changed, and those after it named anew."""
+    """Returns a definition with one entry changed, and the digests in later entries updated."""
     entries = definition.entries_of(data)
     changed = chance.randrange(len(entries))
     digests: dict[bytes, bytes] = {}
@@ -392,18 +394,18 @@ def with_entries_changed(chance, data, change=with_field_changed):
 
 
 class BesideTheProgram(unittest.TestCase):
-    """The first finding is the program's fault, and there is none where it takes the definition."""
+    """The first finding is the program's fault, and there are none if the program accepts the definition."""
 
     def setUp(self):
         if not base.llbm or not shutil.which(base.llbm):
-            raise unittest.SkipTest("the program is needed, which --llbm PROGRAM names")
+            raise unittest.SkipTest("the program llbm is needed (--llbm PROGRAM)")
 
     def program(self, word, data):
-        """A run of the program on these bytes."""
+        """Runs the program on these bytes."""
         return subprocess.run([base.llbm, word], input=data, capture_output=True, timeout=60)
 
     def beside(self, data):
-        """Whether the program takes the definition; it tells the first finding where it does not."""
+        """Returns whether the program accepts the definition, and checks that it prints the first finding if not."""
         done = self.program("show", data)
         found = findings.findings_of(data)
         wanted = [f"fault {finding.words()}\n" for finding in found[:1]]
@@ -412,26 +414,26 @@ class BesideTheProgram(unittest.TestCase):
         return not found
 
     def examples(self):
-        """The definitions of the examples."""
+        """Yields the definitions of the examples."""
         for place in sorted(EXAMPLES.glob("*.definition")):
             yield place.read_bytes()
         for place in sorted(EXAMPLES.glob("*/definition.text")):
             yield self.program("asm", place.read_bytes()).stdout
 
-    def test_examples_and_their_changes(self):
+    def test_the_first_finding_of_changed_examples_is_the_programs(self):
         chance = random.Random(1)
         given = list(self.examples())
         self.assertTrue(all(self.beside(data) for data in given))
         for _ in range(RUNS // 2):
             self.beside(chance.choice([with_bytes_changed, with_entries_changed])(chance, chance.choice(given)))
 
-    def test_definitions_of_all_kinds(self):
+    def test_the_first_finding_of_random_definitions_is_the_programs(self):
         chance = random.Random(2)
         taken = sum(self.beside(ops_of_all_kinds(chance)) for _ in range(RUNS // 2))
         self.assertGreater(taken, 0)
 
-    def test_the_tool(self):
+    def test_the_first_line_of_the_tool_is_the_programs(self):
         data = base.ending(base.source("git://a"), base.exec_op("apk\n", on=[base.source("git://a")]))
-        told = self.program("show", data).stderr.decode()
+        fault_line = self.program("show", data).stderr.decode()
         done = run("lint", text=data)
-        self.assertEqual(done.stdout.decode().split("\n")[0], printable(told.rstrip("\n")))
+        self.assertEqual(done.stdout.decode().split("\n")[0], printable(fault_line.rstrip("\n")))

@@ -10,7 +10,7 @@ from tests.base import Folder, digest, number, part, run, run_closed, source
 
 
 def definition_of(*entries):
-    """The definition of these entries, whose last one gives the result, without defaults."""
+    """Returns the definition with these entries, the last one as its result, without defaults."""
     terminal = part(1, part(1, digest(entries[-1])))
     return b"".join(part(1, entry) for entry in [*entries, terminal])
 
@@ -18,13 +18,13 @@ def definition_of(*entries):
 class Trees(Folder):
     """Texts of large trees."""
 
-    def test_a_small_one(self):
+    def test_a_small_tree_has_these_lines(self):
         lines = ["d 0755 0 0 /", "d 0755 0 0 /d000", "d 0755 0 0 /d000/s00000"]
         last = "f 0644 0 0 00000000 /d000/s00000/f000000"
-        self.passes(run("bigtree", "1", "1", "4"), self.text([*lines, last]))
-        self.passes(run("bigtree", "0", "0"), b"d 0755 0 0 /\n")
+        self.check_success(run("bigtree", "1", "1", "4"), self.text([*lines, last]))
+        self.check_success(run("bigtree", "0", "0"), b"d 0755 0 0 /\n")
 
-    def test_files_and_directories_are_as_many_as_are_asked_for(self):
+    def test_the_numbers_of_files_and_directories_are_as_requested(self):
         for files, directories, size, prefix in [(100, 10, 16, "d"), (7, 9, 0, "q"), (5, 4, 3, "long")]:
             done = run("bigtree", str(files), str(directories), str(size), prefix)
             self.assertEqual((done.returncode, done.stderr), (0, b""))
@@ -49,21 +49,21 @@ class Definitions(Folder):
     """Large definitions."""
 
     def graph(self, kind, count):
-        """The graph of a definition, and its kinds."""
+        """Returns the ops and the graph of a large definition."""
         done = run("bigdef", kind, str(count))
         self.assertEqual((done.returncode, done.stderr), (0, b""), kind)
         entries = definition.entries_of(done.stdout)
         graph = definition.graph_of(entries)
         return [definition.op_of(row, entries[row]) for row in graph.rows], graph
 
-    def test_a_small_one_to_the_byte(self):
-        self.passes(run("bigdef", "source", "1"), definition_of(source("local://p")))
+    def test_small_definitions_have_these_bytes(self):
+        self.check_success(run("bigdef", "source", "1"), definition_of(source("local://p")))
         sources = [source("local://p"), source("local://q")]
         lay = part(1, part(1, digest(sources[0]))), part(1, part(1, digest(sources[1])))
         merged = b"".join(lay) + part(6, part(1, b"") + part(1, number(1, 1)))
-        self.passes(run("bigdef", "lay", "1"), definition_of(*sources, merged))
+        self.check_success(run("bigdef", "lay", "1"), definition_of(*sources, merged))
 
-    def test_shapes(self):
+    def test_each_kind_has_its_numbers_of_vertices_and_edges(self):
         for kind, count, vertices, edges in [
             ("chain", 9, 9, 8), ("pairs", 9, 9, 16), ("fan", 1500, 1503, 1502), ("files", 600, 2, 1),
             ("execs", 5, 5, 4), ("glob", 5, 2, 1), ("mounts", 5, 1, 0), ("lay", 1, 3, 2), ("graft", 1, 3, 2),
@@ -82,9 +82,9 @@ class Definitions(Folder):
             done = subprocess.run([base.llbm], input=given, capture_output=True, timeout=120)
             self.assertEqual(done.stdout.count(b"\nf "), 600)
 
-    def test_a_pattern_removes_all_files_and_another_copies_directories(self):
+    def test_one_pattern_removes_files_and_another_copies_directories(self):
         if base.llbm is None:
-            self.skipTest("the program is needed, which --llbm PROGRAM names")
+            self.skipTest("the program llbm is needed (--llbm PROGRAM)")
         tree = os.fsdecode(self.file(b"tree", run("bigtree", "4", "4", "4").stdout))
         places = ["", "d000", "d000/s00000", "d000/s00001", "d001", "d001/s00002", "d001/s00003"]
         upper = "".join(f"d 0755 0 0 /{place}\n" for place in places)
@@ -92,9 +92,9 @@ class Definitions(Folder):
         for kind, text in [("rm", upper), ("copy", "d 0755 0 0 /\n" + lower)]:
             words = [base.llbm, "run", f"p={tree}"]
             done = subprocess.run(words, input=run("bigdef", kind, "1").stdout, capture_output=True, timeout=120)
-            self.answers(done, 0, text.encode())
+            self.check_run(done, 0, text.encode())
 
-    def test_commands_and_mounts(self):
+    def test_mounts_and_caches_have_their_commands(self):
         ops, _ = self.graph("mounts", 3)
         self.assertEqual(definition.commands_of(ops[0]), ["write /m1/f 1", "write /m2/f 2"])
         ops, _ = self.graph("caches", 2)
@@ -102,7 +102,7 @@ class Definitions(Folder):
 
     def test_the_program_runs_all_kinds(self):
         if base.llbm is None:
-            self.skipTest("the program is needed, which --llbm PROGRAM names")
+            self.skipTest("the program llbm is needed (--llbm PROGRAM)")
         tree = os.fsdecode(self.file(b"tree", run("bigtree", "4", "2").stdout))
         kinds = run("bigdef", "nosuch", "1").stderr.decode().rsplit("choose from ", 1)[1].strip(")\n").split(", ")
         self.assertEqual(len(kinds), 17)
@@ -124,12 +124,12 @@ class Measure(Folder):
     """The table of measurements."""
 
     def program(self, line):
-        """A program of this line for a shell."""
+        """Writes a shell program with this line."""
         place = self.file(b"program", f"#!/bin/sh\ncat > /dev/null\n{line}\n".encode())
         os.chmod(place, 0o755)
         return os.fsdecode(place)
 
-    def test_a_table(self):
+    def test_the_table_has_a_row_for_each_pair(self):
         names = run("measure", "--list").stdout.decode().split()
         self.assertEqual(len(names), len(set(names)))
         self.assertLessEqual({"chain", "reads-workers", "layers"}, set(names))
@@ -143,7 +143,7 @@ class Measure(Folder):
         self.assertEqual(rows[3][1], "`run --workers 2` of `reads 1` (p: 20 2)")
         self.assertRegex(rows[2][9], r"^[0-9]+\.[0-9]{2}$")
 
-    def test_a_run_that_fails(self):
+    def test_a_run_that_fails_ends_the_measurement(self):
         done = run("measure", "--llbm", self.program("exit 3"), "--runs", "1", "--part", "9000", "chain")
         self.assertEqual((done.returncode, done.stdout), (1, b""))
         self.assertRegex(done.stderr.decode(), r"program run: status 3\n$")

@@ -1,4 +1,4 @@
-"""Tests of the tools together with the program llbm, left out where there is none."""
+"""Tests of the tools with the program llbm, skipped if it is not there."""
 
 import json
 import os
@@ -18,46 +18,46 @@ STACK = 256 << 10
 
 
 def narrow():
-    """This process has a small stack from now on: no room for four bytes a vertex of the deepest graph."""
+    """Limits this process to a small stack: less than four bytes for each vertex of the deepest graph."""
     _, hard = resource.getrlimit(resource.RLIMIT_STACK)
     resource.setrlimit(resource.RLIMIT_STACK, (STACK, hard))
 
 
 class WithProgram(Folder):
-    """What the tools and the program make of each other's texts."""
+    """The tools and the program read each other's texts."""
 
     def setUp(self):
         if base.llbm is None:
-            raise unittest.SkipTest("the program is needed, which --llbm PROGRAM names")
+            raise unittest.SkipTest("the program llbm is needed (--llbm PROGRAM)")
         super().setUp()
         self.at = pathlib.Path(os.fsdecode(self.folder))
 
     def llbm(self, *words, given, **settings):
-        """A run of the program on this input."""
+        """Runs the program on this input."""
         return subprocess.run([base.llbm, *words], input=given, capture_output=True, timeout=120, **settings)
 
     def output(self, *words, given, **settings):
-        """What the program prints, where it ends well."""
+        """Returns what the program prints; it has to succeed."""
         done = self.llbm(*words, given=given, **settings)
         self.assertEqual((done.returncode, done.stderr), (0, b""), words)
         return done.stdout
 
     def definitions(self):
-        """The definitions of the examples, by their names."""
+        """Yields the definitions of the examples with their names."""
         for place in sorted(EXAMPLES.glob("*.definition")):
             yield place.stem, place.read_bytes()
         for place in sorted(EXAMPLES.glob("*/definition.text")):
             yield place.parent.name, self.output("asm", given=place.read_bytes())
 
     def build(self, given, *words, result="out"):
-        """A build of a definition with these words after RESULT."""
+        """Builds a definition, with these words after RESULT."""
         options = [word for word in words if word.startswith("--")]
         sources = [word for word in words if not word.startswith("--")]
         place = self.file(b"definition", given)
         return run("build", "--llbm", base.llbm, *options, place, self.at / result, *sources)
 
     def text_of(self, name):
-        """The text of a directory, of which all is 0:0."""
+        """Returns the text of a directory, with owner 0:0."""
         done = run("tree-of-directory", "--owner", "0:0", self.at / name)
         self.assertEqual(done.returncode, 0)
         return done.stdout
@@ -77,7 +77,7 @@ class WithProgram(Folder):
     def test_the_example_is_built(self):
         tree = EXAMPLES / "tour.tree"
         given = (EXAMPLES / "tour.definition").read_bytes()
-        self.passes(run("directory-of-tree", self.at / "source", text=tree.read_bytes()))
+        self.check_success(run("directory-of-tree", self.at / "source", text=tree.read_bytes()))
         text = self.output("run", f"source={tree}", given=given)
         for workers in ["--workers=1", "--workers=4"]:
             done = self.build(given, workers, f"source={self.at / 'source'}", result=workers)
@@ -91,7 +91,7 @@ class WithProgram(Folder):
             self.assertEqual((done.returncode, done.stderr), (0, b""), name)
             self.assertEqual(done.stdout.count(b"shape="), text.count(b"\n"), name)
 
-    def test_a_graph_whose_entries_stand_in_another_order(self):
+    def test_entries_in_another_order_have_the_right_labels(self):
         one, two, three = (base.source(f"local://{name}") for name in "abc")
         lower = base.file_op(base.rm("/a"), on=[three])
         upper = base.merge(two, lower, one)
@@ -126,22 +126,22 @@ class WithProgram(Folder):
         ]:
             done = self.build(given, *words)
             self.assertEqual(done.returncode, 2)
-            told = run("explain", "--definition", self.place(b"definition"), *line.split(" "))
-            meaning = [f"  {text}" for text in told.stdout.decode().splitlines()]
+            explained = run("explain", "--definition", self.place(b"definition"), *line.split(" "))
+            meaning = [f"  {text}" for text in explained.stdout.decode().splitlines()]
             self.assertEqual(done.stderr.decode().splitlines()[1:], [line, *meaning, "nothing is written"])
 
     def sources(self):
-        """For each example its definition, and its sources as words of a build."""
+        """Yields the name and the definition of each example, and its sources as words of a build."""
         texts = [*EXAMPLES.glob("*.tree"), *EXAMPLES.glob("*/*.tree")]
         for name, given in self.definitions():
             sources = [text for text in texts if text.parent.name == name or text.parent == EXAMPLES]
             for text in sources:
                 if not (self.at / text.stem).exists():
-                    self.passes(run("directory-of-tree", self.at / text.stem, text=text.read_bytes()))
+                    self.check_success(run("directory-of-tree", self.at / text.stem, text=text.read_bytes()))
             yield name, given, [f"{text.stem}={self.at / text.stem}" for text in sources]
 
     def without_progress(self, done):
-        """The lines of a build but those of vertices that settle, of which there are as many as it says."""
+        """Splits the lines of a build into those of settled vertices, which are numbered, and the others."""
         lines = done.stderr.decode().splitlines()
         settled = [line for line in lines if line.startswith("[")]
         self.assertEqual([line.split("/")[0] for line in settled], [f"[{count + 1}" for count in range(len(settled))])
@@ -161,7 +161,7 @@ class WithProgram(Folder):
                 results = [self.at / f"{kind}-{number}.tar" for kind in ("plain", "progress")]
                 self.assertEqual(*(result.read_bytes() for result in results))
 
-    def test_progress_of_a_merge_with_names(self):
+    def test_progress_shows_names(self):
         one, two = base.file_op(base.mkdir("/a")), base.file_op(base.mkdir("/b"))
         both = base.merge(two, one)
         description = base.part(2, base.part(1, "llb.customname") + base.part(2, "both of them"))
@@ -171,7 +171,7 @@ class WithProgram(Folder):
         lines = ["[1/3] vertex 0 file done", "[2/3] vertex 1 file done", "[3/3] vertex 2 merge done: both of them"]
         self.assertEqual(done.stderr.decode().splitlines()[1:4], lines)
 
-    def test_progress_of_refusals_and_failures(self):
+    def test_progress_reports_refusals_and_failures_the_same(self):
         start = base.file_op(base.mkdir("/x"))
         failing, other = base.file_op(base.rm("/a"), on=[start]), base.file_op(base.rm("/b"), on=[start])
         for given, words, status in [
@@ -184,23 +184,23 @@ class WithProgram(Folder):
             self.assertEqual((plain.returncode, done.returncode), (status, status), done.stderr)
             self.assertEqual(self.without_progress(done)[1], plain.stderr.decode().splitlines())
 
-    def test_the_graphs_and_the_record_of_the_examples_as_json(self):
+    def test_graphs_and_records_of_the_examples_become_json(self):
         for name, given in self.definitions():
             shown = self.output("show", given=given)
-            told = json.loads(run("json-of-show", text=shown).stdout)
-            self.assertEqual(len(told["vertices"]), shown.count(b"\n") - 1, name)
-            number = len(told["vertices"])
+            objects = json.loads(run("json-of-show", text=shown).stdout)
+            self.assertEqual(len(objects["vertices"]), shown.count(b"\n") - 1, name)
+            number = len(objects["vertices"])
             words = ["step", self.file(b"definition", given)]
             words += [f"{text.stem}={text}" for text in [*EXAMPLES.glob("*.tree"), *EXAMPLES.glob("*/*.tree")]]
             record = self.output(*words, given=b"status\ngo\nstatus\nback\nstep 9\ntree 0 0\nx\nquit\n")
-            told = json.loads(run("json-of-record", text=record).stdout)
-            self.assertEqual([one["kind"] for one in told[:number]], ["status"] * number)
-            self.assertEqual(len(told), record.count(b"\n"))
-            events = [one for one in told if "reply" in one]
+            objects = json.loads(run("json-of-record", text=record).stdout)
+            self.assertEqual([one["kind"] for one in objects[:number]], ["status"] * number)
+            self.assertEqual(len(objects), record.count(b"\n"))
+            events = [one for one in objects if "reply" in one]
             self.assertEqual([one["number"] for one in events], list(range(1, len(events) + 1)))
-            self.assertEqual(told[-1], {"kind": "fault", "fault": 173, "line": 7})
+            self.assertEqual(objects[-1], {"kind": "fault", "fault": 173, "line": 7})
 
-    def test_each_line_for_183_is_taken(self):
+    def test_each_line_for_183_is_accepted(self):
         place = EXAMPLES / "first-run.definition"
         settled = {"N": "2", "FILE": str(place), "NAME=FILE ...": f"a={EXAMPLES / 'tour.tree'}"}
         for line in [row.line for row in faults.read_page().lines[183]]:
@@ -215,13 +215,13 @@ class WithProgram(Folder):
                 else:
                     self.assertEqual((done.returncode, done.stderr), (0, b""), given)
 
-    def test_each_line_for_173_is_taken(self):
+    def test_each_line_for_173_is_accepted(self):
         lines = [re.sub("[VWI]", "0", row.line) for row in faults.read_page().lines[173]]
         self.assertEqual((len(set(lines)), lines[-1]), (14, "quit"))
         answers = self.output("step", EXAMPLES / "first-run.definition", given="\n".join(lines).encode())
         self.assertNotIn(b"fault 173", answers)
 
-    def test_a_text_that_is_too_long(self):
+    def test_a_text_that_is_too_long_is_refused(self):
         self.make(b"a", b"")
         os.truncate(self.place(b"in", b"a"), 1 << 25)
         done = self.build(base.ending(base.source("local://src")), f"src={self.at / 'in'}")
@@ -229,7 +229,7 @@ class WithProgram(Folder):
         self.assertRegex(done.stderr, rb"\nthe text has [0-9,]+ bytes: .*\n(.*\n)*fault 185\n  185: ")
 
     def narrow_lines(self, *words, given):
-        """The lines that the program prints with a small stack, where it ends well."""
+        """Returns the lines that the program prints with a small stack; it has to succeed."""
         return self.output(*words, given=given, preexec_fn=narrow).decode().splitlines()
 
     def test_the_deepest_graph_needs_no_deep_stack(self):
@@ -244,12 +244,12 @@ class WithProgram(Folder):
         text = self.output("dis", given=given, preexec_fn=narrow)
         self.assertTrue(self.output("asm", given=text, preexec_fn=narrow) == given)
 
-    def test_the_deepest_graph_is_walked_to_its_end_and_back(self):
+    def test_the_deepest_graph_is_run_and_undone(self):
         given = run("bigdef", "chain", str(DEEPEST)).stdout
         events = 3 * DEEPEST
         commands = b"go\n" + b"back\n" * (events + 1)
         lines = self.narrow_lines("step", self.file(b"definition", given), "--workers=1", given=commands)
         parts = ["claim 0 {} -> file 1", "step 0 -> acted 0", "settle 0 -> {} done"]
-        gone = [f"{number + 1} {parts[number % 3].format(number // 3)}" for number in range(events)]
+        forwards = [f"{number + 1} {parts[number % 3].format(number // 3)}" for number in range(events)]
         back = [f"back {number}" for number in reversed(range(events))]
-        self.assertTrue(lines == [*gone, "end", *back, "fault 172"])
+        self.assertTrue(lines == [*forwards, "end", *back, "fault 172"])

@@ -1,7 +1,7 @@
-"""The part of the Debug Adapter Protocol's schema that the adapter uses, and a client that checks each message by it.
+"""The part of the Debug Adapter Protocol's schema that the adapter uses, and a client that checks each message with it.
 
-A shape has the fields of an object by their names, `?` after those that may be missing; other fields are refused. What
-a field holds is a kind, the name of a shape, a list of one of these, or a tuple of the texts that it may be.
+A shape has the fields of an object by name, with `?` after optional ones; other fields are errors. The value of a field
+is a type, the name of a shape, a list of one of these, or a tuple of allowed texts.
 """
 
 import json
@@ -52,7 +52,7 @@ SHAPES = {
     "Exited": {"exitCode": int},
 }
 
-# the body of the response to each request, and that of each event; none where there is no body
+# The shape of the body of the response to each request, and of each event; None if there is no body.
 RESPONSES = {
     "initialize": "Capabilities", "launch": None, "configurationDone": None, "terminate": None, "disconnect": None,
     "setBreakpoints": "SetBreakpoints", "setExceptionBreakpoints": None, "exceptionInfo": "ExceptionInfo",
@@ -70,11 +70,11 @@ EVENT = {"seq": int, "type": ("event",), "event": tuple(EVENTS), "body?": object
 
 
 class Wrong(AssertionError):
-    """A message that is not of the protocol's form, or not in its place."""
+    """A message that does not have the protocol's form, or comes at the wrong time."""
 
 
 def check_kind(value, kind, where):
-    """Whether a value is of a kind, a shape, a list of one of these, or one of some texts."""
+    """Checks that a value is of a kind: a type, a shape, a list of one of these, or one of some texts."""
     if isinstance(kind, list):
         check_kind(value, list, where)
         for one in value:
@@ -89,7 +89,7 @@ def check_kind(value, kind, where):
 
 
 def check_shape(value, shape, where):
-    """Whether an object has the fields of a shape."""
+    """Checks that an object has the fields of a shape."""
     check_kind(value, dict, where)
     kinds = {name.rstrip("?"): kind for name, kind in shape.items()}
     for name in shape:
@@ -102,7 +102,7 @@ def check_shape(value, shape, where):
 
 
 def check_body(message, kind, where):
-    """Whether a message has the body of this shape, or none."""
+    """Checks that a message has a body of this shape, or none."""
     if kind is None:
         if message.get("body"):
             raise Wrong(f"{where} has a body")
@@ -111,7 +111,7 @@ def check_body(message, kind, where):
 
 
 def check_response(message):
-    """Whether a response is of the form of its request, or that of a failure with a message in one line."""
+    """Checks the form of a response; that of a failure has a message of one line."""
     check_shape(message, RESPONSE, "response")
     command = message["command"]
     if message["success"]:
@@ -123,7 +123,7 @@ def check_response(message):
 
 
 class Client:
-    """A client of an adapter. Each message is checked as it comes, and so is the order in which they come."""
+    """A client of an adapter that checks the form and the order of the messages it receives."""
 
     def __init__(self, command, **settings):
         self.child = subprocess.Popen(
@@ -137,38 +137,38 @@ class Client:
         self.place = 0
 
     def close(self):
-        """The adapter is ended, if it is not."""
+        """Stops the adapter if it is running."""
         for stream in (self.child.stdin, self.child.stdout, self.child.stderr):
             stream.close()
         self.child.kill()
         self.child.wait()
 
     def write(self, content, head=None):
-        """A message goes out as it is."""
+        """Sends bytes as a message."""
         head = b"Content-Length: %d\r\n\r\n" % len(content) if head is None else head
         self.child.stdin.write(head + content)
         self.child.stdin.flush()
 
     def request(self, command, arguments=None):
-        """The content of a new request, which waits for its response."""
+        """Returns the content of a new request, which then waits for its response."""
         self.sent += 1
         self.waiting[self.sent] = command
         more = {} if arguments is None else {"arguments": arguments}
         return json.dumps({"seq": self.sent, "type": "request", "command": command, **more}).encode()
 
     def send(self, command, arguments=None):
-        """The number of a request that goes out."""
+        """Sends a request, and returns its number."""
         self.write(self.request(command, arguments))
         return self.sent
 
     def send_at_once(self, *commands, **arguments):
-        """The numbers of requests with the same arguments, which go out in one piece."""
+        """Sends requests with the same arguments in one piece, and returns their numbers."""
         contents = [self.request(command, arguments) for command in commands]
         self.write(b"", b"".join(b"Content-Length: %d\r\n\r\n%s" % (len(one), one) for one in contents))
         return range(self.sent - len(commands) + 1, self.sent + 1)
 
     def receive(self):
-        """The next message, none at the end."""
+        """Returns the next message, or None at the end."""
         head = self.child.stdout.readline()
         if not head:
             return None
@@ -183,7 +183,7 @@ class Client:
         return message
 
     def check(self, message):
-        """Whether a message is of the protocol's form and in its place."""
+        """Checks the form and the order of a message."""
         if message["type"] == "event":
             check_shape(message, EVENT, "event")
             check_body(message, EVENTS[message["event"]], message["event"])
@@ -197,7 +197,7 @@ class Client:
             self.answered.add(message["command"])
 
     def check_place(self, name):
-        """Whether an event comes after the responses that it has to come after, and none after the end."""
+        """Checks that an event comes after the responses that have to precede it, and before the end."""
         needed = {"initialized": "initialize", "stopped": "configurationDone"}.get(name)
         if needed and needed not in self.answered:
             raise Wrong(f"{name} comes before {needed} is answered")
@@ -205,7 +205,7 @@ class Client:
             raise Wrong(f"{name} comes after terminated")
 
     def response(self, number):
-        """The response to a request; events that come before it are kept."""
+        """Returns the response to a request; earlier events are stored."""
         while True:
             message = self.receive()
             if message is None:
@@ -214,21 +214,21 @@ class Client:
                 return message
 
     def ask(self, command, **arguments):
-        """The body of the response to a request that succeeds."""
+        """Sends a request that has to succeed, and returns the body of the response."""
         response = self.response(self.send(command, arguments))
         if not response["success"]:
             raise Wrong(response["message"])
         return response.get("body")
 
     def refused(self, command, **arguments):
-        """The message of the response to a request that fails."""
+        """Sends a request that has to fail, and returns the message of the response."""
         response = self.response(self.send(command, arguments))
         if response["success"]:
             raise Wrong(f"{command} succeeds")
         return response["message"]
 
     def until(self, *names):
-        """The next event of one of these names, after the last one that was waited for."""
+        """Returns the next event with one of these names, after the last one that was returned."""
         while True:
             for event in self.events[self.place :]:
                 self.place += 1
@@ -238,25 +238,25 @@ class Client:
                 raise Wrong(f"the adapter ended: {self.child.stderr.read()}")
 
     def stopped(self):
-        """The body of the next stop, which comes before the end."""
+        """Returns the body of the next stop, which has to come before the end."""
         event = self.until("stopped", "terminated")
         if event["event"] != "stopped":
             raise Wrong("the run has ended")
         return event["body"]
 
     def ended(self):
-        """The exit code that the run ends with, which is followed by the end itself."""
+        """Returns the exit code of the run, once it has ended."""
         code = self.until("exited")["body"]["exitCode"]
         self.until("terminated")
         return code
 
     def lines(self, category="stdout"):
-        """All lines that were told so far in this category."""
+        """Returns all lines of output so far in this category."""
         outputs = [event["body"] for event in self.events if event["event"] == "output"]
         return [body["output"].removesuffix("\n") for body in outputs if body["category"] == category]
 
     def leave(self):
-        """The exit status of the adapter after a disconnect, after which nothing comes."""
+        """Disconnects, checks that nothing follows, and returns the exit status of the adapter."""
         self.ask("disconnect")
         self.child.stdin.close()
         if self.receive() is not None:

@@ -1,4 +1,4 @@
-"""Tests of `refuse`, on programs that only tell what tests would."""
+"""Tests of `refuse`, with programs that print what the tests would print."""
 
 import os
 import shutil
@@ -8,10 +8,10 @@ from tests.base import Folder, run
 
 
 class Refuse(Folder):
-    """What is told of tests, and what fails."""
+    """The tool `refuse`, on programs that print what tests would."""
 
     def tests(self, *lines, refused=0, status=0, names=("one::calls",)):
-        """A program in the place of the tests: one that tells these lines and is refused so many growths."""
+        """Writes a program in place of the tests: it prints these lines, and `refused` growths are refused."""
         text = f"""#!{sys.executable}
 import os, sys
 if sys.argv[1:] == ["--list"]:
@@ -26,7 +26,7 @@ else:
         return os.fsdecode(place)
 
     def refuse(self, *words):
-        """A run of the tool: its exit status and its lines."""
+        """Runs the tool, and returns its exit status and its lines."""
         if not shutil.which("rt"):
             self.skipTest("the toolchain is needed")
         done = run("refuse", *words)
@@ -40,20 +40,20 @@ else:
             "2 growths of 2 calls were refused", "1 passed, 0 failed",
         ]))
 
-    def test_what_fails(self):
+    def test_wrong_counts_and_bad_ends_fail(self):
         for lines, refused, status, wrong in [
-            (["refused 0 (27): put /a"], 0, 0, "refused 0, which is not right for 27: put /a"),
-            (["refused 1 (none): copy"], 1, 0, "refused 1, which is not right for none: copy"),
-            (["refused 3 (27): put /a"], 2, 0, "2 growths were refused, and it tells of 3"),
-            (["a word"], 0, 0, "it tells of no call"),
+            (["refused 0 (27): put /a"], 0, 0, "refused 0, which is wrong for 27: put /a"),
+            (["refused 1 (none): copy"], 1, 0, "refused 1, which is wrong for none: copy"),
+            (["refused 3 (27): put /a"], 2, 0, "2 growths were refused, but it reports 3"),
+            (["a word"], 0, 0, "it names no call"),
             (["refused 1 (27): put /a", "growth 2 of put /a"], 1, 3, "growth 2 of put /a"),
             (["refused 1 (27): put /a"], 1, 3, "it ended with status 3"),
         ]:
-            ended, told = self.refuse(self.tests(*lines, refused=refused, status=status))
-            self.assertEqual((ended, told[-1]), (1, "0 passed, 1 failed"), lines)
-            self.assertIn(f"    {wrong}", told)
+            ended, lines_printed = self.refuse(self.tests(*lines, refused=refused, status=status))
+            self.assertEqual((ended, lines_printed[-1]), (1, "0 passed, 1 failed"), lines)
+            self.assertIn(f"    {wrong}", lines_printed)
 
-    def test_no_tests(self):
+    def test_a_program_without_tests_fails(self):
         none = ["0 growths of 0 calls were refused", "0 passed, 0 failed"]
         self.assertEqual(self.refuse(self.tests(names=())), (1, none))
 

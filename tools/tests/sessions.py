@@ -1,4 +1,4 @@
-"""Tests of `build --progress`, with a program of the tests' own in the place of llbm."""
+"""Tests of `build --progress`, with a fake program in place of llbm."""
 
 import signal
 import subprocess
@@ -26,9 +26,9 @@ exec(open("does").read())
 for line in sys.stdin:
     with open("given", "a") as file:
         file.write(line)
-    told = answers.get(line.strip())
-    if told:
-        sys.stdout.write(told.pop(0) + "\\n")
+    replies = answers.get(line.strip())
+    if replies:
+        sys.stdout.write(replies.pop(0) + "\\n")
         sys.stdout.flush()
     if line == "quit\\n":
         sys.exit(0)
@@ -51,63 +51,63 @@ COMMANDS = "next\nclear\nbreak settle 0\ngo\nnext\nclear\nbreak settle 1\ngo\nne
 
 
 def named(entry, name):
-    """The record of a definition that gives a name to an entry."""
+    """Returns the record of a definition that gives a name to an entry."""
     description = part(2, part(1, "other") + part(2, "x")) + part(2, part(1, "llb.customname") + part(2, name))
     return part(2, part(1, base.digest(entry)) + part(2, description))
 
 
 class Names(unittest.TestCase):
-    """The names in a definition's metadata."""
+    """Names in a definition's metadata."""
 
     def setUp(self):
         self.one, self.two = base.source("local://a"), base.file_op(base.rm("/a"), on=[base.source("local://a")])
         self.given = base.ending(self.one, self.two)
 
-    def test_names_by_vertex(self):
+    def test_names_are_found_by_vertex(self):
         self.assertEqual(progress.names_in(self.given), {})
         given = named(self.two, "second") + self.given + named(b"none", "none") + named(self.one, "first \N{BULLET}")
         self.assertEqual(progress.names_in(given), {0: "first \N{BULLET}", 1: "second"})
 
-    def test_the_last_name_holds(self):
+    def test_the_last_of_several_names_is_used(self):
         given = self.given + named(self.one, "old") + named(self.one, "new")
         self.assertEqual(progress.names_in(given), {0: "new"})
 
-    def test_metadata_that_does_not_read(self):
+    def test_metadata_that_cannot_be_parsed_is_skipped(self):
         broken = part(2, part(1, base.digest(self.two)) + part(2, b"\x0a"))
         self.assertEqual(progress.names_in(self.given + named(self.one, "a") + broken), {0: "a"})
         self.assertEqual(progress.names_in(self.given + named(self.one, "a") + part(2, b"\x0a")), {0: "a"})
         for given in [b"\x0a", b"", b"\xff" * 20]:
             self.assertEqual(progress.names_in(given), {})
 
-    def test_an_entry_without_a_name(self):
+    def test_an_entry_can_have_no_name(self):
         metadata = part(2, part(1, base.digest(self.one)) + part(2, part(2, part(1, "llb.customname"))))
         self.assertEqual(progress.names_in(self.given + metadata), {})
 
 
 class Progress(Builds):
-    """A build that goes through a session."""
+    """Builds with progress, which run a session."""
 
     fake = FAKE
 
     def setUp(self):
         super().setUp()
-        self.shows(SHOWN)
+        self.set_graph(SHOWN)
 
-    def shows(self, text):
-        """The program shows this graph."""
+    def set_graph(self, text):
+        """Sets the graph that the program shows."""
         (self.at / "shown").write_text(text)
 
-    def nothing_is_left(self, also=()):
-        """The same, but for what the program shows."""
-        super().nothing_is_left({"shown", *also})
+    def check_nothing_is_left(self, also=()):
+        """Checks that there is no result and no temporary file."""
+        super().check_nothing_is_left({"shown", *also})
 
     def follow(self, *words):
-        """A build with progress."""
+        """Runs a build with progress."""
         return self.build("--progress", "definition", "out", *words)
 
-    def test_a_line_for_each_vertex(self):
+    def test_there_is_a_line_for_each_vertex(self):
         self.make(b"a", b"a")
-        self.does(DONE)
+        self.set_behavior(DONE)
         self.file(b"definition", self.given + named(self.files, "copy\nit") + named(self.origin, "x" * 101))
         done = self.follow("src=in", "--workers", "3")
         self.assertEqual((done.returncode, done.stdout), (0, b""))
@@ -117,81 +117,83 @@ class Progress(Builds):
         given = f"show\nstep --workers 3 src\n{COMMANDS}tree 1 1\nquit\n"
         self.assertEqual((self.at / "given").read_text(), given)
         self.assertEqual((self.at / "out/a").read_text(), "hi")
-        self.nothing_is_left({"out"})
+        self.check_nothing_is_left({"out"})
 
-    def test_one_worker_where_no_number_is_given(self):
-        self.does(DONE)
+    def test_the_default_is_one_worker(self):
+        self.set_behavior(DONE)
         self.assertEqual(self.follow().returncode, 0)
         self.assertIn("step --workers 1\n", (self.at / "given").read_text())
 
-    def test_a_failure_is_told_as_by_a_run(self):
-        self.does(FAILED)
-        told = run("explain", "--definition", self.place(b"definition"), "failed", "1", "action", "0", "fault", "21")
-        meaning = [f"  {line}" for line in told.stdout.decode().splitlines()]
+    def test_a_failure_is_reported_as_by_a_run(self):
+        self.set_behavior(FAILED)
+        words = ["failed", "1", "action", "0", "fault", "21"]
+        explained = run("explain", "--definition", self.place(b"definition"), *words)
+        meaning = [f"  {line}" for line in explained.stdout.decode().splitlines()]
         lines = ["running definition", "[1/2] vertex 0 source done", "[2/2] vertex 1 file failed"]
-        self.ends(self.follow(), 1, *lines, "failed 1 action 0 fault 21", *meaning, "nothing is written")
+        self.check_end(self.follow(), 1, *lines, "failed 1 action 0 fault 21", *meaning, "nothing is written")
         self.assertTrue((self.at / "given").read_text().endswith(f"{COMMANDS}status\nquit\n"))
 
-    def test_a_refusal_is_told_as_by_a_run(self):
-        self.shows("")
+    def test_a_refusal_is_reported_as_by_a_run(self):
+        self.set_graph("")
         for line, status in [("fault 121 src", 2), ("fault 83", 2), ("fault 123", 3)]:
-            self.does(f'sys.stderr.write("{line}\\n")\nsys.exit({status})\n')
-            told = run("explain", "--definition", self.place(b"definition"), *line.split(" "))
-            meaning = [f"  {text}" for text in told.stdout.decode().splitlines()]
-            self.ends(self.follow(), status, "running definition", line, *meaning, "nothing is written")
+            self.set_behavior(f'sys.stderr.write("{line}\\n")\nsys.exit({status})\n')
+            explained = run("explain", "--definition", self.place(b"definition"), *line.split(" "))
+            meaning = [f"  {text}" for text in explained.stdout.decode().splitlines()]
+            self.check_end(self.follow(), status, "running definition", line, *meaning, "nothing is written")
 
-    def test_a_session_that_ends_too_early(self):
+    def test_a_session_that_ends_too_early_is_an_error(self):
         early = "the session ended before the result was out"
-        self.does("sys.exit(0)")
-        self.ends(self.follow(), 3, "running definition", early)
+        self.set_behavior("sys.exit(0)")
+        self.check_end(self.follow(), 3, "running definition", early)
         cut = 'sys.exit(sys.stdout.write("5 st") * 0) if line == "break settle 1\\n" else line'
-        self.does(SOURCE + f"sys.stdin = ({cut} for line in sys.stdin)\n")
-        self.ends(self.follow(), 3, "running definition", "[1/2] vertex 0 source done", early)
-        self.does(DONE + 'answers["tree 1 1"] = []\n')
+        self.set_behavior(SOURCE + f"sys.stdin = ({cut} for line in sys.stdin)\n")
+        self.check_end(self.follow(), 3, "running definition", "[1/2] vertex 0 source done", early)
+        self.set_behavior(DONE + 'answers["tree 1 1"] = []\n')
         lines = ["[1/2] vertex 0 source done", "[2/2] vertex 1 file done"]
-        self.ends(self.follow(), 3, "running definition", *lines, early)
-        self.does(DONE)
-        self.shows("")
+        self.check_end(self.follow(), 3, "running definition", *lines, early)
+        self.set_behavior(DONE)
+        self.set_graph("")
         lines = ["[1/?] vertex 0 source done", "[2/?] vertex 1 file done"]
-        self.ends(self.follow(), 3, "running definition", *lines, early)
+        self.check_end(self.follow(), 3, "running definition", *lines, early)
 
-    def test_a_session_that_is_ended(self):
-        self.does("os.kill(os.getpid(), signal.SIGKILL)")
-        self.ends(self.follow(), 137, "running definition", "nothing is written")
-        self.does(SOURCE + 'sys.stdin = (line if line == "next\\n" else os.kill(os.getpid(), 9) for line in sys.stdin)')
-        self.ends(self.follow(), 137, "running definition", "nothing is written")
+    def test_a_killed_session_has_the_status_of_its_signal(self):
+        self.set_behavior("os.kill(os.getpid(), signal.SIGKILL)")
+        self.check_end(self.follow(), 137, "running definition", "nothing is written")
+        killed = 'sys.stdin = (line if line == "next\\n" else os.kill(os.getpid(), 9) for line in sys.stdin)'
+        self.set_behavior(SOURCE + killed)
+        self.check_end(self.follow(), 137, "running definition", "nothing is written")
 
-    def test_answers_that_are_not_expected(self):
-        told = run("explain", "fault", "174").stdout.decode().splitlines()
-        meaning = [f"  {line}" for line in told]
+    def test_an_unexpected_answer_is_an_error(self):
+        explained = run("explain", "fault", "174").stdout.decode().splitlines()
+        meaning = [f"  {line}" for line in explained]
         claim = 'answers["next"] += ["1 claim 0 0 -> source 1"]\n'
         for does, lines in [
             ('answers["next"] += ["fault 174"]', ["fault 174", *meaning]),
             (claim + 'answers["go"] += ["fault 174"]', ["fault 174", *meaning]),
             (claim + 'answers["go"] += ["2 settle 0 -> 1 done\\nstop"]', ["stop"]),
         ]:
-            self.does(does)
-            end = "the session gave an answer that is not expected"
-            self.ends(self.follow(), 3, "running definition", *lines, end)
+            self.set_behavior(does)
+            end = "the session gave an unexpected answer"
+            self.check_end(self.follow(), 3, "running definition", *lines, end)
 
-    def test_a_result_that_is_no_tree(self):
-        self.does(DONE + 'answers["tree 1 1"] = ["none"]\n')
+    def test_a_result_that_is_not_a_tree_is_refused(self):
+        self.set_behavior(DONE + 'answers["tree 1 1"] = ["none"]\n')
         done = self.follow()
         self.assertEqual(done.returncode, 2)
         line = b"line 1: neither d MODE UID GID PATH nor f MODE UID GID CONTENT PATH"
         self.assertEqual(done.stderr.splitlines()[-2:], [line, b"nothing is written"])
-        self.nothing_is_left()
+        self.check_nothing_is_left()
 
-    def test_an_archive_as_the_result(self):
-        self.does(DONE)
+    def test_the_result_can_be_an_archive(self):
+        self.set_behavior(DONE)
         done = self.build("--progress", "definition", "out.tar")
         self.assertEqual(done.returncode, 0)
         wanted = run("tar-of-tree", text=b"d 0755 0 0 /\nf 0640 0 0 6869 /a\n").stdout
         self.assertEqual((self.at / "out.tar").read_bytes(), wanted)
-        self.nothing_is_left({"out.tar"})
+        self.check_nothing_is_left({"out.tar"})
 
-    def test_an_interrupt(self):
-        self.does(SOURCE + "time.sleep(0)\n" + 'answers["go"] = ["2 step 0 -> read"]\n')
+    def test_an_interrupt_leaves_nothing(self):
+        self.set_behavior(SOURCE + "time.sleep(0)\n" + 'answers["go"] = ["2 step 0 -> read"]\n')
         words = ["--llbm", self.llbm, "--progress", "definition", "out"]
         child = subprocess.Popen(command("build", *words), stderr=subprocess.PIPE, **self.settings)
         self.addCleanup(child.stderr.close)
@@ -200,4 +202,4 @@ class Progress(Builds):
         child.send_signal(signal.SIGTERM)
         self.assertEqual(child.stderr.read(), b"running definition\ninterrupted: nothing is written\n")
         self.assertEqual(child.wait(60), 128 + signal.SIGTERM)
-        self.nothing_is_left()
+        self.check_nothing_is_left()
