@@ -23,6 +23,7 @@ class Trees(Folder):
         last = "f 0644 0 0 00000000 /d000/s00000/f000000"
         self.check_success(run("bigtree", "1", "1", "4"), self.text([*lines, last]))
         self.check_success(run("bigtree", "0", "0"), b"d 0755 0 0 /\n")
+        self.check_success(run("bigtree", "1", "1", "4", "d", "x"), self.text([*lines, f"{last}x"]))
 
     def test_the_numbers_of_files_and_directories_are_as_requested(self):
         for files, directories, size, prefix in [(100, 10, 16, "d"), (7, 9, 0, "q"), (5, 4, 3, "long")]:
