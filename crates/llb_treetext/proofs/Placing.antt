@@ -1,5 +1,4 @@
 -- A row after all rows of a tree goes to the end of it, where its directories are there; and each row of a tree's text does.
-use Rattle.std.specs.Prelude.{is_ok}
 use Rattle.std.proofs.Common.{◌≡◌, ◌≢◌, ℕ, zero, suc, ◌<◌, ◌≤◌, ◌==◌, Bool, true, false, cond, ◌&&◌, List, [], ◌∷◌, ◌++◌, length, map}
 use Rattle.std.proofs.Common.{Option, Some, None, IsSome, Result, Ok, Err, T, refl, sym, ap, subst, ◌∙◌, true≢false, arith, append_assoc}
 use Rattle.std.proofs.Common.{length-append, inr}
@@ -15,7 +14,6 @@ use Rattle.llb_tree.specs.Path.{path_cmp}
 use Rattle.llb_tree.specs.PathOrder.{path_cmp-IsTotalOrder, path_cmp-IsAntisymmetric}
 use Rattle.llb_tree.specs.Meta.{MetaValue, new_dir_meta}
 use Rattle.llb_tree.specs.Tree.{Entry, Dir, File, Look, TreeMap, parents, all_dirs, walk, dir_fits, file_fits, IsDirAt, CanStand, IsTree, empty_tree}
-use Rattle.llb_tree.specs.Faults as base
 use Rattle.llb_tree.specs.declared.fault.TreeFault.{TreeFault}
 use Rattle.llb_wire.specs.Answer.{◌>>=◌}
 use Rattle.llb_treetext.specs.TreeText.{row_text, line_of, lines_of, tree_text}
@@ -182,12 +180,6 @@ module _ (t : TreeMap) (tree : IsTree t) (row : Pair) (is : IsRow row) (next : c
                 ∙ ap (λ l. l ++ later) (sym text_put ∙ ap tree_text own);
             shorter = omega (arith, ap length begins, length-append (line_of row) later, length-append (row_text row) (10 ∷ []));
           }
-
--- what is put where the result says so
-pub put_done : (r : Result (Unit {0}) TreeFault) (new : TreeMap) (rule : Result TreeMap TreeFault) (b : Bool) → base.Gives (λ _. new) r rule
-    → b ≡ is_ok r → b ≡ true → rule ≡ Ok new
-put_done (Ok u) new rule b gives is done = gives
-put_done (Err e) new rule b gives is done = absurd (true≢false (sym done ∙ is))
 
 -- ---- the first line
 

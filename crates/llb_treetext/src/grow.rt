@@ -1,8 +1,9 @@
 //! The tree of a text while it is read. The files of a directory often follow one another, so the directory of the last line
 //! is kept apart as a tree of its own, where a file is put by its name alone; later it goes back to its place as a whole.
 
-ghost use Rattle.std.specs.Prelude.{◌≡◌, ◌++◌, ◌∷◌, ℕ, List, [], Ok, None, false, IsTrue, IfSome};
+ghost use Rattle.std.specs.Prelude.{◌≡◌, ◌++◌, ◌∷◌, ℕ, List, [], Ok, None, true, false, IfSome, IfOk};
 ghost use Rattle.std.specs.FinMap as finite;
+ghost use Rattle.llb_tree.specs.Path.{is_name};
 ghost use Rattle.llb_tree.specs.Tree.{Dir, TreeMap, IsTree, empty_tree, Entry as TreeEntry};
 ghost use Rattle.llb_treetext.specs.TreeText.{names_text};
 ghost use Rattle.llb_treetext.specs.Fields.{pair_of};
@@ -11,8 +12,8 @@ ghost use Rattle.llb_treetext.specs.Growing.{IsIfAny, IsGrown, IsGrownIfAny, Fol
 
 use crate::parts::Parts;
 use crate::row::{Row, row_from};
-use llb_tree::{Meta, Name, Path, Tree};
-use llb_wire::read_hex;
+use llb_tree::{Meta, Name, Path, Tree, TreeFault};
+use llb_wire::{Memory, read_hex};
 use std::alloc::Global;
 
 // A tree, or a directory of one with the tree that it goes back to.
@@ -79,54 +80,58 @@ pub(crate) fn whole_if_any(growing: Option<Growing<'_>>) -> Option<Tree>
     whole(growing?)
 }
 
-// The name of a path that is just below a directory's; none where it is not, or memory is refused.
-fn name_below(alloc: Global, dir: &str, path: &str) -> Option<Name>
-    ensures { IfSome result (λ n. path.now ≡ dir.now ++ 47 ∷ n) }
+// What a path has after a directory's path and a slash; none where it is not below the directory. Does not allocate.
+fn rest_below<'a>(dir: &str, path: &'a str) -> Option<&'a str>
+    ensures { IfSome result (λ rest. path.now ≡ dir.now ++ 47 ∷ rest.now) }
 {
     let later = path.strip_prefix(dir)?;
-    let name = later.strip_prefix('/')?;
-    match Name::new(alloc, name) {
-        Err(_) => None,
-        Ok(name) => Some(name),
-    }
+    later.strip_prefix('/')
 }
 
-// The path of one name; none where memory is refused.
-fn path_of_name(alloc: Global, name: Name) -> Option<Path>
-    ensures { IfSome result (λ p. p ≡ name ∷ []) }
+// The path of one name; none where the text is no name.
+fn path_of_name(alloc: Global, text: &str) -> Result<Option<Path>, Memory>
+    ensures { IfOk result (λ o. IfSome o (λ p. (p ≡ text.now ∷ []) × (is_name text.now ≡ true))) }
 {
-    let mut path = Path::root(alloc);
-    match path.push(name) {
-        Err(_) => None,
-        Ok(()) => Some(path),
-    }
-}
-
-// Puts a line's file by its name in the directory that is kept apart, and returns whether it is there. Where it is not, nothing is
-// changed.
-fn is_put_below(alloc: Global, growing: &mut Growing<'_>, parts: &Parts<'_>) -> bool
-    ensures put { IsTrue result → (t : TreeMap) → IsGrown growing.old t → (row : List (List ℕ) × TreeEntry) → Follows t row parts.now
-        → IsGrown growing.new (finite.insert t row.0 row.1) }
-    ensures kept { result ≡ false → growing.new ≡ growing.old }
-{
-    let Some(open) = &growing.open else {
-        return false;
-    };
-    let Some(digits) = parts.digits else {
-        return false;
-    };
-    let _names = open.at.names();
-    let Some(name) = name_below(alloc, open.text, parts.path) else {
-        return false;
+    let name = match Name::new(alloc, text) {
+        Err(TreeFault::Memory) => return Err(Memory),
+        Err(_) => return Ok(None),
+        Ok(name) => name,
     };
     let _name = name.as_str();
-    let Some(path) = path_of_name(alloc, name) else {
-        return false;
+    let mut path = Path::root(alloc);
+    match path.push(name) {
+        Err(_) => Err(Memory),
+        Ok(()) => Ok(Some(path)),
+    }
+}
+
+// Puts a line's file by its name in the directory that is kept apart, and returns whether it is there; a line that is not a file's
+// just below that directory changes nothing. A refusal of memory is an error and not `false`, so that it is reported.
+fn is_put_below(alloc: Global, growing: &mut Growing<'_>, parts: &Parts<'_>) -> Result<bool, Memory>
+    ensures put { IfOk result (λ is_put. is_put ≡ true → (t : TreeMap) → IsGrown growing.old t → (row : List (List ℕ) × TreeEntry)
+        → Follows t row parts.now → IsGrown growing.new (finite.insert t row.0 row.1)) }
+    ensures kept { IfOk result (λ is_put. is_put ≡ false → growing.new ≡ growing.old) }
+{
+    let Some(open) = &growing.open else {
+        return Ok(false);
     };
-    let Ok(Some(content)) = read_hex(alloc, digits) else {
-        return false;
+    let Some(digits) = parts.digits else {
+        return Ok(false);
     };
-    growing.tree.put_file(&path, parts.meta, content).is_ok()
+    let _names = open.at.names();
+    let Some(name) = rest_below(open.text, parts.path) else {
+        return Ok(false);
+    };
+    let Some(path) = path_of_name(alloc, name)? else {
+        return Ok(false);
+    };
+    let Some(content) = read_hex(alloc, digits)? else {
+        return Ok(false);
+    };
+    match growing.tree.put_file(&path, parts.meta, content) {
+        Err(_) => Err(Memory),
+        Ok(()) => Ok(true),
+    }
 }
 
 // A tree with a directory more, which is kept apart; none where memory is refused.
@@ -177,7 +182,10 @@ pub(crate) fn with_line<'a>(
         → IsGrownIfAny result (finite.insert t row.0 row.1) }
 {
     let mut growing = growing?;
-    if is_put_below(alloc, &mut growing, parts) {
+    let Ok(is_put) = is_put_below(alloc, &mut growing, parts) else {
+        return None;
+    };
+    if is_put {
         return Some(growing);
     }
     match row_from(alloc, parts) {

@@ -12,5 +12,5 @@ returns-in-Ok-Some c = λ t grown row follows.
     let own = row_made row (parts_seen c.args.parts.now) _ follows.of.0 follows.of.1 c.in-Ok-Some.ensures (pair_of c.in-Ok-Some.row)
     (ap (option_map pair_of) c.in-Ok-Some.field-0-is) in
     let here = subst (λ o. IsGrownIfAny o t) c.in_ok-growing.was grown in
-    let same = c.in_ok-whole-in-Ok-Some.ensures t (subst (λ g. IsGrown g t) (sym (c.is_put_below.ensures.kept c.if-is_put_below.false)) here) in
+    let same = c.in_ok-whole-in-Ok-Some.ensures t (subst (λ g. IsGrown g t) (sym (c.in-Ok.ensures.kept c.if-is_put.false)) here) in
     row_more t c.in_ok-whole-in-Ok-Some.field-0 row (pair_of c.in-Ok-Some.row) c.args.parts.now c.with_row.result same own follows c.with_row.ensures
