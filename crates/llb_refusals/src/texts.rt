@@ -177,6 +177,7 @@ const ROWS: &[Row] = &[
     ("print_tree", "A_B", "34", "A_B"),
     ("read_tree", "OLD", "34", "OLD"),
     ("read_tree", "F", "34", "F"),
+    ("read_tree", "A_B", "34", "A_B"),
     ("tree_digest", "EMPTY", "34", DIGEST),
     ("Pattern::read", "a*c", "42", "/abc"),
     ("Pattern::read", "\\*", "42", "/*"),
