@@ -2,7 +2,6 @@ use denote.Exit.{no}
 use denote.Param.{param}
 use denote.Param.Send.{param_send, arg_send, shr_send}
 use denote.RattleType.{RattleType}
-use mir.Syntax.{named}
 use Rattle.std.proofs.Common.{sym, subst}
 use Rattle.std.proofs.Crossing.{send}
 use Rattle.std.specs.contracts.sync.Mutex as mutex
@@ -19,11 +18,11 @@ spawn_with-requires g c κs =
     let name : RattleType = param 1 g.row.S in
     let lock : RattleType = mutex.the_row (desk.the_row name g.S.Gated g.S.Ledger) in (
       param_send 2 _ (arg_send _ no _ (
-          eight_cross _ _ _ _ _ _ _ _ _ (shr_send (named 6) κs.1.1.1.1.1.1.0 (param 3 g.row.R) c.type_bounds.sync-R) send
-          (shr_send (named 7) κs.1.1.1.1.1.1.1.0 lock (lock_crosses name g.S.Gated g.S.Ledger))
-          (shr_send (named 8) κs.1.1.1.1.1.1.1.1.0 queue.the_row queue_shared)
-          (shr_send (named 9) κs.1.1.1.1.1.1.1.1.1.0 idle.the_row idle_shared)
-          (shr_send (named 10) κs.1.1.1.1.1.1.1.1.1.1.0 (param 2 g.row.G) c.type_bounds.sync-G) number (kit_crosses name g.S.Ledger)
+          eight_cross _ _ _ _ _ _ _ _ _ (shr_send _ _ (param 3 g.row.R) c.type_bounds.sync-R) send
+          (shr_send _ _ lock (lock_crosses name g.S.Gated g.S.Ledger))
+          (shr_send _ _ queue.the_row queue_shared)
+          (shr_send _ _ idle.the_row idle_shared)
+          (shr_send _ _ (param 2 g.row.G) c.type_bounds.sync-G) number (kit_crosses name g.S.Ledger)
           )),
       (
         param_send 3 _ (arg_send _ no _ (kit_crosses name g.S.Ledger)),
