@@ -10,9 +10,9 @@ use Rattle.std.specs.Arc.{arc_value}
 use Rattle.std.specs.FinMap as finite
 use Rattle.llb_tree.specs.Path.{name_cmp}
 use Rattle.llb_tree.specs.Tree.{TreeMap, Entry, height, places_fit}
-use Rattle.llb_tree.specs.Nodes.{name_of, kids_of, map_of}
+use Rattle.llb_tree.specs.Nodes.{name_of, kids_of, kids_in, map_of}
 use Rattle.llb_tree.specs.Looks.{look_kids, get-below, get-root}
-use Rattle.llb_tree.specs.Falls.{height_le, le_height, falls}
+use Rattle.llb_tree.specs.Falls.{le_pieces, height_le, le_height, falls}
 use Rattle.llb_tree.specs.declared.fault.TreeFault.TheVariants.{BadName}
 use Rattle.llb_tree.specs.declared.node.Kind.{Kind}
 use Rattle.llb_tree.specs.declared.node.Kind.TheVariants as kind
@@ -28,9 +28,11 @@ most_at (k ∷ ks) (suc j) d lt = let rest = most_at ks j d (omega arith) in ome
 kid_below : (k : Kind) (j : ℕ) (d : Child) → j < length (kids_of k) → height (get_or (kids_of k) j d).node + 1 ≤ height (map_of k)
 kid_below (kind.File m c) j d lt = absurd (omega arith)
 kid_below (kind.Dir m kids) j d lt =
-    let kid = most_at (arc_value kids).items j d lt in
+    let ks = kids_in (arc_value kids).items in
+    let kid = most_at ks j d lt in
     let all = falls (kind.Dir m kids) in
-    omega (arith, kid, all)
+    let le : most deep-Child ks ≤ height (map_of (kind.Dir m kids)) = le_pieces _ (arc_value kids).items (omega (arith, all)) in
+    omega (arith, kid, le)
 
 -- the first i children go no deeper than n
 abbrev pub AllWithin : List Child → ℕ → ℕ → Type 0

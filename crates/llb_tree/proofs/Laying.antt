@@ -20,7 +20,7 @@ use Rattle.llb_tree.specs.declared.node.Kind.TheVariants as kind
 use Rattle.llb_tree.specs.declared.node.Child.{Child}
 use Rattle.llb_tree.proofs.Placed.{is_found}
 use Rattle.llb_tree.proofs.Overlaid.{below_file-cons}
-use Rattle.llb_tree.proofs.Children.{get-child}
+use Rattle.llb_tree.proofs.ByName.{get-child}
 
 below_none : (g : Look) (ps : List (List (List ℕ))) → ((r : List (List ℕ)) → g r ≡ None) → list_any is_file (map g ps) ≡ false
 below_none g [] none = refl

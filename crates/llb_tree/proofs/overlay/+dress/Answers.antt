@@ -4,7 +4,7 @@ use Rattle.llb_tree.specs.Tree as tree
 use Rattle.llb_tree.specs.Nodes.{kids_of, map_of, pair_of, AreSorted}
 use Rattle.llb_tree.specs.Laying.{dress, dress_pair}
 use Rattle.llb_tree.specs.declared.node.Kind.TheVariants as kind
-use Rattle.llb_tree.proofs.Children.{kids_below}
+use Rattle.llb_tree.proofs.ByName.{kids_below}
 use Rattle.llb_tree.proofs.overlay.+dress.Goals.{dressed-in-File+in_ok-try_clone-in-File, dressed-in-Dir+in_ok-list-in-Dir+in_ok-new-in-Dir}
 use Rattle.llb_tree.proofs.overlay.+dress.Goals as goal
 use Rattle.llb_tree.proofs.Dressing.{dressed_pushed, pairs_taken, if_ok, dress_same, AreSorted-dressed, node_dressed}
