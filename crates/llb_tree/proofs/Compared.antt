@@ -162,9 +162,8 @@ pub record SoFar (ks ls xs ys : List Child) : Type 0 where
   pub sorted : AreSorted xs
   pub sorted2 : AreSorted ys
 
-pub none_yet : (ks ls xs ys : List Child) → AreSorted ks → AreSorted ls → xs ≡ ks → ys ≡ ls → SoFar ks ls xs ys
-none_yet ks ls xs ys sorted sorted2 all all2 =
-    subst (λ x. SoFar ks ls x ys) (sym all) (subst (SoFar ks ls ks) (sym all2) (record { rest = (λ h. h, λ h. h); sorted = sorted; sorted2 = sorted2 }))
+pub none_yet : (ks ls : List Child) → AreSorted ks → AreSorted ls → SoFar ks ls ks ls
+none_yet ks ls sorted sorted2 = record { rest = (λ h. h, λ h. h); sorted = sorted; sorted2 = sorted2 }
 
 module _ (ks ls xs ys : List Child) (so : SoFar ks ls xs ys) where
   -- no child is left on either side, so all are alike

@@ -4,21 +4,21 @@ use Rattle.llb_tree.specs.declared.node.Child.{Child}
 
 pub record IsAt (all left : List Child) (i : ℕ) : Type 0 where
   pub within : i ≤ length all
-  pub left : left ≡ drop i all
+  pub suffix : left ≡ drop i all
 
 -- the next child is the one at i, and after it those after the first i + 1 are left
 pub record IsNext (all rest : List Child) (i : ℕ) (kid : Child) : Type 0 where
   pub within : i < length all
-  pub kid : kid ≡ get_or all i kid
+  pub here : kid ≡ get_or all i kid
   pub at : IsAt all rest (i + 1)
 
 pub at_start : (all : List Child) → IsAt all all 0
-at_start all = record { within = omega arith; left = refl }
+at_start all = record { within = omega arith; suffix = refl }
 
 pub at_next : (all left rest : List Child) (kid : Child) (i : ℕ) → IsAt all left i → left ≡ kid ∷ rest → IsNext all rest i kid
 at_next all left rest kid i at is =
-    let next = go all i at.within (sym at.left ∙ is) in
-    record { within = next.0; kid = next.1; at = record { within = omega (arith, next.0); left = next.2 ∙ ap (λ j. drop j all) (sym (add-one i)) } }
+    let next = go all i at.within (sym at.suffix ∙ is) in
+    record { within = next.0; here = next.1; at = record { within = omega (arith, next.0); suffix = next.2 ∙ ap (λ j. drop j all) (sym (add-one i)) } }
   where
     first : (a b : Child) (xs ys : List Child) → a ∷ xs ≡ b ∷ ys → (b ≡ a) × (ys ≡ xs)
     first a b xs ys e = (cc, cc)
@@ -30,7 +30,7 @@ at_next all left rest kid i at is =
     go (k ∷ ks) (suc i) le e = let more = go ks i (omega arith) e in (omega (arith, more.0), more.1, more.2)
 
 pub at_end : (all left : List Child) (i : ℕ) → IsAt all left i → left ≡ [] → length all ≤ i
-at_end all left i at none = go all i (sym at.left ∙ none)
+at_end all left i at none = go all i (sym at.suffix ∙ none)
   where
     go : (all : List Child) (i : ℕ) → drop i all ≡ [] → length all ≤ i
     go [] i e = omega arith

@@ -18,11 +18,22 @@ use Rattle.llb_tree.specs.declared.node.Kind.{Kind}
 use Rattle.llb_tree.specs.declared.node.Kind.TheVariants as kind
 use Rattle.llb_tree.specs.declared.node.Child.{Child}
 use Rattle.llb_tree.specs.declared.node.Node.TheDeep.{deep-Child}
+use Rattle.llb_tree.proofs.Cursor.{IsNext}
 
 most_at : (ks : List Child) (j : ℕ) (d : Child) → j < length ks → height (get_or ks j d).node + 1 ≤ most deep-Child ks
 most_at [] j d lt = absurd (omega arith)
 most_at (k ∷ ks) zero d lt = omega arith
 most_at (k ∷ ks) (suc j) d lt = let rest = most_at ks j d (omega arith) in omega (arith, rest)
+
+-- the first of the children goes less deep than the deepest, and those after it no deeper
+pub first_below : (left rest : List Child) (kid : Child) → left ≡ kid ∷ rest
+    → (height kid.node + 1 ≤ most deep-Child left) × (most deep-Child rest ≤ most deep-Child left)
+first_below left rest kid is = subst (λ ks. (height kid.node + 1 ≤ most deep-Child ks) × (most deep-Child rest ≤ most deep-Child ks)) (sym is)
+    (omega arith, omega arith)
+
+-- the next of the children goes less deep than the deepest
+pub next_below : (all rest : List Child) (i : ℕ) (kid : Child) → IsNext all rest i kid → height kid.node + 1 ≤ most deep-Child all
+next_below all rest i kid next = subst (λ (k : Child). height k.node + 1 ≤ most deep-Child all) (sym next.here) (most_at all i kid next.within)
 
 -- a child goes less deep than its directory
 kid_below : (k : Kind) (j : ℕ) (d : Child) → j < length (kids_of k) → height (get_or (kids_of k) j d).node + 1 ≤ height (map_of k)

@@ -96,15 +96,6 @@ node_laid w k u j m l sk su ek eu ej lays (n ∷ q) =
 
 -- ---- children over children
 
--- no children laid over others leave those as they are
-lays_none : (w : WayValue) (ks : List Child) → AreSorted ks → Lays w [] ks ks
-lays_none w ks h = record { sorted = h; children = λ m q. sym (none_over w (look_in (child m ks)) (look_in None) q (λ r. refl)) }
-
--- children that are none by their count leave those that they are laid over as they are
-pub lays_nothing : (w : WayValue) (upper ks : List Child) → (length upper == 0) ≡ true → AreSorted ks → Lays w upper ks ks
-lays_nothing w [] ks is h = lays_none w ks h
-lays_nothing w (k ∷ upper) ks is h = absurd (grind (arith, nat_tests, is))
-
 -- over the child of the name
 module _ (kid : Child) (ks : List Child) (i : ℕ) (there new : Child) (h : AreSorted ks) (at : Ok i ≡ place (name_of kid) ks) (is : there ≡ get_or ks i there)
     (same : name_of new ≡ name_of there) where

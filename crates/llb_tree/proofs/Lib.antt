@@ -24,6 +24,7 @@ pub mod Dressing
 pub mod Laying
 pub mod InPlace
 pub mod Covered
+pub mod LaidPieces
 pub mod Compared
 pub mod Fitting
 pub mod Walked

@@ -1,6 +1,7 @@
 //! The children of a directory one after another: a part of a piece, and whole pieces after it.
 
 ghost use Rattle.std.specs.Prelude.{◌≡◌, []};
+ghost use Rattle.std.specs.Iterator.{YieldsFirstRef, item_count};
 ghost use Rattle.llb_tree.specs.Nodes.{kids_in, left_in, SplitsFirst};
 
 use crate::node::{Child, Piece};
@@ -46,5 +47,19 @@ impl<'a> Children<'a> {
             pieces = rest;
         }
         None
+    }
+}
+
+impl<'a> Iterator for Children<'a> {
+    type Item = &'a Child;
+
+    ghost next_gives = { YieldsFirstRef left_in };
+
+    ghost remaining = { item_count left_in };
+
+    fn next(&mut self) -> Option<&'a Child> {
+        let (kid, rest) = self.split_first()?;
+        *self = rest;
+        Some(kid)
     }
 }

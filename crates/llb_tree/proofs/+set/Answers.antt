@@ -32,39 +32,39 @@ edit::set_rows-set_in-requires t c = (
 pub edit::set_piece-set_rows-requires : goal.edit::set_piece-set_rows-requires
 edit::set_piece-set_rows-requires t c = (
   search rules,
-  (found_rows c.args.name.now c.make_room-at.new.pieces.items c.in_ok-at.at c.index_mut-piece.result.now _ c.make_room-at.ensures.pieced
+  (found_rows c.args.name.now c.make_room.new.pieces.items c.in_ok-at.at c.index_mut-piece.result.now _ c.make_room.ensures.pieced
       c.in_ok-at.ensures.at (ap rows_in c.index_mut-piece.ensures.value)).0,
 )
 
 pub edit::set_piece-returns-in_err-set_rows-clause-err : goal.edit::set_piece-returns-in_err-set_rows-clause-err
 edit::set_piece-returns-in_err-set_rows-clause-err t c =
-    let ps = c.make_room-at.new.pieces.items in
+    let ps = c.make_room.new.pieces.items in
     let new : Piece = record { rows = c.set_rows.new.rows } in
-    err_holds c.from_residual.result (ap joined (same_pairs ps c.in_ok-at.at c.index_mut-piece.result.now new c.index_mut-piece.ensures.value
-    c.in_err-set_rows.ensures.err) ∙ c.make_room-at.ensures.same)
+    err_holds c.from_residual-in_err-set_rows.result (ap joined (same_pairs ps c.in_ok-at.at c.index_mut-piece.result.now new c.index_mut-piece.ensures.value
+    c.in_err-set_rows.ensures.err) ∙ c.make_room.ensures.same)
 
 pub edit::set_piece-returns-in_err-set_rows-clause-pieced : goal.edit::set_piece-returns-in_err-set_rows-clause-pieced
 edit::set_piece-returns-in_err-set_rows-clause-pieced t c =
-    let ps = c.make_room-at.new.pieces.items in
+    let ps = c.make_room.new.pieces.items in
     let new : Piece = record { rows = c.set_rows.new.rows } in
     subst IsPieced (sym (same_pairs ps c.in_ok-at.at c.index_mut-piece.result.now new c.index_mut-piece.ensures.value c.in_err-set_rows.ensures.err))
-    c.make_room-at.ensures.pieced
+    c.make_room.ensures.pieced
 
 pub edit::set_piece-returns-clause-ok : goal.edit::set_piece-returns-clause-ok
 edit::set_piece-returns-clause-ok t c =
     let n = c.args.name.now in
     let p = c.args.rest.now in
-    let ps = c.make_room-at.new.pieces.items in
+    let ps = c.make_room.new.pieces.items in
     let new : Piece = record { rows = c.set_rows.new.rows } in
-    subst (λ es. Changes n p c.args.branch es (pairs_of c.drop_empty.new.pieces.items)) c.make_room-at.ensures.same
-    (changes_at n ps c.in_ok-at.at c.index_mut-piece.result.now new c.make_room-at.ensures.pieced c.in_ok-at.ensures.at c.index_mut-piece.ensures.value
+    subst (λ es. Changes n p c.args.branch es (pairs_of c.drop_empty.new.pieces.items)) c.make_room.ensures.same
+    (changes_at n ps c.in_ok-at.at c.index_mut-piece.result.now new c.make_room.ensures.pieced c.in_ok-at.ensures.at c.index_mut-piece.ensures.value
     p c.args.branch c.drop_empty.new.pieces.items c.in_ok-set_rows.ensures.ok c.drop_empty.ensures).0
 
 pub edit::set_piece-returns-clause-pieced : goal.edit::set_piece-returns-clause-pieced
 edit::set_piece-returns-clause-pieced t c =
-    let ps = c.make_room-at.new.pieces.items in
+    let ps = c.make_room.new.pieces.items in
     let new : Piece = record { rows = c.set_rows.new.rows } in
-    (changes_at c.args.name.now ps c.in_ok-at.at c.index_mut-piece.result.now new c.make_room-at.ensures.pieced c.in_ok-at.ensures.at
+    (changes_at c.args.name.now ps c.in_ok-at.at c.index_mut-piece.result.now new c.make_room.ensures.pieced c.in_ok-at.ensures.at
     c.index_mut-piece.ensures.value c.args.rest.now c.args.branch c.drop_empty.new.pieces.items c.in_ok-set_rows.ensures.ok c.drop_empty.ensures).1
 
 pub edit::set_in-returns-else-is_empty-clause-ok : goal.edit::set_in-returns-else-is_empty-clause-ok

@@ -22,7 +22,7 @@ loop-kid-preserved c =
     let there = c.in-Some-after.ensures in (
       before.0 + 1,
       next.at,
-      covers_more upper lower before.0 kid next.within next.kid before.2
+      covers_more upper lower before.0 kid next.within next.here before.2
           (ap (λ n. is_some (child n upper)) (sym c.deref.ensures) ∙ before.3 c.deref.result.now there.here),
       λ n is. before.3 n (there.later n is),
     )

@@ -24,7 +24,7 @@ loop-kid-preserved c =
       next.at,
       c.in_ok-push.ensures.items
           ∙ (λ i. so_far.2 i ++ same i ∷ [])
-          ∙ tops_more all so_far.0 kid _ entries.0 next.within next.kid entries.1
+          ∙ tops_more all so_far.0 kid _ entries.0 next.within next.here entries.1
           ∙ ap (λ n. tops (flat (take n all))) (sym (add-one so_far.0)),
     )
 
@@ -32,4 +32,4 @@ pub returns : goal.returns
 returns c =
     let all = left_in c.args.kids in
     let so_far = c.loop-kid.invariant in
-    ap Ok (so_far.2 ∙ ap (λ ks. tops (flat ks)) (take_all so_far.0 all (at_end all (left_in c.loop-kid.left) so_far.0 so_far.1 c.in_default.ensures)))
+    ap (λ o. Ok o) (sym (so_far.2 ∙ ap (λ ks. tops (flat ks)) (take_all so_far.0 all (at_end all (left_in c.loop-kid.left) so_far.0 so_far.1 c.in_default.ensures))))

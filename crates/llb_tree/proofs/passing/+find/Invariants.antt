@@ -1,8 +1,7 @@
 -- The rest of the tests is one shorter with each level.
 use Rattle.std.proofs.Common.{◌≡◌, ℕ, ◌+◌, ◌*◌, ◌∷◌, ◌++◌, length, map, take}
-use Rattle.std.specs.Arc.{arc_value}
 use Rattle.std.specs.List.{filter}
-use Rattle.llb_tree.specs.Nodes.{flat, kids_in, left_in}
+use Rattle.llb_tree.specs.Nodes.{flat, left_in}
 use Rattle.llb_tree.specs.Tested.{passes_all}
 use Rattle.llb_tree.proofs.Cursor.{IsAt}
 use Rattle.llb_tree.proofs.passing.+find.Given as goal
@@ -14,10 +13,10 @@ abbrev pub decreases-find_in : goal.decreases-find_in
 decreases-find_in g l = 2 * length l.rest.now + 1
 
 abbrev pub invariant-find-loop-kid : goal.invariant-find-loop-kid
-invariant-find-loop-kid g l = (i : ℕ) × IsAt (kids_in (arc_value l.kids).items) (left_in l.left) i × (l.path ≡ l.fn.path)
+invariant-find-loop-kid g l = (i : ℕ) × IsAt (left_in l.initial.left) (left_in l.left) i × (l.path ≡ l.fn.path)
     × (l.found.items
     ≡ l.fn.found.items ++ map (λ q. l.fn.path ++ q)
-    (filter (passes_all g.T.NameTest.passes (l.test ∷ l.rest)) (map (λ e. e.0) (flat (take i (kids_in (arc_value l.kids).items))))))
+    (filter (passes_all g.T.NameTest.passes (l.test ∷ l.rest)) (map (λ e. e.0) (flat (take i (left_in l.initial.left))))))
 
 abbrev pub decreases-find-loop-kid : goal.decreases-find-loop-kid
 decreases-find-loop-kid g l = length (left_in l.left)

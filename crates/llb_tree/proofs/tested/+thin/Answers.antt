@@ -99,7 +99,7 @@ thinned_children-loop-kid-preserved g t c =
       next.at,
       subst (λ changed. KeptSoFar passes (c.args.test.now ∷ c.args.rest.now) all (so_far.0 + 1) changed c.keep.new.kept.items) (sym either)
           (kept_next passes (c.args.test.now ∷ c.args.rest.now) all so_far.0 kid c.loop-kid.changed c.in_ok-goes.goes
-          c.loop-kid.kept.items c.keep.new.kept.items next.within next.kid so_far.2 c.in_ok-goes.ensures),
+          c.loop-kid.kept.items c.keep.new.kept.items next.within next.here so_far.2 c.in_ok-goes.ensures),
     )
 
 pub thinned_children-returns-then-not-changed : goal.thinned_children-returns-then-not-changed
