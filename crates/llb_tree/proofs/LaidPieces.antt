@@ -1,6 +1,6 @@
 -- Pieces of laid children, one for each upper piece.
 use Rattle.std.proofs.Common.{◌≡◌, ℕ, zero, suc, ◌+◌, ◌<◌, ◌≤◌, Bool, true, false, not, ◌||◌, List, [], ◌∷◌, ◌++◌, length, map, take, drop, get_or}
-use Rattle.std.proofs.Common.{refl, sym, ap, subst, ◌∙◌, arith, add-one}
+use Rattle.std.proofs.Common.{refl, sym, ap, subst, ◌∙◌, true≢false, arith, add-one}
 use Rattle.std.proofs.lemmas.List.{length-map, take_all}
 use Rattle.llb_tree.specs.Nodes.{Pairs, pair_of, rows_in, kids_in, AreSorted}
 use Rattle.llb_tree.specs.Pieces.{row_pairs, pairs_of, AllFull, ArePieced}
@@ -91,3 +91,9 @@ pub lays_put : (w : WayValue) (old us new : List Piece) (made : List Child) → 
     → pairs_of new ≡ puts (map pair_of made) (pairs_of old) → Lays w (kids_in us) (kids_in old) (kids_in new)
 lays_put w old us new made h above laid is = lays_puts w (kids_in old) (kids_in us) made (kids_in new) (sorted_kids old h) (sorted_kids us above) laid
     (pairs_kids new ∙ is ∙ ap (puts (map pair_of made)) (sym (pairs_kids old)))
+
+-- what is unchanged was so before, and is whole
+pub both_whole : (after before whole : Bool) → after ≡ (before || not whole) → after ≡ false → (before ≡ false) × (whole ≡ true)
+both_whole after true whole is none = absurd (true≢false (sym is ∙ none))
+both_whole after false true is none = (refl, refl)
+both_whole after false false is none = absurd (true≢false (sym is ∙ none))

@@ -90,7 +90,8 @@ not_emptied ps j p lt is some = sym (ap (λ xs. tidied_by xs j (map row_pairs ps
 
 -- ---- pieces that are made
 
-take_piece : (ps : List Piece) (i : ℕ) (d : Piece) → i < length ps → take i (map row_pairs ps) ++ row_pairs (get_or ps i d) ∷ [] ≡ take (suc i) (map row_pairs ps)
+take_piece : (ps : List Piece) (i : ℕ) (d : Piece) → i < length ps
+    → take i (map row_pairs ps) ++ row_pairs (get_or ps i d) ∷ [] ≡ take (suc i) (map row_pairs ps)
 take_piece [] i d h = absurd (omega arith)
 take_piece (p ∷ ps) zero d h = refl
 take_piece (p ∷ ps) (suc i) d h = ap (λ es. row_pairs p ∷ es) (take_piece ps i d (omega arith))

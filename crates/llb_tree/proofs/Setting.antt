@@ -11,7 +11,7 @@ use Rattle.std.specs.FinMap.Entries.{put, find-put, is_sorted-put, where_key, is
 use Rattle.llb_tree.specs.Path.{name_cmp}
 use Rattle.llb_tree.specs.PathOrder.{name_cmp-IsAntisymmetric}
 use Rattle.llb_tree.specs.Tree.{TreeMap}
-use Rattle.llb_tree.specs.Nodes.{Pair, Pairs, name_of, own_entry, kids_of, map_of, flat, pair_of, AreSorted, child, look_in, place, later, set_look, Sets, pieces_of}
+use Rattle.llb_tree.specs.Nodes.{Pair, Pairs, name_of, own_entry, kids_of, pieces_of, map_of, flat, pair_of, AreSorted, look_in, place, later, set_look, Sets}
 use Rattle.llb_tree.specs.Pieces.{ArePieced, pairs_of, without, change, Changes}
 use Rattle.llb_tree.specs.Looks.{get-root}
 use Rattle.llb_tree.specs.declared.fault.TreeFault.{TreeFault}

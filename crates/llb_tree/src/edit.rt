@@ -14,12 +14,12 @@ use crate::pieces::{drop_empty, make_room, own_list};
 use std::alloc::{AllocError, Global};
 use std::sync::Arc;
 
-// Second owners of the same children.
+// Second owners of the same children, with room for one more.
 pub(crate) fn copies(alloc: Global, kids: &[Child]) -> Result<Vec<Child>, AllocError>
     ensures { IfOk result (λ v. map pair_of v.items ≡ map pair_of kids.now) }
 {
     let mut copied = Vec::new(alloc);
-    copied.reserve(kids.len())?;
+    copied.reserve(kids.len() + 1)?;
     for kid in kids {
         copied.push(kid.copy()?)?;
     }

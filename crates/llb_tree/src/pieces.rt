@@ -28,7 +28,7 @@ impl Piece {
 
     // A second owner.
     pub(crate) fn copy(&self) -> Result<Piece, AllocError>
-        ensures { IfOk result (λ p. row_pairs p ≡ row_pairs self.now) }
+        ensures { IfOk result (λ p. rows_in p ≡ rows_in self.now) }
     {
         let rows = Arc::try_clone(&self.rows)?;
         Ok(Piece { rows })

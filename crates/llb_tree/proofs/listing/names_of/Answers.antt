@@ -32,4 +32,5 @@ pub returns : goal.returns
 returns c =
     let all = left_in c.args.kids in
     let so_far = c.loop-kid.invariant in
-    ap (λ o. Ok o) (sym (so_far.2 ∙ ap (λ ks. tops (flat ks)) (take_all so_far.0 all (at_end all (left_in c.loop-kid.left) so_far.0 so_far.1 c.in_default.ensures))))
+    let past = at_end all (left_in c.loop-kid.left) so_far.0 so_far.1 c.in_default.ensures in
+    ap (λ o. Ok o) (sym (so_far.2 ∙ ap (λ ks. tops (flat ks)) (take_all so_far.0 all past)))

@@ -1,24 +1,28 @@
-use Rattle.std.proofs.Common.{◌≡◌, ◌+◌, [], Option, Ok, Err, Some, None, T, arith, map, option_map, unwrap_or, true, sym, ap, subst, ◌∙◌, refl}
+use Rattle.std.proofs.Common.{◌≡◌, ◌+◌, ◌≤◌, ◌||◌, not, true≢false, [], Option, Some, None, arith, map, option_map, unwrap_or, true, sym, ap, subst, ◌∙◌, refl}
 use Rattle.std.proofs.lemmas.List.{take_all}
+use denote.Param.Weighed.{most}
 use Rattle.std.specs.Arc.{arc_value}
 use Rattle.std.specs.FinMap as finite
-use Rattle.llb_tree.specs.Nodes.{AreSorted, name_of, child, look_in, kids_of, kids_in, left_in, map_of, pair_of}
+use Rattle.llb_tree.specs.Nodes.{AreSorted, name_of, child, look_in, kids_of, kids_in, left_in, rows_in, map_of, pair_of}
+use Rattle.llb_tree.specs.Pieces.{ArePieced}
+use Rattle.llb_tree.specs.Falls.{le_pieces}
 use Rattle.llb_tree.specs.Overlay.{below_file, over, over_at}
 use Rattle.llb_tree.specs.Tree.{TreeMap}
 use Rattle.llb_tree.specs.Laying.{Lays, IsOver, AreLaid, PiecesLaid, puts, those, those_pieces}
 use Rattle.llb_tree.specs.declared.node.Child.{Child}
+use Rattle.llb_tree.specs.declared.node.Node.TheDeep.{deep-Child, deep-Piece}
 use Rattle.llb_tree.specs.declared.node.Kind.TheVariants as kind
 use Rattle.llb_tree.proofs.Covered.{HasLaid, none_yet, same_length, one_stays, one_written, all_laid, file_stays, new_stays, dir_stays}
 use Rattle.llb_tree.proofs.Cursor.{at_start, at_next, at_end, fewer}
 use Rattle.llb_tree.proofs.Dressing.{get-dress, dress_same}
 use Rattle.llb_tree.proofs.Fitting.{next_below}
 use Rattle.llb_tree.proofs.InPlace.{err_holds, laid_pushed}
-use Rattle.llb_tree.proofs.LaidPieces.{lays_pieces, laid_pieced, piece_laid, piece_stays, lays_put}
+use Rattle.llb_tree.proofs.LaidPieces.{lays_pieces, laid_pieced, piece_laid, piece_stays, lays_put, both_whole}
 use Rattle.llb_tree.proofs.Laying.{lone_file, root_there, on_ok, node_laid, over_file, over_none, under_file}
 use Rattle.llb_tree.proofs.Pieced.{sorted_kids}
 use Rattle.llb_tree.proofs.Setting.{same_dir, same_pieces}
 use Rattle.llb_tree.proofs.overlay.+lay.Goals.{lay_node-in_default-via-in-Dir+in_default, lay_node-in_default-via-in_default}
-use Rattle.llb_tree.proofs.overlay.+lay.Goals.{laid_rows-in-Some+in_ok-with_node, laid_rows-in_default}
+use Rattle.llb_tree.proofs.overlay.+lay.Goals.{laid_rows-in-Some+in_ok-with_node, laid_rows-in_default, laid_all-then-changed, laid_all-else-changed}
 use Rattle.llb_tree.proofs.overlay.+lay.Goals as goal
 
 -- ---- one upper child
@@ -136,6 +140,70 @@ lay_all-returns-in_ok-kids-in-Some-clause-ok t c =
     (lays_pieces w (kids_in old) upper c.in-Some.list.items c.requires.upper c.requires.covers
     (subst (λ o. PiecesLaid w (kids_in old) upper (those_pieces o upper)) c.in-Some.is laid))
 
+pub lay_all-returns-in_ok-kids-in-Some-clause-pieced : goal.lay_all-returns-in_ok-kids-in-Some-clause-pieced
+lay_all-returns-in_ok-kids-in-Some-clause-pieced t c =
+    let w = c.args.way.now in
+    let old = (arc_value c.args.kids.now).items in
+    let upper = (arc_value c.args.upper.now).items in
+    let laid : PiecesLaid w (kids_in old) upper (those_pieces c.in_ok-laid_all.field-0 upper) =
+    (subst (λ ks. PiecesLaid w (kids_in ks) upper (those_pieces c.in_ok-laid_all.field-0 upper))
+    (c.as_slice.ensures.value ∙ ap (λ v. v.items) c.deref.ensures)
+    (subst (λ us. PiecesLaid w (kids_in c.as_slice.result.now) us (those_pieces c.in_ok-laid_all.field-0 us))
+    (c.as_slice-2.ensures.value ∙ ap (λ v. v.items) c.deref-2.ensures) c.in_ok-laid_all.ensures)) in
+    let same = ap (λ v. v.items) (sym c.in_ok-kids-in-Some.ensures.ok) in
+    subst ArePieced same (laid_pieced w (kids_in old) upper c.in-Some.list.items c.requires.upper c.requires.covers
+    (subst (λ o. PiecesLaid w (kids_in old) upper (those_pieces o upper)) c.in-Some.is laid))
+
+pub laid_all-loop-piece-preserved : goal.laid_all-loop-piece-preserved
+laid_all-loop-piece-preserved t c =
+    let w = c.args.way.now in
+    let old = kids_in c.args.kids.now in
+    let us = c.args.upper.now in
+    let i = c.loop-piece.piece-index in
+    let piece = c.piece-item.result in
+    let step = c.in_ok-whole.ensures in
+    let either : c.if-changed.changed ≡ (c.loop-piece.changed || not c.in_ok-whole.whole) = elim c.if-changed.branch [
+      | laid_all-then-changed w ↦ w.changed-is ∙ w.if-changed.true ∙ ap (λ b. b || not c.in_ok-whole.whole) (sym w.if-changed.true)
+      | laid_all-else-changed w ↦ w.changed-is ∙ ap (λ b. b || not c.in_ok-whole.whole) (sym w.if-changed.false)
+    ] in
+    record {
+      laid = piece_laid w old us c.loop-piece.list.items c.lay_piece.new.list.items i piece step.made c.loop-piece-test.true c.piece-item.is step.pushed
+          c.loop-piece.invariant.laid step.laid;
+      whole = λ unchanged.
+          let both = both_whole c.if-changed.changed c.loop-piece.changed c.in_ok-whole.whole either unchanged in
+          piece_stays w old us i piece c.loop-piece-test.true c.piece-item.is (c.loop-piece.invariant.whole both.0) (step.whole_laid both.1);
+    }
+
+pub lay_piece-returns-in_ok-push-in-None : goal.lay_piece-returns-in_ok-push-in-None
+lay_piece-returns-in_ok-push-in-None t c =
+    let w = c.args.way.now in
+    let old = kids_in c.args.kids.now in
+    let upper = c.args.upper.now in
+    let rows : c.as_slice.result.now ≡ rows_in upper = c.as_slice.ensures.value ∙ ap (λ v. v.items) c.deref.ensures in
+    let whole : AreLaid w old (rows_in upper) (rows_in upper) = subst (λ us. AreLaid w old us us) rows
+    (subst (λ o. AreLaid w old c.as_slice.result.now (those o c.as_slice.result.now)) c.in-None.is c.in_ok-laid_rows.ensures) in
+    record {
+      made = c.in_ok-copy-in-None.field-0;
+      pushed = c.in_ok-push-in-None.ensures.items;
+      laid = subst (AreLaid w old (rows_in upper)) (sym c.in_ok-copy-in-None.ensures) whole;
+      whole_laid = λ _. whole;
+    }
+
+pub lay_piece-returns-in_ok-push-in-Some : goal.lay_piece-returns-in_ok-push-in-Some
+lay_piece-returns-in_ok-push-in-Some t c =
+    let w = c.args.way.now in
+    let old = kids_in c.args.kids.now in
+    let upper = c.args.upper.now in
+    let rows : c.as_slice.result.now ≡ rows_in upper = c.as_slice.ensures.value ∙ ap (λ v. v.items) c.deref.ensures in
+    let laid : AreLaid w old (rows_in upper) c.in-Some.rows.items = subst (λ us. AreLaid w old us c.in-Some.rows.items) rows
+    (subst (λ o. AreLaid w old c.as_slice.result.now (those o c.as_slice.result.now)) c.in-Some.is c.in_ok-laid_rows.ensures) in
+    record {
+      made = c.in_ok-of-in-Some.field-0;
+      pushed = c.in_ok-push-in-Some.ensures.items;
+      laid = subst (AreLaid w old (rows_in upper)) (sym c.in_ok-of-in-Some.ensures) laid;
+      whole_laid = λ is. absurd (true≢false (sym is));
+    }
+
 -- ---- children over children
 
 pub laid_children-loop-kid-init : goal.laid_children-loop-kid-init
@@ -176,6 +244,14 @@ laid_children-returns t c =
     subst (λ us. AreLaid c.args.way.now (kids_in c.args.kids.now) us c.loop-kid.ready.items)
     (take_all so_far.0 all (at_end all (left_in c.loop-kid.left) so_far.0 so_far.1 c.in_default.ensures)) so_far.2
 
+pub lay_each-laid_children-requires : goal.lay_each-laid_children-requires
+lay_each-laid_children-requires t c =
+    let low : most deep-Child (left_in c.of.result) ≤ most deep-Piece c.args.upper.now =
+    subst (λ ks. most deep-Child ks ≤ most deep-Piece c.args.upper.now) (sym c.of.ensures) (le_pieces _ c.args.upper.now (omega arith)) in (
+      omega (arith, low, c.decreases),
+      subst ArePieced (sym (c.as_slice.ensures.value ∙ ap (λ v. v.items) c.deref.ensures)) c.requires.lower,
+    )
+
 pub lay_each-returns-clause-ok : goal.lay_each-returns-clause-ok
 lay_each-returns-clause-ok t c =
     let way = c.args.way.now in
@@ -202,7 +278,8 @@ lay_node-returns-in_ok-whole-in-Dir-Dir-clause-ok t c q =
     let lower_is = ap map_of (sym at.is-0) ∙ c.lower.view_is in
     let upper_is = ap map_of (sym at.is-1) ∙ c.upper.view_is in
     node_laid w (kind.Dir at.meta at.kids) (kind.Dir at.laid at.list) (kind.Dir c.met.result c.lay_children.new.kids) at.meta at.laid
-    (subst (λ k. AreSorted (kids_of k)) at.is-0 (sorted_kids _ c.lower.invariant)) (subst (λ k. AreSorted (kids_of k)) at.is-1 (sorted_kids _ c.upper.invariant))
+    (subst (λ k. AreSorted (kids_of k)) at.is-0 (sorted_kids _ c.lower.invariant))
+    (subst (λ k. AreSorted (kids_of k)) at.is-1 (sorted_kids _ c.upper.invariant))
     refl refl c.met.ensures
     c.in_ok-whole-in-Dir-Dir.ensures.ok q
     ∙ (λ i. over_at w (finite.get (lower_is i)) (finite.get (upper_is i)) q)

@@ -18,16 +18,16 @@ find-returns-in_default-clause-found g t c =
     let passes = g.T.NameTest.passes in
     let none : c.args.tests.now ≡ [] = nothing c.args.tests.now (omega (arith, c.in_default.len_below)) in
     subst (λ ts. c.push.new.self.items ≡ c.args.found.now.items ++ under c.args.path.now (hits passes ts (finite.keys c.args.node.now))) (sym none)
-    (found_here passes c.node.inside.kind c.args.node.now c.node.view_is (sorted_kids _ c.node.invariant) c.args.path.now c.args.found.now.items c.push.new.self.items
-    (c.in_ok-push.ensures.items ∙ ap (λ q. c.args.found.now.items ++ q ∷ []) (sym (same_Ok _ _ c.in_ok-copy.ensures))))
+    (found_here passes c.node.inside.kind c.args.node.now c.node.view_is (sorted_kids _ c.node.invariant) c.args.path.now c.args.found.now.items
+    c.push.new.self.items (c.in_ok-push.ensures.items ∙ ap (λ q. c.args.found.now.items ++ q ∷ []) (sym (same_Ok _ _ c.in_ok-copy.ensures))))
 
 pub find-returns-in_default-kind-clause-found : goal.find-returns-in_default-kind-clause-found
 find-returns-in_default-kind-clause-found g t c =
     let passes = g.T.NameTest.passes in
     let split = split_first c.args.tests.now c.test-item.result c.in-len1-up.len_at_least c.test-item.is in
     subst (λ ts. c.args.found.now.items ≡ c.args.found.now.items ++ under c.args.path.now (hits passes ts (finite.keys c.args.node.now))) (sym split)
-    (found_none passes c.node.inside.kind c.args.node.now c.node.view_is (sorted_kids _ c.node.invariant) c.test-item.result _ c.args.path.now c.args.found.now.items
-    (ap kids_of c.in_default-kind.is))
+    (found_none passes c.node.inside.kind c.args.node.now c.node.view_is (sorted_kids _ c.node.invariant) c.test-item.result _ c.args.path.now
+    c.args.found.now.items (ap kids_of c.in_default-kind.is))
 
 pub find-loop-kid-init : goal.find-loop-kid-init
 find-loop-kid-init g t c =
@@ -83,7 +83,7 @@ find-returns-clause-found g t c =
     let so_far = c.loop-kid.invariant in
     let kids : kids_of c.node.inside.kind ≡ all =
     ap kids_of c.in-Dir.is ∙ sym (c.of-left.ensures ∙ ap kids_in (c.as_slice.ensures.value ∙ ap (λ v. v.items) c.deref.ensures)) in
-    let past = at_end all (left_in c.loop-kid.left) so_far.0 so_far.1 c.in_default-2.ensures in
+    let past = at_end all (left_in c.loop-kid.left) so_far.0 so_far.1 c.in_default-split_first.ensures in
     let split = split_first c.args.tests.now c.test-item.result c.in-len1-up.len_at_least c.test-item.is in
     subst (λ ts. c.loop-kid.found.items ≡ c.args.found.now.items ++ under c.args.path.now (hits passes ts (finite.keys c.args.node.now))) (sym split)
     (found_all passes c.node.inside.kind c.args.node.now c.node.view_is (sorted_kids _ c.node.invariant) c.test-item.result _ all

@@ -11,7 +11,8 @@ returns-then-is_empty-clause-same c =
     ∙ append-nil (kids_in c.args.pieces.now.items))
 
 pub returns-clause-same : goal.returns-clause-same
-returns-clause-same c = pushed_piece c.args.pieces.now.items c.push.new.self.items c.in_ok-of.field-0 c.args.rows.items c.in_ok-push.ensures.items c.in_ok-of.ensures
+returns-clause-same c =
+    pushed_piece c.args.pieces.now.items c.push.new.self.items c.in_ok-of.field-0 c.args.rows.items c.in_ok-push.ensures.items c.in_ok-of.ensures
 
 pub returns-clause-full : goal.returns-clause-full
 returns-clause-full c h =

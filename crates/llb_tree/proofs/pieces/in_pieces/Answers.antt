@@ -18,7 +18,8 @@ loop-child-preserved c =
       | else-len-ge-MOST w ↦ (λ i. kids_in (w.pieces-is i).items ++ (w.last-is i).items)
     ] in
     let full : AllFull (map row_pairs c.if-len-ge-MOST.pieces.items) = elim c.if-len-ge-MOST.branch [
-      | then-len-ge-MOST+in_ok-end_piece w ↦ subst (λ v. AllFull (map row_pairs v.items)) (sym w.pieces-is) (w.in_ok-end_piece.ensures.full c.loop-child.invariant.full)
+      | then-len-ge-MOST+in_ok-end_piece w ↦
+          subst (λ v. AllFull (map row_pairs v.items)) (sym w.pieces-is) (w.in_ok-end_piece.ensures.full c.loop-child.invariant.full)
       | else-len-ge-MOST w ↦ subst (λ v. AllFull (map row_pairs v.items)) (sym w.pieces-is) c.loop-child.invariant.full
     ] in
     record {

@@ -13,7 +13,8 @@ pub put_in-requires : goal.put_in-requires
 put_in-requires c =
     let ps = c.make_room.new.pieces.items in
     let at = subst (λ n. IsPieceOf n (map row_pairs ps) c.in_ok-at.at) c.deref.ensures c.in_ok-at.ensures.at in
-    (found_rows (name_of c.args.child) ps c.in_ok-at.at c.index_mut-piece.result.now _ c.make_room.ensures.pieced at (ap rows_in c.index_mut-piece.ensures.value)).0
+    (found_rows (name_of c.args.child) ps c.in_ok-at.at c.index_mut-piece.result.now _ c.make_room.ensures.pieced at
+    (ap rows_in c.index_mut-piece.ensures.value)).0
 
 pub returns-clause-ok : goal.returns-clause-ok
 returns-clause-ok c =
