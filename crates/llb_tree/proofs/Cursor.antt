@@ -1,5 +1,5 @@
 -- Children that are gone through one after another: those that are left are the ones after the first i.
-use Rattle.std.proofs.Common.{◌≡◌, ℕ, zero, suc, ◌+◌, ◌<◌, ◌≤◌, List, [], ◌∷◌, length, drop, get_or, refl, sym, ap, subst, ◌∙◌, arith, add-one}
+use Rattle.std.proofs.Common.{◌≡◌, ℕ, zero, suc, ◌+◌, ◌<◌, ◌≤◌, List, [], ◌∷◌, length, drop, get_or, refl, sym, ap, ◌∙◌, arith, add-one}
 use Rattle.llb_tree.specs.declared.node.Child.{Child}
 
 pub record IsAt (all left : List Child) (i : ℕ) : Type 0 where

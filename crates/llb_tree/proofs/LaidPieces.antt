@@ -1,11 +1,11 @@
 -- Pieces of laid children, one for each upper piece.
-use Rattle.std.proofs.Common.{◌≡◌, ℕ, zero, suc, ◌+◌, ◌<◌, ◌≤◌, Bool, true, false, not, ◌||◌, List, [], ◌∷◌, ◌++◌, length, map, take, drop, get_or}
+use Rattle.std.proofs.Common.{◌≡◌, ℕ, zero, suc, ◌+◌, ◌<◌, Bool, true, false, not, ◌||◌, List, [], ◌∷◌, ◌++◌, length, map, take, drop, get_or}
 use Rattle.std.proofs.Common.{refl, sym, ap, subst, ◌∙◌, true≢false, arith, add-one}
-use Rattle.std.proofs.lemmas.List.{length-map, take_all}
-use Rattle.llb_tree.specs.Nodes.{Pairs, pair_of, rows_in, kids_in, AreSorted}
+use Rattle.std.proofs.lemmas.List.{length-map}
+use Rattle.llb_tree.specs.Nodes.{pair_of, rows_in, kids_in}
 use Rattle.llb_tree.specs.Pieces.{row_pairs, pairs_of, AllFull, ArePieced}
 use Rattle.llb_tree.specs.Overlay.{WayValue}
-use Rattle.llb_tree.specs.Laying.{Lays, AreLaid, PiecesLaid, PushesLaid, Covers, puts}
+use Rattle.llb_tree.specs.Laying.{Lays, AreLaid, PiecesLaid, Covers, puts}
 use Rattle.llb_tree.specs.declared.node.Child.{Child}
 use Rattle.llb_tree.specs.declared.node.Piece.{Piece}
 use Rattle.llb_tree.proofs.Covered.{lays_all}

@@ -1,7 +1,6 @@
 -- One node over another, and none over children.
-use Rattle.std.proofs.Common.{◌≡◌, ℕ, ◌==◌, arith, List, [], ◌∷◌, length, map, get_or, set, option_map, Option, Some, None, Result, Ok, Err, OnOk, Global}
+use Rattle.std.proofs.Common.{◌≡◌, ℕ, List, [], ◌∷◌, map, get_or, set, option_map, Option, Some, None, Result, Ok, Err, OnOk, Global}
 use Rattle.std.proofs.Common.{Bool, true, false, ◌||◌, refl, sym, ap, ◌∙◌}
-use Rattle.std.proofs.lemmas.Bool.Decides.{nat_tests}
 use Rattle.std.specs.List.{list_any}
 use Rattle.std.specs.FinMap as finite
 use Rattle.std.specs.FinMap.Entries.{put}

@@ -1,6 +1,6 @@
 -- Pieces of which one is edited.
-use Rattle.std.proofs.Common.{◌≡◌, ℕ, zero, suc, ◌+◌, ◌<◌, ◌==◌, List, [], ◌∷◌, ◌++◌, length, get_or, set, map, take, drop, Option, Some, None, true, false}
-use Rattle.std.proofs.Common.{cond, Result, Ok, Err, OnOk, OnErr, IfOk, T, refl, sym, ap, subst, ◌∙◌, arith, append_assoc, add-one}
+use Rattle.std.proofs.Common.{◌≡◌, ℕ, zero, suc, ◌+◌, ◌<◌, ◌==◌, List, [], ◌∷◌, ◌++◌, length, get_or, set, map, take, drop, Option, Some, true, false}
+use Rattle.std.proofs.Common.{refl, sym, ap, subst, ◌∙◌, arith, append_assoc, add-one}
 use Rattle.std.proofs.lemmas.Bool.Decides.{nat_tests}
 use Rattle.std.proofs.lemmas.List.{append-nil, length-map}
 use Rattle.std.specs.declared.cmp.Ordering.TheVariants.{Less, Equal, Greater}
@@ -9,7 +9,7 @@ use Rattle.std.specs.FinMap.Entries.{put, by_order}
 use Rattle.llb_tree.specs.Path.{name_cmp}
 use Rattle.llb_tree.specs.Tree.{TreeMap}
 use Rattle.llb_tree.specs.Nodes.{Pairs, pair_of, rows_in, kids_in}
-use Rattle.llb_tree.specs.Pieces.{row_pairs, joined, pairs_of, AllFull, IsPieced, ArePieced, IsPieceOf, tidied, tidied_by, change, Changes}
+use Rattle.llb_tree.specs.Pieces.{row_pairs, joined, pairs_of, AllFull, ArePieced, IsPieceOf, tidied, tidied_by, Changes}
 use Rattle.llb_tree.specs.declared.node.Child.{Child}
 use Rattle.llb_tree.specs.declared.node.Piece.{Piece}
 use Rattle.llb_tree.proofs.Keyed.{InOrder, sorted_change}

@@ -1,21 +1,19 @@
 -- The children of a directory in pieces: what is before and after the piece that a name belongs to, and what a change in that
 -- piece makes of all of them.
-use Rattle.std.proofs.Common.{◌≡◌, ℕ, zero, suc, ◌+◌, ◌-◌, ◌<◌, ◌≤◌, ◌==◌, List, [], ◌∷◌, ◌++◌, length, get_or, set, map, take, drop, Option, Some, None}
-use Rattle.std.proofs.Common.{Bool, true, false, cond, if◌then◌else◌, Result, Ok, Err, OnOk, OnErr, T, refl, sym, ap, subst, ◌∙◌, arith, append_assoc, add-one}
+use Rattle.std.proofs.Common.{◌≡◌, ℕ, zero, suc, ◌+◌, ◌<◌, List, [], ◌∷◌, ◌++◌, length, get_or, set, map, take, drop, Option}
+use Rattle.std.proofs.Common.{true, false, refl, sym, ap, subst, ◌∙◌, arith, append_assoc, add-one}
 use Rattle.std.proofs.Common.{take-append-drop, length-drop}
-use Rattle.std.proofs.lemmas.Bool.Decides.{nat_tests}
 use Rattle.std.proofs.lemmas.List.{map-append, length-take, length-map}
 use Rattle.std.specs.List.{insert, remove}
 use Rattle.std.specs.FinMap.Entries.{find}
 use Rattle.llb_tree.specs.Path.{name_cmp}
 use Rattle.llb_tree.specs.Tree.{TreeMap}
-use Rattle.llb_tree.specs.Nodes.{Pairs, pair_of, rows_in, kids_in, kids_of, pieces_of, AreSorted, child, look_in, set_look}
+use Rattle.llb_tree.specs.Nodes.{Pairs, pair_of, rows_in, kids_in, AreSorted, child, look_in, set_look}
 use Rattle.llb_tree.specs.Pieces.{row_pairs, joined, pairs_of, AllFull, IsPieced, ArePieced, begins_after, IsPieceOf, tidied, tidied_by, change, Changes}
-use Rattle.llb_tree.specs.declared.node.Kind.{Kind}
 use Rattle.llb_tree.specs.declared.node.Child.{Child}
 use Rattle.llb_tree.specs.declared.node.Piece.{Piece}
 use Rattle.llb_tree.proofs.Keyed.{InOrder, AllUnder, AllOver, sorted_left, sorted_right, under_before, over_after, find_under, find_within}
-use Rattle.llb_tree.proofs.Keyed.{change_under, change_within, sorted_change}
+use Rattle.llb_tree.proofs.Keyed.{change_under, change_within}
 
 -- ---- pieces of children, and their pairs
 

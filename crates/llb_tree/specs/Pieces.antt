@@ -2,7 +2,7 @@
 -- but the first is empty. Children are seen here as pairs of a name and of the tree that the node represents.
 use Rattle.std.specs.Prelude.{◌≡◌, ℕ, suc, ◌<◌, Bool, true, false, not, List, [], ◌∷◌, ◌++◌, length, map, drop, get_or, T, Option, Some, None}
 use Rattle.std.specs.List.{remove}
-use Rattle.std.specs.Ordering.{is_eq, is_gt, eq_by_cmp}
+use Rattle.std.specs.Ordering.{is_gt, eq_by_cmp}
 use Rattle.std.specs.FinMap as finite
 use Rattle.std.specs.FinMap.Entries.{where_key}
 use Rattle.llb_tree.specs.Path.{name_cmp}

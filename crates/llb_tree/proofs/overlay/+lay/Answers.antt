@@ -1,4 +1,4 @@
-use Rattle.std.proofs.Common.{◌≡◌, ◌+◌, ◌≤◌, ◌||◌, not, true≢false, [], Option, Some, None, arith, map, option_map, unwrap_or, true, sym, ap, subst, ◌∙◌, refl}
+use Rattle.std.proofs.Common.{◌≡◌, ◌+◌, ◌≤◌, ◌||◌, not, true≢false, [], Option, Some, None, arith, map, option_map, unwrap_or, sym, ap, subst, ◌∙◌, refl}
 use Rattle.std.proofs.lemmas.List.{take_all}
 use denote.Param.Weighed.{most}
 use Rattle.std.specs.Arc.{arc_value}
@@ -8,7 +8,7 @@ use Rattle.llb_tree.specs.Pieces.{ArePieced}
 use Rattle.llb_tree.specs.Falls.{le_pieces}
 use Rattle.llb_tree.specs.Overlay.{below_file, over, over_at}
 use Rattle.llb_tree.specs.Tree.{TreeMap}
-use Rattle.llb_tree.specs.Laying.{Lays, IsOver, AreLaid, PiecesLaid, puts, those, those_pieces}
+use Rattle.llb_tree.specs.Laying.{Lays, IsOver, AreLaid, PiecesLaid, those, those_pieces}
 use Rattle.llb_tree.specs.declared.node.Child.{Child}
 use Rattle.llb_tree.specs.declared.node.Node.TheDeep.{deep-Child, deep-Piece}
 use Rattle.llb_tree.specs.declared.node.Kind.TheVariants as kind

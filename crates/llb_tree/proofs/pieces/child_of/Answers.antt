@@ -1,5 +1,4 @@
-use Rattle.std.proofs.Common.{◌≡◌, Some, sym, ap, ◌∙◌}
-use Rattle.llb_tree.specs.Nodes.{rows_in}
+use Rattle.std.proofs.Common.{Some, sym, ap, ◌∙◌}
 use Rattle.llb_tree.specs.declared.node.Child.{Child}
 use Rattle.llb_tree.proofs.Placed.{is_found, is_gap}
 use Rattle.llb_tree.proofs.Pieced.{found_rows}

@@ -1,4 +1,4 @@
-use Rattle.std.proofs.Common.{◌==◌, ◌<◌, ◌++◌, length, sym, ap, subst, ◌∙◌, arith, append-nil}
+use Rattle.std.proofs.Common.{◌<◌, ◌++◌, length, sym, ap, subst, ◌∙◌, arith, append-nil}
 use Rattle.std.proofs.lemmas.Bool.Decides.{nat_tests}
 use Rattle.llb_tree.specs.Nodes.{kids_in}
 use Rattle.llb_tree.proofs.PieceEdits.{pushed_piece, pushed_full, no_children}
