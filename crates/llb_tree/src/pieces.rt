@@ -168,11 +168,7 @@ pub(crate) fn drop_empty(pieces: &mut Vec<Piece>, at: usize)
 }
 
 // Puts a piece of these children after others; none where there are no children.
-fn end_piece(
-    pieces: &mut Vec<Piece>,
-    alloc: Global,
-    rows: Vec<Child>,
-) -> Result<(), AllocError>
+fn end_piece(pieces: &mut Vec<Piece>, alloc: Global, rows: Vec<Child>) -> Result<(), AllocError>
     ensures same { OnOk result (kids_in pieces.new.items ≡ kids_in pieces.old.items ++ rows.items) }
     ensures full { AllFull (map row_pairs pieces.old.items) → AllFull (map row_pairs pieces.new.items) }
 {

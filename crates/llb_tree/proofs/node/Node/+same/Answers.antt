@@ -18,11 +18,11 @@ pub loop-kid-init : goal.loop-kid-init
 loop-kid-init t c = record {
   low = omega arith;
   so_far = none_yet (left_in c.of-left.result) (left_in c.of-others.result)
-    (subst AreSorted (ap kids_of c.in-Dir-Dir.is-0
-    ∙ sym (c.of-left.ensures ∙ ap kids_in (c.as_slice.ensures.value ∙ ap (λ v. v.items) c.deref-in-Dir-Dir.ensures))) (sorted_kids _ c.self.invariant))
-    (subst AreSorted (ap kids_of c.in-Dir-Dir.is-1
-    ∙ sym (c.of-others.ensures ∙ ap kids_in (c.as_slice-in-Dir-Dir.ensures.value ∙ ap (λ v. v.items) c.deref-in-Dir-Dir-2.ensures)))
-    (sorted_kids _ c.other.invariant));
+      (subst AreSorted (ap kids_of c.in-Dir-Dir.is-0
+      ∙ sym (c.of-left.ensures ∙ ap kids_in (c.as_slice.ensures.value ∙ ap (λ v. v.items) c.deref-in-Dir-Dir.ensures))) (sorted_kids _ c.self.invariant))
+      (subst AreSorted (ap kids_of c.in-Dir-Dir.is-1
+      ∙ sym (c.of-others.ensures ∙ ap kids_in (c.as_slice-in-Dir-Dir.ensures.value ∙ ap (λ v. v.items) c.deref-in-Dir-Dir-2.ensures)))
+      (sorted_kids _ c.other.invariant));
 }
 
 pub loop-kid-smaller : goal.loop-kid-smaller
