@@ -33,7 +33,11 @@ fn leave_children<'a>(
     names: &str,
     node: &'a Node,
 ) {
-    for child in node.children().iter().rev() {
+    let mut children = Vec::new(alloc);
+    for child in node.children() {
+        children.push(child).expect(rt, "memory");
+    }
+    for child in children.iter().rev() {
         let below = path_below(rt, alloc, names, child.name().as_str());
         left.push((below, child.node())).expect(rt, "memory");
     }

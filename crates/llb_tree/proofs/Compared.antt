@@ -1,7 +1,7 @@
 -- Two nodes have equal maps where both have the same entry and the same is found below them; and what the first children in
 -- order say of that.
-use Rattle.std.proofs.Common.{◌≡◌, ◌↔◌, ℕ, zero, suc, ◌+◌, ◌<◌, ◌≤◌, List, [], ◌∷◌, length, drop, get_or, map, Option, Some, None, is_some}
-use Rattle.std.proofs.Common.{cond, Bool, true, false, not, nat_eq, IsTrue, T, refl, sym, ap, subst, ◌∙◌, true≢false, arith, add-one, drop-cons}
+use Rattle.std.proofs.Common.{◌≡◌, ◌↔◌, ℕ, List, [], ◌∷◌, map, Option, Some, None, is_some}
+use Rattle.std.proofs.Common.{cond, Bool, true, false, not, nat_eq, IsTrue, T, refl, sym, ap, subst, ◌∙◌, true≢false}
 use Rattle.std.specs.declared.cmp.Ordering.{Ordering}
 use Rattle.std.specs.declared.cmp.Ordering.TheVariants.{Less, Equal, Greater}
 use Rattle.std.specs.Option.{option_or}
@@ -156,73 +156,60 @@ module _ (a b : Kind) (v w : TreeMap) (view : map_of a ≡ v) (view2 : map_of b 
 
 -- ---- what the children so far say
 
--- the first i children on both sides are the same, and the rest decides
-pub record SoFar (ks ls : List Child) (i : ℕ) : Type 0 where
-  pub rest : Alike ks ls ↔ Alike (drop i ks) (drop i ls)
-  pub sorted : AreSorted (drop i ks)
-  pub sorted2 : AreSorted (drop i ls)
+-- those before the ones that are left are the same on both sides, and what is left decides
+pub record SoFar (ks ls xs ys : List Child) : Type 0 where
+  pub rest : Alike ks ls ↔ Alike xs ys
+  pub sorted : AreSorted xs
+  pub sorted2 : AreSorted ys
 
-pub none_yet : (ks ls : List Child) → AreSorted ks → AreSorted ls → SoFar ks ls 0
+pub none_yet : (ks ls : List Child) → AreSorted ks → AreSorted ls → SoFar ks ls ks ls
 none_yet ks ls sorted sorted2 = record { rest = (λ h. h, λ h. h); sorted = sorted; sorted2 = sorted2 }
 
-drop_past : (ks : List Child) (i : ℕ) → length ks ≤ i → drop i ks ≡ []
-drop_past [] zero h = refl
-drop_past [] (suc i) h = refl
-drop_past (k ∷ ks) zero h = absurd (omega arith)
-drop_past (k ∷ ks) (suc i) h = drop_past ks i (omega arith)
-
-here : (ks : List Child) (i : ℕ) (k : Child) → k ≡ get_or ks i k → i < length ks → drop i ks ≡ k ∷ drop (suc i) ks
-here ks i k at lt = drop-cons ks i k lt ∙ ap (λ x. x ∷ drop (suc i) ks) (sym at)
-
-module _ (ks ls : List Child) (i : ℕ) (so : SoFar ks ls i) where
+module _ (ks ls xs ys : List Child) (so : SoFar ks ls xs ys) where
   -- no child is left on either side, so all are alike
-  pub all_alike : length ks ≤ i → length ls ≤ i → Alike ks ls
-  all_alike none none2 = so.rest.1 (subst (Alike (drop i ks)) (drop_past ks i none ∙ sym (drop_past ls i none2)) (λ n q. refl))
+  pub all_alike : xs ≡ [] → ys ≡ [] → Alike ks ls
+  all_alike none none2 = so.rest.1 (subst (Alike xs) (none ∙ sym none2) (λ n q. refl))
 
   -- a child is left on the first side alone, so they are not alike
-  pub one_more : (k : Child) → k ≡ get_or ks i k → i < length ks → length ls ≤ i → is_some (finite.get k.node []) ≡ true → Alike ks ls → ⊥
-  one_more k at lt none there alike =
-      let rest = subst (Alike (drop i ks)) (drop_past ls i none) (so.rest.0 alike) in
-      alike_none k (drop (suc i) ks) there (subst (λ x. Alike x []) (here ks i k at lt) rest)
+  pub one_more : (k : Child) (rest : List Child) → xs ≡ k ∷ rest → ys ≡ [] → is_some (finite.get k.node []) ≡ true → Alike ks ls → ⊥
+  one_more k rest first none there alike =
+      alike_none k rest there (subst (λ x. Alike x []) first (subst (Alike xs) none (so.rest.0 alike)))
 
   -- or on the second side alone
-  pub one_less : (l : Child) → l ≡ get_or ls i l → i < length ls → length ks ≤ i → is_some (finite.get l.node []) ≡ true → Alike ks ls → ⊥
-  one_less l at lt none there alike =
-      let turned = subst (Alike (drop i ls)) (drop_past ks i none) (λ n q. sym (so.rest.0 alike n q)) in
-      alike_none l (drop (suc i) ls) there (subst (λ x. Alike x []) (here ls i l at lt) turned)
+  pub one_less : (l : Child) (rest : List Child) → ys ≡ l ∷ rest → xs ≡ [] → is_some (finite.get l.node []) ≡ true → Alike ks ls → ⊥
+  one_less l rest first none there alike =
+      alike_none l rest there (subst (λ x. Alike x []) first (subst (Alike ys) none (λ n q. sym (so.rest.0 alike n q))))
 
-  module _ (k l : Child) (at : k ≡ get_or ks i k) (lt : i < length ks) (at2 : l ≡ get_or ls i l) (lt2 : i < length ls) where
-    sorted_here : AreSorted (k ∷ drop (suc i) ks)
-    sorted_here = subst AreSorted (here ks i k at lt) so.sorted
+  module _ (k l : Child) (ks2 ls2 : List Child) (first : xs ≡ k ∷ ks2) (first2 : ys ≡ l ∷ ls2) where
+    sorted_here : AreSorted (k ∷ ks2)
+    sorted_here = subst AreSorted first so.sorted
 
-    sorted_here2 : AreSorted (l ∷ drop (suc i) ls)
-    sorted_here2 = subst AreSorted (here ls i l at2 lt2) so.sorted2
+    sorted_here2 : AreSorted (l ∷ ls2)
+    sorted_here2 = subst AreSorted first2 so.sorted2
 
-    alike_here : Alike ks ls ↔ Alike (k ∷ drop (suc i) ks) (l ∷ drop (suc i) ls)
-    alike_here =
-        let first = here ks i k at lt in
-        let first2 = here ls i l at2 lt2 in (
-          λ alike. subst (λ x. Alike x (l ∷ drop (suc i) ls)) first (subst (Alike (drop i ks)) first2 (so.rest.0 alike)),
-          λ alike. so.rest.1 (subst (λ x. Alike x (drop i ls)) (sym first) (subst (Alike (k ∷ drop (suc i) ks)) (sym first2) alike)),
-        )
+    alike_here : Alike ks ls ↔ Alike (k ∷ ks2) (l ∷ ls2)
+    alike_here = (
+      λ alike. subst (λ x. Alike x (l ∷ ls2)) first (subst (Alike xs) first2 (so.rest.0 alike)),
+      λ alike. so.rest.1 (subst (λ x. Alike x ys) (sym first) (subst (Alike (k ∷ ks2)) (sym first2) alike)),
+    )
 
     -- where all are alike, the next children of both sides have one name
     pub same_name : is_some (finite.get k.node []) ≡ true → is_some (finite.get l.node []) ≡ true → Alike ks ls → name_of k ≡ name_of l
-    same_name there there2 alike = alike_names k l (drop (suc i) ks) (drop (suc i) ls) sorted_here sorted_here2 there there2 (alike_here.0 alike)
+    same_name there there2 alike = alike_names k l ks2 ls2 sorted_here sorted_here2 there there2 (alike_here.0 alike)
 
     -- and the same below it
     pub same_node : name_of k ≡ name_of l → Alike ks ls → k.node ≡ l.node
-    same_node names alike = alike_nodes k l (drop (suc i) ks) (drop (suc i) ls) sorted_here sorted_here2 names (alike_here.0 alike)
+    same_node names alike = alike_nodes k l ks2 ls2 sorted_here sorted_here2 names (alike_here.0 alike)
 
     -- where name and node are the same, the children after them decide
-    pub one_further : name_of k ≡ name_of l → k.node ≡ l.node → SoFar ks ls (i + 1)
+    pub one_further : name_of k ≡ name_of l → k.node ≡ l.node → SoFar ks ls ks2 ls2
     one_further names nodes =
-        let rest = alike_rest k l (drop (suc i) ks) (drop (suc i) ls) sorted_here sorted_here2 names nodes in
-        subst (SoFar ks ls) (sym (add-one i)) (record {
+        let rest = alike_rest k l ks2 ls2 sorted_here sorted_here2 names nodes in
+        record {
           rest = (λ alike. rest.0 (alike_here.0 alike), λ alike. alike_here.1 (rest.1 alike));
           sorted = and_second _ _ sorted_here;
           sorted2 = and_second _ _ sorted_here2;
-        })
+        }
 
 -- a test that is false shows that a fact can't hold
 pub differ : {A : Type 0} → (A → ⊥) → (IsTrue false → A) × (A → IsTrue false)

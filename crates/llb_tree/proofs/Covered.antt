@@ -1,6 +1,6 @@
 -- Children that have every name of those that they are laid over.
 use Rattle.std.proofs.Common.{◌≡◌, ℕ, zero, suc, ◌+◌, ◌<◌, ◌≤◌, true, false, cond, List, [], ◌∷◌, length, map, take, get_or, set}
-use Rattle.std.proofs.Common.{Option, Some, None, Ok, is_some, T, refl, sym, ap, subst, ◌∙◌, arith, add-one}
+use Rattle.std.proofs.Common.{Option, Some, None, is_some, T, refl, sym, ap, subst, ◌∙◌, arith, add-one}
 use Rattle.std.specs.declared.cmp.Ordering.TheVariants.{Less, Equal, Greater}
 use Rattle.std.specs.Option.{option_or}
 use Rattle.std.specs.Ordering.{is_eq, eq_by_cmp}
@@ -11,14 +11,13 @@ use Rattle.llb_tree.specs.Path.{name_cmp}
 use Rattle.llb_tree.specs.PathOrder.{name_cmp-IsAntisymmetric}
 use Rattle.llb_tree.specs.Tree.{TreeMap, Dir}
 use Rattle.llb_tree.specs.Meta.{MetaValue}
-use Rattle.llb_tree.specs.Nodes.{Pairs, name_of, pair_of, AreSorted, child, look_in, place}
+use Rattle.llb_tree.specs.Nodes.{Pairs, name_of, pair_of, AreSorted, child, look_in}
 use Rattle.llb_tree.specs.Overlay.{WayValue, below_file, over, over_at}
 use Rattle.llb_tree.specs.Laying.{Lays, IsOver, AreLaid, TakesWhole, Covers, HasLater, written}
 use Rattle.llb_tree.specs.declared.node.Child.{Child}
 use Rattle.llb_tree.proofs.Dressing.{worn_all}
 use Rattle.llb_tree.proofs.InPlace.{found_made, sorted_made}
 use Rattle.llb_tree.proofs.Laying.{IsLone, over_file, over_none}
-use Rattle.llb_tree.proofs.Placed.{is_found}
 
 -- ---- names that are there
 
@@ -123,11 +122,6 @@ node_written (k ∷ ks) zero there new is same = ap (λ n. (n, new.node) ∷ map
 node_written (k ∷ ks) (suc i) there new is same = ap (λ es. pair_of k ∷ es) (node_written ks i there new is same)
 
 -- ---- one upper child
-
--- a copy of the child at the place of a name is what is found under it
-pub over_found : (ks : List Child) (n : List ℕ) (i : ℕ) (there : Child) (copy : TreeMap) → Ok i ≡ place n ks → copy ≡ (get_or ks i there).node
-    → Some copy ≡ child n ks
-over_found ks n i there copy at same = ap (λ t. Some t) same ∙ sym ((is_found n ks i (sym at)).found there)
 
 module _ (w : WayValue) (takes : TakesWhole w) where
   -- a file stays as it is over anything

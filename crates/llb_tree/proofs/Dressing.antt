@@ -16,7 +16,7 @@ use Rattle.llb_tree.specs.Laying.{dress, dress_pair}
 use Rattle.llb_tree.specs.Looks.{get-root}
 use Rattle.llb_tree.specs.declared.node.Kind.{Kind}
 use Rattle.llb_tree.specs.declared.node.Child.{Child}
-use Rattle.llb_tree.proofs.Children.{get-child, node_is}
+use Rattle.llb_tree.proofs.ByName.{get-child, node_is}
 
 abbrev Pair : Type 0
 Pair = List (List ℕ) × Entry

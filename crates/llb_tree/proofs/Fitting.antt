@@ -10,27 +10,40 @@ use Rattle.std.specs.Arc.{arc_value}
 use Rattle.std.specs.FinMap as finite
 use Rattle.llb_tree.specs.Path.{name_cmp}
 use Rattle.llb_tree.specs.Tree.{TreeMap, Entry, height, places_fit}
-use Rattle.llb_tree.specs.Nodes.{name_of, kids_of, map_of}
+use Rattle.llb_tree.specs.Nodes.{name_of, kids_of, kids_in, map_of}
 use Rattle.llb_tree.specs.Looks.{look_kids, get-below, get-root}
-use Rattle.llb_tree.specs.Falls.{height_le, le_height, falls}
+use Rattle.llb_tree.specs.Falls.{le_pieces, height_le, le_height, falls}
 use Rattle.llb_tree.specs.declared.fault.TreeFault.TheVariants.{BadName}
 use Rattle.llb_tree.specs.declared.node.Kind.{Kind}
 use Rattle.llb_tree.specs.declared.node.Kind.TheVariants as kind
 use Rattle.llb_tree.specs.declared.node.Child.{Child}
 use Rattle.llb_tree.specs.declared.node.Node.TheDeep.{deep-Child}
+use Rattle.llb_tree.proofs.Cursor.{IsNext}
 
 most_at : (ks : List Child) (j : ℕ) (d : Child) → j < length ks → height (get_or ks j d).node + 1 ≤ most deep-Child ks
 most_at [] j d lt = absurd (omega arith)
 most_at (k ∷ ks) zero d lt = omega arith
 most_at (k ∷ ks) (suc j) d lt = let rest = most_at ks j d (omega arith) in omega (arith, rest)
 
+-- the first of the children goes less deep than the deepest, and those after it no deeper
+pub first_below : (left rest : List Child) (kid : Child) → left ≡ kid ∷ rest
+    → (height kid.node + 1 ≤ most deep-Child left) × (most deep-Child rest ≤ most deep-Child left)
+first_below left rest kid is = subst (λ ks. (height kid.node + 1 ≤ most deep-Child ks) × (most deep-Child rest ≤ most deep-Child ks)) (sym is)
+    (omega arith, omega arith)
+
+-- the next of the children goes less deep than the deepest
+pub next_below : (all rest : List Child) (i : ℕ) (kid : Child) → IsNext all rest i kid → height kid.node + 1 ≤ most deep-Child all
+next_below all rest i kid next = subst (λ (k : Child). height k.node + 1 ≤ most deep-Child all) (sym next.here) (most_at all i kid next.within)
+
 -- a child goes less deep than its directory
 kid_below : (k : Kind) (j : ℕ) (d : Child) → j < length (kids_of k) → height (get_or (kids_of k) j d).node + 1 ≤ height (map_of k)
 kid_below (kind.File m c) j d lt = absurd (omega arith)
 kid_below (kind.Dir m kids) j d lt =
-    let kid = most_at (arc_value kids).items j d lt in
+    let ks = kids_in (arc_value kids).items in
+    let kid = most_at ks j d lt in
     let all = falls (kind.Dir m kids) in
-    omega (arith, kid, all)
+    let le : most deep-Child ks ≤ height (map_of (kind.Dir m kids)) = le_pieces _ (arc_value kids).items (omega (arith, all)) in
+    omega (arith, kid, le)
 
 -- the first i children go no deeper than n
 abbrev pub AllWithin : List Child → ℕ → ℕ → Type 0

@@ -1,7 +1,6 @@
 -- One node over another, and none over children.
-use Rattle.std.proofs.Common.{◌≡◌, ℕ, ◌==◌, arith, List, [], ◌∷◌, length, map, get_or, set, option_map, Option, Some, None, Result, Ok, Err, OnOk, Global}
+use Rattle.std.proofs.Common.{◌≡◌, ℕ, List, [], ◌∷◌, map, get_or, set, option_map, Option, Some, None, Result, Ok, Err, OnOk, Global}
 use Rattle.std.proofs.Common.{Bool, true, false, ◌||◌, refl, sym, ap, ◌∙◌}
-use Rattle.std.proofs.lemmas.Bool.Decides.{nat_tests}
 use Rattle.std.specs.List.{list_any}
 use Rattle.std.specs.FinMap as finite
 use Rattle.std.specs.FinMap.Entries.{put}
@@ -20,7 +19,7 @@ use Rattle.llb_tree.specs.declared.node.Kind.TheVariants as kind
 use Rattle.llb_tree.specs.declared.node.Child.{Child}
 use Rattle.llb_tree.proofs.Placed.{is_found}
 use Rattle.llb_tree.proofs.Overlaid.{below_file-cons}
-use Rattle.llb_tree.proofs.Children.{get-child}
+use Rattle.llb_tree.proofs.ByName.{get-child}
 
 below_none : (g : Look) (ps : List (List (List ℕ))) → ((r : List (List ℕ)) → g r ≡ None) → list_any is_file (map g ps) ≡ false
 below_none g [] none = refl
@@ -95,15 +94,6 @@ node_laid w k u j m l sk su ek eu ej lays (n ∷ q) =
     ∙ sym (λ i. laid_over w (get-child k n q sk i) (get-child u n q su i) (below i))
 
 -- ---- children over children
-
--- no children laid over others leave those as they are
-lays_none : (w : WayValue) (ks : List Child) → AreSorted ks → Lays w [] ks ks
-lays_none w ks h = record { sorted = h; children = λ m q. sym (none_over w (look_in (child m ks)) (look_in None) q (λ r. refl)) }
-
--- children that are none by their count leave those that they are laid over as they are
-pub lays_nothing : (w : WayValue) (upper ks : List Child) → (length upper == 0) ≡ true → AreSorted ks → Lays w upper ks ks
-lays_nothing w [] ks is h = lays_none w ks h
-lays_nothing w (k ∷ upper) ks is h = absurd (grind (arith, nat_tests, is))
 
 -- over the child of the name
 module _ (kid : Child) (ks : List Child) (i : ℕ) (there new : Child) (h : AreSorted ks) (at : Ok i ≡ place (name_of kid) ks) (is : there ≡ get_or ks i there)

@@ -10,7 +10,11 @@ pub mod Outside
 pub mod Listed
 pub mod Grafted
 pub mod Mapped
-pub mod Children
+pub mod ByName
+pub mod Keyed
+pub mod Pieced
+pub mod Cursor
+pub mod PieceEdits
 pub mod Setting
 pub mod Changed
 pub mod Edits
@@ -19,8 +23,8 @@ pub mod Overlaid
 pub mod Dressing
 pub mod Laying
 pub mod InPlace
-pub mod Merging
 pub mod Covered
+pub mod LaidPieces
 pub mod Compared
 pub mod Fitting
 pub mod Walked

@@ -1,24 +1,26 @@
 -- A node, or nothing, set at a path.
 use Rattle.std.proofs.Common.{◌≡◌, ◌++◌, ℕ, zero, suc, ◌-◌, ◌<◌, ◌≤◌, List, [], ◌∷◌, length, map, take, drop, get_or, set, Option, Some}
-use Rattle.std.proofs.Common.{None, refl, sym, ap, ◌∙◌, cond, not, Bool, OnOk, OnErr, IfOk, add-one, ◌+◌, Result, Ok, Err, T, subst, arith}
+use Rattle.std.proofs.Common.{None, refl, sym, ap, ◌∙◌, cond, not, true, false, Bool, OnOk, OnErr, IfOk, add-one, ◌+◌, Result, Ok, Err, T, subst, arith}
 use Rattle.std.specs.declared.cmp.Ordering.{Ordering}
 use Rattle.std.specs.declared.cmp.Ordering.TheVariants.{Less, Equal, Greater}
 use Rattle.std.specs.List.{remove, insert, flat_map}
-use Rattle.std.specs.Ordering.{is_eq, ordering_reverse}
+use Rattle.std.specs.Ordering.{is_eq, eq_by_cmp, ordering_reverse}
 use Rattle.std.specs.Cmp.Lexicographic.{nat_list_cmp_total}
 use Rattle.std.specs.FinMap as finite
 use Rattle.std.specs.FinMap.Entries.{put, find-put, is_sorted-put, where_key, is_sorted-where_key, find-where_key, below_all, by_order}
 use Rattle.llb_tree.specs.Path.{name_cmp}
 use Rattle.llb_tree.specs.PathOrder.{name_cmp-IsAntisymmetric}
 use Rattle.llb_tree.specs.Tree.{TreeMap}
-use Rattle.llb_tree.specs.Nodes.{Pair, Pairs, name_of, own_entry, kids_of, map_of, flat, pair_of, AreSorted, child, look_in, place, later, set_look, Sets}
+use Rattle.llb_tree.specs.Nodes.{Pair, Pairs, name_of, own_entry, kids_of, pieces_of, map_of, flat, pair_of, AreSorted, look_in, place, later, set_look, Sets}
+use Rattle.llb_tree.specs.Pieces.{ArePieced, pairs_of, without, change, Changes}
 use Rattle.llb_tree.specs.Looks.{get-root}
 use Rattle.llb_tree.specs.declared.fault.TreeFault.{TreeFault}
 use Rattle.llb_tree.specs.declared.node.Kind.{Kind}
 use Rattle.llb_tree.specs.declared.node.Child.{Child}
 use Rattle.llb_tree.proofs.Orders.{is_less, and_first, and_second}
 use Rattle.llb_tree.proofs.Placed.{is_found, is_gap, later_Ok}
-use Rattle.llb_tree.proofs.Children.{get-child}
+use Rattle.llb_tree.proofs.ByName.{get-child}
+use Rattle.llb_tree.proofs.Pieced.{pairs_kids, sorted_kids}
 
 -- one child is written anew
 sets_put : (n : List ℕ) (p : List (List ℕ)) (t : Option TreeMap) (old new : Pairs) (k : TreeMap) → T (finite.is_sorted name_cmp old)
@@ -35,29 +37,32 @@ sets_put n p t old new k h is changed = record {
 }
 
 -- the child that is found, changed
-pub sets_found : (n : List ℕ) (p : List (List ℕ)) (t : Option TreeMap) (ks : List Child) (i : ℕ) (kid new : Child) → AreSorted ks
+pub changes_found : (n : List ℕ) (p : List (List ℕ)) (t : Option TreeMap) (ks : List Child) (i : ℕ) (kid new : Child)
     → Ok i ≡ place n ks → kid ≡ get_or ks i kid → name_of new ≡ name_of kid
-    → ((q : List (List ℕ)) → finite.get new.node q ≡ set_look p t (finite.get kid.node) q) → Sets n p t (map pair_of ks) (map pair_of (set ks i new))
-sets_found n p t ks i kid new h at is same changed =
-    sets_put n p t (map pair_of ks) (map pair_of (set ks i new)) new.node h ((is_found n ks i (sym at)).written kid new (same ∙ ap name_of is))
-    (λ q. changed q ∙ ap (λ o. set_look p t (look_in o) q) (sym ((is_found n ks i (sym at)).found kid ∙ ap (λ (k : Child). Some k.node) (sym is))))
+    → ((q : List (List ℕ)) → finite.get new.node q ≡ set_look p t (finite.get kid.node) q) → Changes n p t (map pair_of ks) (map pair_of (set ks i new))
+changes_found n p t ks i kid new at is same changed = (
+  Some new.node,
+  (is_found n ks i (sym at)).written kid new (same ∙ ap name_of is),
+  λ q. changed q ∙ ap (λ o. set_look p t (look_in o) q) (sym ((is_found n ks i (sym at)).found kid ∙ ap (λ (k : Child). Some k.node) (sym is))),
+)
 
 -- a child where there was none
-pub sets_gap : (n : List ℕ) (ks : List Child) (i : ℕ) (new : Child) → AreSorted ks → Err i ≡ place n ks → name_of new ≡ n
-    → Sets n [] (Some new.node) (map pair_of ks) (map pair_of (insert ks i new))
-sets_gap n ks i new h at same = sets_put n [] (Some new.node) (map pair_of ks) (map pair_of (insert ks i new)) new.node h
-    ((is_gap n ks i (sym at)).written new same) (λ q. refl)
+pub changes_gap : (n : List ℕ) (ks : List Child) (i : ℕ) (new : Child) → Err i ≡ place n ks → name_of new ≡ n
+    → Changes n [] (Some new.node) (map pair_of ks) (map pair_of (insert ks i new))
+changes_gap n ks i new at same = (Some new.node, (is_gap n ks i (sym at)).written new same, λ q. refl)
+
+without_absent : (n : List ℕ) (es : Pairs) → finite.find name_cmp n es ≡ None → without n es ≡ es
+without_absent n [] h = refl
+without_absent n (e ∷ es) h =
+    elim (eq_by_cmp name_cmp n e.0) as (λ b. cond b (Some e.1) (finite.find name_cmp n es) ≡ None
+    → cond (not b) (e ∷ without n es) (without n es) ≡ e ∷ es) [
+      | true ↦ λ is. absurd cc
+      | false ↦ λ is. ap (λ xs. e ∷ xs) (without_absent n es is)
+    ] h
 
 -- nothing where there was nothing
-pub sets_nothing : (n : List ℕ) (ks : List Child) (i : ℕ) → AreSorted ks → Err i ≡ place n ks → Sets n [] None (map pair_of ks) (map pair_of ks)
-sets_nothing n ks i h at = record {
-  sorted = h;
-  children = λ m q. elim (name_cmp m n) as (λ o. name_cmp m n ≡ o → look_in (child m ks) q ≡ cond (is_eq o) None (look_in (child m ks) q)) [
-    | Less ↦ λ _. refl
-    | Equal ↦ λ e. ap (λ x. look_in (child x ks) q) (name_cmp-IsAntisymmetric m n e) ∙ ap (λ o. look_in o q) ((is_gap n ks i (sym at)).none h)
-    | Greater ↦ λ _. refl
-  ] refl;
-}
+pub changes_nothing : (n : List ℕ) (ks : List Child) (i : ℕ) → AreSorted ks → Err i ≡ place n ks → Changes n [] None (map pair_of ks) (map pair_of ks)
+changes_nothing n ks i h at = (None, sym (without_absent n (map pair_of ks) ((is_gap n ks i (sym at)).none h)), λ q. refl)
 
 abbrev others : List ℕ → List ℕ → Bool
 others n m = not (is_eq (name_cmp n m))
@@ -90,21 +95,33 @@ removed n (k ∷ ks) i h e = by_cmp (λ j e. removed n ks j (and_second _ _ h) e
         ∙ sym (ap (λ o. cond (not (is_eq o)) (pair_of k ∷ where_key name_cmp (others n) (map pair_of ks)) (where_key name_cmp (others n) (map pair_of ks))) is)
 
 -- the child that is found, taken away
-pub sets_removed : (n : List ℕ) (ks : List Child) (i : ℕ) → AreSorted ks → Ok i ≡ place n ks → Sets n [] None (map pair_of ks) (map pair_of (remove ks i))
-sets_removed n ks i h at = record {
-  sorted = subst (λ es. T (finite.is_sorted name_cmp es)) (sym pairs) (is_sorted-where_key name_cmp (others n) (map pair_of ks) h);
-  children = λ m q. ap (λ o. look_in o q) (ap (finite.find name_cmp m) pairs
-      ∙ find-where_key name_cmp (others n) m (λ x t. ap (others n) (sym (name_cmp-IsAntisymmetric m x t))) (map pair_of ks))
-      ∙ ap (λ o. look_in (cond (not (is_eq o)) (child m ks) None) q) (nat_list_cmp_total.antisymm n m)
-      ∙ elim (name_cmp m n) as (λ o. look_in (cond (not (is_eq (ordering_reverse o))) (child m ks) None) q ≡ cond (is_eq o) None (look_in (child m ks) q)) [
+pub changes_removed : (n : List ℕ) (ks : List Child) (i : ℕ) → AreSorted ks → Ok i ≡ place n ks → Changes n [] None (map pair_of ks) (map pair_of (remove ks i))
+changes_removed n ks i h at = (None, removed n ks i h (sym at), λ q. refl)
+
+sets_cut : (n : List ℕ) (p : List (List ℕ)) (t : Option TreeMap) (old new : Pairs) → T (finite.is_sorted name_cmp old) → new ≡ without n old
+    → ((q : List (List ℕ)) → None ≡ set_look p t (look_in (finite.find name_cmp n old)) q) → Sets n p t old new
+sets_cut n p t old new h is changed = record {
+  sorted = subst (λ es. T (finite.is_sorted name_cmp es)) (sym is) (is_sorted-where_key name_cmp (others n) old h);
+  children = λ m q. ap (λ o. look_in o q) (ap (finite.find name_cmp m) is
+      ∙ find-where_key name_cmp (others n) m (λ x t. ap (others n) (sym (name_cmp-IsAntisymmetric m x t))) old)
+      ∙ ap (λ o. look_in (cond (not (is_eq o)) (finite.find name_cmp m old) None) q) (nat_list_cmp_total.antisymm n m)
+      ∙ elim (name_cmp m n) as (λ o. look_in (cond (not (is_eq (ordering_reverse o))) (finite.find name_cmp m old) None) q
+      ≡ cond (is_eq o) (set_look p t (look_in (finite.find name_cmp n old)) q) (look_in (finite.find name_cmp m old) q)) [
         | Less ↦ refl
-        | Equal ↦ refl
+        | Equal ↦ changed q
         | Greater ↦ refl
       ];
 }
+
+-- what a change of children sets
+sets_changed : (n : List ℕ) (p : List (List ℕ)) (t : Option TreeMap) (old new : Pairs) → T (finite.is_sorted name_cmp old) → Changes n p t old new
+    → Sets n p t old new
+sets_changed n p t old new h c = by_made c.0 c.1 c.2
   where
-    pairs : map pair_of (remove ks i) ≡ where_key name_cmp (others n) (map pair_of ks)
-    pairs = removed n ks i h (sym at)
+    by_made : (made : Option TreeMap) → new ≡ change n made old
+        → ((q : List (List ℕ)) → look_in made q ≡ set_look p t (look_in (finite.find name_cmp n old)) q) → Sets n p t old new
+    by_made (Some k) is looks = sets_put n p t old new k h is looks
+    by_made None is looks = sets_cut n p t old new h is looks
 
 -- ---- a directory with its children set
 
@@ -128,6 +145,10 @@ flat_by (k ∷ ks) = ap (λ es. map (λ (e : Pair). (name_of k ∷ e.0, e.1)) (f
 pub same_dir : (k m : Kind) → own_entry m ≡ own_entry k → map pair_of (kids_of m) ≡ map pair_of (kids_of k) → map_of m ≡ map_of k
 same_dir k m own is = λ i. finite.from_entries (([], own i) ∷ (flat_by (kids_of m) ∙ ap flat_pairs is ∙ sym (flat_by (kids_of k))) i)
 
+-- and so have those with pieces of the same pairs
+pub same_pieces : (k m : Kind) → own_entry m ≡ own_entry k → pairs_of (pieces_of m) ≡ pairs_of (pieces_of k) → map_of m ≡ map_of k
+same_pieces k m own is = same_dir k m own (pairs_kids (pieces_of m) ∙ is ∙ sym (pairs_kids (pieces_of k)))
+
 -- ---- names, and what a call changes where it succeeds and where it fails
 
 -- a fact that holds where a call succeeds yields there what follows from it
@@ -139,6 +160,11 @@ on_ok (Err e) f h = tt
 pub on_err : {A E P Q : Type 0} (r : Result A E) → (P → Q) → OnErr r P → OnErr r Q
 on_err (Ok x) f h = tt
 on_err (Err e) f h = f h
+
+-- what follows in both cases holds in any case
+pub on_both : {A E P Q R : Type 0} (r : Result A E) → (P → R) → (Q → R) → OnOk r P → OnErr r Q → R
+on_both (Ok x) f g p q = f p
+on_both (Err e) f g p q = g q
 
 take_whole : (p : List (List ℕ)) (k : ℕ) → length p ≤ k → take k p ≡ p
 take_whole [] zero h = refl
@@ -152,10 +178,17 @@ split_names (m ∷ p) n h is = (λ i. sym is i ∷ sym (take_whole p (suc (lengt
 
 -- setting at the rest of a path below the child of its first name sets at the whole path from the directory
 pub node_set : (k m : Kind) (v : TreeMap) (names : List (List ℕ)) (n : List ℕ) (t : Option TreeMap) → map_of k ≡ v
-    → own_entry m ≡ own_entry k → AreSorted (kids_of k) → 1 ≤ length names → n ≡ get_or names 0 n
-    → Sets n (take (length names - 1) (drop 1 names)) t (map pair_of (kids_of k)) (map pair_of (kids_of m)) → (q : List (List ℕ))
+    → own_entry m ≡ own_entry k → ArePieced (pieces_of k) → 1 ≤ length names → n ≡ get_or names 0 n
+    → Changes n (take (length names - 1) (drop 1 names)) t (pairs_of (pieces_of k)) (pairs_of (pieces_of m)) → (q : List (List ℕ))
     → finite.get (map_of m) q ≡ set_look names t (finite.get v) q
-node_set k m v names n t view own h some is g q = dir_set k m _ _ t own h g q ∙ (λ i. set_look (sym (split_names names n some is) i) t (finite.get (view i)) q)
+node_set k m v names n t view own h some is c q =
+    let rest = take (length names - 1) (drop 1 names) in
+    let sets : Sets n rest t (pairs_of (pieces_of k)) (pairs_of (pieces_of m)) = sets_changed n rest t _ _ h.sorted c in
+    let all : Sets n rest t (map pair_of (kids_of k)) (map pair_of (kids_of m)) =
+    subst (λ es. Sets n rest t es (map pair_of (kids_of m))) (sym (pairs_kids (pieces_of k)))
+    (subst (Sets n rest t (pairs_of (pieces_of k))) (sym (pairs_kids (pieces_of m))) sets) in
+    dir_set k m n rest t own (sorted_kids (pieces_of k) h) all q
+    ∙ (λ i. set_look (sym (split_names names n some is) i) t (finite.get (view i)) q)
 
 -- two equal results that succeed have the same value
 pub same_Ok : {X : Type 0} (x y : X) → ◌≡◌ {A = Result X TreeFault} (Ok x) (Ok y) → x ≡ y

@@ -1,5 +1,5 @@
 -- Each child's paths are shorter than the longest of its directory.
-use Rattle.std.specs.Prelude.{ℕ, ◌≡◌, ◌+◌, ◌-◌, ◌≤◌, max, List, [], ◌∷◌, true, false, cond, Option, Some, None, refl, is_some, length}
+use Rattle.std.specs.Prelude.{ℕ, ◌≡◌, ◌+◌, ◌-◌, ◌≤◌, max, List, [], ◌∷◌, ◌++◌, true, false, cond, Option, Some, None, refl, is_some, length}
 use Rattle.std.proofs.Common.{sym, ◌∙◌, ap, arith}
 use Rattle.std.specs.declared.cmp.Ordering.{Ordering}
 use Rattle.std.specs.declared.cmp.Ordering.TheVariants.{Less, Equal, Greater}
@@ -13,12 +13,13 @@ use Rattle.std.specs.Arc.{arc_value}
 use Rattle.llb_tree.specs.Path.{name_cmp, path_cmp}
 use Rattle.llb_tree.specs.PathOrder.{path_cmp-IsTotalOrder, path_cmp-IsAntisymmetric}
 use Rattle.llb_tree.specs.Tree.{TreeMap, Entry, height}
-use Rattle.llb_tree.specs.Nodes.{map_of, name_of}
+use Rattle.llb_tree.specs.Nodes.{map_of, name_of, rows_in, kids_in}
 use Rattle.llb_tree.specs.Looks.{get-below, get-root, look_kids}
 use Rattle.llb_tree.specs.declared.node.Kind.{Kind}
 use Rattle.llb_tree.specs.declared.node.Kind.TheVariants as kind
 use Rattle.llb_tree.specs.declared.node.Child.{Child}
-use Rattle.llb_tree.specs.declared.node.Node.TheDeep.{deep-Kind, deep-Child}
+use Rattle.llb_tree.specs.declared.node.Piece.{Piece}
+use Rattle.llb_tree.specs.declared.node.Node.TheDeep.{deep-Kind, deep-Child, deep-Piece}
 use denote.Param.Weighed.{most}
 
 same_path : (p q : List (List ℕ)) → eq_by_cmp path_cmp p q ≡ true → p ≡ q
@@ -73,12 +74,35 @@ kids_le n (k ∷ ks) h =
     let rest = kids_le n ks (λ m q some. h m q (or_right (cond (is_eq (name_cmp m (name_of k))) (finite.get k.node q) None) _ some)) in
     omega arith
 
+most_append : (xs ys : List Child) (n : ℕ) → most deep-Child (xs ++ ys) ≤ n → (most deep-Child xs ≤ n) × (most deep-Child ys ≤ n)
+most_append [] ys n h = (omega arith, h)
+most_append (x ∷ xs) ys n h = let rest = most_append xs ys n (omega arith) in let a : most deep-Child xs ≤ n = rest.0 in (omega arith, rest.1)
+
+-- the heights of the pieces, where those of the children in them are at most n
+pub pieces_le : (n : ℕ) (ps : List Piece) → most deep-Child (kids_in ps) ≤ n → most deep-Piece ps ≤ n
+pieces_le n [] h = omega arith
+pieces_le n (p ∷ ps) h =
+    let parts = most_append (rows_in p) (kids_in ps) n h in
+    let a : most deep-Child (rows_in p) ≤ n = parts.0 in
+    let rest = pieces_le n ps parts.1 in
+    omega arith
+
+-- and those of the children, where those of the pieces are
+pub le_pieces : (n : ℕ) (ps : List Piece) → most deep-Piece ps ≤ n → most deep-Child (kids_in ps) ≤ n
+le_pieces n [] h = omega arith
+le_pieces n (p ∷ ps) h = both (rows_in p) (kids_in ps) (omega arith) (le_pieces n ps (omega arith))
+  where
+    both : (xs ys : List Child) → most deep-Child xs ≤ n → most deep-Child ys ≤ n → most deep-Child (xs ++ ys) ≤ n
+    both [] ys g h = h
+    both (x ∷ xs) ys g h = let rest = both xs ys (omega arith) h in omega arith
+
 pub falls : (k : Kind) → max (deep-Kind k) 0 ≤ height (map_of k)
 falls (kind.File m c) = omega arith
 falls (kind.Dir m kids) =
     let k = kind.Dir m kids in
-    let ks = (arc_value kids).items in
+    let ps = (arc_value kids).items in
     let root : 0 + 1 ≤ height (map_of k) = le_height (map_of k) [] (ap is_some (get-root k)) in
-    let all : most deep-Child ks ≤ (height (map_of k) - 1) + 1 = kids_le (height (map_of k) - 1) ks
+    let all : most deep-Child (kids_in ps) ≤ (height (map_of k) - 1) + 1 = kids_le (height (map_of k) - 1) (kids_in ps)
     (λ m q some. let h : length (m ∷ q) + 1 ≤ height (map_of k) = le_height (map_of k) (m ∷ q) (ap is_some (get-below k m q) ∙ some) in omega arith) in
+    let pieces = pieces_le _ ps all in
     omega arith

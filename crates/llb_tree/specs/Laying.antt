@@ -1,15 +1,14 @@
 -- What the steps of laying one tree over another make of nodes and of their children.
-use Rattle.std.specs.Prelude.{◌≡◌, ◌≢◌, ◌<◌, ◌^◌, ℕ, zero, suc, true, false, T, List, [], ◌∷◌, ◌++◌, map, Option, Some, None, is_some, Vec}
+use Rattle.std.specs.Prelude.{◌≡◌, ◌<◌, ◌^◌, ℕ, zero, suc, Bool, true, false, List, [], ◌∷◌, ◌++◌, map, Option, Some, None, is_some, Vec}
 use Rattle.std.proofs.Common.{Global}
-use Rattle.std.specs.declared.cmp.Ordering.{Ordering}
 use Rattle.std.specs.FinMap as finite
-use Rattle.std.specs.FinMap.Entries.{below_all}
 use Rattle.llb_tree.specs.Path.{name_cmp}
 use Rattle.llb_tree.specs.Tree.{TreeMap, Entry}
-use Rattle.llb_tree.specs.Nodes.{AreSorted, Pairs, child, look_in, name_of, pair_of}
+use Rattle.llb_tree.specs.Nodes.{AreSorted, Pairs, child, look_in, name_of, pair_of, rows_in}
 use Rattle.llb_tree.specs.Meta.{MetaValue}
 use Rattle.llb_tree.specs.Overlay.{WayValue, is_mode, given, over, over_at}
 use Rattle.llb_tree.specs.declared.node.Child.{Child}
+use Rattle.llb_tree.specs.declared.node.Piece.{Piece}
 
 -- each entry in the mode and the owner that are given
 abbrev pub dress : WayValue → TreeMap → TreeMap
@@ -38,6 +37,20 @@ AreLaid w old [] (k ∷ made) = ⊥
 AreLaid w old (u ∷ upper) [] = ⊥
 AreLaid w old (u ∷ upper) (k ∷ made) = IsLaid w old u k × AreLaid w old upper made
 
+-- the upper pieces, laid, piece by piece
+abbrev pub PiecesLaid : WayValue → List Child → List Piece → List Piece → Type 0
+PiecesLaid w old [] [] = Unit {0}
+PiecesLaid w old [] (p ∷ made) = ⊥
+PiecesLaid w old (u ∷ upper) [] = ⊥
+PiecesLaid w old (u ∷ upper) (p ∷ made) = AreLaid w old (rows_in u) (rows_in p) × PiecesLaid w old upper made
+
+-- a laid piece comes after others, and where it is whole the upper one is laid as it is
+pub record PushesLaid (w : WayValue) (old : List Child) (upper : Piece) (whole : Bool) (list new : List Piece) : Type 0 where
+  pub made : Piece
+  pub pushed : new ≡ list ++ made ∷ []
+  pub laid : AreLaid w old (rows_in upper) (rows_in made)
+  pub whole_laid : whole ≡ true → AreLaid w old (rows_in upper) (rows_in upper)
+
 -- an entry that is laid stays as it is, whatever was there
 pub record TakesWhole (w : WayValue) : Type 0 where
   pub own : (m : MetaValue) → given w m ≡ m
@@ -62,6 +75,11 @@ abbrev pub those : Option (Vec Child Global) → List Child → List Child
 those None ks = ks
 those (Some made) ks = made.items
 
+-- the pieces that were made, or the given ones where none were
+abbrev pub those_pieces : Option (Vec Piece Global) → List Piece → List Piece
+those_pieces None ps = ps
+those_pieces (Some made) ps = made.items
+
 -- the children with another tree under the name at a place
 abbrev pub written : ℕ → TreeMap → Pairs → Pairs
 written i t [] = []
@@ -72,22 +90,6 @@ written (suc i) t (k ∷ ks) = k ∷ written i t ks
 abbrev pub puts : Pairs → Pairs → Pairs
 puts [] old = old
 puts (k ∷ ks) old = puts ks (finite.put name_cmp k.0 k.1 old)
-
--- there is no first child, or its name is not in that order to the name
-abbrev pub IsNotFirst : List ℕ → Ordering → List Child → Type 0
-IsNotFirst n o [] = Unit {0}
-IsNotFirst n o (k ∷ ks) = name_cmp (name_of k) n ≢ o
-
--- the first child is taken if its name is in that order to the name, and else all stay
-abbrev pub TakesFirst : List ℕ → Ordering → List Child → Option Child → List Child → Type 0
-TakesFirst n o old None new = (new ≡ old) × IsNotFirst n o old
-TakesFirst n o old (Some k) new = (old ≡ k ∷ new) × (name_cmp (name_of k) n ≡ o)
-
--- What a step of one pass keeps, which puts a child in and moves others from the rest to the list. After it, the list and then the
--- rest, with any children of names above the child's put in, are what they would be if the child were put in together with those.
-abbrev pub PutsNext : Child → List Child → List Child → List Child → List Child → Type 0
-PutsNext child list rest list_after rest_after = (ks : Pairs) → T (below_all name_cmp (name_of child) ks)
-    → map pair_of list_after ++ puts ks (map pair_of rest_after) ≡ map pair_of list ++ puts (pair_of child ∷ ks) (map pair_of rest)
 
 -- an owner that is given is a number of 32 bits
 abbrev pub owner_fits : Option ℕ → Type 0

@@ -1,6 +1,6 @@
 -- Read first Tree (a tree as a map from paths to entries, and its edits) and Path (names, paths, and what a text reads as) with Meta and Modes, then
--- Overlay (one tree over another), Walks, Rows and Faults. Within, Inside and PathOrder are what follows, for those who rest on it; Nodes, Looks, Falls,
--- Laying and Shared are this crate's own way with nodes.
+-- Overlay (one tree over another), Walks, Rows and Faults. Within, Inside and PathOrder are what follows, for those who rest on it; Nodes, Pieces, Looks,
+-- Falls, Laying and Shared are this crate's own way with nodes.
 pub mod Faults
 pub mod Path
 pub mod PathOrder
@@ -10,6 +10,7 @@ pub mod Tree
 pub mod Within
 pub mod Inside
 pub mod Nodes
+pub mod Pieces
 pub mod Looks
 pub mod Falls
 pub mod Rows

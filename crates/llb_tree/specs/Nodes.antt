@@ -14,6 +14,8 @@ use Rattle.llb_tree.specs.declared.node.Entry.TheVariants as entry
 use Rattle.llb_tree.specs.declared.node.Kind.{Kind}
 use Rattle.llb_tree.specs.declared.node.Kind.TheVariants as kind
 use Rattle.llb_tree.specs.declared.node.Child.{Child}
+use Rattle.llb_tree.specs.declared.node.Piece.{Piece}
+use Rattle.llb_tree.specs.declared.children.Children.{Children}
 
 abbrev pub Pair : Type 0
 Pair = List (List ℕ) × base.Entry
@@ -37,9 +39,20 @@ abbrev pub flat : List Child → List Pair
 flat [] = []
 flat (k ∷ ks) = below k ++ flat ks
 
+-- the children in a piece, and those in pieces one after another
+abbrev pub rows_in : Piece → List Child
+rows_in p = (arc_value p.rows).items
+
+abbrev pub kids_in : List Piece → List Child
+kids_in [] = []
+kids_in (p ∷ ps) = rows_in p ++ kids_in ps
+
+abbrev pub pieces_of : Kind → List Piece
+pieces_of (kind.File m c) = []
+pieces_of (kind.Dir m pieces) = (arc_value pieces).items
+
 abbrev pub kids_of : Kind → List Child
-kids_of (kind.File m c) = []
-kids_of (kind.Dir m kids) = (arc_value kids).items
+kids_of k = kids_in (pieces_of k)
 
 -- the entry at the node itself
 abbrev pub own_entry : Kind → base.Entry
@@ -108,3 +121,12 @@ pub record IsWhole (root : TreeMap) (depth : ℕ) : Type 0 where
   pub tree : base.IsTree root
   pub deep : base.height root ≤ depth + 1
   pub short : depth ≤ 128
+
+-- the children that are left
+abbrev pub left_in : Children → List Child
+left_in c = c.rows.now ++ kids_in c.pieces.now
+
+-- the first child and those after it, or nothing where there is none
+abbrev pub SplitsFirst : List Child → Option (Bor Child × Children) → Type 0
+SplitsFirst ks None = ks ≡ []
+SplitsFirst ks (Some (kid, rest)) = ks ≡ kid.now ∷ left_in rest

@@ -6,9 +6,10 @@ use Rattle.std.specs.FinMap as finite
 use Rattle.std.specs.FinMap.Entries.{where_key, below_all}
 use Rattle.llb_tree.specs.Path.{name_cmp, path_cmp, is_within}
 use Rattle.llb_tree.specs.Tree.{Entry, moved}
-use Rattle.llb_tree.specs.Nodes.{flat, pair_of, AreSorted}
+use Rattle.llb_tree.specs.Nodes.{flat, pair_of, left_in, AreSorted}
 use Rattle.llb_tree.specs.declared.node.Child.{Child}
 use Rattle.llb_tree.specs.declared.node.Node.{Node}
+use Rattle.llb_tree.specs.declared.children.Children.{Children}
 
 -- the entries after the first and after all that is below it
 abbrev pub past : List (List (List ℕ) × Entry) → List (List (List ℕ) × Entry)
@@ -16,8 +17,8 @@ past [] = []
 past (e ∷ es) = where_key path_cmp (λ q. not (is_within e.0 q)) es
 
 -- the children after those that a path leads through
-abbrev pub levels_of : List (Bor (List Child)) → List (List Child)
-levels_of = map (λ l. l.now)
+abbrev pub levels_of : List Children → List (List Child)
+levels_of = map left_in
 
 -- the entries of these children, the deepest first
 abbrev pub behind : List (List ℕ) → List (List Child) → List (List (List ℕ) × Entry)
@@ -33,7 +34,7 @@ AreBehind (n ∷ p) [] = ⊥
 AreBehind (n ∷ p) (l ∷ ls) = (T (below_all name_cmp n (map pair_of l)) × AreSorted l) × AreBehind p ls
 
 -- what is left from a node on, or at the end
-abbrev pub left : Option (Bor Node) → List (List ℕ) → List (Bor (List Child)) → List (List (List ℕ) × Entry)
+abbrev pub left : Option (Bor Node) → List (List ℕ) → List Children → List (List (List ℕ) × Entry)
 left None p ls = []
 left (Some node) p ls = map (moved 0 p) (finite.entries node.now) ++ behind p (levels_of ls)
 
@@ -41,6 +42,6 @@ abbrev pub AreShort : List (List (List ℕ) × Entry) → Type 0
 AreShort = All (λ e. length e.0 ≤ 128)
 
 -- a walk that is not at its end can go on
-abbrev pub GoesOn : Option (Bor Node) → List (List ℕ) → List (Bor (List Child)) → Type 0
+abbrev pub GoesOn : Option (Bor Node) → List (List ℕ) → List Children → Type 0
 GoesOn None p ls = Unit {0}
 GoesOn (Some node) p ls = AreBehind p (levels_of ls) × AreShort (left (Some node) p ls)

@@ -3,6 +3,7 @@
 
 ghost use Rattle.std.specs.Prelude.{◌≡◌, ◌↔◌, IsTrue};
 
+use crate::children::Children;
 use crate::node::{Kind, Node};
 use crate::tree::Tree;
 use llb_wire::Same;
@@ -28,15 +29,13 @@ impl Node {
                 if !meta.same(other_meta) {
                     return false;
                 }
-                let kids = kids.as_slice();
-                let others = other_kids.as_slice();
-                for i in 0..kids.len() {
-                    let kid = &kids[i];
+                let mut left = Children::of(kids.as_slice());
+                let mut others = Children::of(other_kids.as_slice());
+                while let Some((kid, rest)) = left.split_first() {
                     let _kid = kid.node.entry();
-                    if i >= others.len() {
+                    let Some((other, more)) = others.split_first() else {
                         return false;
-                    }
-                    let other = &others[i];
+                    };
                     let _other = other.node.entry();
                     if *kid.name != *other.name {
                         return false;
@@ -44,13 +43,16 @@ impl Node {
                     if !kid.node.same(&other.node) {
                         return false;
                     }
+                    left = rest;
+                    others = more;
                 }
-                if kids.len() < others.len() {
-                    let other = &others[kids.len()];
-                    let _other = other.node.entry();
-                    return false;
+                match others.split_first() {
+                    None => true,
+                    Some((other, _)) => {
+                        let _other = other.node.entry();
+                        false
+                    }
                 }
-                true
             }
             _ => false,
         }

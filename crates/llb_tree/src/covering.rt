@@ -2,9 +2,10 @@
 //! names alone, and what differs from the others is written into second owners of those.
 
 ghost use Rattle.std.specs.Prelude.{◌≡◌, ◌<◌, ℕ, List, length, IsTrue, IfOk, IfSome, is_some, true, map};
-ghost use Rattle.llb_tree.specs.Nodes.{child, pair_of};
+ghost use Rattle.llb_tree.specs.Nodes.{child, left_in, pair_of};
 ghost use Rattle.llb_tree.specs.Laying.{Covers, HasLater, those, written};
 
+use crate::children::Children;
 use crate::edit::copies;
 use crate::name::Name;
 use crate::node::{Child, Node};
@@ -12,8 +13,8 @@ use std::alloc::{AllocError, Global};
 use std::cmp::Ordering;
 
 // The children after the one of a name, where they are in the order of their names; none where no child has it.
-fn after<'a>(kids: &'a [Child], name: &Name) -> Option<&'a [Child]>
-    ensures { IfSome result (λ more. HasLater name.now kids.now more.now) }
+fn after<'a>(kids: Children<'a>, name: &Name) -> Option<Children<'a>>
+    ensures { IfSome result (λ more. HasLater name.now (left_in kids.entry) (left_in more)) }
 {
     let mut rest = kids;
     while let Some((kid, more)) = rest.split_first() {
@@ -27,18 +28,17 @@ fn after<'a>(kids: &'a [Child], name: &Name) -> Option<&'a [Child]>
 }
 
 // Whether each name of the lower children is one of the upper ones', by one pass over both.
-pub(crate) fn covers(upper: &[Child], lower: &[Child]) -> bool
-    ensures { IsTrue result → Covers upper.now lower.now }
+pub(crate) fn covers(upper: Children<'_>, lower: Children<'_>) -> bool
+    ensures { IsTrue result → Covers (left_in upper.entry) (left_in lower.entry) }
 {
-    if upper.len() < lower.len() {
-        return false;
-    }
     let mut rest = upper;
-    for kid in lower {
+    let mut left = lower;
+    while let Some((kid, others)) = left.split_first() {
         match after(rest, &kid.name) {
             None => return false,
             Some(more) => rest = more,
         }
+        left = others;
     }
     true
 }

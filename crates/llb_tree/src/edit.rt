@@ -1,23 +1,25 @@
 //! Edits of nodes that may be shared. A directory is made its own before it is changed: where it has other owners, a fresh
-//! vector of second owners of its children takes its place, which leaves the tree that it represents as it is. So an edit copies the
-//! width of the directories on its path, and nothing else.
+//! list of second owners of its pieces takes its place, and so do second owners of the children in the piece that is changed, which
+//! leaves the tree that it represents as it is. So an edit copies one piece of each directory on its path, and the lists of their pieces.
 
 ghost use Rattle.std.specs.Prelude.{[], Ok, Err, ◌≡◌, ◌<◌, ◌≤◌, ℕ, List, length, map, option_map, IfOk, OnOk, OnErr};
 ghost use Rattle.std.specs.Arc.{arc_value};
 ghost use Rattle.std.specs.FinMap as finite;
-ghost use Rattle.llb_tree.specs.Nodes.{AreSorted, Sets, pair_of, place, set_look};
+ghost use Rattle.llb_tree.specs.Nodes.{AreSorted, pair_of, place, set_look};
+ghost use Rattle.llb_tree.specs.Pieces.{ArePieced, Changes, pairs_of};
 
 use crate::name::Name;
-use crate::node::{Child, Kind, Node, place_of};
+use crate::node::{Child, Kind, Node, Piece, place_of};
+use crate::pieces::{drop_empty, make_room, own_list};
 use std::alloc::{AllocError, Global};
 use std::sync::Arc;
 
-// Second owners of the same children.
+// Second owners of the same children, with room for one more.
 pub(crate) fn copies(alloc: Global, kids: &[Child]) -> Result<Vec<Child>, AllocError>
     ensures { IfOk result (λ v. map pair_of v.items ≡ map pair_of kids.now) }
 {
     let mut copied = Vec::new(alloc);
-    copied.reserve(kids.len())?;
+    copied.reserve(kids.len() + 1)?;
     for kid in kids {
         copied.push(kid.copy()?)?;
     }
@@ -46,7 +48,7 @@ fn set_in(
     branch: Option<Node>,
 ) -> Result<(), AllocError>
     requires { AreSorted list.old.items }
-    ensures ok { OnOk result (Sets name.now rest.now branch (map pair_of list.old.items) (map pair_of list.new.items)) }
+    ensures ok { OnOk result (Changes name.now rest.now branch (map pair_of list.old.items) (map pair_of list.new.items)) }
     ensures err { OnErr result (map pair_of list.new.items ≡ map pair_of list.old.items) }
 {
     match place_of(list.as_slice(), name) {
@@ -67,23 +69,65 @@ fn set_in(
     }
 }
 
-// Does the same where the children may be shared: makes them its own first.
+// Does the same in a piece, which may be shared: makes its children its own first.
 #[cycle(set)]
-fn set_below(
-    kids: &mut Arc<Vec<Child>>,
+fn set_rows(
+    rows: &mut Arc<Vec<Child>>,
     alloc: Global,
     name: &Name,
     rest: &[Name],
     branch: Option<Node>,
 ) -> Result<(), AllocError>
-    requires { AreSorted (arc_value kids.old).items }
-    ensures ok { OnOk result (Sets name.now rest.now branch (map pair_of (arc_value kids.old).items) (map pair_of (arc_value kids.new).items)) }
-    ensures err { OnErr result (map pair_of (arc_value kids.new).items ≡ map pair_of (arc_value kids.old).items) }
+    requires { AreSorted (arc_value rows.old).items }
+    ensures ok { OnOk result (Changes name.now rest.now branch (map pair_of (arc_value rows.old).items) (map pair_of (arc_value rows.new).items)) }
+    ensures err { OnErr result (map pair_of (arc_value rows.new).items ≡ map pair_of (arc_value rows.old).items) }
 {
-    own(alloc, kids)?;
-    match Arc::get_mut(kids) {
+    own(alloc, rows)?;
+    match Arc::get_mut(rows) {
         None => Err(AllocError),
         Some(list) => set_in(list, alloc, name, rest, branch),
+    }
+}
+
+// Does the same among pieces, in the one that the name belongs to.
+#[cycle(set)]
+fn set_piece(
+    pieces: &mut Vec<Piece>,
+    alloc: Global,
+    name: &Name,
+    rest: &[Name],
+    branch: Option<Node>,
+) -> Result<(), AllocError>
+    requires { ArePieced pieces.old.items }
+    ensures ok { OnOk result (Changes name.now rest.now branch (pairs_of pieces.old.items) (pairs_of pieces.new.items)) }
+    ensures err { OnErr result (pairs_of pieces.new.items ≡ pairs_of pieces.old.items) }
+    ensures pieced { ArePieced pieces.new.items }
+{
+    let at = make_room(pieces, alloc, name)?;
+    let piece = &mut pieces[at];
+    set_rows(&mut piece.rows, alloc, name, rest, branch)?;
+    drop_empty(pieces, at);
+    Ok(())
+}
+
+// Does the same where the list of the pieces may be shared: makes that its own first.
+#[cycle(set)]
+fn set_below(
+    kids: &mut Arc<Vec<Piece>>,
+    alloc: Global,
+    name: &Name,
+    rest: &[Name],
+    branch: Option<Node>,
+) -> Result<(), AllocError>
+    requires { ArePieced (arc_value kids.old).items }
+    ensures ok { OnOk result (Changes name.now rest.now branch (pairs_of (arc_value kids.old).items) (pairs_of (arc_value kids.new).items)) }
+    ensures err { OnErr result (pairs_of (arc_value kids.new).items ≡ pairs_of (arc_value kids.old).items) }
+    ensures pieced { ArePieced (arc_value kids.new).items }
+{
+    own_list(alloc, kids)?;
+    match Arc::get_mut(kids) {
+        None => Err(AllocError),
+        Some(pieces) => set_piece(pieces, alloc, name, rest, branch),
     }
 }
 
@@ -91,7 +135,7 @@ fn set_below(
 fn set_child(list: &mut Vec<Child>, i: usize, branch: Option<Node>)
     requires within { i < length list.old.items }
     requires sorted { AreSorted list.old.items }
-    ensures { (n : List ℕ) → Ok i ≡ place n list.old.items → Sets n [] branch (map pair_of list.old.items) (map pair_of list.new.items) }
+    ensures { (n : List ℕ) → Ok i ≡ place n list.old.items → Changes n [] branch (map pair_of list.old.items) (map pair_of list.new.items) }
 {
     match branch {
         Some(node) => list[i].node = node,
@@ -112,7 +156,7 @@ fn insert_child(
     requires sorted { AreSorted list.old.items }
     requires within { i ≤ length list.old.items }
     requires gap { Err i ≡ place name.now list.old.items }
-    ensures ok { OnOk result (Sets name.now [] branch (map pair_of list.old.items) (map pair_of list.new.items)) }
+    ensures ok { OnOk result (Changes name.now [] branch (map pair_of list.old.items) (map pair_of list.new.items)) }
     ensures err { OnErr result (map pair_of list.new.items ≡ map pair_of list.old.items) }
 {
     match branch {

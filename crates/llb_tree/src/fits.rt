@@ -5,6 +5,7 @@ ghost use Rattle.std.specs.Prelude.{◌≡◌, ◌↔◌, ◌≤◌, IsTrue, IfE
 ghost use Rattle.std.specs.FinMap as finite;
 ghost use Rattle.llb_tree.specs.Tree.{height, is_memory, places_fit};
 
+use crate::children::Children;
 use crate::fault::TreeFault;
 use crate::node::{Kind, Node};
 use crate::path::Path;
@@ -40,10 +41,12 @@ impl Node {
         match kind {
             Kind::File(..) => true,
             Kind::Dir(_, kids) => {
-                for kid in kids.as_slice() {
+                let mut left = Children::of(kids.as_slice());
+                while let Some((kid, rest)) = left.split_first() {
                     if !kid.node.is_within(levels - 1) {
                         return false;
                     }
+                    left = rest;
                 }
                 true
             }

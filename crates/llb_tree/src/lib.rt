@@ -3,6 +3,7 @@
 //! operation or a file system.
 #![tactic(auto)]
 
+mod children;
 mod compare;
 mod content;
 mod covering;
@@ -18,6 +19,7 @@ mod node;
 mod overlay;
 mod passing;
 mod path;
+mod pieces;
 mod putting;
 mod reads;
 mod tested;
@@ -25,6 +27,7 @@ mod tree;
 mod walk;
 mod way;
 
+pub use children::Children;
 pub use content::Content;
 pub use fault::TreeFault;
 pub use llb_wire::{Bytes, Text};

@@ -3,10 +3,11 @@
 ghost use Rattle.std.specs.Prelude.{◌≡◌, [], ◌∷◌, map, Some, Ok};
 ghost use Rattle.std.specs.List.{flat_map};
 ghost use Rattle.std.specs.FinMap as finite;
-ghost use Rattle.llb_tree.specs.Nodes.{AreSorted, name_of, flat};
+ghost use Rattle.llb_tree.specs.Nodes.{AreSorted, name_of, flat, left_in};
 ghost use Rattle.llb_tree.specs.Tree as base;
 ghost use Rattle.llb_tree.specs.Tree.{Gives, MemoryLast, list, name_below};
 
+use crate::children::Children;
 use crate::fault::TreeFault;
 use crate::name::Name;
 use crate::names::Names;
@@ -34,25 +35,27 @@ impl Child {
 impl Node {
     /// Returns the children in the order of their names; a file has none. After a node's own entry come those of its children, child
     /// by child, each with the child's name before its path. Does not allocate.
-    pub fn children(&self) -> &[Child]
-        ensures entries { (e : base.Entry) → finite.get self.now [] ≡ Some e → finite.entries self.now ≡ ([], e) ∷ flat result.now }
-        ensures order { AreSorted result.now }
+    pub fn children(&self) -> Children<'_>
+        ensures entries { (e : base.Entry) → finite.get self.now [] ≡ Some e → finite.entries self.now ≡ ([], e) ∷ flat (left_in result) }
+        ensures order { AreSorted (left_in result) }
     {
         match &self.kind {
-            Kind::File(..) => &[],
-            Kind::Dir(_, kids) => kids.as_slice(),
+            Kind::File(..) => Children::none(),
+            Kind::Dir(_, kids) => Children::of(kids.as_slice()),
         }
     }
 }
 
 // Copies of the names of children.
-fn names_of(alloc: Global, kids: &[Child]) -> Result<Vec<Name>, TreeFault>
-    ensures { Gives (λ v. v.items) result (Ok (flat_map (name_below []) (map (λ e. e.0) (flat kids.now)))) }
+fn names_of(alloc: Global, kids: Children<'_>) -> Result<Vec<Name>, TreeFault>
+    ensures { Gives (λ v. v.items) result (Ok (flat_map (name_below []) (map (λ e. e.0) (flat (left_in kids.entry))))) }
 {
     let mut names = Vec::new(alloc);
-    for kid in kids {
+    let mut left = kids;
+    while let Some((kid, rest)) = left.split_first() {
         let _entry = kid.node.entry();
         names.push(kid.name.copy()?)?;
+        left = rest;
     }
     Ok(names)
 }

@@ -10,6 +10,7 @@ ghost use Rattle.llb_tree.specs.Nodes.{AreSorted, dir_look, file_look, pair_of, 
 use crate::fault::TreeFault;
 use crate::meta::Meta;
 use crate::name::Name;
+use crate::pieces::child_of;
 use llb_wire::Bytes;
 use std::alloc::{AllocError, Global};
 use std::marker::Model;
@@ -33,7 +34,14 @@ pub struct Node {
 #[derive(Drop)]
 pub(crate) enum Kind {
     File(Meta, Arc<Bytes>),
-    Dir(Meta, Arc<Vec<Child>>),
+    Dir(Meta, Arc<Vec<Piece>>),
+}
+
+// Some of a directory's children, one after another in the order of their names. Owners of the directory share its pieces.
+#[cycle(node)]
+#[derive(Drop)]
+pub(crate) struct Piece {
+    pub(crate) rows: Arc<Vec<Child>>,
 }
 
 /// A child of a directory: its name, and its node.
@@ -51,11 +59,12 @@ impl Model for Node {
 
     ghost coded = { coded_tree };
 
-    ghost use Rattle.llb_tree.specs.Nodes.{map_of, kids_of, AreSorted};
+    ghost use Rattle.llb_tree.specs.Nodes.{map_of, pieces_of};
+    ghost use Rattle.llb_tree.specs.Pieces.{ArePieced};
 
     ghost view = { λ n. map_of n.kind };
 
-    ghost invariant = { λ n. AreSorted (kids_of n.kind) };
+    ghost invariant = { λ n. ArePieced (pieces_of n.kind) };
 
     ghost size = { height };
 
@@ -91,13 +100,10 @@ impl Node {
     {
         match &self.kind {
             Kind::File(..) => None,
-            Kind::Dir(_, kids) => {
-                let list = kids.as_slice();
-                match place_of(list, name) {
-                    Ok(i) => Some(&list[i].node),
-                    Err(_) => None,
-                }
-            }
+            Kind::Dir(_, kids) => match child_of(kids.as_slice(), name) {
+                None => None,
+                Some(kid) => Some(&kid.node),
+            },
         }
     }
 

@@ -7,14 +7,17 @@ ghost use Rattle.std.specs.Prelude.{◌≡◌, ℕ, List, IfOk, IfErr, OnOk, OnE
 ghost use Rattle.std.specs.Arc.{arc_value};
 ghost use Rattle.std.specs.FinMap as finite;
 ghost use Rattle.llb_tree.specs.Tree.{is_memory};
-ghost use Rattle.llb_tree.specs.Nodes.{AreSorted, pair_of};
+ghost use Rattle.llb_tree.specs.Nodes.{kids_in, left_in, pair_of};
+ghost use Rattle.llb_tree.specs.Pieces.{ArePieced, pairs_of};
 ghost use Rattle.llb_tree.specs.Overlay.{over_at};
-ghost use Rattle.llb_tree.specs.Laying.{Lays, IsLaid, AreLaid, IsOver, TakesWhole, StandWhole, Covers, those, dress, dress_pair};
+ghost use Rattle.llb_tree.specs.Laying.{Lays, IsLaid, AreLaid, PiecesLaid, PushesLaid, IsOver};
+ghost use Rattle.llb_tree.specs.Laying.{TakesWhole, StandWhole, Covers, those, those_pieces, dress, dress_pair};
 
+use crate::children::Children;
 use crate::covering::{covers, with_node};
-use crate::edit::own;
 use crate::fault::TreeFault;
-use crate::node::{Child, Kind, Node, place_of};
+use crate::node::{Child, Kind, Node, Piece};
+use crate::pieces::{child_of, in_pieces};
 use crate::putting::put_all;
 use crate::tree::Tree;
 use crate::way::Way;
@@ -33,23 +36,24 @@ fn dressed(node: &Node, alloc: Global, way: &Way) -> Result<Node, AllocError>
     let kind = match &node.kind {
         Kind::File(meta, content) => Kind::File(way.given(*meta), Arc::try_clone(content)?),
         Kind::Dir(meta, kids) => {
-            let list = all_dressed(kids.as_slice(), alloc, way)?;
-            Kind::Dir(way.given(*meta), Arc::new(alloc, list)?)
+            let list = all_dressed(Children::of(kids.as_slice()), alloc, way)?;
+            Kind::Dir(way.given(*meta), in_pieces(alloc, list)?)
         }
     };
     Ok(Node { kind })
 }
 
 #[cycle(dress)]
-fn all_dressed(kids: &[Child], alloc: Global, way: &Way) -> Result<Vec<Child>, AllocError>
-    ensures { IfOk result (λ v. map pair_of v.items ≡ map (dress_pair way.now) (map pair_of kids.now)) }
+fn all_dressed(kids: Children<'_>, alloc: Global, way: &Way) -> Result<Vec<Child>, AllocError>
+    ensures { IfOk result (λ v. map pair_of v.items ≡ map (dress_pair way.now) (map pair_of (left_in kids.entry))) }
 {
     let mut list = Vec::new(alloc);
-    list.reserve(kids.len())?;
-    for kid in kids {
+    let mut left = kids;
+    while let Some((kid, rest)) = left.split_first() {
         let name = Arc::try_clone(&kid.name)?;
         let node = dressed(&kid.node, alloc, way)?;
         list.push(Child { name, node })?;
+        left = rest;
     }
     Ok(list)
 }
@@ -79,39 +83,42 @@ fn lay_node(lower: &mut Node, alloc: Global, way: &Way, upper: &Node) -> Result<
 // Returns whether the upper ones are there unchanged.
 #[cycle(lay)]
 fn lay_children(
-    kids: &mut Arc<Vec<Child>>,
+    kids: &mut Arc<Vec<Piece>>,
     alloc: Global,
     way: &Way,
-    upper: &Arc<Vec<Child>>,
+    upper: &Arc<Vec<Piece>>,
 ) -> Result<bool, AllocError>
-    requires lower { AreSorted (arc_value kids.old).items }
-    requires upper { AreSorted (arc_value upper.now).items }
-    ensures ok { OnOk result (Lays way.now (arc_value upper.now).items (arc_value kids.old).items (arc_value kids.new).items) }
-    ensures whole { IfOk result (λ whole. whole ≡ true → StandWhole way.now (arc_value upper.now).items (arc_value kids.new).items) }
-    ensures err { OnErr result (map pair_of (arc_value kids.new).items ≡ map pair_of (arc_value kids.old).items) }
+    requires lower { ArePieced (arc_value kids.old).items }
+    requires upper { ArePieced (arc_value upper.now).items }
+    ensures ok { OnOk result (Lays way.now (kids_in (arc_value upper.now).items) (kids_in (arc_value kids.old).items) (kids_in (arc_value kids.new).items)) }
+    ensures pieced { ArePieced (arc_value kids.new).items }
+    ensures whole { IfOk result (λ whole. whole ≡ true → StandWhole way.now (kids_in (arc_value upper.now).items) (kids_in (arc_value kids.new).items)) }
+    ensures err { OnErr result (pairs_of (arc_value kids.new).items ≡ pairs_of (arc_value kids.old).items) }
 {
-    if way.takes_whole() && covers(upper.as_slice(), kids.as_slice()) {
+    let above = upper.as_slice();
+    if way.takes_whole() && covers(Children::of(above), Children::of(kids.as_slice())) {
         return lay_all(kids, alloc, way, upper);
     }
-    lay_each(kids, alloc, way, upper.as_slice())?;
+    lay_each(kids, alloc, way, above)?;
     Ok(false)
 }
 
 // Lays children over others that have no other names. Returns whether the upper ones are there unchanged.
 #[cycle(lay)]
 fn lay_all(
-    kids: &mut Arc<Vec<Child>>,
+    kids: &mut Arc<Vec<Piece>>,
     alloc: Global,
     way: &Way,
-    upper: &Arc<Vec<Child>>,
+    upper: &Arc<Vec<Piece>>,
 ) -> Result<bool, AllocError>
-    requires lower { AreSorted (arc_value kids.old).items }
-    requires upper { AreSorted (arc_value upper.now).items }
+    requires lower { ArePieced (arc_value kids.old).items }
+    requires upper { ArePieced (arc_value upper.now).items }
     requires way { TakesWhole way.now }
-    requires covers { Covers (arc_value upper.now).items (arc_value kids.old).items }
-    ensures ok { OnOk result (Lays way.now (arc_value upper.now).items (arc_value kids.old).items (arc_value kids.new).items) }
-    ensures whole { IfOk result (λ whole. whole ≡ true → StandWhole way.now (arc_value upper.now).items (arc_value kids.new).items) }
-    ensures err { OnErr result (map pair_of (arc_value kids.new).items ≡ map pair_of (arc_value kids.old).items) }
+    requires covers { Covers (kids_in (arc_value upper.now).items) (kids_in (arc_value kids.old).items) }
+    ensures ok { OnOk result (Lays way.now (kids_in (arc_value upper.now).items) (kids_in (arc_value kids.old).items) (kids_in (arc_value kids.new).items)) }
+    ensures pieced { ArePieced (arc_value kids.new).items }
+    ensures whole { IfOk result (λ whole. whole ≡ true → StandWhole way.now (kids_in (arc_value upper.now).items) (kids_in (arc_value kids.new).items)) }
+    ensures err { OnErr result (pairs_of (arc_value kids.new).items ≡ pairs_of (arc_value kids.old).items) }
 {
     match laid_all(kids.as_slice(), alloc, way, upper.as_slice())? {
         None => {
@@ -125,17 +132,66 @@ fn lay_all(
     }
 }
 
-// The upper children with what is laid in place of those that are changed; `None` where none is.
+// The upper pieces with what is laid in place of those that are changed; `None` where none is.
 #[cycle(lay)]
 fn laid_all(
-    kids: &[Child],
+    kids: &[Piece],
+    alloc: Global,
+    way: &Way,
+    upper: &[Piece],
+) -> Result<Option<Vec<Piece>>, AllocError>
+    requires lower { ArePieced kids.now }
+    requires way { TakesWhole way.now }
+    ensures { IfOk result (λ made. PiecesLaid way.now (kids_in kids.now) upper.now (those_pieces made upper.now)) }
+{
+    let mut list = Vec::new(alloc);
+    let mut changed = false;
+    for piece in upper {
+        let whole = lay_piece(&mut list, kids, alloc, way, piece)?;
+        changed = changed || !whole;
+    }
+    if !changed {
+        return Ok(None);
+    }
+    Ok(Some(list))
+}
+
+// Puts an upper piece with what is laid in place of the children that are changed after others, and returns whether none is.
+#[cycle(lay)]
+fn lay_piece(
+    list: &mut Vec<Piece>,
+    kids: &[Piece],
+    alloc: Global,
+    way: &Way,
+    upper: &Piece,
+) -> Result<bool, AllocError>
+    requires lower { ArePieced kids.now }
+    requires way { TakesWhole way.now }
+    ensures { IfOk result (λ whole. PushesLaid way.now (kids_in kids.now) upper.now whole list.old.items list.new.items) }
+{
+    match laid_rows(kids, alloc, way, upper.rows.as_slice())? {
+        None => {
+            list.push(upper.copy()?)?;
+            Ok(true)
+        }
+        Some(rows) => {
+            list.push(Piece::of(alloc, rows)?)?;
+            Ok(false)
+        }
+    }
+}
+
+// The upper children of a piece with what is laid in place of those that are changed; `None` where none is.
+#[cycle(lay)]
+fn laid_rows(
+    kids: &[Piece],
     alloc: Global,
     way: &Way,
     upper: &[Child],
 ) -> Result<Option<Vec<Child>>, AllocError>
-    requires lower { AreSorted kids.now }
+    requires lower { ArePieced kids.now }
     requires way { TakesWhole way.now }
-    ensures { IfOk result (λ made. AreLaid way.now kids.now upper.now (those made upper.now)) }
+    ensures { IfOk result (λ made. AreLaid way.now (kids_in kids.now) upper.now (those made upper.now)) }
 {
     let mut made = None;
     for (i, kid) in upper.iter().enumerate() {
@@ -149,21 +205,21 @@ fn laid_all(
 // An upper child, laid over the one of its name; `None` where it is unchanged.
 #[cycle(lay)]
 fn laid_over(
-    kids: &[Child],
+    kids: &[Piece],
     alloc: Global,
     way: &Way,
     upper: &Child,
 ) -> Result<Option<Node>, AllocError>
-    requires lower { AreSorted kids.now }
+    requires lower { ArePieced kids.now }
     requires way { TakesWhole way.now }
-    ensures { IfOk result (λ made. IsOver way.now kids.now upper.now (unwrap_or made upper.now.node)) }
+    ensures { IfOk result (λ made. IsOver way.now (kids_in kids.now) upper.now (unwrap_or made upper.now.node)) }
 {
     match &upper.node.kind {
         Kind::File(..) => Ok(None),
-        Kind::Dir(..) => match place_of(kids, &upper.name) {
-            Err(_) => Ok(None),
-            Ok(i) => {
-                let mut node = kids[i].node.copy()?;
+        Kind::Dir(..) => match child_of(kids, &upper.name) {
+            None => Ok(None),
+            Some(lower) => {
+                let mut node = lower.node.copy()?;
                 if lay_node(&mut node, alloc, way, &upper.node)? {
                     return Ok(None);
                 }
@@ -176,59 +232,54 @@ fn laid_over(
 // Lays children over others one by one: all that is laid is made before the first is put in.
 #[cycle(lay)]
 fn lay_each(
-    kids: &mut Arc<Vec<Child>>,
+    kids: &mut Arc<Vec<Piece>>,
     alloc: Global,
     way: &Way,
-    upper: &[Child],
+    upper: &[Piece],
 ) -> Result<(), AllocError>
-    requires lower { AreSorted (arc_value kids.old).items }
-    requires upper { AreSorted upper.now }
-    ensures ok { OnOk result (Lays way.now upper.now (arc_value kids.old).items (arc_value kids.new).items) }
-    ensures err { OnErr result (map pair_of (arc_value kids.new).items ≡ map pair_of (arc_value kids.old).items) }
+    requires lower { ArePieced (arc_value kids.old).items }
+    requires upper { ArePieced upper.now }
+    ensures ok { OnOk result (Lays way.now (kids_in upper.now) (kids_in (arc_value kids.old).items) (kids_in (arc_value kids.new).items)) }
+    ensures pieced { ArePieced (arc_value kids.new).items }
+    ensures err { OnErr result (pairs_of (arc_value kids.new).items ≡ pairs_of (arc_value kids.old).items) }
 {
-    if upper.is_empty() {
-        return Ok(());
-    }
-    let ready = laid_children(kids.as_slice(), alloc, way, upper)?;
-    own(alloc, kids)?;
-    match Arc::get_mut(kids) {
-        None => Err(AllocError),
-        Some(list) => put_all(list, alloc, ready),
-    }
+    let ready = laid_children(kids.as_slice(), alloc, way, Children::of(upper))?;
+    put_all(kids, alloc, ready)
 }
 
 #[cycle(lay)]
 fn laid_children(
-    kids: &[Child],
+    kids: &[Piece],
     alloc: Global,
     way: &Way,
-    upper: &[Child],
+    upper: Children<'_>,
 ) -> Result<Vec<Child>, AllocError>
-    requires { AreSorted kids.now }
-    ensures { IfOk result (λ v. AreLaid way.now kids.now upper.now v.items) }
+    requires { ArePieced kids.now }
+    ensures { IfOk result (λ v. AreLaid way.now (kids_in kids.now) (left_in upper.entry) v.items) }
 {
     let mut ready = Vec::new(alloc);
-    ready.reserve(upper.len())?;
-    for kid in upper {
+    let mut left = upper;
+    while let Some((kid, rest)) = left.split_first() {
         ready.push(laid_child(kids, alloc, way, kid)?)?;
+        left = rest;
     }
     Ok(ready)
 }
 
 // A child laid over a copy of the one of its name, or dressed where there is none.
 #[cycle(lay)]
-fn laid_child(kids: &[Child], alloc: Global, way: &Way, upper: &Child) -> Result<Child, AllocError>
-    requires { AreSorted kids.now }
-    ensures { IfOk result (λ k. IsLaid way.now kids.now upper.now k) }
+fn laid_child(kids: &[Piece], alloc: Global, way: &Way, upper: &Child) -> Result<Child, AllocError>
+    requires { ArePieced kids.now }
+    ensures { IfOk result (λ k. IsLaid way.now (kids_in kids.now) upper.now k) }
 {
     let name = Arc::try_clone(&upper.name)?;
-    match place_of(kids, &upper.name) {
-        Ok(i) => {
-            let mut node = kids[i].node.copy()?;
+    match child_of(kids, &upper.name) {
+        Some(lower) => {
+            let mut node = lower.node.copy()?;
             lay_node(&mut node, alloc, way, &upper.node)?;
             Ok(Child { name, node })
         }
-        Err(_) => {
+        None => {
             let node = dressed(&upper.node, alloc, way)?;
             Ok(Child { name, node })
         }

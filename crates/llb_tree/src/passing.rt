@@ -9,6 +9,7 @@ ghost use Rattle.llb_tree.specs.Nodes.{below};
 ghost use Rattle.llb_tree.specs.Tested.{passes_all};
 ghost use Rattle.llb_tree.specs.declared.fault.TreeFault.TheVariants.{Memory};
 
+use crate::children::Children;
 use crate::fault::TreeFault;
 use crate::node::{Child, Kind, Node};
 use crate::path::Path;
@@ -38,8 +39,10 @@ fn find<T: NameTest>(
     let Kind::Dir(_, kids) = kind else {
         return Ok(());
     };
-    for kid in kids.as_slice() {
+    let mut left = Children::of(kids.as_slice());
+    while let Some((kid, others)) = left.split_first() {
         find_in(kid, test, rest, path, found)?;
+        left = others;
     }
     Ok(())
 }

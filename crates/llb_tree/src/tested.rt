@@ -3,11 +3,14 @@
 
 ghost use Rattle.std.specs.Prelude.{◌≡◌, ◌∷◌, Bool, List, ℕ, IfOk, option_map};
 ghost use Rattle.llb_tree.specs.Tree.{Gives};
+ghost use Rattle.llb_tree.specs.Nodes.{left_in};
 ghost use Rattle.llb_tree.specs.Tested.{Keeps, KeepsAll, Thins, rid_of};
 
+use crate::children::Children;
 use crate::fault::TreeFault;
 use crate::name::Name;
 use crate::node::{Child, Kind, Node};
+use crate::pieces::in_pieces;
 use crate::tree::Tree;
 use std::alloc::{AllocError, Global};
 use std::sync::Arc;
@@ -34,10 +37,10 @@ fn thinned<T: NameTest>(
     let Kind::Dir(meta, kids) = &node.kind else {
         return Ok(None);
     };
-    match thinned_children(kids.as_slice(), alloc, test, rest)? {
+    match thinned_children(Children::of(kids.as_slice()), alloc, test, rest)? {
         None => Ok(None),
         Some(kept) => {
-            let kids = Arc::new(alloc, kept)?;
+            let kids = in_pieces(alloc, kept)?;
             Ok(Some(Node {
                 kind: Kind::Dir(*meta, kids),
             }))
@@ -48,18 +51,20 @@ fn thinned<T: NameTest>(
 // What is left of children; `None` where all is left.
 #[cycle(thin)]
 fn thinned_children<T: NameTest>(
-    kids: &[Child],
+    kids: Children<'_>,
     alloc: Global,
     test: &T,
     rest: &[T],
 ) -> Result<Option<Vec<Child>>, AllocError>
-    ensures { IfOk result (λ o. KeepsAll T.passes (test.now ∷ rest.now) kids.now (option_map (λ v. v.items) o)) }
+    ensures { IfOk result (λ o. KeepsAll T.passes (test.now ∷ rest.now) (left_in kids.entry) (option_map (λ v. v.items) o)) }
 {
     let mut kept = Vec::new(alloc);
     let mut changed = false;
-    for kid in kids {
+    let mut left = kids;
+    while let Some((kid, others)) = left.split_first() {
         let goes = keep(&mut kept, alloc, kid, test, rest)?;
         changed = changed || goes;
+        left = others;
     }
     if !changed {
         return Ok(None);

@@ -6,10 +6,11 @@ ghost use Rattle.std.specs.Option.{option_map};
 ghost use Rattle.std.specs.List.{slice_get};
 ghost use Rattle.std.specs.FinMap as finite;
 ghost use Rattle.llb_tree.specs.Tree.{Gives};
-ghost use Rattle.llb_tree.specs.Nodes.{name_of, pair_seen};
+ghost use Rattle.llb_tree.specs.Nodes.{left_in, name_of, pair_seen};
 ghost use Rattle.llb_tree.specs.Walks.{past, behind, levels_of, left, AreBehind, AreShort, GoesOn};
 ghost use Rattle.llb_tree.specs.declared.fault.TreeFault.TheVariants.{Memory};
 
+use crate::children::Children;
 use crate::fault::TreeFault;
 use crate::node::{Child, Entry, Node};
 use crate::path::Path;
@@ -20,7 +21,7 @@ use std::marker::Model;
 pub struct Walk<'a> {
     present: Option<&'a Node>,
     path: Path,
-    levels: Vec<&'a [Child]>,
+    levels: Vec<Children<'a>>,
 }
 
 // Written out, so that what owns one drops it by this one function.
@@ -50,14 +51,14 @@ impl<'a> Model for Walk<'a> {
 // Goes down to a child; what is after it is left for later.
 fn enter<'a>(
     path: &mut Path,
-    levels: &mut Vec<&'a [Child]>,
+    levels: &mut Vec<Children<'a>>,
     kid: &'a Child,
-    rest: &'a [Child],
+    rest: Children<'a>,
 ) -> Result<&'a Node, TreeFault>
     requires { length path.old < 128 }
     ensures node { IfOk result (λ n. n.now ≡ kid.now.node) }
     ensures path { OnOk result (path.new ≡ path.old ++ name_of kid.now ∷ []) }
-    ensures levels { OnOk result (levels_of levels.new.items ≡ levels_of levels.old.items ++ rest.now ∷ []) }
+    ensures levels { OnOk result (levels_of levels.new.items ≡ levels_of levels.old.items ++ left_in rest.entry ∷ []) }
     ensures err { IfErr result (λ e. e ≡ Memory) }
 {
     let name = kid.name.copy()?;
@@ -67,7 +68,7 @@ fn enter<'a>(
 }
 
 // Goes up to the first directory of which children are left, and to the first of them.
-fn climb<'a>(path: &mut Path, levels: &mut Vec<&'a [Child]>) -> Result<Option<&'a Node>, TreeFault>
+fn climb<'a>(path: &mut Path, levels: &mut Vec<Children<'a>>) -> Result<Option<&'a Node>, TreeFault>
     requires behind { AreBehind path.old (levels_of levels.old.items) }
     requires short { AreShort (behind path.old (levels_of levels.old.items)) }
     ensures left { IfOk result (λ n. left n path.new levels.new.items ≡ behind path.old (levels_of levels.old.items)) }
@@ -87,7 +88,7 @@ fn climb<'a>(path: &mut Path, levels: &mut Vec<&'a [Child]>) -> Result<Option<&'
 // Goes down to the first child, or up where there is none.
 fn descend<'a>(
     path: &mut Path,
-    levels: &mut Vec<&'a [Child]>,
+    levels: &mut Vec<Children<'a>>,
     node: &'a Node,
 ) -> Result<Option<&'a Node>, TreeFault>
     requires { GoesOn (Some node) path.old levels.old.items }

@@ -1,164 +1,266 @@
-use Rattle.std.proofs.Common.{◌≡◌, ◌+◌, Option, Ok, Err, None, T, arith, map, option_map, unwrap_or, true, sym, ap, subst, ◌∙◌, refl}
+use Rattle.std.proofs.Common.{◌≡◌, ◌+◌, ◌≤◌, ◌||◌, not, true≢false, [], Option, Some, None, arith, map, option_map, unwrap_or, sym, ap, subst, ◌∙◌, refl}
+use Rattle.std.proofs.lemmas.List.{take_all}
+use denote.Param.Weighed.{most}
 use Rattle.std.specs.Arc.{arc_value}
 use Rattle.std.specs.FinMap as finite
-use Rattle.llb_tree.specs.Nodes.{AreSorted, name_of, place, look_in, kids_of, map_of, pair_of}
+use Rattle.llb_tree.specs.Nodes.{AreSorted, name_of, child, look_in, kids_of, kids_in, left_in, rows_in, map_of, pair_of}
+use Rattle.llb_tree.specs.Pieces.{ArePieced}
+use Rattle.llb_tree.specs.Falls.{le_pieces}
 use Rattle.llb_tree.specs.Overlay.{below_file, over, over_at}
 use Rattle.llb_tree.specs.Tree.{TreeMap}
-use Rattle.llb_tree.specs.Laying.{Lays, IsOver, AreLaid, puts, those}
+use Rattle.llb_tree.specs.Laying.{Lays, IsOver, AreLaid, PiecesLaid, those, those_pieces}
 use Rattle.llb_tree.specs.declared.node.Child.{Child}
+use Rattle.llb_tree.specs.declared.node.Node.TheDeep.{deep-Child, deep-Piece}
 use Rattle.llb_tree.specs.declared.node.Kind.TheVariants as kind
-use Rattle.llb_tree.proofs.Covered.{HasLaid, over_found, none_yet, same_length, one_stays, one_written, all_laid, file_stays, new_stays, dir_stays, lays_all}
+use Rattle.llb_tree.proofs.Covered.{HasLaid, none_yet, same_length, one_stays, one_written, all_laid, file_stays, new_stays, dir_stays}
+use Rattle.llb_tree.proofs.Cursor.{at_start, at_next, at_end, fewer}
 use Rattle.llb_tree.proofs.Dressing.{get-dress, dress_same}
-use Rattle.llb_tree.proofs.InPlace.{err_holds, laid_pushed, lays_puts, sorted_made}
-use Rattle.llb_tree.proofs.Laying.{lone_file, root_there, on_ok, lays_nothing, node_laid, over_file, over_none, under_file}
-use Rattle.llb_tree.proofs.Placed.{is_gap}
-use Rattle.llb_tree.proofs.Setting.{same_dir}
+use Rattle.llb_tree.proofs.Fitting.{next_below}
+use Rattle.llb_tree.proofs.InPlace.{err_holds, laid_pushed}
+use Rattle.llb_tree.proofs.LaidPieces.{lays_pieces, laid_pieced, piece_laid, piece_stays, lays_put, both_whole}
+use Rattle.llb_tree.proofs.Laying.{lone_file, root_there, on_ok, node_laid, over_file, over_none, under_file}
+use Rattle.llb_tree.proofs.Pieced.{sorted_kids}
+use Rattle.llb_tree.proofs.Setting.{same_dir, same_pieces}
 use Rattle.llb_tree.proofs.overlay.+lay.Goals.{lay_node-in_default-via-in-Dir+in_default, lay_node-in_default-via-in_default}
-use Rattle.llb_tree.proofs.overlay.+lay.Goals.{laid_all-in-Some+in_ok-with_node, laid_all-in_default}
+use Rattle.llb_tree.proofs.overlay.+lay.Goals.{laid_rows-in-Some+in_ok-with_node, laid_rows-in_default, laid_all-then-changed, laid_all-else-changed}
 use Rattle.llb_tree.proofs.overlay.+lay.Goals as goal
 
 -- ---- one upper child
 
-pub laid_child-returns-in_ok-lay_node-in-Ok : goal.laid_child-returns-in_ok-lay_node-in-Ok
-laid_child-returns-in_ok-lay_node-in-Ok t c =
+pub laid_child-returns-in_ok-lay_node-in-Some : goal.laid_child-returns-in_ok-lay_node-in-Some
+laid_child-returns-in_ok-lay_node-in-Some t c =
     let kid = c.args.upper.now in
-    let kids = c.args.kids.now in
-    let at : Ok c.in-Ok.i ≡ place (name_of kid) kids = c.in-Ok.ensures.place ∙ ap (λ n. place n kids) c.deref.ensures in
+    let kids = kids_in c.args.kids.now in
     record {
       named = c.in_ok-name.ensures;
-      laid = λ q. c.in_ok-lay_node-in-Ok.ensures.ok q ∙ ap (λ o. over_at c.args.way.now (look_in o) (finite.get kid.node) q)
-          (over_found kids (name_of kid) c.in-Ok.i c.index-kids-i.result c.in_ok-node-in-Ok.node at c.in_ok-node-in-Ok.ensures);
+      laid = λ q. c.in_ok-lay_node-in-Some.ensures.ok q ∙ ap (λ o. over_at c.args.way.now (look_in o) (finite.get kid.node) q)
+          (ap (λ t. Some t) c.in_ok-node-in-Some.ensures ∙ c.in-Some.ensures ∙ ap (λ n. child n kids) c.deref.ensures);
     }
 
-pub laid_child-returns-in_ok-node-in-Err : goal.laid_child-returns-in_ok-node-in-Err
-laid_child-returns-in_ok-node-in-Err t c =
+pub laid_child-returns-in_ok-node-in-None : goal.laid_child-returns-in_ok-node-in-None
+laid_child-returns-in_ok-node-in-None t c =
     let kid = c.args.upper.now in
-    let kids = c.args.kids.now in
+    let kids = kids_in c.args.kids.now in
     let way = c.args.way.now in
-    let at : Err c.in-Err.field-0 ≡ place (name_of kid) kids = c.in-Err.ensures.place ∙ ap (λ n. place n kids) c.deref.ensures in
     record {
       named = c.in_ok-name.ensures;
-      laid = λ q. ap (λ t. finite.get t q) c.in_ok-node-in-Err.ensures ∙ get-dress way kid.node q
+      laid = λ q. ap (λ t. finite.get t q) c.in_ok-node-in-None.ensures ∙ get-dress way kid.node q
           ∙ sym (over_none way (finite.get kid.node q) (below_file (finite.get kid.node) q))
-          ∙ ap (λ o. over_at way (look_in o) (finite.get kid.node) q) (sym ((is_gap (name_of kid) kids c.in-Err.field-0 (sym at)).none c.requires));
+          ∙ ap (λ o. over_at way (look_in o) (finite.get kid.node) q) (c.in-None.ensures ∙ ap (λ n. child n kids) c.deref.ensures);
     }
 
 pub laid_over-returns-in-File : goal.laid_over-returns-in-File
 laid_over-returns-in-File t c =
     let kid = c.args.upper.now in
-    file_stays c.args.way.now c.requires.way c.args.kids.now kid
+    file_stays c.args.way.now c.requires.way (kids_in c.args.kids.now) kid
     (lone_file _ c.in-File.field-0 c.in-File.field-1 kid.node (ap (λ (k : Child). k.node) c.upper.view_is) c.in-File.is)
 
-pub laid_over-returns-in-Err : goal.laid_over-returns-in-Err
-laid_over-returns-in-Err t c =
+pub laid_over-returns-in-None : goal.laid_over-returns-in-None
+laid_over-returns-in-None t c =
     let kid = c.args.upper.now in
-    let kids = c.args.kids.now in
-    let at : Err c.in-Err.field-0 ≡ place (name_of kid) kids = c.in-Err.ensures.place ∙ ap (λ n. place n kids) (c.deref.ensures ∙ ap name_of c.upper.view_is) in
-    new_stays c.args.way.now c.requires.way kids kid ((is_gap (name_of kid) kids c.in-Err.field-0 (sym at)).none c.requires.lower)
+    let kids = kids_in c.args.kids.now in
+    new_stays c.args.way.now c.requires.way kids kid (sym (c.in-None.ensures ∙ ap (λ n. child n kids) (c.deref.ensures ∙ ap name_of c.upper.view_is)))
 
 pub laid_over-returns-then-branch : goal.laid_over-returns-then-branch
 laid_over-returns-then-branch t c q =
     let kid = c.args.upper.now in
-    let laid = c.in_ok-lay_node-in-Ok.ensures in
+    let kids = kids_in c.args.kids.now in
+    let laid = c.in_ok-lay_node-in-Some.ensures in
     ap (λ s. finite.get s q) (sym (laid.whole c.if-branch.true)) ∙ laid.ok q
     ∙ ap (λ o. over_at c.args.way.now (look_in o) (finite.get kid.node) q)
-    (over_found c.args.kids.now (name_of kid) c.in-Ok.i c.index-kids-i.result c.in_ok-node-in-Ok.node
-    (c.in-Ok.ensures.place ∙ ap (λ n. place n c.args.kids.now) (c.deref.ensures ∙ ap name_of c.upper.view_is)) c.in_ok-node-in-Ok.ensures)
+    (ap (λ t. Some t) c.in_ok-node-in-Some.ensures ∙ c.in-Some.ensures ∙ ap (λ n. child n kids) (c.deref.ensures ∙ ap name_of c.upper.view_is))
 
 pub laid_over-returns-else-branch : goal.laid_over-returns-else-branch
 laid_over-returns-else-branch t c q =
     let kid = c.args.upper.now in
-    c.in_ok-lay_node-in-Ok.ensures.ok q
+    let kids = kids_in c.args.kids.now in
+    c.in_ok-lay_node-in-Some.ensures.ok q
     ∙ ap (λ o. over_at c.args.way.now (look_in o) (finite.get kid.node) q)
-    (over_found c.args.kids.now (name_of kid) c.in-Ok.i c.index-kids-i.result c.in_ok-node-in-Ok.node
-    (c.in-Ok.ensures.place ∙ ap (λ n. place n c.args.kids.now) (c.deref.ensures ∙ ap name_of c.upper.view_is)) c.in_ok-node-in-Ok.ensures)
+    (ap (λ t. Some t) c.in_ok-node-in-Some.ensures ∙ c.in-Some.ensures ∙ ap (λ n. child n kids) (c.deref.ensures ∙ ap name_of c.upper.view_is))
 
 -- ---- upper children over those whose names they have
 
-pub laid_all-loop-i-init : goal.laid_all-loop-i-init
-laid_all-loop-i-init t c = none_yet c.args.way.now c.args.kids.now c.args.upper.now
+pub laid_rows-loop-i-init : goal.laid_rows-loop-i-init
+laid_rows-loop-i-init t c = none_yet c.args.way.now (kids_in c.args.kids.now) c.args.upper.now
 
-pub laid_all-with_node-requires : goal.laid_all-with_node-requires
-laid_all-with_node-requires t c = omega (
+pub laid_rows-with_node-requires : goal.laid_rows-with_node-requires
+laid_rows-with_node-requires t c = omega (
   arith,
   c.loop-i-test.true,
-  same_length c.args.way.now c.args.kids.now c.loop-i.i c.args.upper.now (those c.loop-i.made c.args.upper.now) c.loop-i.invariant,
+  same_length c.args.way.now (kids_in c.args.kids.now) c.loop-i.i c.args.upper.now (those c.loop-i.made c.args.upper.now) c.loop-i.invariant,
 )
 
-pub laid_all-loop-i-preserved : goal.laid_all-loop-i-preserved
-laid_all-loop-i-preserved t c =
+pub laid_rows-loop-i-preserved : goal.laid_rows-loop-i-preserved
+laid_rows-loop-i-preserved t c =
     let w = c.args.way.now in
-    let old = c.args.kids.now in
+    let old = kids_in c.args.kids.now in
     let upper = c.args.upper.now in
     let kid = c.index-upper-i.result in
     let over = λ (o : Option TreeMap) (is : c.in_ok-node.field-0 ≡ o). subst (λ x. IsOver w old kid (unwrap_or x kid.node)) is c.in_ok-node.ensures in
     elim c.match-branch-2.branch [
-      | laid_all-in-Some+in_ok-with_node x ↦
+      | laid_rows-in-Some+in_ok-with_node x ↦
           one_written w old c.loop-i.i upper (map pair_of (those c.loop-i.made upper)) kid c.loop-i-test.true c.index-upper-i.is c.loop-i.invariant
           x.in-Some.node _ (over _ x.in-Some.is) (ap (λ o. map pair_of (those o upper)) x.made-is ∙ x.in_ok-with_node.ensures)
-      | laid_all-in_default x ↦
+      | laid_rows-in_default x ↦
           subst (λ o. HasLaid w old (c.loop-i.i + 1) upper (map pair_of (those o upper))) (sym x.made-is)
           (one_stays w old c.loop-i.i upper (map pair_of (those c.loop-i.made upper)) kid c.loop-i-test.true c.index-upper-i.is c.loop-i.invariant
           (over _ x.in_default.is))
     ]
 
-pub laid_all-returns : goal.laid_all-returns
-laid_all-returns t c =
-    all_laid c.args.way.now c.args.kids.now c.loop-i.i c.args.upper.now (those c.loop-i.made c.args.upper.now) c.loop-i-test.false c.loop-i.invariant
+pub laid_rows-returns : goal.laid_rows-returns
+laid_rows-returns t c =
+    all_laid c.args.way.now (kids_in c.args.kids.now) c.loop-i.i c.args.upper.now (those c.loop-i.made c.args.upper.now) c.loop-i-test.false c.loop-i.invariant
 
 pub lay_all-returns-in_ok-kids-in-None-clause-ok : goal.lay_all-returns-in_ok-kids-in-None-clause-ok
 lay_all-returns-in_ok-kids-in-None-clause-ok t c =
     let w = c.args.way.now in
     let old = (arc_value c.args.kids.now).items in
     let upper = (arc_value c.args.upper.now).items in
-    let laid : AreLaid w old upper (those c.in_ok-laid_all.field-0 upper) = (subst (λ ks. AreLaid w ks upper (those c.in_ok-laid_all.field-0 upper))
-    (c.as_slice.ensures.value ∙ ap (λ v. v.items) c.deref.ensures) (subst (λ us. AreLaid w c.as_slice.result.now us (those c.in_ok-laid_all.field-0 us))
+    let laid : PiecesLaid w (kids_in old) upper (those_pieces c.in_ok-laid_all.field-0 upper) =
+    (subst (λ ks. PiecesLaid w (kids_in ks) upper (those_pieces c.in_ok-laid_all.field-0 upper))
+    (c.as_slice.ensures.value ∙ ap (λ v. v.items) c.deref.ensures)
+    (subst (λ us. PiecesLaid w (kids_in c.as_slice.result.now) us (those_pieces c.in_ok-laid_all.field-0 us))
     (c.as_slice-2.ensures.value ∙ ap (λ v. v.items) c.deref-2.ensures) c.in_ok-laid_all.ensures)) in
     let same = ap (λ v. v.items) (sym c.in_ok-kids-in-None.ensures) in
-    subst (λ ks. Lays w upper old ks) same (lays_all w old upper upper c.requires.upper c.requires.covers
-    (subst (λ o. AreLaid w old upper (those o upper)) c.in-None.is laid))
+    subst (λ ks. Lays w (kids_in upper) (kids_in old) (kids_in ks)) same (lays_pieces w (kids_in old) upper upper c.requires.upper c.requires.covers
+    (subst (λ o. PiecesLaid w (kids_in old) upper (those_pieces o upper)) c.in-None.is laid))
 
 pub lay_all-returns-in_ok-kids-in-Some-clause-ok : goal.lay_all-returns-in_ok-kids-in-Some-clause-ok
 lay_all-returns-in_ok-kids-in-Some-clause-ok t c =
     let w = c.args.way.now in
     let old = (arc_value c.args.kids.now).items in
     let upper = (arc_value c.args.upper.now).items in
-    let laid : AreLaid w old upper (those c.in_ok-laid_all.field-0 upper) = (subst (λ ks. AreLaid w ks upper (those c.in_ok-laid_all.field-0 upper))
-    (c.as_slice.ensures.value ∙ ap (λ v. v.items) c.deref.ensures) (subst (λ us. AreLaid w c.as_slice.result.now us (those c.in_ok-laid_all.field-0 us))
+    let laid : PiecesLaid w (kids_in old) upper (those_pieces c.in_ok-laid_all.field-0 upper) =
+    (subst (λ ks. PiecesLaid w (kids_in ks) upper (those_pieces c.in_ok-laid_all.field-0 upper))
+    (c.as_slice.ensures.value ∙ ap (λ v. v.items) c.deref.ensures)
+    (subst (λ us. PiecesLaid w (kids_in c.as_slice.result.now) us (those_pieces c.in_ok-laid_all.field-0 us))
     (c.as_slice-2.ensures.value ∙ ap (λ v. v.items) c.deref-2.ensures) c.in_ok-laid_all.ensures)) in
     let same = ap (λ v. v.items) (sym c.in_ok-kids-in-Some.ensures.ok) in
-    subst (λ ks. Lays w upper old ks) same (lays_all w old upper c.in-Some.list.items c.requires.upper c.requires.covers
-    (subst (λ o. AreLaid w old upper (those o upper)) c.in-Some.is laid))
+    subst (λ ks. Lays w (kids_in upper) (kids_in old) (kids_in ks)) same
+    (lays_pieces w (kids_in old) upper c.in-Some.list.items c.requires.upper c.requires.covers
+    (subst (λ o. PiecesLaid w (kids_in old) upper (those_pieces o upper)) c.in-Some.is laid))
+
+pub lay_all-returns-in_ok-kids-in-Some-clause-pieced : goal.lay_all-returns-in_ok-kids-in-Some-clause-pieced
+lay_all-returns-in_ok-kids-in-Some-clause-pieced t c =
+    let w = c.args.way.now in
+    let old = (arc_value c.args.kids.now).items in
+    let upper = (arc_value c.args.upper.now).items in
+    let laid : PiecesLaid w (kids_in old) upper (those_pieces c.in_ok-laid_all.field-0 upper) =
+    (subst (λ ks. PiecesLaid w (kids_in ks) upper (those_pieces c.in_ok-laid_all.field-0 upper))
+    (c.as_slice.ensures.value ∙ ap (λ v. v.items) c.deref.ensures)
+    (subst (λ us. PiecesLaid w (kids_in c.as_slice.result.now) us (those_pieces c.in_ok-laid_all.field-0 us))
+    (c.as_slice-2.ensures.value ∙ ap (λ v. v.items) c.deref-2.ensures) c.in_ok-laid_all.ensures)) in
+    let same = ap (λ v. v.items) (sym c.in_ok-kids-in-Some.ensures.ok) in
+    subst ArePieced same (laid_pieced w (kids_in old) upper c.in-Some.list.items c.requires.upper c.requires.covers
+    (subst (λ o. PiecesLaid w (kids_in old) upper (those_pieces o upper)) c.in-Some.is laid))
+
+pub laid_all-loop-piece-preserved : goal.laid_all-loop-piece-preserved
+laid_all-loop-piece-preserved t c =
+    let w = c.args.way.now in
+    let old = kids_in c.args.kids.now in
+    let us = c.args.upper.now in
+    let i = c.loop-piece.piece-index in
+    let piece = c.piece-item.result in
+    let step = c.in_ok-whole.ensures in
+    let either : c.if-changed.changed ≡ (c.loop-piece.changed || not c.in_ok-whole.whole) = elim c.if-changed.branch [
+      | laid_all-then-changed w ↦ w.changed-is ∙ w.if-changed.true ∙ ap (λ b. b || not c.in_ok-whole.whole) (sym w.if-changed.true)
+      | laid_all-else-changed w ↦ w.changed-is ∙ ap (λ b. b || not c.in_ok-whole.whole) (sym w.if-changed.false)
+    ] in
+    record {
+      laid = piece_laid w old us c.loop-piece.list.items c.lay_piece.new.list.items i piece step.made c.loop-piece-test.true c.piece-item.is step.pushed
+          c.loop-piece.invariant.laid step.laid;
+      whole = λ unchanged.
+          let both = both_whole c.if-changed.changed c.loop-piece.changed c.in_ok-whole.whole either unchanged in
+          piece_stays w old us i piece c.loop-piece-test.true c.piece-item.is (c.loop-piece.invariant.whole both.0) (step.whole_laid both.1);
+    }
+
+pub lay_piece-returns-in_ok-push-in-None : goal.lay_piece-returns-in_ok-push-in-None
+lay_piece-returns-in_ok-push-in-None t c =
+    let w = c.args.way.now in
+    let old = kids_in c.args.kids.now in
+    let upper = c.args.upper.now in
+    let rows : c.as_slice.result.now ≡ rows_in upper = c.as_slice.ensures.value ∙ ap (λ v. v.items) c.deref.ensures in
+    let whole : AreLaid w old (rows_in upper) (rows_in upper) = subst (λ us. AreLaid w old us us) rows
+    (subst (λ o. AreLaid w old c.as_slice.result.now (those o c.as_slice.result.now)) c.in-None.is c.in_ok-laid_rows.ensures) in
+    record {
+      made = c.in_ok-copy-in-None.field-0;
+      pushed = c.in_ok-push-in-None.ensures.items;
+      laid = subst (AreLaid w old (rows_in upper)) (sym c.in_ok-copy-in-None.ensures) whole;
+      whole_laid = λ _. whole;
+    }
+
+pub lay_piece-returns-in_ok-push-in-Some : goal.lay_piece-returns-in_ok-push-in-Some
+lay_piece-returns-in_ok-push-in-Some t c =
+    let w = c.args.way.now in
+    let old = kids_in c.args.kids.now in
+    let upper = c.args.upper.now in
+    let rows : c.as_slice.result.now ≡ rows_in upper = c.as_slice.ensures.value ∙ ap (λ v. v.items) c.deref.ensures in
+    let laid : AreLaid w old (rows_in upper) c.in-Some.rows.items = subst (λ us. AreLaid w old us c.in-Some.rows.items) rows
+    (subst (λ o. AreLaid w old c.as_slice.result.now (those o c.as_slice.result.now)) c.in-Some.is c.in_ok-laid_rows.ensures) in
+    record {
+      made = c.in_ok-of-in-Some.field-0;
+      pushed = c.in_ok-push-in-Some.ensures.items;
+      laid = subst (AreLaid w old (rows_in upper)) (sym c.in_ok-of-in-Some.ensures) laid;
+      whole_laid = λ is. absurd (true≢false (sym is));
+    }
 
 -- ---- children over children
 
+pub laid_children-loop-kid-init : goal.laid_children-loop-kid-init
+laid_children-loop-kid-init t c = (
+  0,
+  at_start (left_in c.args.upper),
+  subst (AreLaid c.args.way.now (kids_in c.args.kids.now) []) (sym c.new-ready.ensures.items) tt,
+)
+
+pub laid_children-loop-kid-smaller : goal.laid_children-loop-kid-smaller
+laid_children-loop-kid-smaller t c = fewer _ _ _ c.in-Some.ensures
+
+pub laid_children-laid_child-requires : goal.laid_children-laid_child-requires
+laid_children-laid_child-requires t c =
+    let all = left_in c.args.upper in
+    let so_far = c.loop-kid.invariant in
+    let kid = c.in-Some.kid.now in
+    let next = at_next all (left_in c.loop-kid.left) (left_in c.in-Some.rest) kid so_far.0 so_far.1 c.in-Some.ensures in
+    let low = next_below all (left_in c.in-Some.rest) so_far.0 kid next in
+    (omega (arith, low, c.decreases), c.requires)
+
 pub laid_children-loop-kid-preserved : goal.laid_children-loop-kid-preserved
 laid_children-loop-kid-preserved t c =
-    laid_pushed c.args.way.now c.args.kids.now c.args.upper.now c.loop-kid.ready.items c.push.new.self.items c.loop-kid.kid-index c.kid-item.result _
-    c.loop-kid-test.true c.kid-item.is c.in_ok-push.ensures.items c.loop-kid.invariant c.in_ok-laid_child.ensures
+    let all = left_in c.args.upper in
+    let so_far = c.loop-kid.invariant in
+    let kid = c.in-Some.kid.now in
+    let next = at_next all (left_in c.loop-kid.left) (left_in c.in-Some.rest) kid so_far.0 so_far.1 c.in-Some.ensures in (
+      so_far.0 + 1,
+      next.at,
+      laid_pushed c.args.way.now (kids_in c.args.kids.now) all c.loop-kid.ready.items c.push.new.self.items so_far.0 kid _
+          next.within next.here c.in_ok-push.ensures.items so_far.2 c.in_ok-laid_child.ensures,
+    )
 
-pub lay_each-returns-then-is_empty-clause-ok : goal.lay_each-returns-then-is_empty-clause-ok
-lay_each-returns-then-is_empty-clause-ok t c =
-    lays_nothing c.args.way.now c.args.upper.now (arc_value c.args.kids.now).items (sym c.is_empty.ensures ∙ c.if-is_empty.true) c.requires.lower
+pub laid_children-returns : goal.laid_children-returns
+laid_children-returns t c =
+    let all = left_in c.args.upper in
+    let so_far = c.loop-kid.invariant in
+    subst (λ us. AreLaid c.args.way.now (kids_in c.args.kids.now) us c.loop-kid.ready.items)
+    (take_all so_far.0 all (at_end all (left_in c.loop-kid.left) so_far.0 so_far.1 c.in_default.ensures)) so_far.2
 
-pub lay_each-put_all-requires-clause-ready : goal.lay_each-put_all-requires-clause-ready
-lay_each-put_all-requires-clause-ready t c =
-    let way = c.args.way.now in
-    let upper = c.args.upper.now in
-    let ready = c.in_ok-ready.ready.items in
-    let laid = subst (λ ks. AreLaid way ks upper ready) (c.as_slice.ensures.value ∙ ap (λ v. v.items) c.deref.ensures) c.in_ok-ready.ensures in
-    subst T (sym (sorted_made way (arc_value c.args.kids.now).items upper ready laid)) c.requires.upper
+pub lay_each-laid_children-requires : goal.lay_each-laid_children-requires
+lay_each-laid_children-requires t c =
+    let low : most deep-Child (left_in c.of.result) ≤ most deep-Piece c.args.upper.now =
+    subst (λ ks. most deep-Child ks ≤ most deep-Piece c.args.upper.now) (sym c.of.ensures) (le_pieces _ c.args.upper.now (omega arith)) in (
+      omega (arith, low, c.decreases),
+      subst ArePieced (sym (c.as_slice.ensures.value ∙ ap (λ v. v.items) c.deref.ensures)) c.requires.lower,
+    )
 
-pub lay_each-returns-in-Some-clause-ok : goal.lay_each-returns-in-Some-clause-ok
-lay_each-returns-in-Some-clause-ok t c =
+pub lay_each-returns-clause-ok : goal.lay_each-returns-clause-ok
+lay_each-returns-clause-ok t c =
     let way = c.args.way.now in
     let upper = c.args.upper.now in
     let old = (arc_value c.args.kids.now).items in
     let ready = c.in_ok-ready.ready.items in
-    let laid = subst (λ ks. AreLaid way ks upper ready) (c.as_slice.ensures.value ∙ ap (λ v. v.items) c.deref.ensures) c.in_ok-ready.ensures in
-    let owned = ap (λ v. map pair_of v.items) c.in-Some.ensures.value ∙ c.in_ok-own.ensures in
-    on_ok c.put_all.result (λ is. lays_puts way old upper ready c.put_all.new.list.items c.requires.lower c.requires.upper laid
-    (is ∙ ap (puts (map pair_of ready)) owned)) c.put_all.ensures.ok
+    let laid : AreLaid way (kids_in old) (kids_in upper) ready = subst (λ us. AreLaid way (kids_in old) us ready) c.of.ensures
+    (subst (λ ks. AreLaid way (kids_in ks) (left_in c.of.result) ready) (c.as_slice.ensures.value ∙ ap (λ v. v.items) c.deref.ensures) c.in_ok-ready.ensures) in
+    on_ok c.put_all.result (lays_put way old upper (arc_value c.put_all.new.kids).items ready c.requires.lower c.requires.upper laid) c.put_all.ensures.ok
 
 -- ---- a node over a node
 
@@ -166,7 +268,7 @@ pub lay_node-returns-in_err-whole-in-Dir-Dir-clause-err : goal.lay_node-returns-
 lay_node-returns-in_err-whole-in-Dir-Dir-clause-err t c =
     let at = c.in-Dir-Dir in
     err_holds c.from_residual.result
-    (same_dir (kind.Dir at.meta at.kids) (kind.Dir at.meta c.lay_children.new.kids) refl c.in_err-whole-in-Dir-Dir.ensures.err
+    (same_pieces (kind.Dir at.meta at.kids) (kind.Dir at.meta c.lay_children.new.kids) refl c.in_err-whole-in-Dir-Dir.ensures.err
     ∙ ap map_of (sym at.is-0) ∙ c.lower.view_is)
 
 pub lay_node-returns-in_ok-whole-in-Dir-Dir-clause-ok : goal.lay_node-returns-in_ok-whole-in-Dir-Dir-clause-ok
@@ -176,7 +278,9 @@ lay_node-returns-in_ok-whole-in-Dir-Dir-clause-ok t c q =
     let lower_is = ap map_of (sym at.is-0) ∙ c.lower.view_is in
     let upper_is = ap map_of (sym at.is-1) ∙ c.upper.view_is in
     node_laid w (kind.Dir at.meta at.kids) (kind.Dir at.laid at.list) (kind.Dir c.met.result c.lay_children.new.kids) at.meta at.laid
-    (subst (λ k. AreSorted (kids_of k)) at.is-0 c.lower.invariant) (subst (λ k. AreSorted (kids_of k)) at.is-1 c.upper.invariant) refl refl c.met.ensures
+    (subst (λ k. AreSorted (kids_of k)) at.is-0 (sorted_kids _ c.lower.invariant))
+    (subst (λ k. AreSorted (kids_of k)) at.is-1 (sorted_kids _ c.upper.invariant))
+    refl refl c.met.ensures
     c.in_ok-whole-in-Dir-Dir.ensures.ok q
     ∙ (λ i. over_at w (finite.get (lower_is i)) (finite.get (upper_is i)) q)
 

@@ -3,9 +3,11 @@ use Rattle.std.specs.FinMap as finite
 use Rattle.std.specs.Prelude.{is_some}
 use Rattle.llb_tree.specs.Falls.{le_height}
 use Rattle.llb_tree.specs.Tree.{height}
-use Rattle.llb_tree.specs.Nodes.{name_of, kids_of, below}
+use Rattle.llb_tree.specs.Nodes.{name_of, kids_of, kids_in, left_in, below}
+use Rattle.llb_tree.proofs.Cursor.{at_start, at_next, at_end, fewer}
 use Rattle.llb_tree.proofs.Entries.{nothing}
 use Rattle.llb_tree.proofs.Fitting.{kid_within}
+use Rattle.llb_tree.proofs.Pieced.{sorted_kids}
 use Rattle.llb_tree.proofs.Setting.{same_Ok}
 use Rattle.llb_tree.proofs.Thinning.{split_first, keys_of}
 use Rattle.llb_tree.proofs.Found.{under, hits, below_is, none_in, all_in, found_next, found_here, found_all, found_none}
@@ -16,52 +18,76 @@ find-returns-in_default-clause-found g t c =
     let passes = g.T.NameTest.passes in
     let none : c.args.tests.now ≡ [] = nothing c.args.tests.now (omega (arith, c.in_default.len_below)) in
     subst (λ ts. c.push.new.self.items ≡ c.args.found.now.items ++ under c.args.path.now (hits passes ts (finite.keys c.args.node.now))) (sym none)
-    (found_here passes c.node.inside.kind c.args.node.now c.node.view_is c.node.invariant c.args.path.now c.args.found.now.items c.push.new.self.items
-    (c.in_ok-push.ensures.items ∙ ap (λ q. c.args.found.now.items ++ q ∷ []) (sym (same_Ok _ _ c.in_ok-copy.ensures))))
+    (found_here passes c.node.inside.kind c.args.node.now c.node.view_is (sorted_kids _ c.node.invariant) c.args.path.now c.args.found.now.items
+    c.push.new.self.items (c.in_ok-push.ensures.items ∙ ap (λ q. c.args.found.now.items ++ q ∷ []) (sym (same_Ok _ _ c.in_ok-copy.ensures))))
 
 pub find-returns-in_default-kind-clause-found : goal.find-returns-in_default-kind-clause-found
 find-returns-in_default-kind-clause-found g t c =
     let passes = g.T.NameTest.passes in
     let split = split_first c.args.tests.now c.test-item.result c.in-len1-up.len_at_least c.test-item.is in
     subst (λ ts. c.args.found.now.items ≡ c.args.found.now.items ++ under c.args.path.now (hits passes ts (finite.keys c.args.node.now))) (sym split)
-    (found_none passes c.node.inside.kind c.args.node.now c.node.view_is c.node.invariant c.test-item.result _ c.args.path.now c.args.found.now.items
-    (ap kids_of c.in_default-kind.is))
+    (found_none passes c.node.inside.kind c.args.node.now c.node.view_is (sorted_kids _ c.node.invariant) c.test-item.result _ c.args.path.now
+    c.args.found.now.items (ap kids_of c.in_default-kind.is))
 
 pub find-loop-kid-init : goal.find-loop-kid-init
-find-loop-kid-init g t c = record { same = refl; found = sym (append-nil c.args.found.now.items) }
+find-loop-kid-init g t c =
+    let all = left_in c.of-left.result in (
+      0,
+      at_start all,
+      refl,
+      sym (append-nil c.args.found.now.items),
+    )
+
+pub find-loop-kid-smaller : goal.find-loop-kid-smaller
+find-loop-kid-smaller g t c = fewer _ _ _ c.in-Some.ensures
 
 pub find-find_in-requires : goal.find-find_in-requires
 find-find_in-requires g t c =
-    let kids : kids_of c.node.inside.kind ≡ c.as_slice-kid-items.result.now =
-    ap kids_of c.in-Dir.is ∙ sym (c.as_slice-kid-items.ensures.value ∙ ap (λ v. v.items) c.deref.ensures) in
+    let all = left_in c.of-left.result in
+    let so_far = c.loop-kid.invariant in
+    let kid = c.in-Some.kid.now in
+    let next = at_next all (left_in c.loop-kid.left) (left_in c.in-Some.others) kid so_far.0 so_far.1 c.in-Some.ensures in
     let some : 1 ≤ height c.args.node.now = le_height c.args.node.now [] (ap is_some (sym c.entry-entry.ensures)) in
-    let low : height c.kid-item.result.node ≤ (129 - length c.args.path.now) - 1 =
-    kid_within c.node.inside.kind c.args.node.now c.node.view_is (129 - length c.args.path.now) c.as_slice-kid-items.result.now c.loop-kid.kid-index
-    c.kid-item.result kids c.kid-item.is c.loop-kid-test.true (omega (arith, c.requires)) in
-    let room : length c.loop-kid.path + height c.kid-item.result.node ≤ 128 = omega (arith, low, some, c.requires, ap length c.loop-kid.invariant.same) in
+    let kids : kids_of c.node.inside.kind ≡ all =
+    ap kids_of c.in-Dir.is ∙ sym (c.of-left.ensures ∙ ap kids_in (c.as_slice.ensures.value ∙ ap (λ v. v.items) c.deref.ensures)) in
+    let low : height kid.node ≤ (129 - length c.args.path.now) - 1 =
+    kid_within c.node.inside.kind c.args.node.now c.node.view_is (129 - length c.args.path.now) all so_far.0
+    kid kids next.here next.within (omega (arith, c.requires)) in
+    let room : length c.loop-kid.path + height kid.node ≤ 128 = omega (arith, low, some, c.requires, ap length so_far.2) in
     search rules
 
 pub find-loop-kid-preserved : goal.find-loop-kid-preserved
 find-loop-kid-preserved g t c =
     let passes = g.T.NameTest.passes in
     let tests = c.test-item.result ∷ take (length c.args.tests.now - 1) (drop 1 c.args.tests.now) in
-    record {
-      same = c.in_ok-find_in.ensures.path ∙ c.loop-kid.invariant.same;
-      found = found_next passes tests c.as_slice-kid-items.result.now c.loop-kid.kid-index c.kid-item.result c.args.path.now c.args.found.now.items
-          c.loop-kid.found.items c.find_in.new.found.items c.loop-kid-test.true c.kid-item.is c.loop-kid.invariant.found
+    let all = left_in c.of-left.result in
+    let so_far = c.loop-kid.invariant in
+    let kid = c.in-Some.kid.now in
+    let next = at_next all (left_in c.loop-kid.left) (left_in c.in-Some.others) kid so_far.0 so_far.1 c.in-Some.ensures in (
+      so_far.0 + 1,
+      next.at,
+      c.in_ok-find_in.ensures.path ∙ so_far.2,
+      found_next passes tests all so_far.0 kid c.args.path.now c.args.found.now.items
+          c.loop-kid.found.items c.find_in.new.found.items next.within next.here so_far.3
           (c.in_ok-find_in.ensures.found
-          ∙ ap (λ p. c.loop-kid.found.items ++ under p (hits passes tests (keys_of (below c.kid-item.result)))) c.loop-kid.invariant.same);
-    }
+          ∙ ap (λ p. c.loop-kid.found.items ++ under p (hits passes tests (keys_of (below kid)))) so_far.2),
+    )
+
+pub find-returns-clause-path : goal.find-returns-clause-path
+find-returns-clause-path g t c = c.loop-kid.invariant.2
 
 pub find-returns-clause-found : goal.find-returns-clause-found
 find-returns-clause-found g t c =
     let passes = g.T.NameTest.passes in
-    let kids : kids_of c.node.inside.kind ≡ c.as_slice-kid-items.result.now =
-    ap kids_of c.in-Dir.is ∙ sym (c.as_slice-kid-items.ensures.value ∙ ap (λ v. v.items) c.deref.ensures) in
+    let all = left_in c.of-left.result in
+    let so_far = c.loop-kid.invariant in
+    let kids : kids_of c.node.inside.kind ≡ all =
+    ap kids_of c.in-Dir.is ∙ sym (c.of-left.ensures ∙ ap kids_in (c.as_slice.ensures.value ∙ ap (λ v. v.items) c.deref.ensures)) in
+    let past = at_end all (left_in c.loop-kid.left) so_far.0 so_far.1 c.in_default-split_first.ensures in
     let split = split_first c.args.tests.now c.test-item.result c.in-len1-up.len_at_least c.test-item.is in
     subst (λ ts. c.loop-kid.found.items ≡ c.args.found.now.items ++ under c.args.path.now (hits passes ts (finite.keys c.args.node.now))) (sym split)
-    (found_all passes c.node.inside.kind c.args.node.now c.node.view_is c.node.invariant c.test-item.result _ c.as_slice-kid-items.result.now
-    c.loop-kid.kid-index c.args.path.now c.args.found.now.items c.loop-kid.found.items kids c.loop-kid-test.false c.loop-kid.invariant.found)
+    (found_all passes c.node.inside.kind c.args.node.now c.node.view_is (sorted_kids _ c.node.invariant) c.test-item.result _ all
+    so_far.0 c.args.path.now c.args.found.now.items c.loop-kid.found.items kids past so_far.3)
 
 pub find_in-returns-then-not-passes-clause-found : goal.find_in-returns-then-not-passes-clause-found
 find_in-returns-then-not-passes-clause-found g t c =

@@ -1,13 +1,16 @@
 use Rattle.std.proofs.Common.{◌≡◌, ◌+◌, Option, Vec, Global, ◌||◌, [], ◌∷◌, arith, true, false, subst, sym, ap, ◌∙◌, refl, Some, None, option_map}
-use Rattle.llb_tree.specs.Nodes.{name_of, kids_of, own_entry, seen}
+use Rattle.std.specs.Arc.{arc_value}
+use Rattle.llb_tree.specs.Nodes.{name_of, kids_of, kids_in, left_in, own_entry, seen, AreSorted}
 use Rattle.llb_tree.specs.Tested.{Keeps, KeepsAll}
 use Rattle.llb_tree.specs.declared.node.Kind.TheVariants as kind
 use Rattle.llb_tree.specs.declared.node.Child.{Child}
+use Rattle.llb_tree.proofs.Cursor.{at_start, at_next, at_end, fewer}
 use Rattle.llb_tree.proofs.Entries.{nothing}
+use Rattle.llb_tree.proofs.Pieced.{sorted_kids}
+use Rattle.llb_tree.proofs.PieceEdits.{some_pieced}
 use Rattle.llb_tree.proofs.Thinning.{keeps_other, keeps_thinned, keeps_gone, thins_none, thins_some, split_first}
 use Rattle.llb_tree.proofs.Thinning.{KeptSoFar, kept_start, kept_next, kept_changed, kept_same}
 use Rattle.llb_tree.proofs.tested.+thin.Goals as goal
-use Rattle.llb_tree.proofs.tested.+thin.Goals.{thinned_children-then-changed, thinned_children-else-changed}
 
 pub keep-returns-then-not-passes : goal.keep-returns-then-not-passes
 keep-returns-then-not-passes g t c =
@@ -46,58 +49,98 @@ keep-returns-in_ok-push-in-Some g t c =
 
 pub thinned-returns-in_default : goal.thinned-returns-in_default
 thinned-returns-in_default g t c =
-    thins_none g.T.NameTest.passes c.args.test.now c.args.rest.now c.node.inside.kind c.args.node.now c.node.view_is c.node.invariant []
+    thins_none g.T.NameTest.passes c.args.test.now c.args.rest.now c.node.inside.kind c.args.node.now c.node.view_is (sorted_kids _ c.node.invariant) []
     (ap kids_of c.in_default.is) refl
 
 pub thinned-returns-in-None : goal.thinned-returns-in-None
 thinned-returns-in-None g t c =
     let passes = g.T.NameTest.passes in
-    let kids : kids_of c.node.inside.kind ≡ c.as_slice.result.now =
-    ap kids_of c.in-Dir.is ∙ sym (c.as_slice.ensures.value ∙ ap (λ v. v.items) c.deref.ensures) in
-    let keeps : KeepsAll passes (c.args.test.now ∷ c.args.rest.now) c.as_slice.result.now None =
-    subst (λ (o : Option (Vec Child Global)). KeepsAll passes (c.args.test.now ∷ c.args.rest.now) c.as_slice.result.now (option_map (λ v. v.items) o))
+    let kids : kids_of c.node.inside.kind ≡ left_in c.of.result =
+    ap kids_of c.in-Dir.is ∙ sym (c.of.ensures ∙ ap kids_in (c.as_slice.ensures.value ∙ ap (λ v. v.items) c.deref.ensures)) in
+    let keeps : KeepsAll passes (c.args.test.now ∷ c.args.rest.now) (left_in c.of.result) None =
+    subst (λ (o : Option (Vec Child Global)). KeepsAll passes (c.args.test.now ∷ c.args.rest.now) (left_in c.of.result) (option_map (λ v. v.items) o))
     c.in-None.is c.in_ok-thinned_children.ensures in
-    thins_none passes c.args.test.now c.args.rest.now c.node.inside.kind c.args.node.now c.node.view_is c.node.invariant c.as_slice.result.now kids
-    (sym keeps.any)
+    thins_none passes c.args.test.now c.args.rest.now c.node.inside.kind c.args.node.now c.node.view_is (sorted_kids _ c.node.invariant)
+    (left_in c.of.result) kids (sym keeps.any)
 
 pub thinned-returns-in_ok-kids-in-Some : goal.thinned-returns-in_ok-kids-in-Some
 thinned-returns-in_ok-kids-in-Some g t c =
     let passes = g.T.NameTest.passes in
-    let kids : kids_of c.node.inside.kind ≡ c.as_slice.result.now =
-    ap kids_of c.in-Dir.is ∙ sym (c.as_slice.ensures.value ∙ ap (λ v. v.items) c.deref.ensures) in
-    let keeps : KeepsAll passes (c.args.test.now ∷ c.args.rest.now) c.as_slice.result.now (Some c.in-Some.kept.items) =
-    subst (λ (o : Option (Vec Child Global)). KeepsAll passes (c.args.test.now ∷ c.args.rest.now) c.as_slice.result.now (option_map (λ v. v.items) o))
+    let kids : kids_of c.node.inside.kind ≡ left_in c.of.result =
+    ap kids_of c.in-Dir.is ∙ sym (c.of.ensures ∙ ap kids_in (c.as_slice.ensures.value ∙ ap (λ v. v.items) c.deref.ensures)) in
+    let keeps : KeepsAll passes (c.args.test.now ∷ c.args.rest.now) (left_in c.of.result) (Some c.in-Some.kept.items) =
+    subst (λ (o : Option (Vec Child Global)). KeepsAll passes (c.args.test.now ∷ c.args.rest.now) (left_in c.of.result) (option_map (λ v. v.items) o))
     c.in-Some.is c.in_ok-thinned_children.ensures in
-    thins_some passes c.args.test.now c.args.rest.now c.node.inside.kind c.args.node.now c.node.view_is c.node.invariant c.as_slice.result.now
-    (kind.Dir c.in-Dir.meta c.in_ok-kids-in-Some.kids) c.in-Some.kept.items kids (ap own_entry (sym c.in-Dir.is))
-    (ap (λ v. v.items) c.in_ok-kids-in-Some.ensures.ok) keeps
+    thins_some passes c.args.test.now c.args.rest.now c.node.inside.kind c.args.node.now c.node.view_is (sorted_kids _ c.node.invariant)
+    (left_in c.of.result) (kind.Dir c.in-Dir.meta c.in_ok-kids-in-Some.kids) c.in-Some.kept.items kids (ap own_entry (sym c.in-Dir.is))
+    c.in_ok-kids-in-Some.ensures.same keeps
 
 pub thinned_children-loop-kid-init : goal.thinned_children-loop-kid-init
-thinned_children-loop-kid-init g t c =
-    kept_start g.T.NameTest.passes (c.args.test.now ∷ c.args.rest.now) c.args.kids.now c.new-kept.result.items c.new-kept.ensures.items
+thinned_children-loop-kid-init g t c = (
+  0,
+  at_start (left_in c.args.kids),
+  kept_start g.T.NameTest.passes (c.args.test.now ∷ c.args.rest.now) (left_in c.args.kids) c.new-kept.result.items c.new-kept.ensures.items,
+)
+
+pub thinned_children-loop-kid-smaller : goal.thinned_children-loop-kid-smaller
+thinned_children-loop-kid-smaller g t c = fewer _ _ _ c.in-Some.ensures
+
+pub thinned-invariant_of-result : goal.thinned-invariant_of-result
+thinned-invariant_of-result g t c =
+    let passes = g.T.NameTest.passes in
+    let kids : kids_of c.node.inside.kind ≡ left_in c.of.result =
+    ap kids_of c.in-Dir.is ∙ sym (c.of.ensures ∙ ap kids_in (c.as_slice.ensures.value ∙ ap (λ v. v.items) c.deref.ensures)) in
+    let keeps : KeepsAll passes (c.args.test.now ∷ c.args.rest.now) (left_in c.of.result) (Some c.in-Some.kept.items) =
+    subst (λ (o : Option (Vec Child Global)). KeepsAll passes (c.args.test.now ∷ c.args.rest.now) (left_in c.of.result) (option_map (λ v. v.items) o))
+    c.in-Some.is c.in_ok-thinned_children.ensures in
+    some_pieced (arc_value c.in_ok-kids-in-Some.kids).items
+    (subst AreSorted (sym c.in_ok-kids-in-Some.ensures.same) (keeps.order (subst AreSorted kids (sorted_kids _ c.node.invariant))))
+    c.in_ok-kids-in-Some.ensures.full
+
+pub thinned_children-loop-kid-preserved-then-changed : goal.thinned_children-loop-kid-preserved-then-changed
+thinned_children-loop-kid-preserved-then-changed g t c =
+    let passes = g.T.NameTest.passes in
+    let all = left_in c.args.kids in
+    let so_far = c.loop-kid.invariant in
+    let kid = c.in-Some.kid.now in
+    let next = at_next all (left_in c.loop-kid.left) (left_in c.in-Some.others) kid so_far.0 so_far.1 c.in-Some.ensures in (
+      so_far.0 + 1,
+      next.at,
+      subst (λ changed. KeptSoFar passes (c.args.test.now ∷ c.args.rest.now) all (so_far.0 + 1) changed c.keep.new.kept.items)
+          (ap (λ b. b || c.in_ok-goes.goes) c.if-changed.true ∙ sym c.if-changed.true)
+          (kept_next passes (c.args.test.now ∷ c.args.rest.now) all so_far.0 kid c.loop-kid.changed c.in_ok-goes.goes
+          c.loop-kid.kept.items c.keep.new.kept.items next.within next.here so_far.2 c.in_ok-goes.ensures),
+    )
 
 pub thinned_children-loop-kid-preserved : goal.thinned_children-loop-kid-preserved
 thinned_children-loop-kid-preserved g t c =
     let passes = g.T.NameTest.passes in
-    let either : c.if-changed.changed ≡ (c.loop-kid.changed || c.in_ok-goes.goes) = elim c.if-changed.branch [
-      | thinned_children-then-changed w ↦ w.changed-is ∙ w.if-changed.true ∙ ap (λ b. b || c.in_ok-goes.goes) (sym w.if-changed.true)
-      | thinned_children-else-changed w ↦ w.changed-is ∙ ap (λ b. b || c.in_ok-goes.goes) (sym w.if-changed.false)
-    ] in
-    subst (λ changed. KeptSoFar passes (c.args.test.now ∷ c.args.rest.now) c.args.kids.now (c.loop-kid.kid-index + 1) changed c.keep.new.kept.items)
-    (sym either)
-    (kept_next passes (c.args.test.now ∷ c.args.rest.now) c.args.kids.now c.loop-kid.kid-index c.kid-item.result c.loop-kid.changed c.in_ok-goes.goes
-    c.loop-kid.kept.items c.keep.new.kept.items c.loop-kid-test.true c.kid-item.is c.loop-kid.invariant c.in_ok-goes.ensures)
+    let all = left_in c.args.kids in
+    let so_far = c.loop-kid.invariant in
+    let kid = c.in-Some.kid.now in
+    let next = at_next all (left_in c.loop-kid.left) (left_in c.in-Some.others) kid so_far.0 so_far.1 c.in-Some.ensures in (
+      so_far.0 + 1,
+      next.at,
+      subst (λ changed. KeptSoFar passes (c.args.test.now ∷ c.args.rest.now) all (so_far.0 + 1) changed c.keep.new.kept.items)
+          (ap (λ b. b || c.in_ok-goes.goes) c.if-changed.false)
+          (kept_next passes (c.args.test.now ∷ c.args.rest.now) all so_far.0 kid c.loop-kid.changed c.in_ok-goes.goes
+          c.loop-kid.kept.items c.keep.new.kept.items next.within next.here so_far.2 c.in_ok-goes.ensures),
+    )
 
 pub thinned_children-returns-then-not-changed : goal.thinned_children-returns-then-not-changed
 thinned_children-returns-then-not-changed g t c =
     let passes = g.T.NameTest.passes in
-    kept_same passes (c.args.test.now ∷ c.args.rest.now) c.args.kids.now c.loop-kid.kept.items c.loop-kid.kid-index c.loop-kid-test.false
-    (subst (λ changed. KeptSoFar passes (c.args.test.now ∷ c.args.rest.now) c.args.kids.now c.loop-kid.kid-index changed c.loop-kid.kept.items)
-    c.if-not-changed.true c.loop-kid.invariant)
+    let all = left_in c.args.kids in
+    let so_far = c.loop-kid.invariant in
+    kept_same passes (c.args.test.now ∷ c.args.rest.now) all c.loop-kid.kept.items so_far.0
+    (at_end all (left_in c.loop-kid.left) so_far.0 so_far.1 c.in_default.ensures)
+    (subst (λ changed. KeptSoFar passes (c.args.test.now ∷ c.args.rest.now) all so_far.0 changed c.loop-kid.kept.items) c.if-not-changed.true so_far.2)
 
 pub thinned_children-returns : goal.thinned_children-returns
 thinned_children-returns g t c =
     let passes = g.T.NameTest.passes in
-    kept_changed passes (c.args.test.now ∷ c.args.rest.now) c.args.kids.now c.loop-kid.kept.items c.loop-kid.kid-index c.loop-kid-test.false
-    (subst (λ changed. KeptSoFar passes (c.args.test.now ∷ c.args.rest.now) c.args.kids.now c.loop-kid.kid-index changed c.loop-kid.kept.items)
-    c.if-not-changed.false c.loop-kid.invariant)
+    let all = left_in c.args.kids in
+    let so_far = c.loop-kid.invariant in
+    kept_changed passes (c.args.test.now ∷ c.args.rest.now) all c.loop-kid.kept.items so_far.0
+    (at_end all (left_in c.loop-kid.left) so_far.0 so_far.1 c.in_default.ensures)
+    (subst (λ changed. KeptSoFar passes (c.args.test.now ∷ c.args.rest.now) all so_far.0 changed c.loop-kid.kept.items) c.if-not-changed.false so_far.2)

@@ -1,5 +1,7 @@
 -- The rest of the tests is one shorter with each level.
-use Rattle.std.proofs.Common.{◌+◌, ◌*◌, length, ◌∷◌}
+use Rattle.std.proofs.Common.{ℕ, ◌+◌, ◌*◌, length, ◌∷◌}
+use Rattle.llb_tree.specs.Nodes.{left_in}
+use Rattle.llb_tree.proofs.Cursor.{IsAt}
 use Rattle.llb_tree.proofs.Thinning.{KeptSoFar}
 use Rattle.llb_tree.proofs.tested.+thin.Given as goal
 
@@ -13,4 +15,8 @@ abbrev pub decreases-keep : goal.decreases-keep
 decreases-keep g l = 3 * length l.rest.now
 
 abbrev pub invariant-thinned_children-loop-kid : goal.invariant-thinned_children-loop-kid
-invariant-thinned_children-loop-kid g l = KeptSoFar g.T.NameTest.passes (l.test ∷ l.rest) l.kids l.kid-index l.changed l.kept.items
+invariant-thinned_children-loop-kid g l = (i : ℕ) × IsAt (left_in l.kids) (left_in l.left) i
+    × KeptSoFar g.T.NameTest.passes (l.test ∷ l.rest) (left_in l.kids) i l.changed l.kept.items
+
+abbrev pub decreases-thinned_children-loop-kid : goal.decreases-thinned_children-loop-kid
+decreases-thinned_children-loop-kid g l = length (left_in l.left)

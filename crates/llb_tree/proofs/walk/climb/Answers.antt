@@ -2,7 +2,7 @@ use Rattle.std.proofs.Common.{◌≡◌, [], ◌∷◌, ◌++◌, ◌-◌, lengt
 use Rattle.std.proofs.lemmas.List.{map-append, length-take}
 use Rattle.std.specs.FinMap as finite
 use Rattle.llb_tree.specs.Tree.{moved}
-use Rattle.llb_tree.specs.Nodes.{flat, AreSorted}
+use Rattle.llb_tree.specs.Nodes.{flat, left_in, AreSorted}
 use Rattle.llb_tree.specs.Walks.{levels_of, behind, AreShort}
 use Rattle.llb_tree.proofs.Entries.{nothing}
 use Rattle.llb_tree.proofs.Walked.{above, Above, came_to, CameTo, behind-nil}
@@ -10,13 +10,13 @@ use Rattle.llb_tree.proofs.walk.climb.Goals.{In_ok-enter}
 use Rattle.llb_tree.proofs.walk.climb.Goals as goal
 
 module _ (c : In_ok-enter) where
-  up : Above c.loop-level.path (levels_of c.loop-level.levels.items) (levels_of c.pop.new.self.items) c.in-Some.level.now c.pop-in-Some.new.self
+  up : Above c.loop-level.path (levels_of c.loop-level.levels.items) (levels_of c.pop.new.self.items) (left_in c.in-Some.level) c.pop-in-Some.new.self
   up = above c.loop-level.path _ _ _ _ (ap levels_of c.in-Some.ensures.items
-      ∙ map-append (λ l. l.now) c.pop.new.self.items (c.in-Some.level ∷ [])) c.pop-in-Some.ensures c.loop-level.invariant.on
+      ∙ map-append left_in c.pop.new.self.items (c.in-Some.level ∷ [])) c.pop-in-Some.ensures c.loop-level.invariant.on
 
-  down : CameTo c.pop-in-Some.new.self (levels_of c.pop.new.self.items) c.in-Some-split_first.kid.now c.in-Some-split_first.rest.now c.enter.new.path
+  down : CameTo c.pop-in-Some.new.self (levels_of c.pop.new.self.items) c.in-Some-split_first.kid.now (left_in c.in-Some-split_first.rest) c.enter.new.path
       (levels_of c.enter.new.levels.items) c.in_ok-enter.field-0.now
-  down = came_to _ _ _ _ _ _ _ up.on (subst AreSorted c.in-Some-split_first.ensures.cases.0 up.sorted) c.in_ok-enter.ensures.path
+  down = came_to _ _ _ _ _ _ _ up.on (subst AreSorted c.in-Some-split_first.ensures up.sorted) c.in_ok-enter.ensures.path
       c.in_ok-enter.ensures.levels c.in_ok-enter.ensures.node
 
   same : map (moved 0 c.enter.new.path) (finite.entries c.in_ok-enter.field-0.now) ++ behind c.enter.new.path (levels_of c.enter.new.levels.items)
@@ -24,7 +24,7 @@ module _ (c : In_ok-enter) where
   same =
       down.left
       ∙ ap (λ l. map (moved 0 c.pop-in-Some.new.self) (flat l) ++ behind c.pop-in-Some.new.self (levels_of c.pop.new.self.items))
-      (sym c.in-Some-split_first.ensures.cases.0)
+      (sym c.in-Some-split_first.ensures)
       ∙ sym up.same ∙ c.loop-level.invariant.same
 
 pub returns-in-Some-split_first-clause-left : goal.returns-in-Some-split_first-clause-left
@@ -36,11 +36,11 @@ returns-in-Some-split_first-clause-on c = ((down c).on, subst AreShort (sym (sam
 pub loop-level-preserved : goal.loop-level-preserved
 loop-level-preserved c =
     let up = above c.loop-level.path _ _ _ _ (ap levels_of c.in-Some.ensures.items
-    ∙ map-append (λ l. l.now) c.pop.new.self.items (c.in-Some.level ∷ [])) c.pop-in-Some.ensures c.loop-level.invariant.on in
+    ∙ map-append left_in c.pop.new.self.items (c.in-Some.level ∷ [])) c.pop-in-Some.ensures c.loop-level.invariant.on in
     record {
       on = up.on;
       same = ap (λ l. map (moved 0 c.pop-in-Some.new.self) (flat l) ++ behind c.pop-in-Some.new.self (levels_of c.pop.new.self.items))
-          (sym (nothing c.in-Some.level.now c.in_default-split_first.ensures.cases))
+          (sym c.in_default-split_first.ensures)
           ∙ sym up.same ∙ c.loop-level.invariant.same;
       short = omega (arith, ap length c.pop-in-Some.ensures, length-take (length c.loop-level.path - 1) c.loop-level.path);
     }

@@ -1,8 +1,8 @@
 use Rattle.std.proofs.Common.{ap, sym, ◌∙◌, refl}
 use Rattle.std.specs.FinMap as finite
-use Rattle.llb_tree.specs.Nodes.{kids_of}
+use Rattle.llb_tree.specs.Nodes.{kids_of, kids_in}
 use Rattle.llb_tree.specs.declared.node.Kind.TheVariants as kind
-use Rattle.llb_tree.proofs.Children.{dir_alone, dir_kept, read_file}
+use Rattle.llb_tree.proofs.ByName.{dir_alone, dir_kept, read_file}
 use Rattle.llb_tree.proofs.Setting.{if_ok}
 use Rattle.llb_tree.proofs.node.Node.with_meta.Goals as goal
 
@@ -13,4 +13,4 @@ returns-in-File c = if_ok c.empty_dir.result (λ made is q. ap (λ t. finite.get
 
 pub returns-in_ok-kids-in-Dir : goal.returns-in_ok-kids-in-Dir
 returns-in_ok-kids-in-Dir c = dir_kept (kind.Dir c.args.meta c.in_ok-kids-in-Dir.kids) c.self.inside.kind _ c.args.meta refl
-    (ap (λ v. v.items) c.in_ok-kids-in-Dir.ensures ∙ sym (ap kids_of c.in-Dir.is)) c.self.view_is
+    (ap (λ v. kids_in v.items) c.in_ok-kids-in-Dir.ensures ∙ sym (ap kids_of c.in-Dir.is)) c.self.view_is

@@ -2,7 +2,7 @@ use Rattle.std.proofs.Common.{◌≡◌, ℕ, List, [], ◌∷◌, ◌++◌, Ok,
 use Rattle.std.proofs.lemmas.List.{append-nil}
 use Rattle.std.specs.FinMap as finite
 use Rattle.llb_tree.specs.Tree.{all_dirs, dir_there}
-use Rattle.llb_tree.specs.Nodes.{flat}
+use Rattle.llb_tree.specs.Nodes.{flat, left_in}
 use Rattle.llb_tree.proofs.Listed.{tops, listed, list-Ok, list-none}
 use Rattle.llb_tree.proofs.tree.Tree.list.Goals as goal
 
@@ -18,5 +18,5 @@ returns-in_ok-names_of-in-Dir-clause-gives c =
     ∙ (λ i. finite.get (c.self.view_is i) (c.names.ensures.all i ++ q)) in
     let there : dir_there t p ≡ Ok tt = ap (λ o. all_dirs (o ∷ [])) (ap (finite.get t) (sym (append-nil p)) ∙ sym (below []) ∙ sym c.in-Dir.ensures) in
     let entries = c.children.ensures.entries _ (sym c.in-Dir.ensures) in
-    let names : tops (flat c.children.result.now) ≡ c.in_ok-names_of-in-Dir.field-0.items = cc (c.in_ok-names_of-in-Dir.ensures) in
-    list-Ok t p there ∙ ap Ok (listed t c.in-Some.node.now p _ c.children.result.now below entries ∙ names ∙ sym c.new.ensures)
+    let names : tops (flat (left_in c.children.result)) ≡ c.in_ok-names_of-in-Dir.field-0.items = cc (c.in_ok-names_of-in-Dir.ensures) in
+    list-Ok t p there ∙ ap Ok (listed t c.in-Some.node.now p _ (left_in c.children.result) below entries ∙ names ∙ sym c.new.ensures)

@@ -1,11 +1,11 @@
 -- What is found below a node, by its children.
-use Rattle.std.proofs.Common.{◌≡◌, ◌≤◌, arith, Vec, Global, ℕ, List, [], ◌∷◌, map, get_or, Option, Some, None, Ok, Err, cond, T, refl, sym, ap, subst, ◌∙◌}
+use Rattle.std.proofs.Common.{◌≡◌, ◌≤◌, arith, Vec, Global, ℕ, List, [], ◌∷◌, map, Option, Some, None, cond, T, refl, sym, ap, subst, ◌∙◌}
 use Rattle.std.specs.declared.cmp.Ordering.TheVariants.{Less, Equal, Greater}
 use denote.Param.Weighed.{most}
 use Rattle.std.specs.Arc.{arc_value}
 use Rattle.std.specs.declared.sync.Arc.{Arc}
-use Rattle.llb_tree.specs.Falls.{falls}
-use Rattle.llb_tree.specs.declared.node.Node.TheDeep.{deep-Child}
+use Rattle.llb_tree.specs.Falls.{falls, le_pieces}
+use Rattle.llb_tree.specs.declared.node.Node.TheDeep.{deep-Child, deep-Piece}
 use Rattle.std.specs.Option.{option_or}
 use Rattle.std.specs.Ordering.{is_eq}
 use Rattle.std.specs.FinMap as finite
@@ -14,13 +14,13 @@ use Rattle.llb_tree.specs.Path.{name_cmp, path_cmp}
 use Rattle.llb_tree.specs.Meta.{MetaValue}
 use Rattle.llb_tree.specs.PathOrder.{name_cmp-IsAntisymmetric, path_cmp-IsTotalOrder, path_cmp-IsAntisymmetric}
 use Rattle.llb_tree.specs.Tree.{TreeMap, Entry, Dir, File, Look, height}
-use Rattle.llb_tree.specs.Nodes.{name_of, kids_of, own_entry, map_of, pair_of, AreSorted, child, look_in, place, dir_look, file_look}
+use Rattle.llb_tree.specs.Nodes.{name_of, kids_of, kids_in, own_entry, map_of, pair_of, AreSorted, child, look_in, dir_look, file_look}
 use Rattle.llb_tree.specs.Looks.{look_kids, get-below, get-root}
 use Rattle.llb_tree.specs.declared.node.Kind.{Kind}
 use Rattle.llb_tree.specs.declared.node.Kind.TheVariants as kind
 use Rattle.llb_tree.specs.declared.node.Child.{Child}
+use Rattle.llb_tree.specs.declared.node.Piece.{Piece}
 use Rattle.llb_tree.proofs.Orders.{is_less, and_first, and_second}
-use Rattle.llb_tree.proofs.Placed.{is_found, is_gap}
 
 or_None : (a : Option Entry) → option_or a None ≡ a
 or_None None = refl
@@ -58,16 +58,12 @@ read_file k v n q view none = sym (ap (λ t. finite.get t (n ∷ q)) (sym view) 
 
 module _ (k : Kind) (ks : List Child) (v : TreeMap) (n : List ℕ) (q : List (List ℕ)) (view : map_of k ≡ v) (is : kids_of k ≡ ks)
     (sorted : AreSorted (kids_of k)) where
-  read_child : finite.get v (n ∷ q) ≡ look_in (child n ks) q
+  pub read_child : finite.get v (n ∷ q) ≡ look_in (child n ks) q
   read_child = ap (λ t. finite.get t (n ∷ q)) (sym view) ∙ get-child k n q sorted ∙ ap (λ x. look_in (child n x) q) is
 
-  -- the child that is found under a name has what the node has below that name
-  pub read_found : (i : ℕ) (d : Child) → Ok i ≡ place n ks → finite.get (get_or ks i d).node q ≡ finite.get v (n ∷ q)
-  read_found i d at = sym (read_child ∙ ap (λ o. look_in o q) ((is_found n ks i (sym at)).found d))
-
-  -- where no child has the name, the node has nothing below it
-  pub read_gap : (i : ℕ) → Err i ≡ place n ks → None ≡ finite.get v (n ∷ q)
-  read_gap i at = sym (read_child ∙ ap (λ o. look_in o q) ((is_gap n ks i (sym at)).none (subst AreSorted is sorted)))
+  -- what is found among the children has what the node has below the name
+  pub read_found : (o : Option TreeMap) → o ≡ child n ks → look_in o q ≡ finite.get v (n ∷ q)
+  read_found o found = ap (λ x. look_in x q) found ∙ sym read_child
 
 -- a map of one file at the root has at each path what a lone file has: at the root itself, and below it nothing
 pub file_alone : (m : MetaValue) (b c : List ℕ) → c ≡ b → (q : List (List ℕ))
@@ -99,9 +95,14 @@ node_is k t h root below = finite.same_map path_cmp-IsTotalOrder path_cmp-IsAnti
     by_path [] = get-root k ∙ sym root
     by_path (n ∷ q) = get-child k n q h ∙ sym (below n q)
 
--- the children of a directory are less high than it
-pub kids_below : (k : Kind) (m : MetaValue) (kids : Arc (Vec Child Global) Global) (v : TreeMap) (ks : List Child) → map_of k ≡ v
-    → k ≡ kind.Dir m kids → ks ≡ (arc_value kids).items → most deep-Child ks ≤ height v
+-- the children of a directory are less high than it, and so are its pieces
+pub pieces_below : (k : Kind) (m : MetaValue) (kids : Arc (Vec Piece Global) Global) (v : TreeMap) (ps : List Piece) → map_of k ≡ v
+    → k ≡ kind.Dir m kids → ps ≡ (arc_value kids).items → most deep-Piece ps ≤ height v
+pieces_below k m kids v ps view is same =
+    subst (λ x. most deep-Piece ps ≤ height x) (ap map_of (sym is) ∙ view)
+    (subst (λ xs. most deep-Piece xs ≤ height (map_of (kind.Dir m kids))) (sym same) (let all = falls (kind.Dir m kids) in omega arith))
+
+pub kids_below : (k : Kind) (m : MetaValue) (kids : Arc (Vec Piece Global) Global) (v : TreeMap) (ks : List Child) → map_of k ≡ v
+    → k ≡ kind.Dir m kids → ks ≡ kids_in (arc_value kids).items → most deep-Child ks ≤ height v
 kids_below k m kids v ks view is same =
-    subst (λ x. most deep-Child ks ≤ height x) (ap map_of (sym is) ∙ view)
-    (subst (λ xs. most deep-Child xs ≤ height (map_of (kind.Dir m kids))) (sym same) (let all = falls (kind.Dir m kids) in omega arith))
+    subst (λ xs. most deep-Child xs ≤ height v) (sym same) (le_pieces (height v) (arc_value kids).items (pieces_below k m kids v _ view is refl))

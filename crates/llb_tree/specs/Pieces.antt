@@ -1,0 +1,66 @@
+-- The children of a directory in pieces: the pieces one after another are the children in the order of their names, and no piece
+-- but the first is empty. Children are seen here as pairs of a name and of the tree that the node represents.
+use Rattle.std.specs.Prelude.{◌≡◌, ℕ, suc, ◌<◌, Bool, true, false, not, List, [], ◌∷◌, ◌++◌, length, map, drop, get_or, T, Option, Some, None}
+use Rattle.std.specs.List.{remove}
+use Rattle.std.specs.Ordering.{is_gt, eq_by_cmp}
+use Rattle.std.specs.FinMap as finite
+use Rattle.std.specs.FinMap.Entries.{where_key}
+use Rattle.llb_tree.specs.Path.{name_cmp}
+use Rattle.llb_tree.specs.Tree.{TreeMap}
+use Rattle.llb_tree.specs.Nodes.{Pairs, pair_of, look_in, set_look, rows_in}
+use Rattle.llb_tree.specs.declared.node.Piece.{Piece}
+
+-- the pairs of a piece, and those of pieces one after another
+abbrev pub row_pairs : Piece → Pairs
+row_pairs p = map pair_of (rows_in p)
+
+abbrev pub joined : List Pairs → Pairs
+joined [] = []
+joined (p ∷ ps) = p ++ joined ps
+
+abbrev pub pairs_of : List Piece → Pairs
+pairs_of ps = joined (map row_pairs ps)
+
+abbrev pub AllFull : List Pairs → Type 0
+AllFull [] = Unit {0}
+AllFull (p ∷ ps) = (0 < length p) × AllFull ps
+
+pub record IsPieced (ps : List Pairs) : Type 0 where
+  pub sorted : T (finite.is_sorted name_cmp (joined ps))
+  pub full : AllFull (drop 1 ps)
+
+abbrev pub ArePieced : List Piece → Type 0
+ArePieced ps = IsPieced (map row_pairs ps)
+
+-- whether a piece begins with a name that is after another
+abbrev pub begins_after : List ℕ → Pairs → Bool
+begins_after n [] = false
+begins_after n (e ∷ es) = is_gt (name_cmp e.0 n)
+
+-- the piece that a name belongs to: the last one that does not begin after it, or the first one
+pub record IsPieceOf (n : List ℕ) (ps : List Pairs) (j : ℕ) : Type 0 where
+  pub in_range : j < length ps
+  pub before : 0 < j → begins_after n (get_or ps j []) ≡ false
+  pub after : suc j < length ps → begins_after n (get_or ps (suc j) []) ≡ true
+
+-- the pieces without an empty one at a place
+abbrev pub tidied_by : Pairs → ℕ → List Pairs → List Pairs
+tidied_by [] j ps = remove ps j
+tidied_by (e ∷ es) j ps = ps
+
+abbrev pub tidied : ℕ → List Pairs → List Pairs
+tidied j ps = tidied_by (get_or ps j []) j ps
+
+-- the children without the one of a name
+abbrev pub without : List ℕ → Pairs → Pairs
+without n = where_key name_cmp (λ m. not (eq_by_cmp name_cmp n m))
+
+-- the children with a tree, or nothing, in the place of the one of a name
+abbrev pub change : List ℕ → Option TreeMap → Pairs → Pairs
+change n (Some t) es = finite.put name_cmp n t es
+change n None es = without n es
+
+-- the children after a tree, or nothing, is set at a path below the child of a name
+abbrev pub Changes : List ℕ → List (List ℕ) → Option TreeMap → Pairs → Pairs → Type 0
+Changes n p t old new = (made : Option TreeMap) × (new ≡ change n made old)
+    × ((q : List (List ℕ)) → look_in made q ≡ set_look p t (look_in (finite.find name_cmp n old)) q)

@@ -1,0 +1,65 @@
+//! The children of a directory one after another: a part of a piece, and whole pieces after it.
+
+ghost use Rattle.std.specs.Prelude.{◌≡◌, []};
+ghost use Rattle.std.specs.Iterator.{YieldsFirstRef, item_count};
+ghost use Rattle.llb_tree.specs.Nodes.{kids_in, left_in, SplitsFirst};
+
+use crate::node::{Child, Piece};
+
+/// Children in the order of their names: all those of a directory, or those that are left of them.
+#[derive(Clone, Copy)]
+pub struct Children<'a> {
+    rows: &'a [Child],
+    pieces: &'a [Piece],
+}
+
+impl<'a> Children<'a> {
+    // None at all.
+    pub(crate) fn none() -> Children<'a>
+        ensures { left_in result ≡ [] }
+    {
+        Children {
+            rows: &[],
+            pieces: &[],
+        }
+    }
+
+    // Those in pieces.
+    pub(crate) fn of(pieces: &'a [Piece]) -> Children<'a>
+        ensures { left_in result ≡ kids_in pieces.now }
+    {
+        Children { rows: &[], pieces }
+    }
+
+    /// Returns the first child, and those after it; `None` where none is left. Does not allocate.
+    pub fn split_first(&self) -> Option<(&'a Child, Children<'a>)>
+        ensures { SplitsFirst (left_in self.now) result }
+    {
+        if let Some((kid, rows)) = self.rows.split_first() {
+            let pieces = self.pieces;
+            return Some((kid, Children { rows, pieces }));
+        }
+        let mut pieces = self.pieces;
+        while let Some((piece, rest)) = pieces.split_first() {
+            if let Some((kid, rows)) = piece.rows.as_slice().split_first() {
+                return Some((kid, Children { rows, pieces: rest }));
+            }
+            pieces = rest;
+        }
+        None
+    }
+}
+
+impl<'a> Iterator for Children<'a> {
+    type Item = &'a Child;
+
+    ghost next_gives = { YieldsFirstRef left_in };
+
+    ghost remaining = { item_count left_in };
+
+    fn next(&mut self) -> Option<&'a Child> {
+        let (kid, rest) = self.split_first()?;
+        *self = rest;
+        Some(kid)
+    }
+}
