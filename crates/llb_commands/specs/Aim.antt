@@ -15,8 +15,7 @@ use Rattle.llb_stepper.specs.Stepping.{Stepping, PastIsTheRecords, IsReplayed}
 use Rattle.llb_session.specs.Told.{GoTellsTheRun}
 use Rattle.llb_commands.specs.Assembly.{IsAssembled}
 
--- The premise of the aim: the definition is loaded as the graph, and the boards of the machine and of the stepper are over that graph, each with some local
--- trees.
+-- The definition is accepted: it is loaded as the graph. The machine's board is over the graph, with some local trees, and so is the stepper's.
 pub record IsAccepted (definition : List ℕ) (graph : Numbered) (board : Seen) (stepper : Stepping) : Type 0 where
   pub loaded : IsGraphIn definition graph
   pub board_over : board.build.graph ≡ graph
