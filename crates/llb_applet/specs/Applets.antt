@@ -8,6 +8,7 @@ use Rattle.llb_applet.specs.declared.applet.Applet.TheVariants.{True, False, Mkd
 abbrev pub spells : List ℕ → List ℕ → Bool
 spells this word = pointwise nat_eq word this
 
+-- the name by which a call asks for an applet
 abbrev pub name_of : Applet → List ℕ
 name_of True = codes "true"
 name_of False = codes "false"
@@ -23,6 +24,7 @@ name_of Listing = codes "listing"
 name_of Envfile = codes "envfile"
 name_of Sha256 = codes "sha256"
 
+-- all applets
 abbrev pub applets : List Applet
 applets = True ∷ False ∷ Mkdir ∷ Rm ∷ Write ∷ Append ∷ Cp ∷ Concat ∷ Chmod ∷ Test ∷ Listing ∷ Envfile ∷ Sha256 ∷ []
 

@@ -13,29 +13,33 @@ use Rattle.llb_applet.specs.declared.applet.Applet.TheVariants.{True, False, Mkd
 use Rattle.llb_applet.specs.Applets.{spells, applet_of}
 use Rattle.llb_tree.specs.Modes.{mode_of}
 
+-- the bytes of a word
 abbrev Word : Type 0
 Word = List ℕ
 
--- the word of a list of one word
+-- the word of a list that has just one
 abbrev pub alone : List Word → Option Word
 alone [] = None
 alone (a ∷ []) = Some a
 alone (a ∷ b ∷ ws) = None
 
--- the words of a list of two words
+-- the words of a list that has just two
 abbrev pub pair : List Word → Option (Word × Word)
 pair [] = None
 pair (a ∷ []) = None
 pair (a ∷ b ∷ []) = Some (a, b)
 pair (a ∷ b ∷ c ∷ ws) = None
 
+-- a command if there are no words
 abbrev pub no_words : List Word → Command → Option Command
 no_words [] c = Some c
 no_words (w ∷ ws) c = None
 
+-- a command of one word, if there is just one
 abbrev pub one_word : List Word → (Word → Command) → Option Command
 one_word ws f = option_map f (alone ws)
 
+-- a command of two words, if there are just two
 abbrev pub two_words : List Word → (Word → Word → Option Command) → Option Command
 two_words ws f = option_and_then (λ p. f p.0 p.1) (pair ws)
 
@@ -46,13 +50,13 @@ kind_of word =
     else (if spells (codes "-f") word then Some File
     else (if spells (codes "-d") word then Some Dir else None))
 
--- an output and one or more inputs
+-- the `concat` of an output and one or more inputs
 abbrev pub concat_of : List Word → Option Command
 concat_of [] = None
 concat_of (out ∷ []) = None
 concat_of (out ∷ a ∷ ws) = Some (command.Concat out (a ∷ ws))
 
--- the command of an applet and the words after its name, if they are one of its forms
+-- the command of an applet with these words after its name, if they are one of its forms
 abbrev pub form : Applet → List Word → Option Command
 form True ws = no_words ws command.True
 form False ws = no_words ws command.False

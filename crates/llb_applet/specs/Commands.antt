@@ -18,6 +18,7 @@ use Rattle.llb_applet.specs.declared.command.Command.TheVariants as command
 use Rattle.llb_applet.specs.Spots.{Mounts, spot_of, tree_at, entry_at, file_in, with_file, with_dir, without_spot, with_new_dir, with_dirs}
 
 infixl 10 ◌>>=◌
+-- what f makes of a value, if there is one
 abbrev pub ◌>>=◌ : {A B : Type 0} → Option A → (A → Option B) → Option B
 o >>= f = option_and_then f o
 
@@ -29,11 +30,11 @@ path_by setting word = result_ok (path_from setting.cwd word)
 abbrev pub spot_by : Setting → Mounts → List ℕ → Option Spot
 spot_by setting view word = path_by setting word >>= spot_of view
 
--- a new file is 0644 0:0
+-- the mode and owner of a new file: 0644 0:0
 abbrev pub new_meta : MetaValue
 new_meta = record { mode = 420; uid = 0; gid = 0 }
 
--- the mode and owner of the entry that is there, or those of a new file
+-- the mode and owner of the entry at a spot, or those of a new file if there is none
 abbrev pub meta_there : Option Entry → MetaValue
 meta_there (Some e) = tree.meta_in e
 meta_there None = new_meta
@@ -42,10 +43,11 @@ meta_there None = new_meta
 abbrev pub file_by : Setting → Mounts → List ℕ → Option (MetaValue × List ℕ)
 file_by setting view word = spot_by setting view word >>= λ spot. file_in (entry_at view spot)
 
--- a write puts the content into the file that is there, whose mode and owner stay, or into a new one
+-- the view after content is written at a spot: into the file that is there, whose mode and owner stay, or into a new one
 abbrev pub written : Mounts → Spot → List ℕ → Option Mounts
 written view spot content = with_file view spot (meta_there (entry_at view spot)) content
 
+-- the view after content is written at a path that a word means
 abbrev pub writes : Setting → Mounts → List ℕ → List ℕ → Option Mounts
 writes setting view word content = spot_by setting view word >>= λ spot. written view spot content
 
@@ -53,11 +55,11 @@ writes setting view word content = spot_by setting view word >>= λ spot. writte
 abbrev pub line : List ℕ → List ℕ
 line word = word ++ 10 ∷ []
 
--- the content that is there, and one line more
+-- the view after a line is written at the end of a file, or into a new one
 abbrev pub appended : Mounts → Spot → List ℕ → Option Mounts
 appended view spot word = written view spot (unwrap_or (option_map (λ f. f.1) (file_in (entry_at view spot))) [] ++ line word)
 
--- the last name of a path
+-- the last name of a path, if it has one
 abbrev pub last_name : List (List ℕ) → Option (List ℕ)
 last_name path = slice_get path (length path - 1)
 
@@ -77,18 +79,18 @@ copied setting view from to =
     target_of view source path >>= λ target.
     with_file view target file.0 file.1
 
--- the contents of files, one after the other
+-- the contents of these files, one after the other
 abbrev pub joined : Setting → Mounts → List (List ℕ) → Option (List ℕ)
 joined setting view [] = Some []
 joined setting view (word ∷ words) = file_by setting view word >>= λ file. joined setting view words >>= λ more. Some (file.1 ++ more)
 
--- the entry that is there gets another mode; its owner stays
+-- the view after the entry at a spot gets another mode; its owner and content stay
 abbrev pub with_mode : Mounts → Spot → ℕ → Option Entry → Option Mounts
 with_mode view spot mode None = None
 with_mode view spot mode (Some (tree.Dir m)) = with_dir view spot (record m { mode = mode })
 with_mode view spot mode (Some (tree.File m content)) = with_file view spot (record m { mode = mode }) content
 
--- whether the entry that is there is of the kind
+-- whether the entry at a spot is of the kind that `test` asks for
 abbrev pub is_kind : Kind → Option Entry → Bool
 is_kind Something e = is_some e
 is_kind File e = is_some (file_in e)
@@ -98,17 +100,18 @@ is_kind Dir e = is_dir e
 abbrev pub line_of : TreeMap → List (List ℕ) → List ℕ → List ℕ
 line_of t p name = name ++ (if is_dir (finite.get t (p ++ name ∷ [])) then codes "/" else []) ++ 10 ∷ []
 
+-- the lines of these names in a directory
 abbrev pub listed : TreeMap → List (List ℕ) → List (List ℕ) → List ℕ
 listed t p names = flat_map (line_of t p) names
 
--- the text of the directory that a word means
+-- the listing of the directory that a word means: a line for each name in it
 abbrev pub listing_by : Setting → Mounts → List ℕ → Option (List ℕ)
 listing_by setting view word =
     spot_by setting view word >>= λ spot.
     result_ok (list (tree_at view spot) spot.place) >>= λ names.
     Some (listed (tree_at view spot) spot.place names)
 
--- the view that a command leaves if its status is 0
+-- the view that a command leaves, if its status is 0; none if it fails
 abbrev pub run : Setting → Mounts → Command → Option Mounts
 run setting view command.True = Some view
 run setting view command.False = None
@@ -125,7 +128,7 @@ run setting view (command.Listing path out) = listing_by setting view path >>= w
 run setting view (command.Envfile out) = writes setting view out (flat_map line setting.env)
 run setting view (command.Sha256 path out) = file_by setting view path >>= λ file. writes setting view out (line (digits_of file.1))
 
--- the status
+-- the status of a command: 0 if it leaves a view, 1 if it fails
 abbrev pub status_of : Option Mounts → ℕ
 status_of (Some view) = 0
 status_of None = 1

@@ -20,12 +20,12 @@ commands_of number [] = Ok []
 commands_of number (call ∷ calls) =
     command_of number call.words >>= λ c. commands_of (number + 1) calls >>= λ cs. Ok (joined call.join c ∷ cs)
 
--- the commands of a text, or 73 if it has a bad place
+-- the commands of a text, or `ShellSyntax` if it has a bad place
 abbrev pub commands_unless : Option ℕ → List ℕ → Result (List Joined) ScriptFault
 commands_unless (Some place) text = Err (ShellSyntax place)
 commands_unless None text = commands_of 0 (calls_of text)
 
--- the commands of a text
+-- the commands of a text, or its first fault
 abbrev pub commands_in : List ℕ → Result (List Joined) ScriptFault
 commands_in text = commands_unless (bad_place_of text) text
 
@@ -33,6 +33,6 @@ commands_in text = commands_unless (bad_place_of text) text
 abbrev pub is_shell : List (List ℕ) → Bool
 is_shell args = (length args == 3) && spells (codes "/bin/sh") (slice_index_or args 0 []) && spells (codes "-c") (slice_index_or args 1 [])
 
--- the script of arguments: that of the text, or else of the one call that they are
+-- the commands that arguments are: those of the text after `/bin/sh -c`, or else the one call that the arguments are
 abbrev pub script_of : List (List ℕ) → Result (List Joined) ScriptFault
 script_of args = if is_shell args then commands_in (slice_index_or args 2 []) else commands_of 0 (first_call args ∷ [])

@@ -42,7 +42,7 @@ entry_at view spot = finite.get (tree_at view spot) spot.place
 abbrev pub is_dest : Spot → Bool
 is_dest spot = length spot.place == spot.base
 
--- the mode and owner of a file, and its content; none for a directory
+-- the mode and owner of a file, and its content; none if there is no file
 abbrev pub file_in : Option Entry → Option (MetaValue × List ℕ)
 file_in None = None
 file_in (Some (tree.Dir m)) = None

@@ -41,7 +41,7 @@ join_of word =
 abbrev pub is_separator : List ℕ → Bool
 is_separator word = is_some (join_of word)
 
--- words may have digits, letters, `_ - . / , : + @ % =`, and the bytes of characters past ASCII
+-- whether a word may have this byte: digits, letters, `_ - . / , : + @ % =`, and the bytes of characters past ASCII
 abbrev pub is_word_byte : ℕ → Bool
 is_word_byte b =
     (nat_le 48 b && nat_le b 57) || (nat_le 65 b && nat_le b 90) || (nat_le 97 b && nat_le b 122)
@@ -62,7 +62,7 @@ abbrev pub bad_place : ℕ → Bool → List Word → Option ℕ
 bad_place end called [] = if called then None else Some end
 bad_place end called (w ∷ ws) = option_or (option_map (λ k. w.place + k) (bad_in called w.bytes)) (bad_place end (not (is_separator w.bytes)) ws)
 
--- the first place at which a text is not a list of calls with a separator between each two
+-- the first place at which a text is not a list of calls with a separator between each two; none if it is such a list
 abbrev pub bad_place_of : List ℕ → Option ℕ
 bad_place_of text = bad_place (length text) false (words_of text)
 
@@ -71,14 +71,15 @@ pub record Call : Type 0 where
   pub join : Join
   pub words : List (List ℕ)
 
+-- a call with this join and these words
 abbrev pub call_by : Join → List (List ℕ) → Call
 call_by join words = record { join = join; words = words }
 
--- the first call of a script
+-- the first call of a script, which always runs
 abbrev pub first_call : List (List ℕ) → Call
 first_call words = call_by Then words
 
--- the next word: a separator ends the call at hand and begins the next, and another word is added to the call at hand
+-- what the next word does: a separator ends the call at hand and begins the next, and another word is added to the call at hand
 abbrev pub at_word : Join → List (List ℕ) → List ℕ → Option Join → (Join → List (List ℕ) → List Call) → List Call
 at_word join call word (Some next) rest = call_by join call ∷ rest next []
 at_word join call word None rest = rest join (call ++ word ∷ [])

@@ -3,34 +3,37 @@ use Rattle.std.specs.Prelude.{ℕ, ◌+◌, ◌==◌, ◌&&◌, ◌||◌, not, n
 use Rattle.std.specs.List.{slice_split}
 use Rattle.std.specs.Str.{is_utf8}
 
--- spaces, tabs and carriage returns
+-- whether a byte is a space, a tab or a carriage return
 abbrev pub is_blank : ℕ → Bool
 is_blank b = (b == 32) || (b == 9) || (b == 13)
 
--- a line without the blanks at its start, at its end, and at both
+-- a line without the blanks at its start
 abbrev pub without_front : List ℕ → List ℕ
 without_front [] = []
 without_front (b ∷ line) = if is_blank b then without_front line else b ∷ line
 
+-- a line without the blanks at its end
 abbrev pub without_end : List ℕ → List ℕ
 without_end line = reverse (without_front (reverse line))
 
+-- a line without the blanks at its start and at its end
 unfoldable pub stripped : List ℕ → List ℕ
 stripped line = without_end (without_front line)
 
--- empty lines and comments
+-- whether a line is empty, or a comment: UTF-8 that begins with `#`
 abbrev pub is_dropped : List ℕ → Bool
 is_dropped [] = true
 is_dropped (b ∷ line) = (b == 35) && is_utf8 (b ∷ line)
 
--- a line with its number
+-- a line under its number
 abbrev pub Line : Type 0
 Line = ℕ × List ℕ
 
+-- the lines, stripped and numbered from n
 abbrev pub numbered : ℕ → List (List ℕ) → List Line
 numbered n [] = []
 numbered n (line ∷ lines) = (n, stripped line) ∷ numbered (n + 1) lines
 
--- the lines that are left, with their numbers from 1
+-- the lines of a text that are not dropped: stripped, and with their numbers in the text, which begin with 1
 unfoldable pub kept : List ℕ → List Line
 kept text = filter (λ l. not (is_dropped l.1)) (numbered 1 (slice_split (λ b. nat_eq b 10) text))

@@ -31,38 +31,40 @@ use Rattle.llb_asm.specs.Line.{or_else, guard, parted, inside, line_in}
 
 -- ---- limits
 
--- how long a record with a payload of that length is
+-- how long the record of field `number` is with a payload of this length
 abbrev pub record_length : ℕ → ℕ → ℕ
 record_length number size = length (tag_text number wire.Len) + (length (varint_text size) + size)
 
--- an entry of that length after these is within the limits of a definition
+-- whether one more entry of this length, after these, is within the limits of a definition
 abbrev pub is_within : List (List ℕ) → ℕ → Bool
 is_within earlier size = nat_le size entry_limit && nat_le (length (definition_bytes earlier) + record_length 1 size) definition_limit
 
 -- ---- the message at hand
 
--- the place of the next line in it, its bytes so far, and whether the entry is within the limits where it has n bytes, all messages closed
+-- the message at hand: the place of its next line, its bytes so far, and `room`, which says whether the entry is within the limits if this message has n bytes
+-- and all messages are then closed
 pub record Hand : Type 0 where
   pub here : Here
   pub bytes : List ℕ
   pub room : ℕ → Bool
 
--- how many bytes a line adds
+-- how many bytes a line adds; an opening adds the record of an empty message
 abbrev pub added : Held → ℕ
 added (Record bytes) = length bytes
 added (Opens number m) = record_length number 0
 
--- what a line adds, within the limits
+-- the item that a line adds to the message at hand, if the entry is then within the limits
 abbrev pub item_at : List (List ℕ) → Hand → List ℕ → Result Item Refusal
 item_at labels hand line = do
   i ← line_in labels hand.here line
   _ ← guard (Breaks OverLimit) (hand.room (length hand.bytes + added i.held))
   Ok i
 
--- the message at hand after some more bytes, and a message in it
+-- the message at hand after some more bytes
 abbrev pub beyond : Hand → Here → List ℕ → Hand
 beyond hand next bytes = record { here = next; bytes = hand.bytes ++ bytes; room = hand.room }
 
+-- the message that a line of the message at hand opens
 abbrev pub within : Hand → ℕ → MessageName → Hand
 within hand number sub = record { here = inside sub; bytes = []; room = λ size. hand.room (length hand.bytes + record_length number size) }
 
@@ -76,32 +78,36 @@ pub data Items : Type 0 where
   nested : List ℕ → Here → ℕ → MessageName → Items → Items → Items
   unclosed : List ℕ → Here → ℕ → MessageName → Items → Items
 
+-- the line that closes a message or an op
 abbrev pub closing : List ℕ
 closing = codes "}"
 
+-- the lines that spell items
 abbrev pub lines_of : Items → List (List ℕ)
 lines_of done = []
 lines_of (single line next bytes rest) = line ∷ lines_of rest
 lines_of (nested line next number sub inner rest) = line ∷ (lines_of inner ++ (closing ∷ lines_of rest))
 lines_of (unclosed line next number sub inner) = line ∷ lines_of inner
 
--- the records, where a message that is not closed is taken as closed
+-- the records of items; a message that is not closed is taken as closed
 abbrev pub records_of : Items → List ℕ
 records_of done = []
 records_of (single line next bytes rest) = bytes ++ records_of rest
 records_of (nested line next number sub inner rest) = set_bytes number (records_of inner) ++ records_of rest
 records_of (unclosed line next number sub inner) = set_bytes number (records_of inner)
 
+-- every message is closed
 abbrev pub IsWhole : Items → Type 0
 IsWhole done = Unit {0}
 IsWhole (single line next bytes rest) = IsWhole rest
 IsWhole (nested line next number sub inner rest) = IsWhole rest
 IsWhole (unclosed line next number sub inner) = ⊥
 
+-- an item with this next place, which holds this
 abbrev pub item : Here → Held → Item
 item next held = record { next = next; held = held }
 
--- each line adds its item to the message at hand
+-- each line adds its item to the message that is at hand there
 abbrev pub Fits : List (List ℕ) → Hand → Items → Type 0
 Fits labels hand done = Unit {0}
 Fits labels hand (single line next bytes rest) = (item_at labels hand line ≡ Ok (item next (Record bytes))) × Fits labels (beyond hand next bytes) rest
@@ -120,7 +126,7 @@ at_hand hand (unclosed line next number sub inner) = at_hand (within hand number
 
 -- ---- the entries of a text
 
--- how an entry begins: `raw` and its bytes, or `op {`
+-- how a line begins an entry: `raw` and its bytes, or `op {`; or why it begins none
 abbrev pub begun_by : List ℕ → Option (List ℕ × List ℕ) → Result Begun Refusal
 begun_by line None = Err (Breaks Syntax)
 begun_by line (Some p) =
@@ -128,30 +134,33 @@ begun_by line (Some p) =
     else if is_text p.0 (codes "raw") then (or_else (Breaks BadValue) (bytes_spelled p.1) >>= λ bytes. Ok (Raw bytes))
     else Err (Breaks Syntax)
 
+-- how many bytes an entry has already where it begins
 abbrev pub begun_size : Begun → ℕ
 begun_size (Raw bytes) = length bytes
 begun_size Structured = 0
 
+-- how a line begins an entry after these entries, if it is then within the limits
 unfoldable pub begun_in : List (List ℕ) → List ℕ → Result Begun Refusal
 begun_in earlier line = do
   b ← begun_by line (parted line)
   _ ← guard (Breaks OverLimit) (nat_lt (length earlier) entries_limit && is_within earlier (begun_size b))
   Ok b
 
--- the canonical bytes of what is read as an op
+-- the canonical bytes of an op that was read
 abbrev pub canonical_of : Result Op OpFault → Option (List ℕ)
 canonical_of (Err f) = None
 canonical_of (Ok op) = Some (op_bytes op)
 
--- the canonical bytes, within the limits
+-- canonical bytes, if there are some and the entry is within the limits
 abbrev pub canonical_in : List (List ℕ) → Option (List ℕ) → Result (List ℕ) Refusal
 canonical_in earlier None = Err (Breaks OverLimit)
 canonical_in earlier (Some entry) = if is_within earlier (length entry) then Ok entry else Err (Breaks OverLimit)
 
--- the canonical bytes of the op that the records are, within the limits
+-- the canonical bytes of the op that these records are read as, if the entry is within the limits
 unfoldable pub entry_in : List (List ℕ) → List ℕ → Result (List ℕ) Refusal
 entry_in earlier records = canonical_in earlier (canonical_of (op_of records))
 
+-- the digest texts of these entries, which are what labels mean
 abbrev pub labels_of : List (List ℕ) → List (List ℕ)
 labels_of earlier = map digest_text earlier
 
@@ -161,36 +170,40 @@ pub record IsKept (entries labels : List (List ℕ)) (size : ℕ) : Type 0 where
   pub bytes : size ≡ length (definition_bytes entries)
   pub small : size ≤ definition_limit
 
--- an op at its start
+-- the message at hand at the start of an op
 abbrev pub outermost : List (List ℕ) → Hand
 outermost earlier = record { here = inside named.Op; bytes = []; room = is_within earlier }
 
--- the entries with the lines that spell them; the last one may be an op that is not closed yet
+-- entries with the lines that spell them: each is a `raw` line, or an op between an opening line and a closing one; the last one may be an op that is not
+-- closed yet
 pub data Entries : Type 0 where
   none : Entries
   raw : List ℕ → List ℕ → Entries → Entries
   op : List ℕ → Items → List ℕ → Entries → Entries
   open_op : List ℕ → Items → Entries
 
+-- the lines that spell entries
 abbrev pub text_of : Entries → List (List ℕ)
 text_of none = []
 text_of (raw line bytes rest) = line ∷ text_of rest
 text_of (op line items entry rest) = line ∷ (lines_of items ++ (closing ∷ text_of rest))
 text_of (open_op line items) = line ∷ lines_of items
 
+-- the bytes of entries, without an op that is not closed
 abbrev pub entries_of : Entries → List (List ℕ)
 entries_of none = []
 entries_of (raw line bytes rest) = bytes ∷ entries_of rest
 entries_of (op line items entry rest) = entry ∷ entries_of rest
 entries_of (open_op line items) = []
 
+-- no op is left open
 abbrev pub AreClosed : Entries → Type 0
 AreClosed none = Unit {0}
 AreClosed (raw line bytes rest) = AreClosed rest
 AreClosed (op line items entry rest) = AreClosed rest
 AreClosed (open_op line items) = ⊥
 
--- each line has its place after the entries before it
+-- each entry is what its lines are read as, after the entries before it
 abbrev pub AreEntries : List (List ℕ) → Entries → Type 0
 AreEntries earlier none = Unit {0}
 AreEntries earlier (raw line bytes rest) = (begun_in earlier line ≡ Ok (Raw bytes)) × AreEntries (earlier ++ bytes ∷ []) rest
@@ -199,7 +212,7 @@ AreEntries earlier (op line items entry rest) =
     × (entry_in earlier (records_of items) ≡ Ok entry) × AreEntries (earlier ++ entry ∷ []) rest
 AreEntries earlier (open_op line items) = (begun_in earlier line ≡ Ok Structured) × Fits (labels_of earlier) (outermost earlier) items
 
--- the lines are read as these entries
+-- The lines are read as these entries.
 pub record StandsFor (lines : List Line) (entries : List (List ℕ)) : Type 0 where
   pub parts : Entries
   pub are : AreEntries [] parts
@@ -209,13 +222,13 @@ pub record StandsFor (lines : List Line) (entries : List (List ℕ)) : Type 0 wh
 
 -- ---- the first line that is refused
 
--- a line is refused in an op: it closes the op, which is past the limits, or it adds nothing to the message at hand
+-- A line is refused with e in an op that is not closed: it closes the op, whose entry is refused, or its item is refused in the message at hand.
 abbrev pub IsRefusedIn : List (List ℕ) → Items → List ℕ → Refusal → Type 0
 IsRefusedIn earlier items line e =
     ((line ≡ closing) × IsWhole items × (entry_in earlier (records_of items) ≡ Err e))
     ⊎ ((line ≢ closing) × (item_at (labels_of earlier) (at_hand (outermost earlier) items) line ≡ Err e))
 
--- a line after some entries is refused
+-- A line is refused with e after these entries, the last of which may be an op that is not closed.
 abbrev pub IsRefused : List (List ℕ) → Entries → List ℕ → Refusal → Type 0
 IsRefused earlier none line e = begun_in earlier line ≡ Err e
 IsRefused earlier (raw l bytes rest) line e = IsRefused (earlier ++ bytes ∷ []) rest line e
@@ -233,7 +246,7 @@ pub record StopsAt (lines : List Line) (n : ℕ) (e : Refusal) : Type 0 where
   pub text : map (λ l. l.1) before ≡ text_of parts
   pub refused : IsRefused [] parts line e
 
--- all lines are those of entries, and an op is not closed
+-- All lines are read as entries, the last of which is an op that is not closed; n is the number of the last line.
 pub record EndsOpen (lines : List Line) (n : ℕ) : Type 0 where
   pub before : List Line
   pub line : List ℕ
@@ -243,6 +256,7 @@ pub record EndsOpen (lines : List Line) (n : ℕ) : Type 0 where
   pub text : map (λ l. l.1) lines ≡ text_of parts
   pub not_closed : ¬ AreClosed parts
 
+-- Line n is the first that is refused, and e is why; or the lines end in an op that is not closed: then n is the last line, and e is `Unclosed`.
 abbrev pub FaultAt : List Line → ℕ → Refusal → Type 0
 FaultAt lines n e = StopsAt lines n e ⊎ (EndsOpen lines n × (e ≡ Breaks Unclosed))
 
@@ -254,10 +268,11 @@ Assembles text (Err (fault.UnknownLabel n)) = FaultAt (kept text) n UnknownLabel
 Assembles text (Err fault.Memory) = Unit {0}
 Assembles text (Err fault.Write) = ⊥
 
+-- a refusal under the number of its line
 abbrev pub at_line : ℕ → Refusal → ℕ × Refusal
 at_line n e = (n, e)
 
--- a text is read as one list of entries at most, or it has one first fault, and never both
+-- A text is read as at most one list of entries, it has at most one first fault, and it never has both.
 pub record HasOneAnswer (text : List ℕ) : Type 0 where
   pub entries : (a b : List (List ℕ)) → StandsFor (kept text) a → StandsFor (kept text) b → a ≡ b
   pub apart : (a : List (List ℕ)) (n : ℕ) (e : Refusal) → StandsFor (kept text) a → ¬ FaultAt (kept text) n e

@@ -14,24 +14,27 @@ use Rattle.llb_ops.specs.Fields.{IsNumberOf}
 use Rattle.llb_ops.specs.declared.table.FieldKind.{FieldKind}
 use Rattle.llb_ops.specs.declared.table.FieldKind.TheVariants.{Int64, Int32, Uint32, Enum, Bool as Flag, String, Bytes, Message}
 
+-- whether two texts are equal
 abbrev pub is_text : List ℕ → List ℕ → Bool
 is_text a b = pointwise nat_eq a b
 
--- a value where a test passes, else nothing
+-- a value, if a test passes
 abbrev pub where_so : {A : Type 0} → Bool → A → Option A
 where_so true x = Some x
 where_so false x = None
 
+-- what f makes of a value, if there is one
 abbrev pub then_in : {A B : Type 0} → Option A → (A → Option B) → Option B
 then_in None f = None
 then_in (Some x) f = f x
 
 -- ---- numbers, as a varint has them: negative ones in two's complement of 64 bits
 
+-- whether a byte is a decimal digit
 abbrev pub is_digit : ℕ → Bool
 is_digit b = nat_le 48 b && nat_le b 57
 
--- the number of a text of decimal digits, at least one
+-- the number that one or more decimal digits spell
 unfoldable pub magnitude : List ℕ → Option ℕ
 magnitude text = where_so (not (length text == 0) && list_all is_digit text) (digits_value 10 text)
 
@@ -39,20 +42,24 @@ magnitude text = where_so (not (length text == 0) && list_all is_digit text) (di
 abbrev pub capped : ℕ → ℕ
 capped n = if nat_lt n (2 ^ 64) then n else 2 ^ 64 - 1
 
+-- a number that is below a limit
 abbrev pub below : ℕ → ℕ → Option ℕ
 below limit n = where_so (nat_lt n limit) n
 
+-- minus n in two's complement of 64 bits, if n is from 1 to the limit
 abbrev pub negated : ℕ → ℕ → Option ℕ
 negated limit n = where_so (nat_lt 0 n && nat_le n limit) (2 ^ 64 - n)
 
--- the number of a text, from minus the limit up to below the limit
+-- the number that decimal digits spell, with or without a minus before them, from minus the limit up to below the limit; `-0` spells none
 unfoldable pub signed_in : ℕ → List ℕ → Option ℕ
 signed_in limit [] = None
 signed_in limit (b ∷ text) = if b == 45 then then_in (magnitude text) (negated limit) else then_in (magnitude (b ∷ text)) (below limit)
 
+-- the number of `true` or `false`: 1 or 0
 abbrev pub flag_in : List ℕ → Option ℕ
 flag_in text = if is_text text (codes "true") then Some 1 else where_so (is_text text (codes "false")) 0
 
+-- the number that a text spells for a field of this kind, as a varint has it
 abbrev pub number_in : FieldKind → List ℕ → Option ℕ
 number_in Int64 text = signed_in (2 ^ 63) text
 number_in Int32 text = signed_in (2 ^ 31) text
@@ -81,20 +88,22 @@ number_text (Message m) v = []
 
 -- ---- strings, between quotes
 
--- what was read before: nothing that is open, a backslash, `\x`, or that and a digit of this value
+-- where a string's reader is: in no escape, after a backslash, after `\x`, or after `\x` and a digit of this value
 pub data Escape : Type 0 where
   closed : Escape
   backslash : Escape
   first : Escape
   second : ℕ → Escape
 
+-- the value of a lower-case hexadecimal digit
 abbrev pub digit_of : ℕ → ℕ
 digit_of b = if nat_le b 57 then b - 48 else b - 87
 
+-- a string with one more byte before it
 abbrev pub after_it : ℕ → Option (List ℕ) → Option (List ℕ)
 after_it b text = option_map (λ t. b ∷ t) text
 
--- the string whose spelling goes on so, up to a quote at the end: `\"`, `\\`, and `\x` with two digits up to 7f are one byte
+-- the string that is spelled by the rest of a text, up to a quote at its end: `\"`, `\\`, and `\x` with two digits up to 7f are one byte
 unfoldable pub string_from : Escape → List ℕ → Option (List ℕ)
 string_from e [] = None
 string_from closed (b ∷ text) =
@@ -125,6 +134,7 @@ abbrev pub Leads : List ℕ → Option (ℕ × Bor (List ℕ)) → Type 0
 Leads text None = (text ≢ 34 ∷ []) → string_from closed text ≡ None
 Leads text (Some x) = (string_from closed text ≡ after_it x.0 (string_from closed x.1.now)) × (length x.1.now < length text)
 
+-- the string that a text spells between its quotes
 unfoldable pub string_in : List ℕ → Option (List ℕ)
 string_in [] = None
 string_in (b ∷ text) = if b == 34 then string_from closed text else None
@@ -141,11 +151,13 @@ string_text s = 34 ∷ (flat_map escaped s ++ 34 ∷ [])
 
 -- ---- bytes, in lower-case hexadecimal, `-` for none
 
+-- the bytes that a text spells as `is_hex` says
 unfoldable pub bytes_spelled : List ℕ → Option (List ℕ)
 bytes_spelled text = if is_hex text then bytes_in text else None
 
 -- ---- the label of an entry: `%` and its number
 
+-- the number of a label: `%` and decimal digits
 unfoldable pub label_in : List ℕ → Option ℕ
 label_in [] = None
 label_in (b ∷ text) = if b == 37 then magnitude text else None

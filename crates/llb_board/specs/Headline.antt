@@ -9,13 +9,13 @@ use Rattle.llb_model.specs.Table.{Event, Reply, worker_of, table}
 use Rattle.llb_model.specs.Order.{at_first, order, claims_in, StandsIn}
 use Rattle.llb_state.specs.Board.{Seen, Replays, SettledArePlain, replies_in}
 
--- a running worker has an instance
+-- worker w is running, and holds the instance p
 pub record HasPlace (b : Seen) (w : ℕ) (p : Place) : Type 0 where
   pub execution : Execution
   pub runs : slice_get b.state.workers w ≡ Some (Runs execution)
   pub has : Has execution.places p
 
--- two running workers with the same locked key are the same worker
+-- two running workers that hold instances of one locked key are the same worker
 abbrev pub LockedOnce : Seen → Type 0
 LockedOnce b = (w u : ℕ) (p q : Place) → HasPlace b w p → HasPlace b u q → p.key ≡ q.key → p.key.mode ≡ Locked → w ≡ u
 

@@ -20,7 +20,7 @@ use Rattle.llb_cache.specs.declared.fault.LeaseFault.TheVariants.{Held}
 abbrev pub Row : Type 0
 Row = Key × List TreeMap
 
--- what the leases have: by its number the instances of a lease that is out, in the order of its needs
+-- the leases by number: the instances of a lease that is out, in the order of its needs, and nothing for one that was given back
 abbrev pub Leases : Type 0
 Leases = List (Option (List Place))
 
@@ -31,14 +31,15 @@ pub record CachesValue : Type 0 where
 
 -- ---- instances
 
+-- the instance of a key with this number
 abbrev pub place : Key → ℕ → Place
 place key number = record { key = key; number = number }
 
--- the trees of a key, by number
+-- the trees of a key's instances by number; none for a key that is not there
 abbrev pub trees_of : List Row → Key → List TreeMap
 trees_of rows key = unwrap_or (lookup (same_key key) rows) []
 
--- a key has these trees, in the place of those that it had; a new key comes after all others
+-- the rows after a key gets these trees, in place of those that it had; a new key comes last
 abbrev pub with_trees : List Row → Key → List TreeMap → List Row
 with_trees rows key trees = insert_entry same_key rows key trees
 

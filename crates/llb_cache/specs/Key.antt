@@ -11,6 +11,7 @@ use Rattle.llb_cache.specs.declared.key.Seed.{Seed}
 use Rattle.llb_cache.specs.declared.key.Mode.{Mode}
 use Rattle.llb_cache.specs.declared.key.Mode.TheVariants.{Shared, Private, Locked}
 
+-- whether two modes are equal
 abbrev pub same_mode : Mode → Mode → Bool
 same_mode Shared Shared = true
 same_mode Shared Private = false
@@ -22,10 +23,11 @@ same_mode Locked Shared = false
 same_mode Locked Private = false
 same_mode Locked Locked = true
 
--- the same output of the same entry
+-- whether two seeds are the same output of the same entry
 abbrev pub same_seed : Seed → Seed → Bool
 same_seed s t = (s.index == t.index) && pointwise nat_eq s.digest t.digest
 
+-- whether both are no seed, or both are the same seed
 abbrev pub same_seeds : Option Seed → Option Seed → Bool
 same_seeds None None = true
 same_seeds None (Some t) = false
@@ -44,7 +46,7 @@ has_digest None = false
 abbrev pub has_text : Key → Bool
 has_text k = not (length k.id == 0) || has_digest k.seed
 
--- whether two keys are one
+-- whether two keys are equal in mode, seed and ID
 unfoldable pub same_key : Key → Key → Bool
 same_key k l = same_mode k.mode l.mode && same_seeds k.seed l.seed && pointwise nat_eq k.id l.id
 

@@ -11,11 +11,11 @@ use std::fmt;
 /// How leases share the instances of a cache.
 #[derive(Clone, Copy, Debug)]
 pub enum Mode {
-    /// One instance, which any number of leases have at once.
+    /// One instance, which any number of leases hold at once.
     Shared,
-    /// An instance for each lease: the least that no other has.
+    /// An instance for each lease: the one with the least number that no other lease holds.
     Private,
-    /// One instance, which one lease has at a time.
+    /// One instance, which one lease holds at a time.
     Locked,
 }
 

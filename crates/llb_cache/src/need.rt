@@ -6,7 +6,7 @@ use crate::fault::Memory;
 use crate::key::Key;
 use llb_tree::Tree;
 
-/// An instance of this key. Where it is a new one, it begins with this tree: the seed's, or the empty one.
+/// What a lease needs: an instance of this key. A new instance begins with this tree: the seed's, or the empty one.
 #[derive(Drop)]
 pub struct Need {
     pub key: Key,

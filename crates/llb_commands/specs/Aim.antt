@@ -21,16 +21,18 @@ pub record IsAccepted (definition : List ℕ) (graph : Numbered) (board : Seen) 
   pub board_over : board.build.graph ≡ graph
   pub stepper_over : stepper.board.build.graph ≡ graph
 
--- on all local trees, by any number of workers and after every interleaving of events: wherever a run of the table leads from an opening over the graph
+-- Each board over the graph whose state some run of the table reaches from the board's opening has the property: on all local trees, with any number of workers
+-- and after every interleaving of events.
 abbrev pub AfterAll : Numbered → (Seen → Type 0) → Type 0
 AfterAll graph Holds = (b : Seen) (replies : List Reply) → b.build.graph ≡ graph
     → run b.build (opening b.build b.opening) b.events ≡ Some (b.state, replies) → Holds b
 
--- a text that is read as the entries of the definition is assembled to bytes that are loaded as the graph, and as no other
+-- If a text is read as the entries of the definition, then the bytes that it is assembled to are loaded as the graph, and as no other.
 abbrev pub LoadsAsOne : List ℕ → List ℕ → List (List ℕ) → Numbered → Type 0
 LoadsAsOne text definition entries graph = StandsFor (kept text) entries → definition_of definition ≡ Ok entries → (assembled : List ℕ) (other : Numbered)
     → IsAssembled text assembled → IsGraphIn assembled graph × (IsGraphIn assembled other → other ≡ graph)
 
+-- what is proved about a text, a definition with its entries, the graph that it is loaded as, a board and a stepper
 pub record Aim (text definition : List ℕ) (entries : List (List ℕ)) (graph : Numbered) (board : Seen) (stepper : Stepping) : Type 0 where
   -- any number of workers, from 1 to 64
   pub some_workers : 0 < length board.state.workers

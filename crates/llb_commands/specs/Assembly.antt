@@ -19,7 +19,7 @@ use Rattle.llb_commands.specs.declared.fault.ProgramFault.TheVariants as fault
 use Rattle.llb_commands.specs.Faults.{TellsWhy}
 use Rattle.llb_commands.specs.Sources.{limit}
 
--- the definition of the entries that a text is read as
+-- the definition that a text is assembled to: the canonical bytes of the entries that the text is read as
 pub record IsAssembled (text definition : List ℕ) : Type 0 where
   pub entries : List (List ℕ)
   pub stands : StandsFor (kept text) entries

@@ -26,23 +26,24 @@ resolved text = path_of text >>= λ p. Ok (p, ends_with nat_eq text (47 ∷ []))
 
 -- ---- the sources
 
--- what a source text reads as
+-- the sources of a copy: one path, or each path that matches a pattern
 pub data Chosen : Type 0 where
   OnePath : List (List ℕ) → Chosen
   EachMatch : List (List Item) → Chosen
 
+-- what a copy's source text reads as: a pattern if wildcards are allowed, else a path
 abbrev pub chosen_by : CopyFile → Result Chosen ActFault
 chosen_by c =
     if c.allow_wildcard then (on_pattern (pattern_of c.src) >>= λ pattern. Ok (EachMatch pattern))
     else (on_tree (path_of c.src) >>= λ p. Ok (OnePath p))
 
--- if no path matches, that is a fault, unless it is allowed
+-- these paths; if there are none, a fault, unless that is allowed
 abbrev pub some_match : Bool → List (List (List ℕ)) → Result (List (List (List ℕ))) TreeFault
 some_match true ps = Ok ps
 some_match false [] = Err NotFound
 some_match false (p ∷ ps) = Ok (p ∷ ps)
 
--- the paths that are copied, in path order: one that is there, or all that match
+-- the paths that are copied, in path order: one path, which must be there, or all that match
 abbrev pub sources : Bool → TreeMap → Chosen → Result (List (List (List ℕ))) TreeFault
 sources allow_empty second (OnePath p) = found (finite.get second p) >>= λ _. Ok (p ∷ [])
 sources allow_empty second (EachMatch pattern) = some_match allow_empty (matching pattern second)
@@ -53,7 +54,8 @@ sources allow_empty second (EachMatch pattern) = some_match allow_empty (matchin
 abbrev pub last_name : List (List ℕ) → List (List ℕ)
 last_name p = drop (length p - 1) p
 
--- the target of a source: the destination itself, or a place in it under the source's last name
+-- the target of a source: its last name in the destination, if the destination's text ends in `/` or a directory is there; else the destination itself, and so
+-- too for a directory of which only the contents are copied
 abbrev pub target : CopyFile → List (List ℕ) × Bool → TreeMap → List (List ℕ) → TreeMap → List (List ℕ)
 target c dest second s t =
     if c.dir_copy_contents && is_dir (finite.get second s) then dest.0
@@ -61,11 +63,11 @@ target c dest second s t =
 
 -- ---- the entries of a source at their places
 
--- a path has at most 128 names
+-- a path has at most 128 names, else this is a fault
 abbrev pub fits : List (List ℕ) → Result (Unit {0}) TreeFault
 fits p = if nat_lt 128 (length p) then Err BadName else Ok tt
 
--- a file may not meet a directory, either way
+-- a fault if a file is to replace a directory, or a directory a file
 abbrev pub meets : Option Entry → Entry → Result (Unit {0}) TreeFault
 meets None e = Ok tt
 meets (Some (Dir m)) (Dir n) = Ok tt
@@ -73,23 +75,23 @@ meets (Some (Dir m)) (File n bytes) = Err Conflict
 meets (Some (File m old)) (Dir n) = Err Conflict
 meets (Some (File m old)) (File n bytes) = Ok tt
 
--- the first entry that can't be at its place gives the fault
+-- the fault of the first entry that can't be at its place, if there is one
 abbrev pub all_land : TreeMap → List (List (List ℕ) × Entry) → Result (Unit {0}) TreeFault
 all_land t [] = Ok tt
 all_land t (e ∷ es) = fits e.0 >>= λ _. meets (finite.get t e.0) e.1 >>= λ _. all_land t es
 
--- what is at the place of a copied entry: a directory that was there is kept as it is
+-- the entry that a copied one becomes at its place: a directory that was there stays as it is
 abbrev pub landed : (MetaValue → MetaValue) → Option Entry → Entry → Entry
 landed given (Some (Dir m)) (Dir n) = Dir m
 landed given (Some (File m old)) (Dir n) = Dir (given n)
 landed given None (Dir n) = Dir (given n)
 landed given there (File n bytes) = File (given n) bytes
 
--- an entry at its place, as it is there after the copy
+-- a copied entry with its place, as it is there after the copy
 abbrev pub landed_on : (MetaValue → MetaValue) → TreeMap → List (List ℕ) × Entry → List (List ℕ) × Entry
 landed_on given t e = (e.0, landed given (finite.get t e.0) e.1)
 
--- a tree with entries at their places, over the entries that it had
+-- the tree with copied entries at their places, over the entries that it had
 abbrev pub laid_on : (MetaValue → MetaValue) → TreeMap → List (List (List ℕ) × Entry) → TreeMap
 laid_on given t es = finite.from_entries (map (landed_on given t) es ++ finite.entries t)
 
@@ -97,11 +99,12 @@ laid_on given t es = finite.from_entries (map (landed_on given t) es ++ finite.e
 abbrev pub at_target : TreeMap → List (List ℕ) → List (List ℕ) → List (List (List ℕ) × Entry)
 at_target second s goal = map (moved (length s) goal) (where_key path_cmp (is_within s) (finite.entries second))
 
--- the parents of a target: the missing ones are made, or all have to be there
+-- the tree with the parents of a target: missing ones are made if `createDestPath` is true, else all must be there
 abbrev pub parents_for : Bool → List (List ℕ) → TreeMap → Result TreeMap TreeFault
 parents_for true p t = make_all new_dir_meta (parents p) t
 parents_for false p t = walk (finite.get t) p >>= λ _. Ok t
 
+-- the tree after these entries are copied to their places, with the mode and the owner that `given` makes of theirs
 abbrev pub land : (MetaValue → MetaValue) → List (List (List ℕ) × Entry) → TreeMap → Result TreeMap TreeFault
 land given es t = all_land t es >>= λ _. Ok (laid_on given t es)
 
@@ -118,11 +121,11 @@ abbrev pub copy_each : CopyFile → List (List ℕ) × Bool → TreeMap → List
 copy_each c dest second [] t = Ok t
 copy_each c dest second (s ∷ ss) t = copy_one c dest second s t >>= copy_each c dest second ss
 
--- the tree after the chosen sources are copied, one after another
+-- the tree after the chosen sources are copied, one after another, in path order
 abbrev pub copy_chosen : CopyFile → List (List ℕ) × Bool → TreeMap → TreeMap → Chosen → Result TreeMap TreeFault
 copy_chosen c dest t second chosen = sources c.allow_empty_wildcard second chosen >>= λ ss. copy_each c dest second ss t
 
--- the texts are read before anything else
+-- the tree after a copy from a second tree; the texts are read before anything else, that of the source first
 abbrev pub copy : CopyFile → TreeMap → TreeMap → Result TreeMap ActFault
 copy c t second =
     chosen_by c >>= λ chosen. on_tree (resolved c.dest) >>= λ dest. on_tree (copy_chosen c dest t second chosen)

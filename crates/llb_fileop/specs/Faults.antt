@@ -37,11 +37,12 @@ abbrev pub of_pattern : PatternFault → ActFault
 of_pattern pattern.Memory = Memory
 of_pattern pattern.BadPattern = BadPattern
 
--- the result of a tree's rule, with its fault as an action's
+-- a result of a tree's rule, with its fault as an action's
 abbrev pub on_tree : {A : Type 0} → Result A TreeFault → Result A ActFault
 on_tree (Ok x) = Ok x
 on_tree (Err f) = Err (of_tree f)
 
+-- a result of a pattern's rule, with its fault as an action's
 abbrev pub on_pattern : {A : Type 0} → Result A PatternFault → Result A ActFault
 on_pattern (Ok x) = Ok x
 on_pattern (Err f) = Err (of_pattern f)

@@ -11,11 +11,11 @@ use Rattle.llb_tree.specs.declared.fault.TreeFault.{TreeFault}
 use Rattle.llb_tree.specs.declared.fault.TreeFault.TheVariants.{NotDir}
 use Rattle.llb_fileop.specs.Owners.{made}
 
--- the tree with a new file, which replaces a file that is there
+-- the tree after a `mkfile` action: with a new file, which replaces a file that is there
 abbrev pub mkfile : file.MkFile → TreeMap → Result TreeMap TreeFault
 mkfile m t = path_of m.path >>= λ p. put_file t p (made m.mode m.owner) m.body
 
--- the tree with a directory at a path: it is made if nothing is there; a file there is a fault
+-- the tree with a directory at a path, which is made if nothing is there; a file there is a fault
 abbrev pub kept_or_made : MetaValue → List (List ℕ) → Option Entry → TreeMap → Result TreeMap TreeFault
 kept_or_made m p None t = put_dir t p m
 kept_or_made m p (Some (Dir n)) t = Ok t
@@ -31,11 +31,12 @@ abbrev pub with_parents : Bool → MetaValue → List (List ℕ) → TreeMap →
 with_parents true m p t = make_all m (parents p) t
 with_parents false m p t = Ok t
 
--- the tree with a directory; one that is there stays as it is
+-- the tree with a directory at a path, with its missing parents if `make_parents` is true; a directory that is there stays as it is
 abbrev pub make_dir : Bool → MetaValue → List (List ℕ) → Option Entry → TreeMap → Result TreeMap TreeFault
 make_dir parents m p (Some (Dir n)) t = Ok t
 make_dir parents m p (Some (File n bytes)) t = with_parents parents m p t >>= λ u. put_dir u p m
 make_dir parents m p None t = with_parents parents m p t >>= λ u. put_dir u p m
 
+-- the tree after a `mkdir` action
 abbrev pub mkdir : dir.MkDir → TreeMap → Result TreeMap TreeFault
 mkdir m t = path_of m.path >>= λ p. make_dir m.make_parents (made m.mode m.owner) p (finite.get t p) t

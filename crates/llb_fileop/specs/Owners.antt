@@ -6,30 +6,33 @@ use Rattle.llb_ops.specs.declared.owners.User.{User}
 use Rattle.llb_ops.specs.declared.owners.User.TheVariants.{ByName, ById}
 use Rattle.llb_tree.specs.Meta.{MetaValue}
 
--- the low 12 bits of a signed number
+-- the low 12 bits of a number in two's complement
 abbrev pub mode_of : ℤ → ℕ
 mode_of (pos n) = n % 4096
 mode_of (negsuc n) = 4095 - n % 4096
 
--- the number of a user or a group, if one is given
+-- the number of a user or a group, if it is given by number
 abbrev pub number_in : Option User → Option ℕ
 number_in (Some (ById n)) = Some n
 number_in (Some (ByName name)) = None
 number_in None = None
 
+-- the number of a user or a group, if it is given by number
 abbrev pub id_in : Option UserOpt → Option ℕ
 id_in None = None
 id_in (Some u) = number_in u.user
 
+-- the number of an owner's user, if it is given by number
 abbrev pub user_in : Option ChownOpt → Option ℕ
 user_in None = None
 user_in (Some o) = id_in o.user
 
+-- the number of an owner's group, if it is given by number
 abbrev pub group_in : Option ChownOpt → Option ℕ
 group_in None = None
 group_in (Some o) = id_in o.group
 
--- the mode and the owner of what an action makes: user or group 0 if none is given
+-- the mode and the owner of what an action makes; a user or group that is not given by number is 0
 abbrev pub made : ℤ → Option ChownOpt → MetaValue
 made mode owner = record { mode = mode_of mode; uid = unwrap_or (user_in owner) 0; gid = unwrap_or (group_in owner) 0 }
 
@@ -39,7 +42,7 @@ mode_from (negsuc zero) own = own
 mode_from (negsuc (suc n)) own = mode_of (negsuc (suc n))
 mode_from (pos n) own = mode_of (pos n)
 
--- the mode and the owner of what is copied: its own if none is given
+-- the mode and the owner of what is copied; each of mode, user and group that is not given stays as it was
 abbrev pub copied : ℤ → Option ChownOpt → MetaValue → MetaValue
 copied mode owner own =
     record { mode = mode_from mode own.mode; uid = unwrap_or (user_in owner) own.uid; gid = unwrap_or (group_in owner) own.gid }

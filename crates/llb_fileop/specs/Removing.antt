@@ -14,12 +14,12 @@ use Rattle.llb_glob.specs.Pattern.{pattern_of}
 use Rattle.llb_fileop.specs.declared.fault.ActFault.{ActFault}
 use Rattle.llb_fileop.specs.Faults.{on_tree, on_pattern}
 
--- if nothing is there, that is a fault, unless it is allowed
+-- the tree unchanged if it is allowed that nothing is there, else a fault
 abbrev pub absent : Bool → TreeMap → Result TreeMap TreeFault
 absent true t = Ok t
 absent false t = Err NotFound
 
--- the tree without what is at and below a path
+-- the tree without what is at and below a path; if nothing is there, the tree unchanged or a fault, as `allowed` says
 abbrev pub removed : Bool → List (List ℕ) → Option Entry → TreeMap → Result TreeMap TreeFault
 removed allowed p (Some e) t = Ok (without t p)
 removed allowed p None t = absent allowed t
@@ -50,6 +50,7 @@ abbrev pub rm_pattern : Bool → TreeMap → List (List Item) → Result TreeMap
 rm_pattern allowed t [] = Err Root
 rm_pattern allowed t (part ∷ parts) = removed_all allowed (matching (part ∷ parts) t) t
 
+-- the tree after an `rm` action, whose text is a pattern if wildcards are allowed, else a path
 abbrev pub rm : Rm → TreeMap → Result TreeMap ActFault
 rm r t =
     if r.allow_wildcard then (on_pattern (pattern_of r.path) >>= λ pattern. on_tree (rm_pattern r.allow_not_found t pattern))

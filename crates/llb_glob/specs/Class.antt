@@ -20,26 +20,30 @@ Excluding true P = ¬ P
 abbrev pub ClassTakes : ClassValue → ℕ → Type 0
 ClassTakes class c = Excluding class.excludes (IsInSome class.spans c)
 
--- ---- the relation as a test
+-- the relation as a test: whether a character is in a span
 abbrev pub is_in_span : Span → ℕ → Bool
 is_in_span span c = nat_le span.low c && nat_le c span.high
 
+-- a test, or its opposite if a class excludes
 abbrev pub excluding : Bool → Bool → Bool
 excluding false b = b
 excluding true b = not b
 
+-- whether a class matches a character
 abbrev pub class_takes : ClassValue → ℕ → Bool
 class_takes class c = excluding class.excludes (list_any (λ span. is_in_span span c) class.spans)
 
 -- ---- how a class is built
 
+-- a class with no span, which doesn't exclude
 abbrev pub none_yet : ClassValue
 none_yet = record { excludes = false; spans = [] }
 
+-- the span of one character
 abbrev pub one_alone : ℕ → Span
 one_alone c = record { low = c; high = c }
 
--- the items, of which the last one has another high end
+-- the spans, of which the last one gets another high end
 abbrev pub extended : List Span → ℕ → List Span
 extended [] high = []
 extended (span ∷ []) high = record span { high = high } ∷ []

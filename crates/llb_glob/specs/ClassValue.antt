@@ -2,6 +2,7 @@
 use Rattle.std.specs.Prelude.{Bool, List}
 use Rattle.llb_glob.specs.declared.class.Span.{Span}
 
+-- a class: its spans, and whether it matches what is in none of them
 pub record ClassValue : Type 0 where
   pub excludes : Bool
   pub spans : List Span

@@ -17,14 +17,15 @@ use Rattle.llb_glob.specs.Class.{none_yet, one_alone, extended}
 
 -- ---- what a character does
 
+-- a cursor at this stage, with no `\` before the next character
 abbrev pub at : Stage → Cursor
 at stage = record { stage = stage; quotes = false }
 
--- where a part begins: in no class
+-- the cursor where a part begins: in no class
 abbrev pub start : Cursor
 start = at Outside
 
--- a character that means itself: an item of the part, an item of the class at hand, or the high end of a range
+-- what a character does that means itself: it is an item of the part, an item of the class at hand, or the high end of a range
 abbrev pub literal : Stage → ℕ → Cursor × Effect
 literal Outside c = (at Outside, Whole (One (Only c)))
 literal Opened c = (at Single, Add c)
@@ -33,14 +34,14 @@ literal Single c = (at Single, Add c)
 literal Dash c = (at Range, Extend c)
 literal Range c = (at Single, Add c)
 
--- outside a class a `[` opens one, `*` is any run and `?` any one character
+-- what a character does outside a class: `[` opens one, `*` is any run of characters, `?` is any one character, and any other means itself
 abbrev pub outside : ℕ → Cursor × Effect
 outside c =
     if c == 91 then (at Opened, Nothing)
     else (if c == 42 then (at Outside, Whole Run)
     else (if c == 63 then (at Outside, Whole (One Any)) else literal Outside c))
 
--- a `]` closes a class of one or more whole items
+-- what a `]` does in a class: it closes a class of one or more whole items
 abbrev pub closed : Stage → Result (Cursor × Effect) PatternFault
 closed Outside = Err BadPattern
 closed Opened = Err BadPattern
@@ -49,7 +50,7 @@ closed Single = Ok (at Outside, Close)
 closed Dash = Err BadPattern
 closed Range = Ok (at Outside, Close)
 
--- a `-` is between the two ends of a range
+-- what a `-` does in a class: it is allowed only after the low end of a range
 abbrev pub dashed : Stage → Result (Cursor × Effect) PatternFault
 dashed Outside = Err BadPattern
 dashed Opened = Err BadPattern
@@ -58,11 +59,11 @@ dashed Single = Ok (at Dash, Nothing)
 dashed Dash = Err BadPattern
 dashed Range = Err BadPattern
 
--- in a class each other character means itself
+-- what a character does in a class: a `]`, a `-`, or one that means itself
 abbrev pub inside : Stage → ℕ → Result (Cursor × Effect) PatternFault
 inside stage c = if c == 93 then closed stage else (if c == 45 then dashed stage else Ok (literal stage c))
 
--- a character that is neither a `\` nor after one; right after a `[` a `^` makes the class exclude
+-- what a character does that is neither a `\` nor after one; a `^` right after the `[` makes the class exclude
 abbrev pub plain : Stage → ℕ → Result (Cursor × Effect) PatternFault
 plain Outside c = Ok (outside c)
 plain Opened c = if c == 94 then Ok (at Caret, Exclude) else inside Opened c
@@ -71,6 +72,7 @@ plain Single c = inside Single c
 plain Dash c = inside Dash c
 plain Range c = inside Range c
 
+-- what a character does: right after a `\` it means itself; elsewhere a `\` waits for the next one
 abbrev pub quoted : Bool → Stage → ℕ → Result (Cursor × Effect) PatternFault
 quoted true stage c = Ok (literal stage c)
 quoted false stage c = if c == 92 then Ok (record { stage = stage; quotes = true }, Nothing) else plain stage c
@@ -81,7 +83,7 @@ cut cursor c = quoted cursor.quotes cursor.stage c
 
 -- ---- what is read
 
--- the item of the part that an effect completes, if any
+-- the item that an effect completes, if it completes one
 abbrev pub item_by : Effect → ClassValue → Option Item
 item_by Nothing class = None
 item_by (Whole item) class = Some item
@@ -90,7 +92,7 @@ item_by (Add c) class = None
 item_by (Extend c) class = None
 item_by Close class = Some (One (In class))
 
--- the class at hand after an effect; after a class is closed, the next one has no item yet
+-- the class at hand after an effect; after a class is closed, that is an empty one
 abbrev pub class_by : Effect → ClassValue → ClassValue
 class_by Nothing class = class
 class_by (Whole item) class = class
@@ -99,11 +101,11 @@ class_by (Add c) class = record class { spans = class.spans ++ one_alone c ∷ [
 class_by (Extend c) class = record class { spans = extended class.spans c }
 class_by Close class = none_yet
 
--- a result's items with these before them
+-- a result's items with others before them
 abbrev pub behind : {A : Type 0} → List A → Result (List A) PatternFault → Result (List A) PatternFault
 behind before rest = rest >>= λ more. Ok (before ++ more)
 
--- a part may end outside a class, if no `\` waits for its character
+-- whether the reader is in no class
 abbrev pub is_outside : Stage → Bool
 is_outside Outside = true
 is_outside Opened = false
@@ -112,9 +114,11 @@ is_outside Single = false
 is_outside Dash = false
 is_outside Range = false
 
+-- whether a part may end at the cursor: in no class, and not right after a `\`
 abbrev pub is_whole : Cursor → Bool
 is_whole cursor = is_outside cursor.stage && not cursor.quotes
 
+-- no more items at the end of a part, which must be a whole one
 abbrev pub ended : Bool → Result (List Item) PatternFault
 ended true = Ok []
 ended false = Err BadPattern

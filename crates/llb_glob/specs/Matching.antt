@@ -28,7 +28,7 @@ Matches [] (name ∷ path) = ⊥
 Matches (part ∷ parts) [] = ⊥
 Matches (part ∷ parts) (name ∷ path) = MatchesName part (chars name) × Matches parts path
 
--- ---- the relation as tests, for definitions that list all paths that match
+-- the relation as tests, for definitions that list all paths that match: whether a letter matches a character
 abbrev pub takes : Letter → ℕ → Bool
 takes Any c = true
 takes (Only only) c = c == only
@@ -39,6 +39,7 @@ abbrev pub any_suffix : (List ℕ → Bool) → List ℕ → Bool
 any_suffix test [] = test []
 any_suffix test (c ∷ cs) = test (c ∷ cs) || any_suffix test cs
 
+-- whether items match a name
 abbrev pub name_matches : List Item → List ℕ → Bool
 name_matches [] [] = true
 name_matches [] (c ∷ name) = false
@@ -46,6 +47,7 @@ name_matches (Run ∷ items) name = any_suffix (name_matches items) name
 name_matches (One letter ∷ items) [] = false
 name_matches (One letter ∷ items) (c ∷ name) = takes letter c && name_matches items name
 
+-- whether the parts of a pattern match the names of a path, one by one
 abbrev pub path_matches : List (List Item) → List (List ℕ) → Bool
 path_matches [] [] = true
 path_matches [] (name ∷ path) = false

@@ -10,15 +10,16 @@ use Rattle.llb_glob.specs.declared.fault.PatternFault.TheVariants.{BadPattern}
 use Rattle.llb_glob.specs.declared.item.Item.{Item}
 use Rattle.llb_glob.specs.Items.{items_of}
 
--- the parts, each of which is a name cut into items
+-- the parts of a pattern: each name is read as items
 abbrev pub each_cut : List (List ℕ) → Result (List (List Item)) PatternFault
 each_cut [] = Ok []
 each_cut (name ∷ names) = items_of (chars name) >>= λ part. each_cut names >>= λ parts. Ok (part ∷ parts)
 
--- a text that is no path is no pattern
+-- the pattern of a path; a text that is no path is no pattern
 abbrev pub cut_path : Result (List (List ℕ)) TreeFault → Result (List (List Item)) PatternFault
 cut_path (Ok names) = each_cut names
 cut_path (Err e) = Err BadPattern
 
+-- the pattern that a text reads as
 abbrev pub pattern_of : List ℕ → Result (List (List Item)) PatternFault
 pattern_of text = cut_path (path_of text)

@@ -23,6 +23,7 @@ use Rattle.llb_loader.specs.Mounts.{bind, cache, tmpfs, read_as, dests_of, keys_
 use Rattle.llb_loader.specs.Scripts.{script_in}
 use Rattle.llb_loader.specs.Locals.{source_name}
 
+-- a graph: its vertices by number, and the edge to the output that is its result
 pub record Numbered : Type 0 where
   pub vertices : List Vertex
   pub result : Edge

@@ -8,7 +8,7 @@ use Rattle.llb_loader.specs.Linking.{Refused, GraphOf}
 use Rattle.llb_loader.specs.Reading.{AreOps, RefusesRow}
 use Rattle.std.specs.Prelude.{◌⊎◌}
 
--- rows that are all readable are this graph
+-- Each row is read as an op, and the rows with these ops make the graph.
 abbrev pub IsGraphOf : List Row → Numbered → Type 0
 IsGraphOf rows g = (ops : List Op) × AreOps rows ops × GraphOf rows ops g
 

@@ -18,11 +18,11 @@ use Rattle.llb_loader.specs.Scripts.{script_in}
 use Rattle.llb_loader.specs.Rules.{step_count, output_count, IsBelow, MeetsRules, BreaksFirst}
 use Rattle.llb_loader.specs.Graph.{Numbered}
 
--- op k, an empty one past the end
+-- op k; an empty op past the end
 abbrev pub op_at : List Op → ℕ → Op
 op_at ops k = slice_index_or ops k (record { inputs = []; kind = None; extra = [] })
 
--- input i, an empty one past the end
+-- input i of an op; an empty input past the end
 abbrev pub input_at : Op → ℕ → Input
 input_at op i = slice_index_or op.inputs i (record { digest = []; index = pos 0; extra = [] })
 
@@ -31,21 +31,22 @@ pub record Foremost (P : ℕ → ℕ → Type 0) (k i : ℕ) : Type 0 where
   pub holds : P k i
   pub least : (j h : ℕ) → P j h → (k < j) ⊎ ((k ≡ j) × (i ≤ h))
 
--- the rows, their ops, the terminal and the result's row
+-- what a graph is made from: the rows, their ops, the row of the terminal op, and the row of the result, which is named by the terminal's first input
 pub record Plan : Type 0 where
   pub rows : List Row
   pub ops : List Op
   pub terminal : ℕ
   pub start : ℕ
 
+-- the plan of these parts
 abbrev pub plan : List Row → List Op → ℕ → ℕ → Plan
 plan rows ops terminal start = record { rows = rows; ops = ops; terminal = terminal; start = start }
 
--- the row that the terminal's first input names
+-- the row that the terminal's first input names, 0 if it names none
 abbrev pub start_in : List Row → List Op → ℕ
 start_in rows ops = unwrap_or (row_named rows (terminal_in rows) (input_at (op_at ops (terminal_in rows)) 0).digest) 0
 
--- the plan of rows that are readable as these ops
+-- the plan of rows that are read as these ops
 abbrev pub plan_of : List Row → List Op → Plan
 plan_of rows ops = plan rows ops (terminal_in rows) (start_in rows ops)
 
@@ -53,7 +54,7 @@ plan_of rows ops = plan rows ops (terminal_in rows) (start_in rows ops)
 pub record IsPlanOf (rows : List Row) (ops : List Op) (p : Plan) : Type 0 where
   pub same : p ≡ plan_of rows ops
 
--- what each row names
+-- for each row, the rows that its inputs name
 abbrev pub links_in : Plan → List (List ℕ)
 links_in p = graph_of p.rows p.terminal p.ops
 
@@ -61,6 +62,7 @@ links_in p = graph_of p.rows p.terminal p.ops
 abbrev pub input_row : Plan → ℕ → ℕ → Option ℕ
 input_row p k i = row_named p.rows p.terminal (input_at (op_at p.ops k) i).digest
 
+-- row k is the result's, or is named by an input of a row that is reached
 abbrev pub ReachedRow : Plan → ℕ → Type 0
 ReachedRow p k = Reached (links_in p) p.start k
 
@@ -74,46 +76,54 @@ pub record IsUnknown (p : Plan) (k i : ℕ) : Type 0 where
   pub input : HasInput p k i
   pub unknown : input_row p k i ≡ None
 
--- the outputs of the row that input i of row k names
+-- how many outputs the row has that input i of row k names
 abbrev pub outputs_there : Plan → ℕ → ℕ → ℕ
 outputs_there p k i = output_count (op_at p.ops (unwrap_or (input_row p k i) 0))
 
--- an input of a reached row, or the terminal's first, has the index of no output
+-- an input of a reached row, or the terminal's first input, has an index that is no output's of the row it names
 pub record IsBadIndex (p : Plan) (k i : ℕ) : Type 0 where
   pub asked : HasInput p k i ⊎ ((k ≡ p.terminal) × (i ≡ 0))
   pub bad : ¬ IsBelow (outputs_there p k i) (input_at (op_at p.ops k) i).index
 
 -- ---- what holds once a refusal does not apply, in their order
 
+-- Not all rows are the same, and no two rows with the same digest text have different bytes.
 pub record IsApart (rows : List Row) : Type 0 where
   pub several : ¬ AllSame rows
   pub apart : (k : ℕ) → ¬ Collides rows k
 
+-- The rows are apart, the terminal is the first row that equals the last one, and it has an input.
 pub record HasResult (p : Plan) : Type 0 where
   pub apart : IsApart p.rows
   pub terminal : IsTerminal p.rows p.terminal
   pub input : 0 < length (op_at p.ops p.terminal).inputs
 
+-- The terminal has an input, and the first one names the row of the result.
 pub record IsStarted (p : Plan) : Type 0 where
   pub result : HasResult p
   pub start : input_row p p.terminal 0 ≡ Some p.start
 
+-- There is a result, and each input of a reached row names a row.
 pub record IsNamed (p : Plan) : Type 0 where
   pub started : IsStarted p
   pub named : (k i : ℕ) → ¬ IsUnknown p k i
 
+-- Each input of a reached row names a row, and the order numbers the reached rows.
 pub record IsOrdered (p : Plan) (order : List ℕ) : Type 0 where
   pub named : IsNamed p
   pub numbering : IsNumbering (links_in p) p.start order
 
+-- The reached rows are numbered, and none of them has an unsupported feature.
 pub record IsTaken (p : Plan) (order : List ℕ) : Type 0 where
   pub ordered : IsOrdered p order
   pub featureless : (k : ℕ) → ReachedRow p k → feature_of (op_at p.ops k) ≡ None
 
+-- The reached rows are numbered and supported, and each of them meets the rules.
 pub record IsValid (p : Plan) (order : List ℕ) : Type 0 where
   pub taken : IsTaken p order
   pub valid : (k : ℕ) → ReachedRow p k → MeetsRules (op_at p.ops k)
 
+-- No refusal applies: the reached rows are numbered, supported and valid, and each index of an input is that of an output.
 pub record IsWhole (p : Plan) (order : List ℕ) : Type 0 where
   pub valid : IsValid p order
   pub indexes : (k i : ℕ) → ¬ IsBadIndex p k i
@@ -155,7 +165,7 @@ Refused rows ops e = Refuses (plan_of rows ops) e
 
 -- ---- the graph
 
--- the edge of input i of row k
+-- the edge of an input: the number of the vertex that it names, and its index
 abbrev pub edge_of : Plan → List ℕ → Input → Edge
 edge_of p order i = record { vertex = rank_in order (unwrap_or (row_named p.rows p.terminal i.digest) 0); index = nat_abs i.index }
 
@@ -170,13 +180,14 @@ vertex_of p order k = record {
   outputs = output_count (op_at p.ops k);
 }
 
+-- the graph of a plan whose reached rows are numbered in this order
 abbrev pub numbered_of : Plan → List ℕ → Numbered
 numbered_of p order = record {
   vertices = map (vertex_of p order) order;
   result = edge_of p order (input_at (op_at p.ops p.terminal) 0);
 }
 
--- the rows, readable as these ops, are this graph
+-- The rows, which are read as these ops, make the graph: no refusal applies to their plan, and the graph is that of the plan in its order.
 pub record GraphOf (rows : List Row) (ops : List Op) (g : Numbered) : Type 0 where
   pub order : List ℕ
   pub whole : IsWhole (plan_of rows ops) order

@@ -9,11 +9,11 @@ use Rattle.llb_wire.specs.Digest.{digest_text}
 use Rattle.llb_loader.specs.Graph.{Numbered}
 use Rattle.llb_loader.specs.Link.{IsGraphOf, IsRefusalOf}
 
--- the entries under their digest texts
+-- the rows of entries: each entry under its digest text
 abbrev pub rows_from : List (List ℕ) → List Row
 rows_from entries = map (λ bytes. record { digest = digest_text bytes; bytes = bytes }) entries
 
--- the graph of a definition's entries
+-- The bytes are a definition, and the rows of its entries make the graph.
 abbrev pub IsGraphIn : List ℕ → Numbered → Type 0
 IsGraphIn bytes g = (entries : List (List ℕ)) × (definition_of bytes ≡ Ok entries) × IsGraphOf (rows_from entries) g
 

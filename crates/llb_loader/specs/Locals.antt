@@ -10,25 +10,26 @@ use Rattle.llb_ops.specs.declared.op.Kind.TheVariants.{Source}
 use Rattle.llb_ops.specs.declared.source.SourceOp.{SourceOp}
 use Rattle.llb_tree.specs.Tree.{TreeMap}
 
--- the rest of a text after a prefix
+-- the rest of a text after a prefix, if the text begins with it
 abbrev pub behind : List ℕ → List ℕ → Option (List ℕ)
 behind prefix text = cond (starts_with nat_eq text prefix) (Some (drop (length prefix) text)) None
 
--- the rest of a source's identifier after `local://`
+-- the rest of a source's identifier after `local://`, if it begins so
 abbrev pub source_name : SourceOp → Option (List ℕ)
 source_name s = behind (codes "local://") s.identifier
 
+-- the name of a local source, by the kind of its op
 abbrev pub kind_name : Option Kind → Option (List ℕ)
 kind_name (Some (Source s)) = source_name s
 kind_name _ = None
 
--- the name of a local source
+-- the name of a local source; none for another op
 abbrev pub local_name : Op → Option (List ℕ)
 local_name op = kind_name op.kind
 
 -- ---- the trees that are given
 
--- a name and its tree
+-- a local tree under its name
 abbrev pub Local : Type 0
 Local = List ℕ × TreeMap
 
@@ -36,7 +37,7 @@ Local = List ℕ × TreeMap
 unfoldable pub locals_of : {Z : Type 0} → List (String Z × TreeMap) → List Local
 locals_of entries = map (λ e. (string_bytes e.0, e.1)) entries
 
--- the tree of a name: the first that is given under it
+-- the tree of a local source by name: the first that is given under the name
 abbrev pub tree_of_local : List Local → List ℕ → Option TreeMap
 tree_of_local locals name = lookup (bytes_eq name) locals
 

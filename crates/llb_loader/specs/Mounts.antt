@@ -9,40 +9,47 @@ use Rattle.llb_ops.specs.declared.exec.CacheOpt.{CacheOpt}
 use Rattle.llb_tree.specs.declared.fault.TreeFault.{TreeFault}
 use Rattle.llb_tree.specs.Path.{path_of}
 
--- the types of mounts by their numbers
+-- the number of the type of bind mounts
 abbrev pub bind : ℤ
 bind = pos 0
 
+-- the number of the type of secret mounts
 abbrev pub secret : ℤ
 secret = pos 1
 
+-- the number of the type of SSH mounts
 abbrev pub ssh : ℤ
 ssh = pos 2
 
+-- the number of the type of cache mounts
 abbrev pub cache : ℤ
 cache = pos 3
 
+-- the number of the type of tmpfs mounts
 abbrev pub tmpfs : ℤ
 tmpfs = pos 4
 
+-- whether a mount is of this type
 abbrev pub has_type : ℤ → Mount → Bool
 has_type t m = int_eq m.mount_type t
 
 -- ---- values that some places of a list have
 
+-- the value at a place of a list; none past the end
 abbrev pub value_at : {X : Type 0} → List (Option X) → ℕ → Option X
 value_at values a = slice_index_or values a None
 
--- both have a value, and the same one
+-- both have a value, and it is the same
 abbrev pub Share : {X : Type 0} → Option X → Option X → Type 0
 Share {X} a b = (x : X) × (a ≡ Some x) × (b ≡ Some x)
 
--- no two places have one value
+-- no two places of a list have the same value
 pub record AreApart {X : Type 0} (values : List (Option X)) : Type 0 where
   pub apart : (a b : ℕ) → a < b → ¬ Share (value_at values a) (value_at values b)
 
 -- ---- paths
 
+-- the path in a result, if it is one
 abbrev pub value_of : Result (List (List ℕ)) TreeFault → Option (List (List ℕ))
 value_of (Ok path) = Some path
 value_of (Err f) = None
@@ -51,16 +58,16 @@ value_of (Err f) = None
 abbrev pub read_as : List ℕ → Option (List (List ℕ))
 read_as text = value_of (path_of text)
 
--- where each mount is
+-- for each mount, the path that its dest reads as
 abbrev pub dests_of : List Mount → List (Option (List (List ℕ)))
 dests_of mounts = map (λ m. read_as m.dest) mounts
 
--- the directory in which the words are run is a path
+-- the text of the directory in which the words are run reads as a path
 abbrev pub ReadsCwd : Option Meta → Type 0
 ReadsCwd (Some meta) = IsSome (read_as meta.cwd)
 ReadsCwd None = ⊤
 
--- every text that is to be a path is one
+-- every text that must be a path reads as one
 pub record ReadsPaths (mounts : List Mount) (meta : Option Meta) : Type 0 where
   pub dests : All IsSome (dests_of mounts)
   pub selectors : All (λ m. IsSome (read_as m.selector)) mounts
@@ -68,16 +75,17 @@ pub record ReadsPaths (mounts : List Mount) (meta : Option Meta) : Type 0 where
 
 -- ---- caches
 
--- an output by its digest text and its index
+-- an output: the digest text of its op, and its index
 pub record Seed : Type 0 where
   pub digest : List ℕ
   pub index : ℤ
 
+-- the output that an input is
 abbrev pub seed_by : Option Input → Option Seed
 seed_by (Some i) = Some (record { digest = i.digest; index = i.index })
 seed_by None = None
 
--- the output that a new instance begins with: that of an input, none for -1
+-- the output that a new instance of a cache begins with: that of the input with this number; none if there is no such input, as for -1
 abbrev pub seed_of : List Input → ℤ → Option Seed
 seed_of inputs (pos n) = seed_by (slice_get inputs n)
 seed_of inputs (negsuc n) = None
@@ -88,16 +96,19 @@ pub record CacheKey : Type 0 where
   pub seed : Option Seed
   pub mode : ℤ
 
+-- the key of a cache with this seed and these options
 abbrev pub key_by : Option Seed → Option CacheOpt → Option CacheKey
 key_by seed (Some c) = Some (record { id = c.id; seed = seed; mode = c.sharing })
 key_by seed None = None
 
--- the options of the cache that a mount shows, if it shows one
+-- the options of the cache that a mount shows, if it is a cache mount
 abbrev pub cache_in : Mount → Option CacheOpt
 cache_in m = cond (has_type cache m) m.cache_opt None
 
+-- the key of the cache that a mount shows, if it shows one
 abbrev pub key_of : List Input → Mount → Option CacheKey
 key_of inputs m = key_by (seed_of inputs m.input) (cache_in m)
 
+-- for each mount, the key of the cache that it shows
 abbrev pub keys_of : List Input → List Mount → List (Option CacheKey)
 keys_of inputs mounts = map (key_of inputs) mounts

@@ -9,7 +9,7 @@ use Rattle.llb_loader.specs.declared.fault.LoadFault.TheVariants.{Entry}
 use Rattle.llb_loader.specs.RowLookup.{row_at}
 use Rattle.llb_loader.specs.Linking.{op_at}
 
--- each row spells its op
+-- each row's bytes are read as the op with its number
 pub record AreOps (rows : List Row) (ops : List Op) : Type 0 where
   pub len : length ops ≡ length rows
   pub each : (k : ℕ) → k < length rows → op_of (row_at rows k).bytes ≡ Ok (op_at ops k)

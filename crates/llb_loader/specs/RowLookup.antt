@@ -12,49 +12,50 @@ use Rattle.std.specs.BTreeMap.{BTreeMap, get_by}
 use Rattle.std.specs.Cmp.Lexicographic.{slice_cmp}
 use Rattle.std.specs.Ordering.{nat_cmp}
 
--- row k, an empty one past the end
+-- row k; an empty row past the end
 abbrev pub row_at : List Row → ℕ → Row
 row_at rows k = slice_index_or rows k (record { digest = []; bytes = [] })
 
--- fewer than two distinct rows
+-- all rows are the same: fewer than two are distinct
 abbrev pub AllSame : List Row → Type 0
 AllSame rows = (k : ℕ) → k < length rows → row_at rows k ≡ row_at rows 0
 
--- row k has an earlier row's digest and other bytes
+-- row k has the digest text of an earlier row, and other bytes
 pub record Collides (rows : List Row) (k : ℕ) : Type 0 where
   pub here : k < length rows
   pub earlier : (j : ℕ) × (j < k) × ((row_at rows j).digest ≡ (row_at rows k).digest) × ((row_at rows j).bytes ≢ (row_at rows k).bytes)
 
--- the least number with a property
+-- k is the least number with a property
 pub record Least (P : ℕ → Type 0) (k : ℕ) : Type 0 where
   pub holds : P k
   pub least : (j : ℕ) → j < k → ¬ P j
 
--- the last row given, its earlier equal where it was dropped
+-- Row t is the terminal: the first row that equals the last one.
 abbrev pub IsTerminal : List Row → ℕ → Type 0
 IsTerminal rows t = Least (λ k. (k < length rows) × (row_at rows k ≡ row_at rows (length rows - 1))) t
 
--- the first row with a digest text
+-- the first row with this digest text
 abbrev pub first_with : List Row → List ℕ → Option ℕ
 first_with rows d = position (λ r. bytes_eq d r.digest) rows
 
--- the first row with the last row's digest text
+-- the first row with the last row's digest text, 0 if there are no rows
 abbrev pub terminal_in : List Row → ℕ
 terminal_in rows = unwrap_or (first_with rows (row_at rows (length rows - 1)).digest) 0
 
+-- a row, unless it is row t
 abbrev pub other_than : ℕ → Option ℕ → Option ℕ
 other_than t (Some k) = cond (k == t) None (Some k)
 other_than t None = None
 
--- the row that a digest text names: that of the terminal names nothing
+-- the row that a digest text names: the first row with it, unless this is the terminal, which no input can name
 abbrev pub row_named : List Row → ℕ → List ℕ → Option ℕ
 row_named rows t d = other_than t (first_with rows d)
 
--- the rows that an op's inputs name
+-- the rows that an op's inputs name, without inputs that name none
 abbrev pub rows_named : List Row → ℕ → Op → List ℕ
 rows_named rows t op = filter_map (λ i. row_named rows t i.digest) op.inputs
 
--- what each row names
+-- for each row, the rows that its inputs name
 abbrev pub graph_of : List Row → ℕ → List Op → List (List ℕ)
 graph_of rows t ops = map (rows_named rows t) ops
 

@@ -30,7 +30,7 @@ use Rattle.llb_loader.specs.Mounts.{bind, cache, tmpfs, dests_of, keys_of, AreAp
 abbrev pub none : ℤ
 none = negsuc 0
 
--- a number other than that
+-- whether a number is other than -1
 abbrev pub is_output : ℤ → Bool
 is_output (negsuc zero) = false
 is_output _ = true
@@ -48,27 +48,29 @@ abbrev pub kind_mounts : Option Kind → List Mount
 kind_mounts (Some (Exec x)) = x.mounts
 kind_mounts _ = []
 
--- the owner that a member sets, if any
+-- the owner that an action sets, if it sets one
 abbrev pub owner_of : Option ActionKind → Option ChownOpt
 owner_of (Some (MkFile m)) = m.owner
 owner_of (Some (MkDir m)) = m.owner
 owner_of (Some (Copy c)) = c.owner
 owner_of _ = None
 
+-- whether a user is given by name
 abbrev pub is_by_name : Option User → Bool
 is_by_name (Some (ByName n)) = true
 is_by_name _ = false
 
+-- whether a user or group is given by name
 abbrev pub user_by_name : Option UserOpt → Bool
 user_by_name (Some u) = is_by_name u.user
 user_by_name None = false
 
--- a user or a group is given by its name
+-- whether the user or the group of an owner is given by name
 abbrev pub owner_by_name : Option ChownOpt → Bool
 owner_by_name (Some o) = user_by_name o.user || user_by_name o.group
 owner_by_name None = false
 
--- a number from -1 to n - 1
+-- a number from -1 to n - 1: none, or one of n inputs
 pub record IsInput (n : ℕ) (i : ℤ) : Type 0 where
   pub low : none ≤ℤ i
   pub high : i <ℤ pos n
@@ -78,20 +80,21 @@ pub record IsBelow (n : ℕ) (i : ℤ) : Type 0 where
   pub low : pos 0 ≤ℤ i
   pub high : i <ℤ pos n
 
--- action a reads one of n inputs, the result of an action before it, or nothing
+-- The input of each action a is one of the op's n inputs, the result of an action before it, or none.
 abbrev pub ActionInputs : ℕ → List Action → Type 0
 ActionInputs n actions = (a : ℕ) (d : Action) → a < length actions → IsInput (n + a) (slice_index_or actions a d).input
 
--- the second input of a member: that of a copy
+-- the second input of an action: that of a copy is one of n, or none; that of another action may be any number, and is not used
 abbrev pub TakesSecond : ℕ → Option ActionKind → ℤ → Type 0
 TakesSecond n (Some (Copy c)) second = IsInput n second
 TakesSecond n _ second = ⊤
 
--- action a copies from one of n inputs, the result of an action before it, or nothing
+-- The second input of each copy a is one of the op's n inputs, the result of an action before it, or none.
 abbrev pub SecondInputs : ℕ → List Action → Type 0
 SecondInputs n actions = (a : ℕ) (d : Action) → a < length actions
     → TakesSecond (n + a) (slice_index_or actions a d).kind (slice_index_or actions a d).secondary_input
 
+-- the first and the second input of each action is an input of the op, the result of an earlier action, or none
 pub record TakeInputs (n : ℕ) (actions : List Action) : Type 0 where
   pub first : ActionInputs n actions
   pub second : SecondInputs n actions
@@ -100,15 +103,15 @@ pub record TakeInputs (n : ℕ) (actions : List Action) : Type 0 where
 abbrev pub outputs_of : List Action → List ℤ
 outputs_of actions = map (λ a. a.output) actions
 
--- how many are other than -1
+-- how many of these numbers are other than -1
 abbrev pub count_outputs : List ℤ → ℕ
 count_outputs outputs = count_by is_output outputs
 
--- the output number at a place, -1 past the end
+-- the output number at a place; -1 past the end
 abbrev pub output_at : List ℤ → ℕ → ℤ
 output_at outputs a = slice_index_or outputs a none
 
--- each of the m numbers other than -1 is from 0 to m - 1 and occurs once, and each of 0 to m - 1 is there
+-- Let m of the numbers be other than -1. Each of these is from 0 to m - 1 and occurs once, and each of 0 to m - 1 occurs.
 pub record AreOutputs (outputs : List ℤ) : Type 0 where
   pub within : (a : ℕ) → output_at outputs a ≢ none → IsBelow (count_outputs outputs) (output_at outputs a)
   pub once : (a b : ℕ) → output_at outputs a ≢ none → output_at outputs a ≡ output_at outputs b → a ≡ b
@@ -124,15 +127,16 @@ mount_outputs mounts = map (λ m. m.output) mounts
 abbrev pub ShowsInput : ℕ → Mount → Type 0
 ShowsInput n m = (m.mount_type ≡ bind) ⊎ (m.mount_type ≡ cache) → IsInput n m.input
 
--- a cache mount has its options
+-- a mount that is a cache has options
 abbrev pub HasOptions : Mount → Type 0
 HasOptions m = m.mount_type ≡ cache → IsSome m.cache_opt
 
+-- options of a cache, if there are some, name one of the three ways in which it is shared
 abbrev pub IsKnownSharing : Option CacheOpt → Type 0
 IsKnownSharing (Some c) = IsBelow 3 c.sharing
 IsKnownSharing None = ⊤
 
--- a cache is shared in one of three ways
+-- a cache mount that has options names one of the three ways in which a cache is shared
 abbrev pub IsShared : Mount → Type 0
 IsShared m = m.mount_type ≡ cache → IsKnownSharing m.cache_opt
 
@@ -142,14 +146,14 @@ pub record AreMountOutputs (mounts : List Mount) : Type 0 where
   pub caches : All (λ m. m.mount_type ≡ cache → m.output ≡ none) mounts
   pub tmpfs : All (λ m. m.mount_type ≡ tmpfs → m.output ≡ none) mounts
 
--- there is a word to run
+-- there is a word to run, if there is a meta
 abbrev pub HasWord : Option Meta → Type 0
 HasWord (Some meta) = 0 < length meta.args
 HasWord None = ⊤
 
 -- ---- counts
 
--- the number of micro-steps
+-- how many micro-steps an op of this kind has
 abbrev pub kind_steps : Option Kind → ℕ
 kind_steps (Some (Source s)) = 1
 kind_steps (Some (Exec x)) = length (unwrap_or (commands_in x.meta) [])
@@ -157,10 +161,11 @@ kind_steps (Some (File f)) = length f.actions
 kind_steps (Some (Merge m)) = length m.inputs
 kind_steps _ = 0
 
+-- how many micro-steps an op has
 abbrev pub step_count : Op → ℕ
 step_count op = kind_steps op.kind
 
--- the number of outputs
+-- how many outputs an op of this kind has
 abbrev pub kind_outputs : Option Kind → ℕ
 kind_outputs (Some (Source s)) = 1
 kind_outputs (Some (Merge m)) = 1
@@ -168,23 +173,28 @@ kind_outputs (Some (File f)) = count_outputs (outputs_of f.actions)
 kind_outputs (Some (Exec x)) = count_outputs (mount_outputs x.mounts)
 kind_outputs _ = 0
 
+-- how many outputs an op has
 abbrev pub output_count : Op → ℕ
 output_count op = kind_outputs op.kind
 
 -- ---- what is asked of one kind alone
 
+-- a property of the source that an op is, which holds of any other op
 abbrev pub OfSource : (SourceOp → Type 0) → Option Kind → Type 0
 OfSource P (Some (Source s)) = P s
 OfSource P _ = ⊤
 
+-- a property of the file op that an op is, which holds of any other op
 abbrev pub OfFile : (FileOp → Type 0) → Option Kind → Type 0
 OfFile P (Some (File f)) = P f
 OfFile P _ = ⊤
 
+-- a property of the exec that an op is, which holds of any other op
 abbrev pub OfExec : (ExecOp → Type 0) → Option Kind → Type 0
 OfExec P (Some (Exec x)) = P x
 OfExec P _ = ⊤
 
+-- a property of the merge that an op is, which holds of any other op
 abbrev pub OfMerge : (MergeOp → Type 0) → Option Kind → Type 0
 OfMerge P (Some (Merge m)) = P m
 OfMerge P _ = ⊤
@@ -213,6 +223,7 @@ Meets inputs kind rule.CacheTwice = OfExec (λ x. AreApart (keys_of inputs x.mou
 Meets inputs kind (rule.Script f) = OfExec (λ x. IsSome (commands_in x.meta)) kind
 Meets inputs kind rule.MergeInput = OfMerge (λ m. All (λ i. IsInput (length inputs) i.input) m.inputs) kind
 
+-- an op of a kind on these inputs meets each of these rules
 abbrev pub MeetsAll : List Input → Option Kind → List Rule → Type 0
 MeetsAll inputs kind [] = ⊤
 MeetsAll inputs kind (r ∷ rs) = Meets inputs kind r × MeetsAll inputs kind rs
@@ -222,7 +233,7 @@ abbrev pub Breaks : List Input → Option Kind → List Rule → Rule → Type 0
 Breaks inputs kind [] broken = ⊥
 Breaks inputs kind (r ∷ rs) broken = ((broken ≡ r) × (¬ Meets inputs kind r)) ⊎ (Meets inputs kind r × Breaks inputs kind rs broken)
 
--- the fault that an exec's script has, where it has one
+-- the fault of an exec's script, as `script_fault` says; for another kind, one that means nothing
 abbrev pub kind_fault : Option Kind → ScriptFault
 kind_fault (Some (Exec x)) = script_fault x.meta
 kind_fault _ = script_fault None

@@ -10,26 +10,26 @@ use Rattle.llb_applet.specs.declared.fault.ScriptFault.{ScriptFault}
 use Rattle.llb_applet.specs.declared.fault.ScriptFault.TheVariants.{ShellSyntax}
 use Rattle.llb_applet.specs.Scripts.{script_of}
 
--- the commands that a meta's words are, if they are some
+-- the commands that the words of a meta are, if they are a script
 abbrev pub commands_in : Option Meta → Option (List Joined)
 commands_in (Some m) = result_ok (script_of m.args)
 commands_in None = None
 
--- the fault in a result, and some fault where there is none
+-- the fault in a result; if there is none, `ShellSyntax` at 0, which means nothing then
 abbrev pub fault_or_none : Result (List Joined) ScriptFault → ScriptFault
 fault_or_none (Err f) = f
 fault_or_none (Ok cs) = ShellSyntax 0
 
--- the fault of a meta's words, if they have one
+-- the fault of a meta's words; if there is none, `ShellSyntax` at 0, which means nothing then
 abbrev pub script_fault : Option Meta → ScriptFault
 script_fault (Some m) = fault_or_none (script_of m.args)
 script_fault None = ShellSyntax 0
 
--- the commands of a kind: those of an exec
+-- the commands of an exec, if its words are a script; none for another kind
 abbrev pub kind_script : Option Kind → Option (List Joined)
 kind_script (Some (Exec x)) = commands_in x.meta
 kind_script _ = None
 
--- the script of an op: there for an exec alone
+-- the commands of an op, if it is an exec whose words are a script
 abbrev pub script_in : Op → Option (List Joined)
 script_in op = kind_script op.kind

@@ -16,26 +16,30 @@ use Rattle.llb_tree.specs.Tree.{TreeMap, empty_tree}
 
 -- ---- places
 
+-- the number of a mode, by which modes are ordered
 abbrev pub mode_number : Mode → ℕ
 mode_number Shared = 0
 mode_number Private = 1
 mode_number Locked = 2
 
+-- a seed as lists of numbers, by which seeds are ordered
 abbrev pub seed_name : Option Seed → List (List ℕ)
 seed_name None = []
 seed_name (Some s) = (s.index ∷ []) ∷ s.digest ∷ []
 
--- a key, written as texts
+-- a key as lists of numbers, by which keys are ordered
 abbrev pub key_name : Key → List (List ℕ)
 key_name k = (mode_number k.mode ∷ []) ∷ k.id ∷ seed_name k.seed
 
--- a place, written as texts
+-- an instance as lists of numbers, by which instances are ordered: its number, and then its key's name
 abbrev pub name_of : Place → List (List ℕ)
 name_of p = (p.number ∷ []) ∷ key_name p.key
 
+-- the order of instances, by their names
 abbrev pub place_cmp : Place → Place → Ordering
 place_cmp = on name_of (slice_cmp (slice_cmp nat_cmp))
 
+-- whether an instance is in a list
 abbrev pub is_in : List Place → Place → Bool
 is_in ps p = list_any (λ q. eq_by_cmp place_cmp p q) ps
 
@@ -47,6 +51,7 @@ IsExclusive Locked = Unit {0}
 
 -- ---- contents
 
+-- the contents of the caches: the tree of each instance that is there
 abbrev pub Store : Type 0
 Store = FinMap place_cmp TreeMap
 
@@ -54,21 +59,21 @@ Store = FinMap place_cmp TreeMap
 abbrev pub no_instances : Store
 no_instances = finite.empty
 
--- the tree of an instance, where it is there
+-- the tree of an instance, if the instance is there
 unfoldable pub content : Store → Place → Option TreeMap
 content s p = finite.get s p
 
--- another tree at one place
+-- the contents with this tree at one place
 unfoldable pub put : Store → Place → TreeMap → Store
 put s p t = finite.insert s p t
 
--- one tree at each place
+-- the contents with one of these trees at each of these places
 abbrev pub put_all : Store → List Place → List TreeMap → Store
 put_all s [] ts = s
 put_all s (p ∷ ps) [] = s
 put_all s (p ∷ ps) (t ∷ ts) = put_all (put s p t) ps ts
 
--- the trees at places, which are there
+-- the trees of these instances; the empty tree for one that is not there
 abbrev pub trees_at : Store → List Place → List TreeMap
 trees_at s ps = map (λ p. unwrap_or (content s p) empty_tree) ps
 
@@ -81,6 +86,7 @@ Hold s (p ∷ ps) (t ∷ ts) = (content s p ≡ Some t) × Hold s ps ts
 
 -- ---- lists
 
+-- p is one of the items of a list
 abbrev pub Has : {A : Type 0} → List A → A → Type 0
 Has [] p = ⊥
 Has (q ∷ qs) p = (p ≡ q) ⊎ Has qs p

@@ -13,11 +13,12 @@ pub data Ending : Type 0 where
   Done : List TreeMap → Ending
   Failed : VertexFault → Ending
 
--- a vertex ends, or an input of it has no tree
+-- what the graph alone makes of a vertex: an end, or nothing because an input has no tree
 pub data Outcome : Type 0 where
   Ended : Ending → Outcome
   Blocked : Outcome
 
+-- how a program ends: with the outputs of its view, or with the fault
 abbrev pub ended : Program → View → Option VertexFault → Ending
 ended p view None = Done (outputs_of p view)
 ended p view (Some f) = Failed f
@@ -26,50 +27,54 @@ ended p view (Some f) = Failed f
 abbrev pub ending : Program → Left → Ending
 ending p left = ended p left.work.own left.fault
 
+-- output i of a vertex that ended done
 abbrev pub output_in : Option Ending → ℕ → Option TreeMap
 output_in (Some (Done trees)) i = slice_get trees i
 output_in (Some (Failed f)) i = None
 output_in None i = None
 
+-- one item before a list of items, if both are there
 abbrev pub both : {A : Type 0} → Option A → Option (List A) → Option (List A)
 both (Some x) (Some xs) = Some (x ∷ xs)
 both (Some x) None = None
 both None xs = None
 
--- all items of a list, where each is there
+-- the items of a list, if each of them is there
 abbrev pub all_there : {A : Type 0} → List (Option A) → Option (List A)
 all_there [] = Some []
 all_there (o ∷ os) = both o (all_there os)
 
--- the trees of a vertex's inputs, where each comes from a vertex that ended done
+-- the trees that these edges lead to, if each is an output of a vertex that ended done
 unfoldable pub inputs_from : (ℕ → Option Ending) → List Edge → Option (List TreeMap)
 inputs_from ending_of edges = all_there (map (λ (e : Edge). output_in (ending_of e.vertex) e.index) edges)
 
--- the outcome of a vertex: Blocked without the trees of its inputs, else what its whole program leaves on them, with no instances of caches
+-- the outcome of a vertex on the trees of its inputs: Blocked if they are not all there, else what its whole program leaves, with no instances of caches
 abbrev pub outcome_on : Build → Vertex → Option (List TreeMap) → Outcome
 outcome_on b v None = Blocked
 outcome_on b v (Some trees) = Ended (ending (program_of v) (whole (program_of v).steps (begin b (start_with v trees) [])))
 
+-- how a vertex ended, if its outcome is an end
 abbrev pub ending_in : Option Outcome → Option Ending
 ending_in (Some (Ended e)) = Some e
 ending_in (Some Blocked) = None
 ending_in None = None
 
--- the outcome of a vertex, from those of the vertices below
+-- the outcome of a vertex, given those of the vertices with lower numbers, among which are all its inputs
 abbrev pub next_outcome : Build → List Outcome → Vertex → Outcome
 next_outcome b before v = outcome_on b v (inputs_from (λ k. ending_in (slice_get before k)) v.inputs)
 
--- the outcomes of all vertices, by number
+-- the plain outcomes of all vertices, by number
 abbrev pub outcomes : Build → List Outcome
 outcomes b = by_number (next_outcome b) [] b.graph.vertices
 
+-- the plain outcome of vertex v: what its program makes of the outcomes of its inputs, with no workers and no caches
 abbrev pub outcome : Build → ℕ → Option Outcome
 outcome b v = slice_get (outcomes b) v
 
--- the vertex mounts no cache, and each vertex that its edges lead to is plain
+-- whether a vertex mounts no cache and has only plain inputs, given which of the vertices with lower numbers are plain
 abbrev pub next_plain : List Bool → Vertex → Bool
 next_plain before v = not (has_cache v) && list_all (λ (e : Edge). unwrap_or (slice_get before e.vertex) false) v.inputs
 
--- whether no cache mount is at or before a vertex
+-- whether no cache mount is at or before vertex v; false if there is no such vertex
 abbrev pub is_plain : Build → ℕ → Bool
 is_plain b v = unwrap_or (slice_get (by_number next_plain [] b.graph.vertices) v) false

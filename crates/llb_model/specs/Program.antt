@@ -42,8 +42,8 @@ pub record Build : Type 0 where
   pub graph : Numbered
   pub locals : List Local
 
--- one micro-step: the read of a source, an action of a file op, the laying of a merge's input over those before it, a command of
--- an exec in its cwd and env, with whether every later command is joined by And
+-- one micro-step: the read of a source; an action of a file op; the laying of a merge's input over those before it; a command of an exec in its setting, with
+-- whether every later command is joined by And
 pub data MicroStep : Type 0 where
   ReadLocal : MicroStep
   Act : Action → MicroStep
@@ -56,9 +56,9 @@ pub record Program : Type 0 where
   pub outputs : ℕ
   pub given : List ℤ
 
--- what a program has for itself: for a source its local tree, for a file op the trees of its inputs and the results so far, for
--- a merge the trees of its inputs and what is laid so far, for an exec its mounts, of which those that show caches, by number, are
--- empty, and the status of the last command that ran, 0 before any has run
+-- what a program has for itself: for a source its local tree; for a file op the trees of its inputs and the results so far; for a merge the trees of its inputs
+-- and what is laid so far; for an exec its mounts, the numbers of those that show caches, whose trees are empty here, and the status of the last command that
+-- ran, 0 before any has run
 pub data View : Type 0 where
   LocalTree : TreeMap → View
   Files : List TreeMap → List TreeMap → View
@@ -80,16 +80,17 @@ pub record Start : Type 0 where
   pub vertex : Vertex
   pub inputs : List TreeMap
 
+-- the start of a vertex with these trees of its inputs
 abbrev pub start_with : Vertex → List TreeMap → Start
 start_with v trees = record { vertex = v; inputs = trees }
 
--- the path that a text reads as; the texts of a vertex that are to be paths all read
+-- the path that a text reads as, the root if it reads as none; in a graph, each text that must be a path reads as one
 abbrev pub path_in : List ℕ → List (List ℕ)
 path_in text = unwrap_or (read_as text) []
 
 -- ---- the caches that a vertex needs
 
--- a cache that an exec shows: at which mount, its key, and the number of the input that a new instance begins with, -1 for none
+-- a cache that an exec shows: the number of the mount, the key, and the number of the input that a new instance begins with, -1 for none
 pub record Need : Type 0 where
   pub mount : ℕ
   pub key : Key
@@ -98,6 +99,7 @@ pub record Need : Type 0 where
 abbrev pub key_of : Need → Key
 key_of n = n.key
 
+-- the number of the mount that a need is for
 abbrev pub mount_of : Need → ℕ
 mount_of n = n.mount
 
@@ -110,13 +112,15 @@ abbrev pub index_of : ℤ → ℕ
 index_of (pos n) = n
 index_of (negsuc n) = 0
 
+-- a seed with its index as a natural number
 abbrev pub seed_as : mounts.Seed → Seed
 seed_as s = record { digest = s.digest; index = index_of s.index }
 
+-- the key of a cache, from what its mount says
 abbrev pub key_as : CacheKey → Key
 key_as k = record { id = k.id; seed = option_map seed_as k.seed; mode = mode_of k.mode }
 
--- the needs of a mount, before the later ones: one if it shows a cache
+-- the need of mount i, if it shows a cache, before the needs of the mounts after it
 abbrev pub with_need : ℕ → Mount → Option CacheKey → List Need → List Need
 with_need i m (Some k) needs = record { mount = i; key = key_as k; input = m.input } ∷ needs
 with_need i m None needs = needs
@@ -126,36 +130,37 @@ abbrev pub needs_from : List Input → ℕ → List Mount → List Need
 needs_from inputs i [] = []
 needs_from inputs i (m ∷ ms) = with_need i m (mounts.key_of inputs m) (needs_from inputs (i + 1) ms)
 
--- the caches that a vertex shows, in the order of its mounts
+-- the needs of a vertex: the caches that its mounts show, in their order
 abbrev pub needs_of : Vertex → List Need
 needs_of v = needs_from v.op.inputs 0 (kind_mounts v.op.kind)
 
--- whether a vertex shows a cache
+-- whether a vertex has a mount that shows a cache
 abbrev pub has_cache : Vertex → Bool
 has_cache v = list_any (has_type cache) (kind_mounts v.op.kind)
 
 -- ---- programs
 
--- where an exec's commands run; an exec has its meta
+-- where an exec's commands run: its `cwd` and its `env`; every exec of a graph has a meta
 abbrev pub setting_of : Option Meta → Setting
 setting_of (Some m) = record { cwd = path_in m.cwd; env = m.env }
 setting_of None = record { cwd = []; env = [] }
 
+-- whether a command runs only after a status of 0
 abbrev pub is_and : Join → Bool
 is_and And = true
 is_and Then = false
 is_and Or = false
 
--- each of these commands is joined by And
+-- whether each of these commands is joined by And
 abbrev pub all_and : List Joined → Bool
 all_and cs = list_all (λ (c : Joined). is_and c.join) cs
 
--- the micro-steps of a script
+-- the micro-steps of a script: one for each command
 abbrev pub runs_of : Setting → List Joined → List MicroStep
 runs_of setting [] = []
 runs_of setting (c ∷ cs) = Run setting c (all_and cs) ∷ runs_of setting cs
 
--- the micro-steps of a kind; those of an exec are the commands of its script
+-- the micro-steps of an op of this kind; those of an exec are the commands of its script
 abbrev pub steps_of : Option Kind → Option (List Joined) → List MicroStep
 steps_of (Some (kind.Source s)) script = ReadLocal ∷ []
 steps_of (Some (kind.File f)) script = map Act f.actions
@@ -165,15 +170,16 @@ steps_of (Some (kind.Build b)) script = []
 steps_of (Some (kind.Diff d)) script = []
 steps_of None script = []
 
+-- the program of a vertex
 abbrev pub program_of : Vertex → Program
 program_of v = record { steps = steps_of v.op.kind v.script; outputs = v.outputs; given = mount_outputs (kind_mounts v.op.kind) }
 
--- a number that no vertex has has a program without steps
+-- the program of a vertex; one without steps if there is no vertex
 abbrev pub program_at : Option Vertex → Program
 program_at (Some v) = program_of v
 program_at None = record { steps = []; outputs = 0; given = [] }
 
--- the local tree of a source; a run begins only where it is there
+-- the local tree of a source; the empty tree if its name has none
 abbrev pub local_tree : List Local → Vertex → TreeMap
 local_tree locals v = unwrap_or (tree_of_local locals (unwrap_or (local_name v.op) [])) empty_tree
 
@@ -186,14 +192,15 @@ base_in (negsuc n) trees = empty_tree
 abbrev pub tree_shown : List TreeMap → Mount → TreeMap
 tree_shown inputs m = if has_type bind m then base_in m.input inputs else empty_tree
 
--- the path in that tree which the mount's dest shows; a tmpfs shows its root
+-- the path in a mount's tree that its dest shows; the root for a tmpfs
 abbrev pub selector_of : Mount → List (List ℕ)
 selector_of m = if has_type tmpfs m then [] else path_in m.selector
 
+-- a mount as an exec's view has it before the first micro-step
 abbrev pub shown_of : List TreeMap → Mount → Shown
 shown_of inputs m = record { dest = path_in m.dest; selector = selector_of m; readonly = m.readonly; tree = tree_shown inputs m }
 
--- the view before the first micro-step of a vertex
+-- the view of a vertex before its first micro-step, by the kind of its op
 abbrev pub view_on : List Local → Vertex → Option Kind → List TreeMap → View
 view_on locals v (Some (kind.Source s)) inputs = LocalTree (local_tree locals v)
 view_on locals v (Some (kind.File f)) inputs = Files inputs []
@@ -207,6 +214,7 @@ view_on locals v None inputs = Files inputs []
 abbrev pub begin : Build → Start → List TreeMap → Work
 begin b start trees = record { own = view_on b.locals start.vertex start.vertex.op.kind start.inputs; trees = trees }
 
+-- the number of a fault of a tree
 abbrev pub tree_fault_number : TreeFault → ℕ
 tree_fault_number NotFound = 21
 tree_fault_number NotDir = 22
@@ -236,11 +244,12 @@ with_tree (LocalTree own) t = LocalTree own
 with_tree (Layers inputs laid) t = Layers inputs laid
 with_tree (Mounted mounts caches last) t = Mounted mounts caches last
 
+-- the view of a file op after action a made this result, or the action's fault as the vertex's
 abbrev pub with_result : ℕ → View → Result TreeMap ActFault → Result View VertexFault
 with_result a view (Ok t) = Ok (with_tree view t)
 with_result a view (Err f) = Err (fault.Action a (fault_number f))
 
--- an action on one of the trees so far, with a second of them that a copy is made from
+-- the tree that an action makes of one of the trees so far; a copy reads a second one of them
 abbrev pub act_among : Action → List TreeMap → Result TreeMap ActFault
 act_among action trees = act action.kind (base_in action.input trees) (base_in action.secondary_input trees)
 
@@ -255,13 +264,13 @@ lay_on i (LocalTree t) = LocalTree t
 lay_on i (Files inputs results) = Files inputs results
 lay_on i (Mounted mounts caches last) = Mounted mounts caches last
 
--- the mounts, of which those with these numbers show these trees
+-- the mounts, of which those with these numbers show these trees instead of their own
 abbrev pub filled : List Shown → List ℕ → List TreeMap → List Shown
 filled mounts [] trees = mounts
 filled mounts (m ∷ ms) [] = mounts
 filled mounts (m ∷ ms) (t ∷ trees) = filled (with_tree_of mounts m t) ms trees
 
--- the trees that the mounts with these numbers show, as many as there were
+-- the trees that the mounts with these numbers show; one for each of the trees before
 abbrev pub taken : List Shown → List ℕ → List TreeMap → List TreeMap
 taken mounts ms [] = []
 taken mounts [] (t ∷ trees) = t ∷ trees
@@ -275,35 +284,37 @@ blanked mounts ms trees = filled mounts ms (map (λ t. empty_tree) trees)
 abbrev pub parted : List ℕ → List TreeMap → List Shown → Work
 parted caches trees mounts = record { own = Mounted (blanked mounts caches trees) caches 0; trees = taken mounts caches trees }
 
--- the last status; 0 for a view that is not an exec's
+-- the status of the last command that ran; 0 for a view that is not an exec's
 abbrev pub last_of : View → ℕ
 last_of (Mounted mounts caches last) = last
 last_of (LocalTree t) = 0
 last_of (Files inputs results) = 0
 last_of (Layers inputs t) = 0
 
--- whether a command that is joined so runs after a last status; else it is skipped
+-- whether a command with this join runs after a last status; else it is skipped
 abbrev pub is_run : Join → ℕ → Bool
 is_run Then last = true
 is_run And last = last == 0
 is_run Or last = not (last == 0)
 
+-- a work, with no fault
 abbrev pub no_fault : Work → Left
 no_fault work = record { work = work; fault = None }
 
--- the work after a command that ran: what it made of the mounts, or the mounts as they were; and its status is the last one
+-- the work after a command ran: if it left a view, the mounts and the caches that this has, else those before it; its status is now the last one
 abbrev pub after_run : List Shown → List ℕ → List TreeMap → Option (List Shown) → Work
 after_run mounts caches trees (Some after) = parted caches trees after
 after_run mounts caches trees None = record { own = Mounted mounts caches (status_of None); trees = trees }
 
--- a status other than 0 of command c is the exec's fault where every later command is joined by And
+-- the exec's fault after command c ended with a status: one if the status is not 0 and every later command is joined by And (`ends`)
 abbrev pub exit_of : ℕ → Bool → ℕ → Option VertexFault
 exit_of c ends status = if status == 0 then None else (if ends then Some (fault.Exit c status) else None)
 
+-- what command c leaves after it ran: the work, and the exec's fault if there is one
 abbrev pub ran : ℕ → Bool → List Shown → List ℕ → List TreeMap → Option (List Shown) → Left
 ran c ends mounts caches trees after = record { work = after_run mounts caches trees after; fault = exit_of c ends (status_of after) }
 
--- the work after command c, which sees the caches as they are now; a skipped command changes nothing
+-- what command c leaves; it sees the caches as they are now, and a skipped command changes nothing
 abbrev pub run_on : ℕ → Setting → Joined → Bool → View → List TreeMap → Left
 run_on c setting command ends (Mounted mounts caches last) trees =
     if is_run command.join last then ran c ends mounts caches trees (run setting (filled mounts caches trees) command.command)
@@ -312,28 +323,29 @@ run_on c setting command ends (LocalTree t) trees = no_fault (record { own = Loc
 run_on c setting command ends (Files inputs results) trees = no_fault (record { own = Files inputs results; trees = trees })
 run_on c setting command ends (Layers inputs t) trees = no_fault (record { own = Layers inputs t; trees = trees })
 
--- an action that faults changes nothing
+-- what an action leaves: the new view, or the work unchanged and the fault
 abbrev pub tried : Work → Result View VertexFault → Left
 tried work (Ok view) = no_fault (record work { own = view })
 tried work (Err f) = record { work = work; fault = Some f }
 
--- what micro-step k leaves
+-- what micro-step k leaves of a work
 unfoldable pub micro_step : ℕ → MicroStep → Work → Left
 micro_step k ReadLocal work = no_fault work
 micro_step k (Act action) work = tried work (act_on k action work.own)
 micro_step k (LayInput i) work = no_fault (record work { own = lay_on i work.own })
 micro_step k (Run setting command ends) work = run_on k setting command ends work.own work.trees
 
--- micro-step k of a program, where there is one
+-- what micro-step k leaves of a work, if there is one; else the work unchanged
 abbrev pub step_on : ℕ → Option MicroStep → Work → Left
 step_on k None work = no_fault work
 step_on k (Some m) work = micro_step k m work
 
+-- what is left if there was a fault, or else what comes next
 abbrev pub unless_faulted : Option VertexFault → Left → Left → Left
 unless_faulted None left next = next
 unless_faulted (Some f) left next = left
 
--- what one micro-step more leaves; after a fault none is done
+-- what one more micro-step leaves; none is done after a fault
 abbrev pub go_on : List MicroStep → ℕ → Left → Left
 go_on steps k left = unless_faulted left.fault left (step_on k (slice_get steps k) left.work)
 
@@ -346,6 +358,7 @@ part steps work (suc k) = go_on steps k (part steps work k)
 abbrev pub whole : List MicroStep → Work → Left
 whole steps work = part steps work (length steps)
 
+-- whether an output number is i
 abbrev pub is_output : ℕ → ℤ → Bool
 is_output i (pos n) = n == i
 is_output i (negsuc n) = false
@@ -365,8 +378,8 @@ tree_for i [] mounts = empty_tree
 tree_for i (n ∷ given) [] = empty_tree
 tree_for i (n ∷ given) (m ∷ mounts) = if is_output i n then m.tree else tree_for i given mounts
 
--- output i of a view: for a file op the result of an action; for a source what is read and for a merge what is laid, their one output; for
--- an exec the tree of a mount
+-- output i of a view: for a file op the result of the action with that output number; for a source what is read, and for a merge what is laid, as their one
+-- output; for an exec the tree of the mount with that output number
 abbrev pub output_from : Program → View → ℕ → TreeMap
 output_from p (Files inputs results) i = result_for i p.steps results
 output_from p (LocalTree t) zero = t
@@ -375,6 +388,6 @@ output_from p (Layers inputs t) zero = t
 output_from p (Layers inputs t) (suc i) = empty_tree
 output_from p (Mounted mounts caches last) i = tree_for i p.given mounts
 
--- the outputs that are taken from what all micro-steps leave
+-- the outputs of a program, from the view that all micro-steps leave
 unfoldable pub outputs_of : Program → View → List TreeMap
 outputs_of p view = map (output_from p view) (range_with_len 0 p.outputs)

@@ -6,12 +6,12 @@ use Rattle.llb_model.specs.Outcome.{Outcome, Ended, Blocked}
 use Rattle.llb_model.specs.State.{Status, Waiting, Running, Settled, At, Idle, Runs, State, is_ready, is_blocked, is_finished, program_in}
 use Rattle.llb_model.specs.Table.{Event, Claim, Step, Settle, Cancel, Reply, worker_of, table}
 
--- a run goes on from the state after an event, with its reply first
+-- how a run goes on: from the state after an event, with the event's reply before the others; not at all if the event was refused
 abbrev pub after : Option (State × Reply) → (State → Option (State × List Reply)) → Option (State × List Reply)
 after None go = None
 after (Some (s, r)) go = option_map (λ (t : State × List Reply). (t.0, r ∷ t.1)) (go s)
 
--- the state and the replies after events, each of which is granted
+-- the state after a list of events, and their replies, if each of them is granted
 unfoldable pub run : Build → State → List Event → Option (State × List Reply)
 run b s [] = Some (s, [])
 run b s (e ∷ es) = after (table b s e) (λ t. run b t es)
@@ -31,15 +31,16 @@ abbrev pub least : (ℕ → Bool) → ℕ → ℕ → Option ℕ
 least test v zero = None
 least test v (suc n) = if test v then Some v else least test (v + 1) n
 
--- worker 0 claims the least Ready vertex
+-- worker 0's claim of the least Ready vertex, if one is Ready
 abbrev pub next_claim : Build → State → Option Event
 next_claim b s = option_map (λ v. Claim 0 v) (least (is_ready b s.statuses) 0 (length b.graph.vertices))
 
+-- an event if there is one, or else the other
 abbrev pub or_else : Option Event → Option Event → Option Event
 or_else (Some e) other = Some e
 or_else None other = other
 
--- the event that a driver chooses
+-- the event that the driver chooses: the next one of the lowest running worker, or else a claim by worker 0
 abbrev pub chosen : Build → State → Option Event
 chosen b s = or_else (next_of b 0 s.workers) (next_claim b s)
 

@@ -21,8 +21,8 @@ pub data Status : Type 0 where
   Running : ℕ → Status
   Settled : Ending → Status
 
--- what a running worker holds: its vertex, the micro-steps done (one that faults is counted), their fault if any, its view, and the
--- instances of caches that it has, in the order of the needs
+-- what a running worker holds: its vertex, how many micro-steps it has done (one that faults is counted), their fault if any, its view, and the instances of
+-- caches, in the order of the needs
 pub record Execution : Type 0 where
   pub vertex : ℕ
   pub done : ℕ
@@ -35,12 +35,13 @@ pub data At : Type 0 where
   Idle : At
   Runs : Execution → At
 
+-- the state of the machine: the status of each vertex, what each worker does, and the contents of the caches
 pub record State : Type 0 where
   pub statuses : List Status
   pub workers : List At
   pub store : Store
 
--- what a machine is opened with beside the build
+-- what a machine is opened with besides the build: how many workers, and the contents of the caches
 pub record Opening : Type 0 where
   pub workers : ℕ
   pub store : Store
@@ -59,19 +60,22 @@ abbrev pub missing_local : List Local → List Vertex → Option (List ℕ)
 missing_local locals [] = None
 missing_local locals (v ∷ vs) = first_of (lacks locals (local_name v.op)) (missing_local locals vs)
 
--- all vertices wait, all of the opening's workers are idle, and the caches are as they were handed in
+-- the state at the opening: every vertex waits, every worker is idle, and the caches are as they were handed in
 abbrev pub opening : Build → Opening → State
 opening b o = record { statuses = replicate (length b.graph.vertices) Waiting; workers = replicate o.workers Idle; store = o.store }
 
+-- how a vertex of this status ended, if it is settled
 abbrev pub ending_of : Option Status → Option Ending
 ending_of (Some (Settled e)) = Some e
 ending_of (Some (Running w)) = None
 ending_of (Some Waiting) = None
 ending_of None = None
 
+-- how vertex v ended, if it is settled
 abbrev pub ending_at : List Status → ℕ → Option Ending
 ending_at statuses v = ending_of (slice_get statuses v)
 
+-- what a vertex of this status begins with, if it waits and the trees of all its inputs are there
 abbrev pub start_from : List Status → Option Status → Option Vertex → Option Start
 start_from statuses (Some Waiting) (Some v) = option_map (start_with v) (inputs_from (ending_at statuses) v.inputs)
 start_from statuses (Some Waiting) None = None
@@ -79,10 +83,11 @@ start_from statuses (Some (Running w)) v = None
 start_from statuses (Some (Settled e)) v = None
 start_from statuses None v = None
 
--- what a Ready vertex begins with: it waits, and the trees of all its inputs are there
+-- what vertex v begins with if it is Ready: it waits, and the trees of all its inputs are there
 abbrev pub ready : Build → List Status → ℕ → Option Start
 ready b statuses v = start_from statuses (slice_get statuses v) (slice_get b.graph.vertices v)
 
+-- whether a vertex is Ready
 abbrev pub is_ready : Build → List Status → ℕ → Bool
 is_ready b statuses v = is_some (ready b statuses v)
 
@@ -124,6 +129,7 @@ runs (Some (Runs x)) = Some x
 runs (Some Idle) = None
 runs None = None
 
+-- the program of the vertex that an execution works on
 abbrev pub program_in : Build → Execution → Program
 program_in b x = program_at (slice_get b.graph.vertices x.vertex)
 
@@ -131,11 +137,11 @@ program_in b x = program_at (slice_get b.graph.vertices x.vertex)
 abbrev pub work_of : State → Execution → Work
 work_of s x = record { own = x.own; trees = trees_at s.store x.places }
 
--- an execution is finished after its first fault, or after the last of its micro-steps
+-- whether an execution is finished: it has a fault, or has done the last of its micro-steps
 abbrev pub is_finished : List MicroStep → Execution → Bool
 is_finished steps x = is_some x.fault || nat_le (length steps) x.done
 
--- the micro-step that comes next, of an execution that is not finished
+-- the micro-step that comes next; none if the execution is finished
 abbrev pub next_step : List MicroStep → Execution → Option MicroStep
 next_step steps x = if is_finished steps x then None else slice_get steps x.done
 
@@ -155,7 +161,7 @@ held (Runs x ∷ workers) = x.places ++ held workers
 abbrev pub IsFree : List At → Place → Type 0
 IsFree workers p = (w : ℕ) (x : Execution) → slice_get workers w ≡ Some (Runs x) → Has x.places p → ⊥
 
--- a number above that of each place
+-- a number above those of all these instances
 abbrev pub above : List Place → ℕ
 above [] = 0
 above (p ∷ ps) = p.number + 1 + above ps
@@ -171,14 +177,15 @@ number_for ps k Shared = 0
 number_for ps k Locked = 0
 number_for ps k Private = first_free ps k 0 (above ps)
 
--- the instance that a claim takes, where these places are held
+-- the instance that a claim takes for a need while these places are held
 abbrev pub place_for : List Place → Need → Place
 place_for ps n = place n.key (number_for ps n.key n.key.mode)
 
+-- the instances that a claim takes, one for each need
 abbrev pub places_for : List Place → List Need → List Place
 places_for ps needs = map (place_for ps) needs
 
--- a key is locked, and its instance is held
+-- whether a key can't be claimed: it is locked, and its instance is held
 abbrev pub is_shut : List Place → Key → Mode → Bool
 is_shut ps k Locked = is_in ps (place k 0)
 is_shut ps k Private = false
@@ -189,13 +196,13 @@ abbrev pub held_key : List Place → List Need → Option Key
 held_key ps [] = None
 held_key ps (n ∷ needs) = if is_shut ps n.key n.key.mode then Some n.key else held_key ps needs
 
--- the trees at the places, and for a place without a tree that of the seed among the inputs' trees
+-- the trees of these instances at a claim: the one that is there or, for a new instance, that of the need's input
 abbrev pub first_trees : Store → List TreeMap → List Place → List Need → List TreeMap
 first_trees s inputs [] needs = []
 first_trees s inputs (p ∷ ps) [] = []
 first_trees s inputs (p ∷ ps) (n ∷ needs) = unwrap_or (content s p) (base_in n.input inputs) ∷ first_trees s inputs ps needs
 
--- a work before the first micro-step, at these places
+-- the work before the first micro-step of a vertex that took these instances
 abbrev pub begin_at : Build → Store → Start → List Place → Work
 begin_at b s start ps = begin b start (first_trees s start.inputs ps (needs_of start.vertex))
 

@@ -7,12 +7,12 @@ use Rattle.llb_tree.specs.Path.{is_within}
 use Rattle.llb_mount.specs.declared.shown.Shown.{Shown}
 use Rattle.llb_mount.specs.View.{dests, mount_at}
 
--- the greatest length, in names, of the dests that are prefixes of a path; 0 if none is
+-- how many names the longest dest has that is a prefix of a path; 0 if none is a prefix
 abbrev pub greatest_length : List (List (List ℕ)) → List (List ℕ) → ℕ
 greatest_length [] path = 0
 greatest_length (d ∷ ds) path = if is_within d path then max (length d) (greatest_length ds path) else greatest_length ds path
 
--- the place of the first dest that is this path
+-- the place of the first dest that equals this path
 abbrev pub number_of : List (List (List ℕ)) → List (List ℕ) → ℕ
 number_of ds path = position_or_len (λ d. pointwise (pointwise nat_eq) d path) ds
 

@@ -14,14 +14,14 @@ pub record IsView (mounts : List Shown) : Type 0 where
   pub differ : AllPairs (λ d e. d ≢ e) (dests mounts)
   pub few : length mounts < 2 ^ 32
 
--- the mount that a number without a mount gives
+-- the mount that a number without a mount has
 abbrev pub no_mount : Shown
 no_mount = record { dest = []; selector = []; readonly = false; tree = empty_tree }
 
--- the mount of a number
+-- the mount with this number
 abbrev pub mount_at : List Shown → ℕ → Shown
 mount_at mounts number = slice_index_or mounts number no_mount
 
--- the mounts, where the one of a number has another tree
+-- the mounts, where the one with this number has another tree
 abbrev pub with_tree_of : List Shown → ℕ → TreeMap → List Shown
 with_tree_of mounts number tree = slice_set mounts number (record (mount_at mounts number) { tree = tree })

@@ -5,14 +5,15 @@ use Rattle.indexmap.specs.IndexMap.{insert_entry}
 use Rattle.llb_ops.specs.declared.source.Attribute.{Attribute}
 use Rattle.llb_ops.specs.declared.source.AttributeEntry.{AttributeEntry}
 
--- a key with the rest after it
+-- an attribute under its key
 abbrev pub Held : Type 0
 Held = List ℕ × Attribute
 
+-- the entry of the map for an attribute and its key
 abbrev pub entry_of : Held → AttributeEntry
 entry_of p = record { key = p.0; value = p.1.value; extra = p.1.extra }
 
--- an entry takes the place of an earlier one with its key, or else follows all others
+-- the attributes after one more entry: it replaces an earlier one with its key, or else comes last
 abbrev pub put : List Held → AttributeEntry → List Held
 put held e = insert_entry (pointwise nat_eq) held e.key (record { value = e.value; extra = e.extra })
 

@@ -11,21 +11,22 @@ use Rattle.llb_ops.specs.Limits.{definition_limit, entries_limit, entry_limit}
 use Rattle.llb_ops.specs.Records.{Shape, records_from, all, payloads}
 use Rattle.llb_ops.specs.Writing.{each_field}
 
+-- the shape of a `Definition` message
 abbrev pub definition_shape : Shape
 definition_shape = shape_of message.Definition
 
--- no entry is too long
+-- whether no entry is longer than its limit
 abbrev pub are_short : List (List ℕ) → Bool
 are_short entries = list_all (λ e. nat_le (length e) entry_limit) entries
 
--- not too many entries, and none too long
+-- these entries, if they are not too many and none is too long
 abbrev pub entries_fit : List (List ℕ) → Result (List (List ℕ)) OpFault
 entries_fit entries =
     if nat_lt entries_limit (length entries) then Err OverLimit
     else if are_short entries then Ok entries
     else Err OverLimit
 
--- the entries of a definition
+-- the entries of a definition's bytes, or the first fault of the bytes
 unfoldable pub definition_of : List ℕ → Result (List (List ℕ)) OpFault
 definition_of bytes =
     if nat_lt definition_limit (length bytes) then Err OverLimit
@@ -49,6 +50,6 @@ counted (Err f) = Err f
 abbrev pub one_more : ℕ × Bool → Record → ℕ × Bool
 one_more t r = if r.number == 1 then (t.0 + 1, t.1 && nat_le (length r.payload) entry_limit) else t
 
--- the canonical bytes of a definition: its entries
+-- the canonical bytes of a definition with these entries
 abbrev pub definition_bytes : List (List ℕ) → List ℕ
 definition_bytes entries = each_field 1 entries

@@ -35,8 +35,8 @@ bytes_of (message row inner rest) = set_bytes row.1.number (bytes_of inner) ++ b
 
 -- ---- by the table
 
--- After the field `last`: numbers ascend, and only a repeated field occurs again. `set` says that a member of the oneof is there
--- already, and then no other may.
+-- Whether a field may follow the field `last`: numbers ascend, and only a repeated field occurs again. `set` says that a member of the oneof is there already,
+-- and then no other may follow.
 abbrev pub may_follow : ℕ → Bool → NamedField → Bool
 may_follow last set f = (nat_lt last f.number || (f.repeated && (last == f.number))) && not (f.member && set)
 
@@ -44,7 +44,7 @@ pub record IsNext (m : MessageName) (last : ℕ) (set : Bool) (row : Row) : Type
   pub known : by_number row.1.number (rows_of m) ≡ Some row
   pub follows : may_follow last set row.1 ≡ true
 
--- a value that is 0 or empty is written only where it says that the field is there, or in an entry of a map
+-- whether a value that is 0 or empty is written: in a member of a oneof, in a repeated field, and in an entry of a map
 abbrev pub may_be_empty : NamedField → Bool
 may_be_empty f = f.member || f.repeated || f.of_entry
 
@@ -69,17 +69,18 @@ IsBytesOf String held = is_utf8 held ≡ true
 IsBytesOf Bytes held = Unit {0}
 IsBytesOf (Message m) held = ⊥
 
--- bytes that are read as records of fields that the message doesn't name
+-- The bytes are read as records, all of fields that the message does not name.
 pub record AreUnnamed (m : MessageName) (more : List ℕ) : Type 0 where
   pub records : List Record
   pub read : parts (shape_of m) more ≡ Ok records
   pub unnamed : AllByRecursion (λ r. is_none (form_of (shape_of m) r.number) ≡ true) records
 
--- whether records that were read are all of fields that the message doesn't name
+-- whether records were read and are all of fields that the message does not name
 abbrev pub only_unnamed : MessageName → Result (List Record) OpFault → Bool
 only_unnamed m (Ok records) = list_all (λ r. is_none (form_of (shape_of m) r.number)) records
 only_unnamed m (Err f) = false
 
+-- whether bytes are read as records, all of fields that the message does not name
 unfoldable pub are_unnamed : MessageName → List ℕ → Bool
 are_unnamed m more = only_unnamed m (parts (shape_of m) more)
 

@@ -1,18 +1,18 @@
 -- The limits of a definition.
 use Rattle.std.specs.Prelude.{ℕ}
 
--- the most bytes of a definition
+-- the most bytes that a definition may have
 abbrev pub definition_limit : ℕ
 definition_limit = 67_108_864
 
--- the most entries of a definition
+-- the most entries that a definition may have
 abbrev pub entries_limit : ℕ
 entries_limit = 65_536
 
--- the most bytes of one entry
+-- the most bytes that an entry may have
 abbrev pub entry_limit : ℕ
 entry_limit = 16_777_216
 
--- the most records of one repeated field in a message
+-- the most records that a repeated field may have in one message
 abbrev pub field_limit : ℕ
 field_limit = 1_024

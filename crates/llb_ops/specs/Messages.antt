@@ -40,18 +40,22 @@ use Rattle.llb_ops.specs.Records.{within_limits, unnamed}
 abbrev pub input_shape : Shape
 input_shape = shape_of message.Input
 
+-- an input of an op, from its records
 unfoldable pub input_in : List Record → Result Input OpFault
 input_in rs = Ok (record { digest = payload (all 1 rs); index = int64 (number (all 2 rs)); extra = unnamed input_shape rs })
 
+-- the input of an op that bytes are read as; likewise `X_of` for each message X
 abbrev pub input_of : List ℕ → Result Input OpFault
 input_of = message_of input_shape input_in
 
 abbrev pub user_opt_shape : Shape
 user_opt_shape = shape_of message.UserOpt
 
+-- the numbers of the fields that name a user
 abbrev pub users : List ℕ
 users = members_of message.UserOpt
 
+-- a user whose field n is set, from the records of that field
 abbrev pub user_of : ℕ → List Record → Result User OpFault
 user_of n rs = if n == 1 then Ok (ByName (joined rs)) else Ok (ById (uint32 (number rs)))
 
@@ -114,7 +118,7 @@ mk_dir_of = message_of mk_dir_shape mk_dir_in
 abbrev pub copy_file_shape : Shape
 copy_file_shape = shape_of message.FileActionCopy
 
--- what a copy is from its records, but for the owner
+-- a copy from its records, with this owner
 unfoldable pub copy_file_with : List Record → Option ChownOpt → CopyFile
 copy_file_with rs owner = record {
   src = payload (all 1 rs);
@@ -158,9 +162,11 @@ rm_of = message_of rm_shape rm_in
 abbrev pub action_shape : Shape
 action_shape = shape_of message.FileAction
 
+-- the numbers of the fields that say what an action does
 abbrev pub action_kinds : List ℕ
 action_kinds = members_of message.FileAction
 
+-- what an action does whose field n is set, from the records of that field
 abbrev pub action_kind_of : ℕ → List Record → Result ActionKind OpFault
 action_kind_of n rs =
     if n == 4 then (copy_file_of (joined rs) >>= λ m. Ok (action.Copy m))
@@ -324,12 +330,15 @@ source_op_in rs = do
 abbrev pub source_op_of : List ℕ → Result SourceOp OpFault
 source_op_of = message_of source_op_shape source_op_in
 
+-- the shape of an `Op` message; likewise `X_shape` for each message X
 abbrev pub op_shape : Shape
 op_shape = shape_of message.Op
 
+-- the numbers of the fields that say what kind an op is of
 abbrev pub kinds : List ℕ
 kinds = members_of message.Op
 
+-- the kind of an op whose field n is set, from the records of that field
 unfoldable pub kind_of : ℕ → List Record → Result Kind OpFault
 kind_of n rs =
     if n == 2 then (exec_op_of (joined rs) >>= λ m. Ok (Exec m))
@@ -339,15 +348,17 @@ kind_of n rs =
     else if n == 6 then (merge_op_of (joined rs) >>= λ m. Ok (Merge m))
     else Ok (Diff (joined rs))
 
+-- an op from its records; likewise `X_in` for each message X
 unfoldable pub op_in : List Record → Result Op OpFault
 op_in rs = do
   inputs ← each input_of (all 1 rs)
   kind ← one_of kinds kind_of rs
   if within_limits (repeated_of message.Op) rs then Ok (record { inputs = inputs; kind = kind; extra = unnamed op_shape rs }) else Err OverLimit
 
+-- the op that bytes are read as, however many they are
 abbrev pub op_message_of : List ℕ → Result Op OpFault
 op_message_of = message_of op_shape op_in
 
--- the op of an entry
+-- the op that an entry's bytes are read as, or the first fault
 unfoldable pub op_of : List ℕ → Result Op OpFault
 op_of bytes = if nat_lt entry_limit (length bytes) then Err OverLimit else op_message_of bytes

@@ -22,7 +22,7 @@ use Rattle.llb_ops.specs.declared.records.Record.{Record as Held}
 use Rattle.llb_ops.specs.declared.records.Front.{Front}
 use Rattle.llb_ops.specs.Limits.{field_limit}
 
--- the fields that a message names: their numbers, and their forms
+-- the fields that a message names, each a number and a form
 abbrev pub Shape : Type 0
 Shape = List (ℕ × Form)
 
@@ -35,10 +35,11 @@ views rs = map view rs
 
 -- ---- the records from left to right: a fault of the wire, then a named field with another wire type
 
--- how the message names the field of that number
+-- the form of the field with this number, if the message names it
 abbrev pub form_of : Shape → ℕ → Option Form
 form_of shape number = option_map (λ n. n.1) (find (λ n. n.0 == number) shape)
 
+-- whether a field may have this wire type: any for a field that the message does not name, else the one of its form
 abbrev pub wire_fits : Option Form → WireType → Bool
 wire_fits None w = true
 wire_fits (Some Number) wire.Varint = true
@@ -50,15 +51,16 @@ wire_fits (Some Bytes) w = false
 wire_fits (Some Text) wire.Len = true
 wire_fits (Some Text) w = false
 
+-- a result of the wire reader, with its fault as an op's
 abbrev pub from_wire : {A : Type 0} → Result A WireFault → Result A OpFault
 from_wire (Ok x) = Ok x
 from_wire (Err f) = Err (Wire f)
 
--- the record at the start
+-- the record at the start of the bytes, if its wire type fits the form of its field
 abbrev pub first_record : Shape → List ℕ → Result Field OpFault
 first_record shape bytes = from_wire (field_at bytes 0) >>= λ f. if wire_fits (form_of shape f.number) f.wire then Ok f else Err WrongWireType
 
--- the records after `skip` bytes, which belong to a record that was read before
+-- the records of the bytes after the first `skip`; those belong to a record that is already read
 unfoldable pub records_from : Shape → ℕ → List ℕ → Result (List Record) OpFault
 records_from shape skip [] = Ok []
 records_from shape (suc skip) (b ∷ bytes) = records_from shape skip bytes
@@ -80,17 +82,20 @@ Starts shape bytes (Err e) = records_from shape 0 bytes ≡ Err e
 
 -- ---- after the last record: its texts are UTF-8
 
+-- whether a payload is in UTF-8, if its form asks for that
 abbrev pub text_ok : Option Form → List ℕ → Bool
 text_ok (Some Text) payload = is_utf8 payload
 text_ok o payload = true
 
+-- whether a record of a text field is in UTF-8
 abbrev pub text_fits : Shape → Record → Bool
 text_fits shape r = text_ok (form_of shape r.number) r.payload
 
+-- whether all text fields are in UTF-8
 abbrev pub texts_fit : Shape → List Record → Bool
 texts_fit shape rs = list_all (text_fits shape) rs
 
--- the records of a message whose fields have that shape
+-- the records of a message whose fields have this shape, or the first fault
 unfoldable pub parts : Shape → List ℕ → Result (List Record) OpFault
 parts shape bytes = records_from shape 0 bytes >>= λ rs. if texts_fit shape rs then Ok rs else Err NotUtf8
 
@@ -104,34 +109,37 @@ wires_fit shape rs = list_all (λ r. wire_fits (form_of shape r.number) r.wire) 
 abbrev pub fitting : Shape → List Record → Result (List Record) OpFault
 fitting shape rs = if wires_fit shape rs then (if texts_fit shape rs then Ok rs else Err NotUtf8) else Err WrongWireType
 
--- a message is what it is from its records
+-- a message that `read` makes from the records of its bytes, or the first fault
 unfoldable pub message_of : {A : Type 0} → Shape → (List Record → Result A OpFault) → List ℕ → Result A OpFault
 message_of shape read bytes = parts shape bytes >>= read
 
 -- ---- what a field is from its records
 
--- the records of one field, in order
+-- the records of field n, in order
 abbrev pub all : ℕ → List Record → List Record
 all n rs = filter (λ r. r.number == n) rs
 
+-- the last record, if there is one
 abbrev pub last_of : List Record → Option Record
 last_of rs = slice_get rs (length rs - 1)
 
--- the last record of a singular field holds
+-- the number in a singular field: the value of its last record, 0 if there is none
 abbrev pub number : List Record → ℕ
 number rs = option_map_or (λ r. r.value) (last_of rs) 0
 
+-- the bytes of a singular field: the payload of its last record, empty if there is none
 abbrev pub payload : List Record → List ℕ
 payload rs = option_map_or (λ r. r.payload) (last_of rs) []
 
+-- uint32: the low 32 bits
 abbrev pub uint32 : ℕ → ℕ
 uint32 n = n % 2 ^ 32
 
--- int32 and enums: the low 32 bits, in two's complement
+-- int32 and enums: the low 32 bits, as two's complement
 abbrev pub int32 : ℕ → ℤ
 int32 n = cast_signed w32 (n % 2 ^ 32)
 
--- int64: 64 bits, in two's complement
+-- int64: the low 64 bits, as two's complement
 abbrev pub int64 : ℕ → ℤ
 int64 n = cast_signed w64 (n % 2 ^ 64)
 
@@ -139,60 +147,64 @@ int64 n = cast_signed w64 (n % 2 ^ 64)
 abbrev pub flag : ℕ → Bool
 flag n = not (n == 0)
 
--- texts and byte strings that are repeated, in order
+-- the items of a repeated text or bytes field, in order
 abbrev pub payloads : List Record → List (List ℕ)
 payloads rs = map (λ r. r.payload) rs
 
--- a singular message is the reading of its payloads, one after the other
+-- the payloads one after the other; a singular message is read from all of them together
 abbrev pub joined : List Record → List ℕ
 joined rs = flat_map (λ r. r.payload) rs
 
+-- a singular message, if a record of it is there
 unfoldable pub one : {A : Type 0} → (List ℕ → Result A OpFault) → List Record → Result (Option A) OpFault
 one read rs = if length rs == 0 then Ok None else (read (joined rs) >>= λ m. Ok (Some m))
 
--- messages that are repeated, in order
+-- the messages of a repeated field, in order, or the first fault
 unfoldable pub each : {A : Type 0} → (List ℕ → Result A OpFault) → List Record → Result (List A) OpFault
 each read [] = Ok []
 each read (r ∷ rs) = read r.payload >>= λ m. (each read rs >>= λ ms. Ok (m ∷ ms))
 
--- fields that the message doesn't name, as they are
+-- the bytes of the records of fields that the message does not name, in order and unchanged
 abbrev pub unnamed : Shape → List Record → List ℕ
 unnamed shape rs = flat_map (λ r. r.text) (filter (λ r. is_none (form_of shape r.number)) rs)
 
 -- ---- a oneof
 
--- a record of one of the members
+-- whether a record is of one of these members of a oneof
 abbrev pub is_member : List ℕ → Record → Bool
 is_member members r = list_any (λ m. m == r.number) members
 
--- the member that is set: that of the last record of any
+-- the member of a oneof that is set: that of the last record of any member
 abbrev pub chosen : List ℕ → List Record → Option ℕ
 chosen members rs = option_map (λ r. r.number) (last_of (filter (is_member members) rs))
 
--- the records that are kept where one that passes the test clears those before it, and itself
+-- the records that are kept after one more: a record that passes the test clears all before it, and is itself not kept
 abbrev pub kept : (Record → Bool) → List Record → Record → List Record
 kept p rs r = if p r then [] else rs ++ r ∷ []
 
+-- the records after the last one that passes the test
 abbrev pub since : (Record → Bool) → List Record → List Record
 since p rs = fold (kept p) [] rs
 
--- a record of another member
+-- whether a record is of another member of the oneof than n
 abbrev pub is_other : List ℕ → ℕ → Record → Bool
 is_other members n r = is_member members r && not (r.number == n)
 
--- the records of a member that count: those after the last record of another one
+-- the records that count for the member that is set: its records after the last one of another member
 abbrev pub member : List ℕ → ℕ → List Record → List Record
 member members n rs = all n (since (is_other members n) rs)
 
--- the member that is set is read from its records
+-- the member of a oneof that is set, read from its records
 abbrev pub member_of : {A : Type 0} → List ℕ → (ℕ → List Record → Result A OpFault) → Option ℕ → List Record → Result (Option A) OpFault
 member_of members read None rs = Ok None
 member_of members read (Some n) rs = read n (member members n rs) >>= λ a. Ok (Some a)
 
+-- the oneof of a message, read from the records of the member that is set
 abbrev pub one_of : {A : Type 0} → List ℕ → (ℕ → List Record → Result A OpFault) → List Record → Result (Option A) OpFault
 one_of members read rs = member_of members read (chosen members rs) rs
 
 -- ---- after all fields: no repeated field has too many records
 
+-- whether no repeated field has more records than its limit
 abbrev pub within_limits : List ℕ → List Record → Bool
 within_limits repeated rs = list_all (λ n. nat_le (length (all n rs)) field_limit) repeated

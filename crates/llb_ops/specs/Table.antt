@@ -19,22 +19,23 @@ Row = List ℕ × NamedField
 abbrev pub row_seen : FieldRow → Row
 row_seen r = (r.name.now, r.field)
 
--- a singular field
+-- the row of a singular field
 abbrev pub once : List ℕ → ℕ → FieldKind → Row
 once name n kind = (name, record { number = n; kind = kind; repeated = false; member = false; of_entry = false })
 
--- a field that is repeated
+-- the row of a repeated field
 abbrev pub each : List ℕ → ℕ → FieldKind → Row
 each name n kind = (name, record { number = n; kind = kind; repeated = true; member = false; of_entry = false })
 
--- a member of the message's oneof
+-- the row of a field that is a member of the message's oneof
 abbrev pub member : List ℕ → ℕ → FieldKind → Row
 member name n kind = (name, record { number = n; kind = kind; repeated = false; member = true; of_entry = false })
 
--- the key or the value of an entry of a map
+-- the row of the key or the value in an entry of a map
 abbrev pub of_entry : List ℕ → ℕ → FieldKind → Row
 of_entry name n kind = (name, record { number = n; kind = kind; repeated = false; member = false; of_entry = true })
 
+-- the fields of each message, in ascending order of their numbers
 abbrev pub rows_of : MessageName → List Row
 rows_of message.Definition =
     each (codes "def") 1 Bytes ∷
@@ -153,20 +154,23 @@ rows_of message.MergeInput =
     once (codes "input") 1 Int64 ∷
     []
 
--- the row of that number, and of that name
+-- the row with this number
 abbrev pub by_number : ℕ → List Row → Option Row
 by_number n rows = find (λ r. r.1.number == n) rows
 
+-- the row with this name
 abbrev pub by_name : List ℕ → List Row → Option Row
 by_name name rows = find (λ r. pointwise nat_eq r.0 name) rows
 
+-- the row of a message with this number
 unfoldable pub row_numbered : MessageName → ℕ → Option Row
 row_numbered m n = by_number n (rows_of m)
 
+-- the row of a message with this name
 unfoldable pub row_named : MessageName → List ℕ → Option Row
 row_named m name = by_name name (rows_of m)
 
--- a row is found by its number and by its name
+-- a row of a message is found by its number and by its name
 pub record IsApart (m : MessageName) (row : Row) : Type 0 where
   pub number : row_numbered m row.1.number ≡ Some row
   pub name : row_named m row.0 ≡ Some row
@@ -174,7 +178,7 @@ pub record IsApart (m : MessageName) (row : Row) : Type 0 where
 abbrev pub IsTable : MessageName → Type 0
 IsTable m = AllByRecursion (IsApart m) (rows_of m)
 
--- how a reader takes a field of a kind
+-- the form in which a field of this kind is read
 abbrev pub form_of_kind : FieldKind → Form
 form_of_kind Int64 = form.Number
 form_of_kind Int32 = form.Number
@@ -185,13 +189,14 @@ form_of_kind String = form.Text
 form_of_kind Bytes = form.Bytes
 form_of_kind (Message m) = form.Bytes
 
--- the numbers of a message's fields, and their forms
+-- the shape of a message: the numbers and the forms of its fields
 abbrev pub shape_of : MessageName → List (ℕ × Form)
 shape_of m = map (λ r. (r.1.number, form_of_kind r.1.kind)) (rows_of m)
 
--- the numbers of the members of a message's oneof, and of its repeated fields
+-- the numbers of the fields that are members of a message's oneof
 abbrev pub members_of : MessageName → List ℕ
 members_of m = map (λ r. r.1.number) (filter (λ r. r.1.member) (rows_of m))
 
+-- the numbers of a message's repeated fields
 abbrev pub repeated_of : MessageName → List ℕ
 repeated_of m = map (λ r. r.1.number) (filter (λ r. r.1.repeated) (rows_of m))

@@ -32,44 +32,49 @@ use Rattle.llb_ops.specs.declared.source.SourceOp.{SourceOp}
 use Rattle.llb_ops.specs.declared.source.AttributeEntry.{AttributeEntry}
 use Rattle.llb_ops.specs.Attributes.{entry_of}
 
--- a field that is written in any case
+-- the record of a field with this number, also if it is 0
 unfoldable pub set_number : ℕ → ℕ → List ℕ
 set_number n v = record_text n wire.Varint v []
 
+-- the record of a field with these bytes, also if there are none
 unfoldable pub set_bytes : ℕ → List ℕ → List ℕ
 set_bytes n bytes = record_text n wire.Len 0 bytes
 
--- a field that is left out where it is 0, or empty
+-- the record of a field with this number, left out if it is 0
 unfoldable pub number_field : ℕ → ℕ → List ℕ
 number_field n v = if v == 0 then [] else set_number n v
 
+-- the record of a field with these bytes, left out if there are none
 unfoldable pub bytes_field : ℕ → List ℕ → List ℕ
 bytes_field n bytes = if length bytes == 0 then [] else set_bytes n bytes
 
--- int64, and int32 and enums, which are as wide: two's complement
+-- the record of an int64, int32 or enum field, left out if the number is 0; a negative number is in two's complement of 64 bits
 abbrev pub signed_field : ℕ → ℤ → List ℕ
 signed_field n z = number_field n (cast_unsigned w64 z)
 
+-- a Bool as a number: 1 for true
 abbrev pub bit : Bool → ℕ
 bit true = 1
 bit false = 0
 
+-- the record of a Bool field, left out if it is false
 abbrev pub flag_field : ℕ → Bool → List ℕ
 flag_field n b = number_field n (bit b)
 
--- a message that is there is always written
+-- the record of a singular message, which is written whenever it is there, even if it is empty
 unfoldable pub message_field : {A : Type 0} → (A → List ℕ) → ℕ → Option A → List ℕ
 message_field write n None = []
 message_field write n (Some m) = set_bytes n (write m)
 
+-- the records of a repeated message, also for those that are empty
 unfoldable pub messages_field : {A : Type 0} → (A → List ℕ) → ℕ → List A → List ℕ
 messages_field write n ms = flat_map (λ m. set_bytes n (write m)) ms
 
--- texts and byte strings that are repeated, also empty ones
+-- the records of a repeated text or bytes field, also for items that are empty
 unfoldable pub each_field : ℕ → List (List ℕ) → List ℕ
 each_field n items = flat_map (λ bytes. set_bytes n bytes) items
 
--- the set member of a oneof, by its own writing
+-- the record of the member of a oneof that is set, which `write` writes; nothing if none is set
 abbrev pub one_of_field : {A : Type 0} → (A → List ℕ) → Option A → List ℕ
 one_of_field write None = []
 one_of_field write (Some m) = write m
@@ -77,6 +82,7 @@ one_of_field write (Some m) = write m
 unfoldable pub input_bytes : Input → List ℕ
 input_bytes m = bytes_field 1 m.digest ++ signed_field 2 m.index ++ m.extra
 
+-- the canonical record of a user
 unfoldable pub user_bytes : User → List ℕ
 user_bytes (ByName name) = set_bytes 1 name
 user_bytes (ById id) = set_number 2 id
@@ -105,6 +111,7 @@ copy_file_bytes m = bytes_field 1 m.src ++ bytes_field 2 m.dest ++ message_field
 unfoldable pub rm_bytes : Rm → List ℕ
 rm_bytes m = bytes_field 1 m.path ++ flag_field 2 m.allow_not_found ++ flag_field 3 m.allow_wildcard ++ m.extra
 
+-- the canonical record of what an action does
 unfoldable pub action_kind_bytes : ActionKind → List ℕ
 action_kind_bytes (action.Copy m) = set_bytes 4 (copy_file_bytes m)
 action_kind_bytes (action.MkFile m) = set_bytes 5 (mk_file_bytes m)
@@ -143,13 +150,14 @@ merge_input_bytes m = signed_field 1 m.input ++ m.extra
 unfoldable pub merge_op_bytes : MergeOp → List ℕ
 merge_op_bytes m = messages_field merge_input_bytes 1 m.inputs ++ m.extra
 
--- an entry of a map: key and value are both written
+-- the canonical bytes of an entry of a map: key and value are written even if they are empty
 unfoldable pub attribute_entry_bytes : AttributeEntry → List ℕ
 attribute_entry_bytes m = set_bytes 1 m.key ++ set_bytes 2 m.value ++ m.extra
 
 unfoldable pub source_op_bytes : SourceOp → List ℕ
 source_op_bytes m = bytes_field 1 m.identifier ++ messages_field attribute_entry_bytes 2 (map entry_of m.attrs) ++ m.extra
 
+-- the canonical record of an op's kind
 unfoldable pub kind_bytes : Kind → List ℕ
 kind_bytes (Exec m) = set_bytes 2 (exec_op_bytes m)
 kind_bytes (Source m) = set_bytes 3 (source_op_bytes m)
@@ -158,5 +166,6 @@ kind_bytes (Build bytes) = set_bytes 5 bytes
 kind_bytes (Merge m) = set_bytes 6 (merge_op_bytes m)
 kind_bytes (Diff bytes) = set_bytes 7 bytes
 
+-- the canonical bytes of an op; likewise `X_bytes` for each message X
 unfoldable pub op_bytes : Op → List ℕ
 op_bytes m = messages_field input_bytes 1 m.inputs ++ one_of_field kind_bytes m.kind ++ m.extra

@@ -30,11 +30,11 @@ abbrev pub GrantsNext : Option Event → Stepping → List ℕ → Stepping → 
 GrantsNext None s text t = (t ≡ s) × (text ≡ codes "end\n")
 GrantsNext (Some e) s text t = GrantsEvent e s text t
 
--- how a walk ends
+-- the last line of a `go`: `stop` after a breakpoint, `end` where no event is chosen
 abbrev pub stop_line : Bool → List ℕ
 stop_line at_break = if at_break then codes "stop\n" else codes "end\n"
 
--- the chosen events up to a stop: their lines, and how the walk ends
+-- a granted `go` leads from stepper s to stepper t and prints the lines of the events that it did, then how it ended
 pub record GrantsGo (s : Stepping) (text : List ℕ) (t : Stepping) : Type 0 where
   pub stop : Stop
   pub goes : IsGo s t stop

@@ -34,16 +34,16 @@ unfoldable pub status_lines : Seen → ℕ → List ℕ
 status_lines b zero = []
 status_lines b (suc v) = status_lines b v ++ status_line_of v (look_at b.build b.state v)
 
--- a text and the end of its line, where there is one
+-- a text with a line end after it; empty if there is no text
 abbrev pub ended : Option (List ℕ) → List ℕ
 ended None = []
 ended (Some text) = text ++ codes "\n"
 
--- the line of event i of the record, from 1
+-- the line of event i of the record, counted from 1; empty if `record_at` has no such event
 abbrev pub record_line : Stepping → ℕ → List ℕ
 record_line s i = ended (option_map (record_text s.board.build.graph.vertices i) (record_at s i))
 
--- the lines of n events after the first ones
+-- the lines of the k events that follow the first `from` events of the record
 unfoldable pub record_lines : Stepping → ℕ → ℕ → List ℕ
 record_lines s from zero = []
 record_lines s from (suc k) = record_lines s from k ++ record_line s (from + k + 1)

@@ -13,8 +13,8 @@ use Rattle.llb_model.specs.Table.{Event, Reply, worker_of, table}
 use Rattle.llb_model.specs.Run.{run, chosen}
 use Rattle.llb_state.specs.Caches.{rows_after}
 
--- a board; its caches are seen as they were handed in and as they are now: their contents as the machine has them, and the lists of instances,
--- in the order of their keys
+-- what contracts see of a board: its build, what it was opened with, the lists of cache instances as they were handed in (`first`) and as they are now
+-- (`rows`), the machine's state, which has the contents of the caches, and the record, which is the events so far
 pub record Seen : Type 0 where
   pub build : Build
   pub opening : Opening
@@ -32,22 +32,23 @@ abbrev pub opened : Build → ℕ → List Row → Seen
 opened b workers rows =
     record { build = b; opening = opening_with workers rows; first = rows; state = opening b (opening_with workers rows); rows = rows; events = [] }
 
--- the state and the lists of instances after an event that is granted
+-- the state and the lists of instances after one more event, if it is granted
 abbrev pub kept_next : Build → Option (State × List Row) → Event → Option (State × List Row)
 kept_next b None e = None
 kept_next b (Some (s, rows)) e = option_map (λ (a : State × Reply). (a.0, rows_after rows a.0 (worker_of e))) (table b s e)
 
--- the state and the lists of instances after events, each of which is granted
+-- the state and the lists of instances after a list of events, if each of them is granted
 abbrev pub kept_along : Build → State → List Row → List Event → Option (State × List Row)
 kept_along b s rows es = fold (kept_next b) (Some (s, rows)) es
 
--- the record is a run from the opening state to where the board is, and its lists of instances are what the record leaves of those that
--- were handed in
+-- The record is a run of the table from the opening state to the board's state, and it turns the lists of instances that were handed in into those of the
+-- board.
 pub record Replays (b : Seen) : Type 0 where
   pub replies : List Reply
   pub leads : run b.build (opening b.build b.opening) b.events ≡ Some (b.state, replies)
   pub keeps : kept_along b.build (opening b.build b.opening) b.first b.events ≡ Some (b.state, b.rows)
 
+-- the board after event e, which leads to state s
 abbrev pub after_event : Seen → Event → State → Seen
 after_event b e s = record b { state = s; rows = rows_after b.rows s (worker_of e); events = b.events ++ e ∷ [] }
 
@@ -56,7 +57,7 @@ abbrev pub recorded : {C F : Type 0} → Seen → Event → (C → F) → Result
 recorded b e fault (Ok (s, r)) = Ok (after_event b e s, r)
 recorded b e fault (Err cause) = Err (fault cause)
 
--- a settled vertex with no cache mount at or before it has its plain outcome
+-- every settled vertex with no cache mount at or before it has its plain outcome
 abbrev pub SettledArePlain : Seen → Type 0
 SettledArePlain b = (v : ℕ) (e : Ending) → is_plain b.build v ≡ true → slice_get b.state.statuses v ≡ Some (Settled e) → outcome b.build v ≡ Some (Ended e)
 

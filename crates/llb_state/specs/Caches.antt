@@ -47,22 +47,22 @@ lease_if c (n ∷ needs) = some_lease (cache.lease_of c (n ∷ needs))
 
 -- ---- the lists of instances
 
--- an instance shows a tree, which is there or comes next
+-- the lists of instances after a tree is written to one: in place of the tree that is there, or as the next one
 abbrev pub showing : List Row → Place → TreeMap → List Row
 showing rows p t =
     with_trees rows p.key (if nat_lt p.number (length (trees_of rows p.key)) then slice_set (trees_of rows p.key) p.number t else trees_of rows p.key ++ t ∷ [])
 
--- the lists of instances, where these instances show what the contents of caches have there
+-- the lists of instances after the trees of these instances are written to them from the contents of the caches
 abbrev pub written : Store → List Row → List Place → List Row
 written s rows [] = rows
 written s rows (p ∷ ps) = written s (showing rows p (unwrap_or (content s p) empty_tree)) ps
 
--- the instances of a worker
+-- the instances that a worker holds; none if it is idle
 abbrev pub places_at : Option At → List Place
 places_at (Some (Runs x)) = x.places
 places_at (Some Idle) = []
 places_at None = []
 
--- the lists of instances after an event of a worker: no other instances are written or made than those that it has then
+-- the lists of instances after an event of worker w: only the instances that it holds then are written or made
 abbrev pub rows_after : List Row → State → ℕ → List Row
 rows_after rows s w = written s.store rows (places_at (slice_get s.workers w))

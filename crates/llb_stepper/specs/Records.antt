@@ -23,38 +23,43 @@ kind_text (Some (Build b)) = codes "build"
 kind_text (Some (Diff d)) = codes "diff"
 kind_text None = codes "none"
 
+-- an event as it is printed
 abbrev pub event_text : Event → List ℕ
 event_text (Claim w v) = codes "claim " ++ (decimal w ++ (codes " " ++ decimal v))
 event_text (Step w) = codes "step " ++ decimal w
 event_text (Settle w) = codes "settle " ++ decimal w
 event_text (Cancel w) = codes "cancel " ++ decimal w
 
+-- a settle of a vertex that is done, as it is printed
 abbrev pub done_text : ℕ → List ℕ
 done_text v = decimal v ++ codes " done"
 
+-- a settle of a vertex that failed, as it is printed
 abbrev pub failed_text : ℕ → List ℕ
 failed_text v = decimal v ++ codes " failed"
 
--- two numbers
+-- two numbers with a space between them
 abbrev pub pair_text : ℕ → ℕ → List ℕ
 pair_text a b = decimal a ++ (codes " " ++ decimal b)
 
--- a micro-step's fault; a command's is its status
+-- a micro-step's fault as it is printed; for a command, that it ran, with its status
 abbrev pub fault_text : VertexFault → List ℕ
 fault_text (vertex.Action a n) = codes "fault " ++ pair_text a n
 fault_text (vertex.Exit c s) = codes "ran " ++ pair_text c s
 
--- what is claimed: the kind of its op, and how many micro-steps it has
+-- what is printed of a claimed vertex: the kind of its op, and how many micro-steps it has
 abbrev pub claimed_text : Option Vertex → List ℕ
 claimed_text (Some v) = kind_text v.op.kind ++ (codes " " ++ decimal v.steps)
 claimed_text None = codes "none"
 
+-- the vertex of a claim; 0 for any other event, where it is not used
 abbrev pub vertex_of : Event → ℕ
 vertex_of (Claim w v) = v
 vertex_of (Step w) = 0
 vertex_of (Settle w) = 0
 vertex_of (Cancel w) = 0
 
+-- the reply to an event as it is printed; that to a claim names what was claimed
 abbrev pub reply_text : List Vertex → Event → Reply → List ℕ
 reply_text vertices e (Claimed job) = claimed_text (slice_get vertices (vertex_of e))
 reply_text vertices e HasRead = codes "read"
@@ -67,17 +72,17 @@ reply_text vertices e (SettledDone v) = done_text v
 reply_text vertices e (SettledFailed v) = failed_text v
 reply_text vertices e (Cancelled v k) = pair_text v k
 
--- the line of an event, without its end
+-- the line of an event without its line end: its number, the event, ` -> ` and the reply
 abbrev pub record_text : List Vertex → ℕ → Event × Reply → List ℕ
 record_text vertices number p = decimal number ++ (codes " " ++ (event_text p.0 ++ (codes " -> " ++ reply_text vertices p.0 p.1)))
 
--- an event with its reply on a board
+-- an event on a board, with its reply, if there are both and the event is granted
 abbrev pub replied : Option Seen → Option Event → Option (Event × Reply)
 replied None e = None
 replied (Some b) None = None
 replied (Some b) (Some e) = option_map (λ (p : Seen × Reply). (e, p.1)) (answered b e)
 
--- event i of the board's record, counted from 1, with its reply; only events that were done here have one
+-- event i of the board's record, counted from 1, with its reply; none for an event that the board already had when the stepper was made
 abbrev pub record_at : Stepping → ℕ → Option (Event × Reply)
 record_at s i =
     if nat_le 1 i && nat_le i (length s.board.events) then replied (slice_get s.past (length s.board.events - i)) (slice_get s.board.events (i - 1)) else None

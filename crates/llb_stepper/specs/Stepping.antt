@@ -11,7 +11,7 @@ use Rattle.llb_stepper.specs.declared.stop.Break.{Break}
 use Rattle.llb_stepper.specs.declared.stop.Break.TheVariants as stop
 use Rattle.llb_stepper.specs.declared.stop.Stop.{Stop}
 
--- the board, the boards before its events, the last first, and the breakpoints
+-- a stepper: its board, the boards before the events that it did, the latest first, and its breakpoints
 pub record Stepping : Type 0 where
   pub board : Seen
   pub past : List Seen
@@ -19,7 +19,7 @@ pub record Stepping : Type 0 where
 
 -- ---- one event
 
--- the board after an event that the table grants, and the reply
+-- the board after an event, and the reply, if the table grants the event
 abbrev pub answered : Seen → Event → Option (Seen × Reply)
 answered b e = option_map (λ (a : State × Reply). (after_event b e a.0, a.1)) (table b.build b.state e)
 
@@ -30,7 +30,7 @@ onward s b = record s { board = b; past = s.board ∷ s.past }
 abbrev pub lesser : ℕ → ℕ → ℕ
 lesser a b = if nat_lt a b then a else b
 
--- the stepper after an event is taken back: one event fewer, over the same build, and breakpoints as they were
+-- t is the stepper after the last event of s is taken back: over the same build, and with the same breakpoints
 pub record GoesBack (s t : Stepping) : Type 0 where
   pub past : s.past ≡ t.board ∷ t.past
   pub build : t.board.build ≡ s.board.build
@@ -38,12 +38,14 @@ pub record GoesBack (s t : Stepping) : Type 0 where
 
 -- ---- breakpoints
 
+-- whether an event is a claim of vertex v
 abbrev pub claims : ℕ → Event → Bool
 claims v (Claim w u) = u == v
 claims v (Step w) = false
 claims v (Settle w) = false
 claims v (Cancel w) = false
 
+-- whether a reply is that to a settle of vertex v
 abbrev pub settles : ℕ → Reply → Bool
 settles v (SettledDone u) = u == v
 settles v (SettledFailed u) = u == v
@@ -56,6 +58,7 @@ settles v (Skipped c) = false
 settles v (Faulted f) = false
 settles v (Cancelled u k) = false
 
+-- whether a reply is that to a settle of a vertex that failed
 abbrev pub has_failed : Reply → Bool
 has_failed (SettledFailed u) = true
 has_failed (SettledDone u) = false
@@ -68,32 +71,34 @@ has_failed (Skipped c) = false
 has_failed (Faulted f) = false
 has_failed (Cancelled u k) = false
 
--- an event with its reply meets a breakpoint: a claim of the vertex, a settle of the vertex, a settle that failed
+-- whether an event with its reply meets a breakpoint: a claim of the vertex, a settle of the vertex, or a settle of a vertex that failed
 abbrev pub meets : Event → Reply → Break → Bool
 meets e r (stop.Claims v) = claims v e
 meets e r (stop.Settles v) = settles v r
 meets e r stop.Fails = has_failed r
 
+-- whether an event meets one of the breakpoints, given what it leads to; a refused event meets none
 abbrev pub meets_by : List Break → Event → Option (Seen × Reply) → Bool
 meets_by breaks e None = false
 meets_by breaks e (Some p) = list_any (meets e p.1) breaks
 
--- an event that is done on a board meets one of the breakpoints
+-- whether an event that is done on a board meets one of the breakpoints
 abbrev pub meets_any : List Break → Seen → Event → Bool
 meets_any breaks b e = meets_by breaks e (answered b e)
 
 -- ---- lists of events
 
--- the board that goes on from the board after an event
+-- how a run of boards goes on: from the board after an event, if the event was granted
 abbrev pub then_on : Option (Seen × Reply) → (Seen → Option Seen) → Option Seen
 then_on None go = None
 then_on (Some p) go = go p.0
 
--- the board after events, each of which is granted
+-- the board after a list of events, if each of them is granted
 unfoldable pub run_on : Seen → List Event → Option Seen
 run_on b [] = Some b
 run_on b (e ∷ es) = then_on (answered b e) (λ c. run_on c es)
 
+-- a test of the board after an event; false if the event was refused
 abbrev pub meets_from : Option (Seen × Reply) → (Seen → Bool) → Bool
 meets_from None go = false
 meets_from (Some p) go = go p.0
@@ -104,29 +109,30 @@ meets_at breaks b [] k = false
 meets_at breaks b (e ∷ es) zero = meets_any breaks b e
 meets_at breaks b (e ∷ es) (suc k) = meets_from (answered b e) (λ c. meets_at breaks c es k)
 
--- a board of the same opening, on which nothing has happened
+-- the board as it was opened, with no event done yet
 abbrev pub at_first : Seen → Seen
 at_first b = record b { state = opening b.build b.opening; rows = b.first; events = [] }
 
--- the events of a board's record, done one by one on a board of its opening, lead to it
+-- the events of a board's record, done one by one on that board as it was opened, lead to the board
 abbrev pub IsReplayed : Seen → Type 0
 IsReplayed b = run_on (at_first b) b.events ≡ Some b
 
--- the boards before are those to which the record leads without its last events
+-- Board k of the past is the one to which the record leads without its last k + 1 events.
 abbrev pub PastIsTheRecords : Stepping → Type 0
 PastIsTheRecords s = (k : ℕ) (c : Seen) → slice_get s.past k ≡ Some c
     → run_on (at_first s.board) (take (length s.board.events - (k + 1)) s.board.events) ≡ Some c
 
--- the board now, and those before it
+-- the board now, and those before it, the latest first
 abbrev pub line : Stepping → List Seen
 line s = s.board ∷ s.past
 
--- the last event meets a breakpoint, or all were done and none does
+-- If the flag is true, the last of the n events meets a breakpoint; if it is false, the n events are the whole list and none of them meets one.
 abbrev pub EndsAt : Bool → List Break → Seen → List Event → ℕ → Type 0
 EndsAt true breaks b es n = (k : ℕ) × ((n ≡ k + 1) × (meets_at breaks b es k ≡ true))
 EndsAt false breaks b es n = (n ≡ length es) × ((k : ℕ) → k < n → meets_at breaks b es k ≡ false)
 
--- the stepper did the shortest non-empty prefix of a list of events whose last event meets a breakpoint, or the whole list where no event meets one
+-- Stepper t is s after the shortest non-empty prefix of a list of events whose last event meets a breakpoint, or after the whole list if no event meets one;
+-- its breakpoints are those of s.
 pub record IsStop (s : Stepping) (es : List Event) (t : Stepping) (p : Stop) : Type 0 where
   pub leads : run_on s.board (take p.events es) ≡ Some t.board
   pub past : drop p.events (line t) ≡ line s
@@ -136,6 +142,7 @@ pub record IsStop (s : Stepping) (es : List Event) (t : Stepping) (p : Stop) : T
   pub shortest : (k : ℕ) → k + 1 < p.events → meets_at s.breaks s.board es k ≡ false
   pub ends : EndsAt p.at_break s.breaks s.board es p.events
 
+-- the event was granted, and the board after it has the property
 abbrev pub ChosenThen : Option (Seen × Reply) → (Seen → Type 0) → Type 0
 ChosenThen None Are = ⊥
 ChosenThen (Some p) Are = Are p.0
@@ -145,7 +152,7 @@ unfoldable pub AreChosen : Seen → List Event → Type 0
 AreChosen b [] = Unit {0}
 AreChosen b (e ∷ es) = (chosen b.build b.state ≡ Some e) × ChosenThen (answered b e) (λ c. AreChosen c es)
 
--- the chosen events were done as a stop says; where no breakpoint was met, up to where none is chosen
+-- Stepper t is s after a `go`: the events that the driver chooses were done, up to a stop; if none of them meets a breakpoint, no event is chosen after them.
 pub record IsGo (s t : Stepping) (p : Stop) : Type 0 where
   pub events : List Event
   pub are : AreChosen s.board events

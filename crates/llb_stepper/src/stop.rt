@@ -1,4 +1,4 @@
-//! Breakpoints, and how far a walk came.
+//! Breakpoints, and where a `go` or a replay stopped.
 
 ghost use Rattle.std.specs.Prelude.{◌≡◌};
 ghost use Rattle.std.specs.List.{list_any};
@@ -7,7 +7,7 @@ ghost use Rattle.llb_stepper.specs.Told.{meets_told};
 
 use llb_board::{Event, Reply, Settled};
 
-/// Where a walk stops: after an event that meets it.
+/// A breakpoint: a `go` or a replay stops after an event that meets it.
 #[derive(Clone, Copy, Debug, PartialEq, Eq)]
 pub enum Break {
     /// After a claim of that vertex.
@@ -18,7 +18,7 @@ pub enum Break {
     Fails,
 }
 
-/// How many events a walk did, and whether the last of them meets a breakpoint.
+/// How many events a `go` or a replay did, and whether the last of them meets a breakpoint.
 #[derive(Clone, Copy, Debug, PartialEq, Eq)]
 pub struct Stop {
     pub events: u64,
@@ -26,7 +26,7 @@ pub struct Stop {
 }
 
 impl Break {
-    /// Returns whether an event that was done, with its reply, meets it.
+    /// Returns whether an event that was done, with its reply, meets the breakpoint.
     pub(crate) fn is_met_by(self, event: Event, reply: Reply) -> bool
         ensures { result ≡ meets_told (event_of event) reply self }
     {

@@ -23,7 +23,7 @@ IsKept kept (Some o) t = HasBelow t o.above o.at kept × (o.text.now ≡ names_t
 abbrev pub IsGrown : Growing → TreeMap → Type 0
 IsGrown g t = IsKept g.tree g.open t
 
--- where there is one, it stands for this tree
+-- the tree of the lines so far, where there is one, is this one
 abbrev pub IsGrownIfAny : Option Growing → TreeMap → Type 0
 IsGrownIfAny None t = Unit {0}
 IsGrownIfAny (Some g) t = IsGrown g t

@@ -19,6 +19,7 @@ MemoryLast is_memory (Err e) rule = is_memory e ≡ true → is_ok rule ≡ true
 
 -- a rule goes on with the value of another, or has its fault
 infixl 10 ◌>>=◌
+-- the first fault, or else what f makes of the result
 abbrev pub ◌>>=◌ : {A B F : Type 0} → Result A F → (A → Result B F) → Result B F
 (Ok x) >>= f = f x
 (Err e) >>= f = Err e

@@ -7,6 +7,6 @@ use Rattle.hex.specs.Hex.{encode_lower}
 abbrev pub digits_of : List ℕ → List ℕ
 digits_of bytes = encode_lower (sha256 bytes)
 
--- `sha256:` and the digits
+-- the digest text of an entry: `sha256:` and the 64 digits
 abbrev pub digest_text : List ℕ → List ℕ
 digest_text bytes = codes "sha256:" ++ digits_of bytes

@@ -10,14 +10,14 @@ abbrev pub hex_text : List ℕ → List ℕ
 hex_text [] = codes "-"
 hex_text (b ∷ bytes) = encode_lower (b ∷ bytes)
 
--- a hexadecimal digit that is not upper-case
+-- whether a byte is a decimal digit or one of `a` to `f`
 abbrev pub is_lower : ℕ → Bool
 is_lower b = (nat_le 48 b && nat_le b 57) || (nat_le 97 b && nat_le b 102)
 
--- a dash, or pairs of such digits
+-- whether a text is a dash, or one or more pairs of lower-case hexadecimal digits
 abbrev pub is_hex : List ℕ → Bool
 is_hex text = pointwise nat_eq text (codes "-") || (not (length text == 0) && (length text % 2 == 0) && list_all is_lower text)
 
--- the bytes of a dash or of pairs of digits
+-- the bytes that a dash (none) or pairs of hexadecimal digits spell
 abbrev pub bytes_in : List ℕ → Option (List ℕ)
 bytes_in text = if pointwise nat_eq text (codes "-") then Some [] else result_ok (decode_of text)

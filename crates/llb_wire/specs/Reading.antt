@@ -10,8 +10,7 @@ use Rattle.llb_wire.specs.declared.field.Field.{Field}
 use Rattle.llb_wire.specs.declared.fault.WireFault.{WireFault}
 use Rattle.llb_wire.specs.declared.fault.WireFault.TheVariants.{Truncated, LongVarint, BadField, BadWireType}
 
--- The number at the start, and how many bytes it has: at most one more than the count.
--- The tenth byte, after which nothing more may come, is 0 or 1.
+-- The number that the varint at the start spells, and how many bytes it has: at most `more` + 1. The byte at this limit may only be 0 or 1.
 unfoldable pub varint_from : ℕ → List ℕ → Result (ℕ × ℕ) WireFault
 varint_from more [] = Err Truncated
 varint_from zero (b ∷ bs) = if nat_lt 1 b then Err LongVarint else Ok (b, 1)
@@ -22,27 +21,30 @@ abbrev pub varint_limit : ℕ → ℕ
 varint_limit zero = 2
 varint_limit (suc more) = 128 * varint_limit more
 
--- the number at a place, and where it ends
+-- the number that the varint at a place spells, and where the varint ends
 abbrev pub varint_at : List ℕ → ℕ → Result (ℕ × ℕ) WireFault
 varint_at bytes at = varint_from 9 (drop at bytes) >>= λ m. Ok (m.0, at + m.1)
 
 -- ---- records
 
+-- the number of a field, from 1 to 536870911
 abbrev pub number_of : ℕ → Result ℕ WireFault
 number_of n = if n == 0 then Err BadField else if nat_lt 536_870_911 n then Err BadField else Ok n
 
+-- the wire type that a code means
 abbrev pub wire_of : ℕ → Result Wire WireFault
 wire_of code = if code == 0 then Ok Varint else if code == 1 then Ok I64 else if code == 2 then Ok Len else if code == 5 then Ok I32 else Err BadWireType
 
--- the bytes of a fixed width at a place, as a number, and where they end
+-- the number that the bytes of a fixed width at a place spell, and where they end
 abbrev pub fixed_at : Width → List ℕ → ℕ → Result (ℕ × ℕ) WireFault
 fixed_at w bytes at = if nat_lt (length (drop at bytes)) (byte_len w) then
     Err Truncated else Ok (from_le_bytes w (take (byte_len w) (drop at bytes)), at + byte_len w)
 
--- a number and its end, as a payload that begins at a place
+-- a field with this number and wire type, whose payload begins at `start`; v is its value and its end
 abbrev pub as_field : ℕ → Wire → ℕ → ℕ × ℕ → Field
 as_field number wire start v = record { number = number; wire = wire; value = v.0; start = start; «end» = v.1 }
 
+-- the field whose payload begins at a place
 unfoldable pub payload_at : ℕ → Wire → List ℕ → ℕ → Result Field WireFault
 payload_at number Varint bytes at = varint_at bytes at >>= λ v. Ok (as_field number Varint at v)
 payload_at number I64 bytes at = fixed_at w64 bytes at >>= λ v. Ok (as_field number I64 at v)
@@ -50,6 +52,7 @@ payload_at number Len bytes at = varint_at bytes at >>= λ len. if nat_lt (lengt
     Err Truncated else Ok (as_field number Len len.1 (len.0, len.1 + len.0))
 payload_at number I32 bytes at = fixed_at w32 bytes at >>= λ v. Ok (as_field number I32 at v)
 
+-- the field whose tag is at a place, or its first fault
 unfoldable pub field_at : List ℕ → ℕ → Result Field WireFault
 field_at bytes at = do
   tag ← varint_at bytes at

@@ -8,7 +8,7 @@ use Rattle.llb_wire.specs.declared.field.Field.{Field}
 use Rattle.llb_wire.specs.Spelling.{code_of, IsFieldNumber, IsVarint, AreBytes, varint_text, value_text, record_text}
 use Rattle.llb_wire.specs.Reading.{next_field}
 
--- the payload, and the whole record's own bytes as they are
+-- a record of a message: the number of its field, its wire type, value and payload, and as `text` all its bytes as they were read
 pub record Record : Type 0 where
   pub number : ℕ
   pub wire : Wire
@@ -16,7 +16,7 @@ pub record Record : Type 0 where
   pub payload : List ℕ
   pub text : List ℕ
 
--- the record at the start of the bytes
+-- the record of field f, which was read at the start of the bytes
 abbrev pub record_of : List ℕ → Field → Record
 record_of bytes f = record { number = f.number; wire = f.wire; value = f.value; payload = drop f.start (take f.«end» bytes); text = take f.«end» bytes }
 
@@ -36,19 +36,20 @@ placed at r = record { number = r.number; wire = r.wire; value = r.value; start 
 
 -- ---- the grammar of records, with no place
 
--- a number of a fixed width, least significant byte first
+-- the bytes spell n in a fixed width, least significant byte first
 pub record IsFixed (w : Width) (bytes : List ℕ) (n : ℕ) : Type 0 where
   pub size : length bytes ≡ byte_len w
   pub value : n ≡ from_le_bytes w bytes
 
--- the bytes after the tag: the number of a LEN is the count of the bytes that follow it, else all are the number's
+-- The bytes after the tag: for a LEN, the value as a varint, and then as many bytes, the payload. Otherwise all of them are the payload, and they spell the
+-- value.
 abbrev pub IsPayload : Wire → List ℕ → ℕ → List ℕ → Type 0
 IsPayload Varint bytes value payload = (payload ≡ bytes) × IsVarint bytes value
 IsPayload I64 bytes value payload = (payload ≡ bytes) × IsFixed w64 bytes value
 IsPayload Len bytes value payload = (count : List ℕ) × (bytes ≡ count ++ payload) × IsVarint count value × (length payload ≡ value)
 IsPayload I32 bytes value payload = (payload ≡ bytes) × IsFixed w32 bytes value
 
--- a record's own bytes: its tag, which is eight times the field's number and the wire type, and after it the payload
+-- The record's own bytes: its tag, which is a varint of eight times the field's number plus the code of the wire type, and then its payload.
 pub record IsRecord (r : Record) : Type 0 where
   pub tag : List ℕ
   pub behind : List ℕ
@@ -85,7 +86,7 @@ written_record number wire value payload = record {
   text = record_text number wire value payload;
 }
 
--- a record's bytes, than which no bytes that spell that number, wire type and value are fewer
+-- The record has the bytes that spell it, and no record with the same field number, wire type and value has fewer bytes.
 pub record IsShortestRecord (r : Record) : Type 0 where
   pub is_one : IsRecord r
   pub bytes : AreBytes r.text

@@ -18,28 +18,28 @@ Spells [] n = ⊥
 Spells (b ∷ []) n = (b < 128) × (n ≡ b)
 Spells (b ∷ c ∷ bs) n = (128 ≤ b) × (m : ℕ) × (n + 128 ≡ b + 128 * m) × Spells (c ∷ bs) m
 
--- a spelling of at most ten bytes, of a number of at most 64 bits
+-- The bytes are a varint of n: they spell n, which has at most 64 bits, and are at most ten.
 pub record IsVarint (bytes : List ℕ) (n : ℕ) : Type 0 where
   pub spells : Spells bytes n
   pub short : length bytes ≤ 10
   pub small : n < 2 ^ 64
 
--- the bytes from a place up to another
+-- the bytes from one place up to another, which is not among them
 abbrev pub between : ℕ → ℕ → List ℕ → List ℕ
 between from to bytes = take (to - from) (drop from bytes)
 
--- a number is spelled from a place up to its end
+-- a varint of n is spelled from `at` up to `last`
 pub record VarintAt (bytes : List ℕ) (at n last : ℕ) : Type 0 where
   pub begins : at < last
   pub inside : last ≤ length bytes
   pub spelled : IsVarint (between at last bytes) n
 
--- each byte says that more come
+-- each byte is at least 128, which says that more follow
 abbrev pub IsOpen : List ℕ → Type 0
 IsOpen [] = Unit {0}
 IsOpen (b ∷ bs) = (128 ≤ b) × IsOpen bs
 
--- the bytes end before the number does
+-- the bytes end within a varint
 pub record CutVarint (bytes : List ℕ) (at : ℕ) : Type 0 where
   pub more : IsOpen (drop at bytes)
   pub few : length (drop at bytes) ≤ 9
@@ -63,34 +63,36 @@ VarintCause bytes at BadWireType = ⊥
 
 -- ---- records
 
+-- the code of a wire type in a tag
 abbrev pub code_of : Wire → ℕ
 code_of Varint = 0
 code_of I64 = 1
 code_of Len = 2
 code_of I32 = 5
 
+-- a number that a field can have
 abbrev pub IsFieldNumber : ℕ → Type 0
 IsFieldNumber n = (1 ≤ n) × (n ≤ 536_870_911)
 
--- the tag: eight times the field's number, and the wire type
+-- A tag is spelled from `at` up to `last`: a varint of eight times the field's number plus the code of the wire type.
 pub record TagAt (bytes : List ℕ) (at number : ℕ) (wire : Wire) (last : ℕ) : Type 0 where
   pub spelled : VarintAt bytes at (8 * number + code_of wire) last
   pub named : IsFieldNumber number
 
--- a number of a fixed width, least significant byte first
+-- the number n is spelled from `at` up to `last` in a fixed width, least significant byte first
 pub record FixedAt (w : Width) (bytes : List ℕ) (at n last : ℕ) : Type 0 where
   pub size : last ≡ at + byte_len w
   pub inside : last ≤ length bytes
   pub value : n ≡ from_le_bytes w (between at last bytes)
 
--- the payload after a tag that ends at a place
+-- the payload of field f is after a tag that ends at a place
 abbrev pub PayloadAt : Wire → List ℕ → ℕ → Field → Type 0
 PayloadAt Varint bytes at f = (f.start ≡ at) × VarintAt bytes at f.value f.«end»
 PayloadAt I64 bytes at f = (f.start ≡ at) × FixedAt w64 bytes at f.value f.«end»
 PayloadAt Len bytes at f = VarintAt bytes at f.value f.start × (f.«end» ≡ f.start + f.value) × (f.«end» ≤ length bytes)
 PayloadAt I32 bytes at f = (f.start ≡ at) × FixedAt w32 bytes at f.value f.«end»
 
--- the record that is spelled from a place on
+-- the bytes at a place spell the field f
 pub record RecordAt (bytes : List ℕ) (at : ℕ) (f : Field) : Type 0 where
   pub tag_end : ℕ
   pub tag : TagAt bytes at f.number f.wire tag_end
@@ -117,7 +119,7 @@ PayloadCause wire bytes at LongVarint = LongPayload wire bytes at
 PayloadCause wire bytes at BadField = ⊥
 PayloadCause wire bytes at BadWireType = ⊥
 
--- something is wrong after a good tag
+-- a good tag is at a place, and something is wrong after it
 pub record BehindTag (wrong : Wire → List ℕ → ℕ → Type 0) (bytes : List ℕ) (at : ℕ) : Type 0 where
   pub number : ℕ
   pub wire : Wire
@@ -154,27 +156,32 @@ unfoldable pub shortest : ℕ → ℕ → List ℕ
 shortest zero n = n ∷ []
 shortest (suc more) n = if nat_lt n 128 then n ∷ [] else (128 + n % 128) ∷ shortest more (n / 128)
 
+-- the shortest varint of a number of at most 64 bits
 abbrev pub varint_text : ℕ → List ℕ
 varint_text n = shortest 9 n
 
+-- each number of a list is a byte
 abbrev pub AreBytes : List ℕ → Type 0
 AreBytes bytes = AllByRecursion (λ b. b < 256) bytes
 
--- a spelling than which none is shorter
+-- The bytes are a varint of n, and no varint of n has fewer bytes.
 pub record IsShortest (spelling : List ℕ) (n : ℕ) : Type 0 where
   pub is_one : IsVarint spelling n
   pub bytes : AreBytes spelling
   pub least : (other : List ℕ) → AreBytes other → IsVarint other n → length spelling ≤ length other
 
+-- the bytes after the tag of a record: its payload, after its length for a LEN
 abbrev pub payload_text : Wire → ℕ → List ℕ → List ℕ
 payload_text Varint value payload = varint_text value
 payload_text I64 value payload = to_le_bytes w64 value
 payload_text Len value payload = varint_text (length payload) ++ payload
 payload_text I32 value payload = to_le_bytes w32 value
 
+-- the tag of a record, as a varint
 abbrev pub tag_text : ℕ → Wire → List ℕ
 tag_text number wire = varint_text (8 * number + code_of wire)
 
+-- the bytes of a record with shortest varints
 abbrev pub record_text : ℕ → Wire → ℕ → List ℕ → List ℕ
 record_text number wire value payload = tag_text number wire ++ payload_text wire value payload
 
