@@ -1,7 +1,7 @@
 //! One tree laid over another. It goes down both at once and touches only what both have: what only one of them has is shared.
-//! At each level the upper children are put among the lower ones by one pass over both, and where they have every name of the
-//! lower ones they are taken as they are, but for the directories that both have, which are laid in turn. A refusal leaves
-//! what it is laid over as it was: first all that can be refused makes the new children, and then they are put in.
+//! At each level the upper children are put among the lower ones, each into the piece that its name belongs to, and where they
+//! have every name of the lower ones their pieces are taken as they are, but for the directories that both have, which are laid in
+//! turn. A refusal leaves what it is laid over as it was: the new children are put among second owners of the lower pieces.
 
 ghost use Rattle.std.specs.Prelude.{◌≡◌, ℕ, List, IfOk, IfErr, OnOk, OnErr, map, true, unwrap_or};
 ghost use Rattle.std.specs.Arc.{arc_value};
