@@ -106,7 +106,7 @@ class Definitions(Folder):
             self.skipTest("the program llbm is needed (--llbm PROGRAM)")
         tree = os.fsdecode(self.file(b"tree", run("bigtree", "4", "2").stdout))
         kinds = run("bigdef", "nosuch", "1").stderr.decode().rsplit("choose from ", 1)[1].strip(")\n").split(", ")
-        self.assertEqual(len(kinds), 17)
+        self.assertEqual(len(kinds), 25)
         for kind in [kind.strip("'") for kind in kinds]:
             given = run("bigdef", kind, "3").stdout
             words = [base.llbm, "run", f"p={tree}", f"q={tree}"]

@@ -130,6 +130,10 @@ class WithProgram(Folder):
             meaning = [f"  {text}" for text in explained.stdout.decode().splitlines()]
             self.assertEqual(done.stderr.decode().splitlines()[1:], [line, *meaning, "nothing is written"])
 
+    def source_name(self, text):
+        """Returns the name of the local source that a file of the examples is the tree of."""
+        return "source" if text.parent == EXAMPLES else text.stem
+
     def sources(self):
         """Yields the name and the definition of each example, and its sources as words of a build."""
         texts = [*EXAMPLES.glob("*.tree"), *EXAMPLES.glob("*/*.tree")]
@@ -138,7 +142,7 @@ class WithProgram(Folder):
             for text in sources:
                 if not (self.at / text.stem).exists():
                     self.check_success(run("directory-of-tree", self.at / text.stem, text=text.read_bytes()))
-            yield name, given, [f"{text.stem}={self.at / text.stem}" for text in sources]
+            yield name, given, [f"{self.source_name(text)}={self.at / text.stem}" for text in sources]
 
     def without_progress(self, done):
         """Splits the lines of a build into those of settled vertices, which are numbered, and the others."""
@@ -191,7 +195,8 @@ class WithProgram(Folder):
             self.assertEqual(len(objects["vertices"]), shown.count(b"\n") - 1, name)
             number = len(objects["vertices"])
             words = ["step", self.file(b"definition", given)]
-            words += [f"{text.stem}={text}" for text in [*EXAMPLES.glob("*.tree"), *EXAMPLES.glob("*/*.tree")]]
+            trees = [*EXAMPLES.glob("*.tree"), *EXAMPLES.glob("*/*.tree")]
+            words += [f"{self.source_name(text)}={text}" for text in trees]
             record = self.output(*words, given=b"status\ngo\nstatus\nback\nstep 9\ntree 0 0\nx\nquit\n")
             objects = json.loads(run("json-of-record", text=record).stdout)
             self.assertEqual([one["kind"] for one in objects[:number]], ["status"] * number)
@@ -211,7 +216,7 @@ class WithProgram(Folder):
                 text = (EXAMPLES / "first-run.text").read_bytes() if first == "asm" else place.read_bytes()
                 done = self.llbm(*given, given=b"" if first == "step" else text)
                 if given[-1] in ("--help", "--version"):
-                    self.assertRegex(done.stderr, b"^fault 183\n.*llbm")
+                    self.assertRegex(done.stderr, b"(?s)^fault 183\n.*llbm")
                 else:
                     self.assertEqual((done.returncode, done.stderr), (0, b""), given)
 
