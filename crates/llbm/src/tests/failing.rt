@@ -10,7 +10,7 @@ use std::thread::Threads;
 // The device of a call that fails: a reader, with the number of reads of one byte that the call needs, the one that meets the end among
 // them; or a writer, with the line of the fault that the call ends with.
 #[derive(Clone, Copy)]
-enum Device {
+pub(crate) enum Device {
     Input(usize),
     File(usize),
     Local(usize),
@@ -34,7 +34,7 @@ fn needed(case: &Case) -> usize {
 }
 
 // Devices of which this one does no more than that.
-fn rooms_of(device: Device, room: usize) -> Rooms {
+pub(crate) fn rooms_of(device: Device, room: usize) -> Rooms {
     let mut rooms = AMPLE;
     match device {
         Device::Input(_) => rooms.input = room,

@@ -1,6 +1,6 @@
 //! The pages of help and of the version, each held against the text that `clap` renders for the same words.
 
-use super::devices::AMPLE;
+use super::failing::{Device, rooms_of};
 use super::told::{ran_words, tried};
 use llb_commands::llbm_command;
 use std::alloc::Global;
@@ -95,9 +95,7 @@ const NARROW: &[(&str, &str)] = &[
 #[test]
 fn a_page_that_cannot_be_written_ends_with_three(rt: HostRuntime) {
     for (words, told) in NARROW {
-        let mut rooms = AMPLE;
-        rooms.err = told.len();
-        let ran = tried(&rt, rt.alloc(), words, rooms);
+        let ran = tried(&rt, rt.alloc(), words, rooms_of(Device::Err, told.len()));
         assert!(rt; ran.is(3, "", told), "{words}");
     }
 }
