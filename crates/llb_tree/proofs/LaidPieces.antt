@@ -1,14 +1,14 @@
 -- Pieces of laid children, one for each upper piece.
-use Rattle.std.proofs.Common.{◌≡◌, ℕ, zero, suc, ◌+◌, ◌<◌, Bool, true, false, not, ◌||◌, List, [], ◌∷◌, ◌++◌, length, map, take, drop, get_or}
-use Rattle.std.proofs.Common.{refl, sym, ap, subst, ◌∙◌, true≢false, arith, add-one}
+use Rattle.std.proofs.Common.{◌≡◌, ℕ, zero, suc, ◌+◌, ◌<◌, ◌≤◌, List, [], ◌∷◌, ◌++◌, length, map, drop, get_or, set}
+use Rattle.std.proofs.Common.{refl, sym, ap, subst, ◌∙◌, arith, add-one}
 use Rattle.std.proofs.lemmas.List.{length-map}
-use Rattle.llb_tree.specs.Nodes.{pair_of, rows_in, kids_in}
+use Rattle.llb_tree.specs.Nodes.{Pairs, pair_of, rows_in, kids_in}
 use Rattle.llb_tree.specs.Pieces.{row_pairs, pairs_of, AllFull, ArePieced}
 use Rattle.llb_tree.specs.Overlay.{WayValue}
 use Rattle.llb_tree.specs.Laying.{Lays, AreLaid, PiecesLaid, Covers, puts}
 use Rattle.llb_tree.specs.declared.node.Child.{Child}
 use Rattle.llb_tree.specs.declared.node.Piece.{Piece}
-use Rattle.llb_tree.proofs.Covered.{lays_all}
+use Rattle.llb_tree.proofs.Covered.{HasLaid, all_laid, lays_all}
 use Rattle.llb_tree.proofs.InPlace.{lays_puts}
 use Rattle.llb_tree.proofs.Keyed.{InOrder}
 use Rattle.llb_tree.proofs.Pieced.{pairs_kids, sorted_kids}
@@ -58,42 +58,75 @@ module _ (w : WayValue) (old : List Child) where
     full = full_laid us ps laid h.full;
   }
 
-  piece_more : (us ps : List Piece) (i : ℕ) (d p : Piece) → i < length us → PiecesLaid w old (take i us) ps
-      → AreLaid w old (rows_in (get_or us i d)) (rows_in p) → PiecesLaid w old (take (suc i) us) (ps ++ p ∷ [])
-  piece_more [] ps i d p lt so_far laid = absurd (omega arith)
-  piece_more (u ∷ us) [] zero d p lt so_far laid = (laid, tt)
-  piece_more (u ∷ us) (x ∷ ps) zero d p lt so_far laid = absurd so_far
-  piece_more (u ∷ us) [] (suc i) d p lt so_far laid = absurd so_far
-  piece_more (u ∷ us) (x ∷ ps) (suc i) d p lt so_far laid = (so_far.0, piece_more us ps i d p (omega arith) so_far.1 laid)
+  -- the first i pieces are laid, and those after them are the upper ones
+  abbrev pub HaveLaid : ℕ → List Piece → List Pairs → Type 0
+  HaveLaid i [] [] = Unit {0}
+  HaveLaid i [] (p ∷ ps) = ⊥
+  HaveLaid i (u ∷ us) [] = ⊥
+  HaveLaid zero (u ∷ us) (p ∷ ps) = (p ≡ row_pairs u) × HaveLaid zero us ps
+  HaveLaid (suc i) (u ∷ us) (p ∷ ps) = HasLaid w old (length (rows_in u)) (rows_in u) p × HaveLaid i us ps
 
-  -- the next piece is laid and put after those so far
-  pub piece_laid : (us ps new : List Piece) (i : ℕ) (u p : Piece) → i < length us → u ≡ get_or us i u → new ≡ ps ++ p ∷ [] → PiecesLaid w old (take i us) ps
-      → AreLaid w old (rows_in u) (rows_in p) → PiecesLaid w old (take (i + 1) us) new
-  piece_laid us ps new i u p lt is pushed so_far laid =
-      subst (PiecesLaid w old (take (i + 1) us)) (sym pushed)
-      (subst (λ j. PiecesLaid w old (take j us) (ps ++ p ∷ [])) (sym (add-one i))
-      (piece_more us ps i u p lt so_far (subst (λ (x : Piece). AreLaid w old (rows_in x) (rows_in p)) is laid)))
+  pub no_piece_yet : (us : List Piece) → HaveLaid 0 us (map row_pairs us)
+  no_piece_yet [] = tt
+  no_piece_yet (u ∷ us) = (refl, no_piece_yet us)
 
-  take_piece : (us : List Piece) (i : ℕ) (d : Piece) → i < length us → take (suc i) us ≡ take i us ++ get_or us i d ∷ []
-  take_piece [] i d lt = absurd (omega arith)
-  take_piece (u ∷ us) zero d lt = refl
-  take_piece (u ∷ us) (suc i) d lt = ap (λ xs. u ∷ xs) (take_piece us i d (omega arith))
+  pub as_many : (i : ℕ) (us ps : List Piece) → HaveLaid i us (map row_pairs ps) → length ps ≡ length us
+  as_many i [] [] h = refl
+  as_many i [] (p ∷ ps) h = absurd h
+  as_many i (u ∷ us) [] h = absurd h
+  as_many zero (u ∷ us) (p ∷ ps) h = ap suc (as_many zero us ps h.1)
+  as_many (suc i) (u ∷ us) (p ∷ ps) h = ap suc (as_many i us ps h.1)
 
-  -- and so it is where it stays as it is
-  pub piece_stays : (us : List Piece) (i : ℕ) (u : Piece) → i < length us → u ≡ get_or us i u → PiecesLaid w old (take i us) (take i us)
-      → AreLaid w old (rows_in u) (rows_in u) → PiecesLaid w old (take (i + 1) us) (take (i + 1) us)
-  piece_stays us i u lt is so_far laid =
-      piece_laid us (take i us) (take (i + 1) us) i u u lt is
-      (ap (λ j. take j us) (add-one i) ∙ take_piece us i u lt ∙ ap (λ x. take i us ++ x ∷ []) (sym is)) so_far laid
+  seen_laid : (us ks : List Child) → AreLaid w old us ks → HasLaid w old (length us) us (map pair_of ks)
+  seen_laid [] [] h = tt
+  seen_laid [] (k ∷ ks) h = absurd h
+  seen_laid (u ∷ us) [] h = absurd h
+  seen_laid (u ∷ us) (k ∷ ks) h = ((h.0.named, h.0.laid), seen_laid us ks h.1)
+
+  rows_stay : (i : ℕ) (us : List Piece) (ps : List Pairs) (d : Piece) → i < length us → HaveLaid i us ps
+      → AreLaid w old (rows_in (get_or us i d)) (rows_in (get_or us i d)) → HaveLaid (suc i) us ps
+  rows_stay i [] ps d lt h laid = absurd (omega arith)
+  rows_stay i (u ∷ us) [] d lt h laid = absurd h
+  rows_stay zero (u ∷ us) (p ∷ ps) d lt h laid =
+      (subst (HasLaid w old (length (rows_in u)) (rows_in u)) (sym h.0) (seen_laid (rows_in u) (rows_in u) laid), h.1)
+  rows_stay (suc i) (u ∷ us) (p ∷ ps) d lt h laid = (h.0, rows_stay i us ps d (omega arith) h.1 laid)
+
+  rows_written : (i : ℕ) (us : List Piece) (ps : List Pairs) (d : Piece) (rows : List Child) → i < length us → HaveLaid i us ps
+      → AreLaid w old (rows_in (get_or us i d)) rows → HaveLaid (suc i) us (set ps i (map pair_of rows))
+  rows_written i [] ps d rows lt h laid = absurd (omega arith)
+  rows_written i (u ∷ us) [] d rows lt h laid = absurd h
+  rows_written zero (u ∷ us) (p ∷ ps) d rows lt h laid = (seen_laid (rows_in u) rows laid, h.1)
+  rows_written (suc i) (u ∷ us) (p ∷ ps) d rows lt h laid = (h.0, rows_written i us ps d rows (omega arith) h.1 laid)
+
+  module _ (i : ℕ) (us : List Piece) (ps : List Pairs) (u : Piece) (lt : i < length us) (is : u ≡ get_or us i u) (so_far : HaveLaid i us ps) where
+    -- the next piece stays as it is
+    pub piece_stays : AreLaid w old (rows_in u) (rows_in u) → HaveLaid (i + 1) us ps
+    piece_stays laid = subst (λ j. HaveLaid j us ps) (sym (add-one i))
+        (rows_stay i us ps u lt so_far (subst (λ (x : Piece). AreLaid w old (rows_in x) (rows_in x)) is laid))
+
+    -- or has other rows
+    pub piece_written : (rows : List Child) (new : List Pairs) → AreLaid w old (rows_in u) rows → new ≡ set ps i (map pair_of rows)
+        → HaveLaid (i + 1) us new
+    piece_written rows new laid wrote = subst (HaveLaid (i + 1) us) (sym wrote) (subst (λ j. HaveLaid j us (set ps i (map pair_of rows))) (sym (add-one i))
+        (rows_written i us ps u rows lt so_far (subst (λ (x : Piece). AreLaid w old (rows_in x) rows) is laid)))
+
+  -- when no piece is left, all are laid
+  pub all_pieces : (i : ℕ) (us ps : List Piece) → length us ≤ i → HaveLaid i us (map row_pairs ps) → PiecesLaid w old us ps
+  all_pieces i [] [] le h = tt
+  all_pieces i [] (p ∷ ps) le h = absurd h
+  all_pieces i (u ∷ us) [] le h = absurd h
+  all_pieces zero (u ∷ us) (p ∷ ps) le h = absurd (omega arith)
+  all_pieces (suc i) (u ∷ us) (p ∷ ps) le h =
+      (all_laid w old (length (rows_in u)) (rows_in u) (rows_in p) (omega arith) h.0, all_pieces i us ps (omega arith) h.1)
+
+-- the pairs of pieces of which one is set
+pub map_set : (ps : List Piece) (i : ℕ) (p : Piece) → map row_pairs (set ps i p) ≡ set (map row_pairs ps) i (row_pairs p)
+map_set [] i p = refl
+map_set (q ∷ ps) zero p = refl
+map_set (q ∷ ps) (suc i) p = ap (λ es. row_pairs q ∷ es) (map_set ps i p)
 
 -- putting the laid children among the old ones lays all upper children over them
 pub lays_put : (w : WayValue) (old us new : List Piece) (made : List Child) → ArePieced old → ArePieced us → AreLaid w (kids_in old) (kids_in us) made
     → pairs_of new ≡ puts (map pair_of made) (pairs_of old) → Lays w (kids_in us) (kids_in old) (kids_in new)
 lays_put w old us new made h above laid is = lays_puts w (kids_in old) (kids_in us) made (kids_in new) (sorted_kids old h) (sorted_kids us above) laid
     (pairs_kids new ∙ is ∙ ap (puts (map pair_of made)) (sym (pairs_kids old)))
-
--- what is unchanged was so before, and is whole
-pub both_whole : (after before whole : Bool) → after ≡ (before || not whole) → after ≡ false → (before ≡ false) × (whole ≡ true)
-both_whole after true whole is none = absurd (true≢false (sym is ∙ none))
-both_whole after false true is none = (refl, refl)
-both_whole after false false is none = absurd (true≢false (sym is ∙ none))

@@ -32,3 +32,5 @@ pub mod Sharing
 pub mod Thinning
 pub mod Thinned
 pub mod Found
+pub mod Alike
+pub mod Near

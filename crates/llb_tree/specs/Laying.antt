@@ -44,13 +44,6 @@ PiecesLaid w old [] (p ∷ made) = ⊥
 PiecesLaid w old (u ∷ upper) [] = ⊥
 PiecesLaid w old (u ∷ upper) (p ∷ made) = AreLaid w old (rows_in u) (rows_in p) × PiecesLaid w old upper made
 
--- a laid piece comes after others, and where it is whole the upper one is laid as it is
-pub record PushesLaid (w : WayValue) (old : List Child) (upper : Piece) (whole : Bool) (list new : List Piece) : Type 0 where
-  pub made : Piece
-  pub pushed : new ≡ list ++ made ∷ []
-  pub laid : AreLaid w old (rows_in upper) (rows_in made)
-  pub whole_laid : whole ≡ true → AreLaid w old (rows_in upper) (rows_in upper)
-
 -- an entry that is laid stays as it is, whatever was there
 pub record TakesWhole (w : WayValue) : Type 0 where
   pub own : (m : MetaValue) → given w m ≡ m

@@ -1,14 +1,16 @@
 //! Children that others cover: where each of their names is one of the others', laying the others over them makes children of the others'
 //! names alone, and what differs from the others is written into second owners of those.
 
-ghost use Rattle.std.specs.Prelude.{◌≡◌, ◌<◌, ℕ, List, length, IsTrue, IfOk, IfSome, is_some, true, map};
-ghost use Rattle.llb_tree.specs.Nodes.{child, left_in, pair_of};
-ghost use Rattle.llb_tree.specs.Laying.{Covers, HasLater, those, written};
+ghost use Rattle.std.specs.Prelude.{◌≡◌, ◌<◌, ℕ, List, length, IsTrue, IfOk, IfSome, is_some, true, map, set};
+ghost use Rattle.llb_tree.specs.Nodes.{child, kids_in, left_in, name_of, pair_of};
+ghost use Rattle.llb_tree.specs.Pieces.{row_pairs};
+ghost use Rattle.llb_tree.specs.Laying.{Covers, HasLater, those, those_pieces, written};
 
 use crate::children::Children;
 use crate::edit::copies;
 use crate::name::Name;
-use crate::node::{Child, Node};
+use crate::node::{Child, Node, Piece};
+use crate::pieces::second_owners;
 use std::alloc::{AllocError, Global};
 use std::cmp::Ordering;
 
@@ -27,8 +29,46 @@ fn after<'a>(kids: Children<'a>, name: &Name) -> Option<Children<'a>>
     None
 }
 
+// Whether two rows of children have the same names.
+fn same_names(upper: &[Child], lower: &[Child]) -> bool
+    ensures { IsTrue result → map name_of upper.now ≡ map name_of lower.now }
+{
+    if upper.len() != lower.len() {
+        return false;
+    }
+    for (i, kid) in upper.iter().enumerate() {
+        if *kid.name != *lower[i].name {
+            return false;
+        }
+    }
+    true
+}
+
+// Whether pieces have the same names, each those of the one beside it.
+fn are_alike(upper: &[Piece], lower: &[Piece]) -> bool
+    ensures { IsTrue result → map name_of (kids_in upper.now) ≡ map name_of (kids_in lower.now) }
+{
+    if upper.len() != lower.len() {
+        return false;
+    }
+    for (i, piece) in upper.iter().enumerate() {
+        if !same_names(piece.rows.as_slice(), lower[i].rows.as_slice()) {
+            return false;
+        }
+    }
+    true
+}
+
+// Whether each name of the lower children is one of the upper ones'. Where one directory comes from the other, they are most often the
+// same, so that is seen first.
+pub(crate) fn covers(upper: &[Piece], lower: &[Piece]) -> bool
+    ensures { IsTrue result → Covers (kids_in upper.now) (kids_in lower.now) }
+{
+    are_alike(upper, lower) || has_all(Children::of(upper), Children::of(lower))
+}
+
 // Whether each name of the lower children is one of the upper ones', by one pass over both.
-pub(crate) fn covers(upper: Children<'_>, lower: Children<'_>) -> bool
+fn has_all(upper: Children<'_>, lower: Children<'_>) -> bool
     ensures { IsTrue result → Covers (left_in upper.entry) (left_in lower.entry) }
 {
     let mut rest = upper;
@@ -59,5 +99,24 @@ pub(crate) fn with_node(
         None => copies(alloc, upper)?,
     };
     list[i].node = node;
+    Ok(list)
+}
+
+// Puts rows in the place of a piece among those made, or among second owners of the upper ones where none are made.
+pub(crate) fn with_rows(
+    made: Option<Vec<Piece>>,
+    alloc: Global,
+    upper: &[Piece],
+    i: usize,
+    rows: Vec<Child>,
+) -> Result<Vec<Piece>, AllocError>
+    requires { i < length (those_pieces made upper.now) }
+    ensures { IfOk result (λ v. map row_pairs v.items ≡ set (map row_pairs (those_pieces made upper.now)) i (map pair_of rows.items)) }
+{
+    let mut list = match made {
+        Some(list) => list,
+        None => second_owners(alloc, upper)?,
+    };
+    list[i] = Piece::of(alloc, rows)?;
     Ok(list)
 }

@@ -3,21 +3,21 @@
 //! have every name of the lower ones their pieces are taken as they are, but for the directories that both have, which are laid in
 //! turn. A refusal leaves what it is laid over as it was: the new children are put among second owners of the lower pieces.
 
-ghost use Rattle.std.specs.Prelude.{◌≡◌, ℕ, List, IfOk, IfErr, OnOk, OnErr, map, true, unwrap_or};
+ghost use Rattle.std.specs.Prelude.{◌≡◌, ℕ, List, option_map, IfOk, IfErr, OnOk, OnErr, map, true, unwrap_or};
 ghost use Rattle.std.specs.Arc.{arc_value};
 ghost use Rattle.std.specs.FinMap as finite;
 ghost use Rattle.llb_tree.specs.Tree.{is_memory};
-ghost use Rattle.llb_tree.specs.Nodes.{kids_in, left_in, pair_of};
+ghost use Rattle.llb_tree.specs.Nodes.{child, kids_in, left_in, name_of, pair_of};
 ghost use Rattle.llb_tree.specs.Pieces.{ArePieced, pairs_of};
 ghost use Rattle.llb_tree.specs.Overlay.{over_at};
-ghost use Rattle.llb_tree.specs.Laying.{Lays, IsLaid, AreLaid, PiecesLaid, PushesLaid, IsOver};
+ghost use Rattle.llb_tree.specs.Laying.{Lays, IsLaid, AreLaid, PiecesLaid, IsOver};
 ghost use Rattle.llb_tree.specs.Laying.{TakesWhole, StandWhole, Covers, those, those_pieces, dress, dress_pair};
 
 use crate::children::Children;
-use crate::covering::{covers, with_node};
+use crate::covering::{covers, with_node, with_rows};
 use crate::fault::TreeFault;
 use crate::node::{Child, Kind, Node, Piece};
-use crate::pieces::{child_of, in_pieces};
+use crate::pieces::{child_near, child_of, in_pieces};
 use crate::putting::put_all;
 use crate::tree::Tree;
 use crate::way::Way;
@@ -96,7 +96,7 @@ fn lay_children(
     ensures err { OnErr result (pairs_of (arc_value kids.new).items ≡ pairs_of (arc_value kids.old).items) }
 {
     let above = upper.as_slice();
-    if way.takes_whole() && covers(Children::of(above), Children::of(kids.as_slice())) {
+    if way.takes_whole() && covers(above, kids.as_slice()) {
         return lay_all(kids, alloc, way, upper);
     }
     lay_each(kids, alloc, way, above)?;
@@ -144,49 +144,23 @@ fn laid_all(
     requires way { TakesWhole way.now }
     ensures { IfOk result (λ made. PiecesLaid way.now (kids_in kids.now) upper.now (those_pieces made upper.now)) }
 {
-    let mut list = Vec::new(alloc);
-    let mut changed = false;
-    for piece in upper {
-        let whole = lay_piece(&mut list, kids, alloc, way, piece)?;
-        changed = changed || !whole;
-    }
-    if !changed {
-        return Ok(None);
-    }
-    Ok(Some(list))
-}
-
-// Puts an upper piece with what is laid in place of the children that are changed after others, and returns whether none is.
-#[cycle(lay)]
-fn lay_piece(
-    list: &mut Vec<Piece>,
-    kids: &[Piece],
-    alloc: Global,
-    way: &Way,
-    upper: &Piece,
-) -> Result<bool, AllocError>
-    requires lower { ArePieced kids.now }
-    requires way { TakesWhole way.now }
-    ensures { IfOk result (λ whole. PushesLaid way.now (kids_in kids.now) upper.now whole list.old.items list.new.items) }
-{
-    match laid_rows(kids, alloc, way, upper.rows.as_slice())? {
-        None => {
-            list.push(upper.copy()?)?;
-            Ok(true)
-        }
-        Some(rows) => {
-            list.push(Piece::of(alloc, rows)?)?;
-            Ok(false)
+    let mut made = None;
+    for (i, piece) in upper.iter().enumerate() {
+        if let Some(rows) = laid_rows(kids, alloc, way, i, piece.rows.as_slice())? {
+            made = Some(with_rows(made, alloc, upper, i, rows)?);
         }
     }
+    Ok(made)
 }
 
-// The upper children of a piece with what is laid in place of those that are changed; `None` where none is.
+// The upper children of a piece with what is laid in place of those that are changed; `None` where none is. The lower child of a name is
+// looked for first at the same place in the piece at this place.
 #[cycle(lay)]
 fn laid_rows(
     kids: &[Piece],
     alloc: Global,
     way: &Way,
+    at: usize,
     upper: &[Child],
 ) -> Result<Option<Vec<Child>>, AllocError>
     requires lower { ArePieced kids.now }
@@ -195,38 +169,36 @@ fn laid_rows(
 {
     let mut made = None;
     for (i, kid) in upper.iter().enumerate() {
-        if let Some(node) = laid_over(kids, alloc, way, kid)? {
-            made = Some(with_node(made, alloc, upper, i, node)?);
+        if let Kind::Dir(..) = &kid.node.kind {
+            let lower = child_near(kids, at, i, &kid.name);
+            if let Some(node) = laid_over(lower, alloc, way, kid)? {
+                made = Some(with_node(made, alloc, upper, i, node)?);
+            }
         }
     }
     Ok(made)
 }
 
-// An upper child, laid over the one of its name; `None` where it is unchanged.
+// An upper child, laid over the lower one of its name; `None` where it is unchanged.
 #[cycle(lay)]
 fn laid_over(
-    kids: &[Piece],
+    lower: Option<&Child>,
     alloc: Global,
     way: &Way,
     upper: &Child,
 ) -> Result<Option<Node>, AllocError>
-    requires lower { ArePieced kids.now }
     requires way { TakesWhole way.now }
-    ensures { IfOk result (λ made. IsOver way.now (kids_in kids.now) upper.now (unwrap_or made upper.now.node)) }
+    ensures { (old : List Child) → option_map (λ k. k.now.node) lower.entry ≡ child (name_of upper.now) old
+        → IfOk result (λ made. IsOver way.now old upper.now (unwrap_or made upper.now.node)) }
 {
-    match &upper.node.kind {
-        Kind::File(..) => Ok(None),
-        Kind::Dir(..) => match child_of(kids, &upper.name) {
-            None => Ok(None),
-            Some(lower) => {
-                let mut node = lower.node.copy()?;
-                if lay_node(&mut node, alloc, way, &upper.node)? {
-                    return Ok(None);
-                }
-                Ok(Some(node))
-            }
-        },
+    let Some(lower) = lower else {
+        return Ok(None);
+    };
+    let mut node = lower.node.copy()?;
+    if lay_node(&mut node, alloc, way, &upper.node)? {
+        return Ok(None);
     }
+    Ok(Some(node))
 }
 
 // Lays children over others one by one: all that is laid is made before the first is put in.

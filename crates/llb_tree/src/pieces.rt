@@ -1,7 +1,7 @@
 //! The children of a directory in pieces. Owners of the directory share the pieces: an edit of a shared directory copies the list
 //! of the pieces and the piece that it changes. A piece that is full is parted in two before another child goes into it.
 
-ghost use Rattle.std.specs.Prelude.{◌≡◌, ◌<◌, ◌++◌, length, map, option_map, IfOk, OnOk};
+ghost use Rattle.std.specs.Prelude.{◌≡◌, ◌<◌, ◌++◌, length, map, option_map, Contains, IfOk, IfSome, OnOk};
 ghost use Rattle.std.specs.Arc.{arc_value};
 ghost use Rattle.llb_tree.specs.Nodes.{child, kids_in, rows_in};
 ghost use Rattle.llb_tree.specs.Pieces.{AllFull, ArePieced, IsPieceOf, begins_after, pairs_of, row_pairs, tidied};
@@ -77,6 +77,36 @@ pub(crate) fn child_of<'a>(pieces: &'a [Piece], name: &Name) -> Option<&'a Child
         Ok(i) => Some(&rows[i]),
         Err(_) => None,
     }
+}
+
+// The child of a name, which is looked for first at a place in a piece.
+pub(crate) fn child_near<'a>(
+    pieces: &'a [Piece],
+    at: usize,
+    i: usize,
+    name: &Name,
+) -> Option<&'a Child>
+    requires { ArePieced pieces.now }
+    ensures { option_map (λ k. k.now.node) result ≡ child name.now (kids_in pieces.now) }
+{
+    match row_at(pieces, at, i) {
+        Some(kid) if *kid.name == *name => Some(kid),
+        _ => child_of(pieces, name),
+    }
+}
+
+// The child at a place in a piece.
+fn row_at(pieces: &[Piece], at: usize, i: usize) -> Option<&Child>
+    ensures { IfSome result (λ k. Contains (kids_in pieces.now) k.now) }
+{
+    if at >= pieces.len() {
+        return None;
+    }
+    let rows = pieces[at].rows.as_slice();
+    if i >= rows.len() {
+        return None;
+    }
+    Some(&rows[i])
 }
 
 // Second owners of the same pieces.

@@ -1,10 +1,10 @@
-use Rattle.std.proofs.Common.{◌≡◌, ◌+◌, ◌≤◌, ◌||◌, not, true≢false, [], Option, Some, None, arith, map, option_map, unwrap_or, sym, ap, subst, ◌∙◌, refl}
+use Rattle.std.proofs.Common.{◌≡◌, ◌+◌, ◌≤◌, ◌||◌, not, true≢false, [], Option, Some, None, Vec, Global, arith, map, option_map, unwrap_or, sym, ap, subst, ◌∙◌, refl}
 use Rattle.std.proofs.lemmas.List.{take_all}
 use denote.Param.Weighed.{most}
 use Rattle.std.specs.Arc.{arc_value}
 use Rattle.std.specs.FinMap as finite
 use Rattle.llb_tree.specs.Nodes.{AreSorted, name_of, child, look_in, kids_of, kids_in, left_in, rows_in, map_of, pair_of}
-use Rattle.llb_tree.specs.Pieces.{ArePieced}
+use Rattle.llb_tree.specs.Pieces.{ArePieced, row_pairs}
 use Rattle.llb_tree.specs.Falls.{le_pieces}
 use Rattle.llb_tree.specs.Overlay.{below_file, over, over_at}
 use Rattle.llb_tree.specs.Tree.{TreeMap}
@@ -17,12 +17,13 @@ use Rattle.llb_tree.proofs.Cursor.{at_start, at_next, at_end, fewer}
 use Rattle.llb_tree.proofs.Dressing.{get-dress, dress_same}
 use Rattle.llb_tree.proofs.Fitting.{next_below}
 use Rattle.llb_tree.proofs.InPlace.{err_holds, laid_pushed}
-use Rattle.llb_tree.proofs.LaidPieces.{lays_pieces, laid_pieced, piece_laid, piece_stays, lays_put, both_whole}
+use Rattle.llb_tree.proofs.LaidPieces.{HaveLaid, no_piece_yet, as_many, piece_stays, piece_written, all_pieces, lays_pieces, laid_pieced, lays_put}
 use Rattle.llb_tree.proofs.Laying.{lone_file, root_there, on_ok, node_laid, over_file, over_none, under_file}
 use Rattle.llb_tree.proofs.Pieced.{sorted_kids}
 use Rattle.llb_tree.proofs.Setting.{same_dir, same_pieces}
 use Rattle.llb_tree.proofs.overlay.+lay.Goals.{lay_node-in_default-via-in-Dir+in_default, lay_node-in_default-via-in_default}
-use Rattle.llb_tree.proofs.overlay.+lay.Goals.{laid_rows-in-Some+in_ok-with_node, laid_rows-in_default, laid_all-then-changed, laid_all-else-changed}
+use Rattle.llb_tree.proofs.overlay.+lay.Goals.{laid_rows-in-Dir+in_ok-node+in-Some+in_ok-with_node, laid_rows-in-Dir+in_ok-node+in_default-2, laid_rows-in_default}
+use Rattle.llb_tree.proofs.overlay.+lay.Goals.{laid_all-in-Some+in_ok-with_rows, laid_all-in_default}
 use Rattle.llb_tree.proofs.overlay.+lay.Goals as goal
 
 -- ---- one upper child
@@ -49,34 +50,24 @@ laid_child-returns-in_ok-node-in-None t c =
           ∙ ap (λ o. over_at way (look_in o) (finite.get kid.node) q) (c.in-None.ensures ∙ ap (λ n. child n kids) c.deref.ensures);
     }
 
-pub laid_over-returns-in-File : goal.laid_over-returns-in-File
-laid_over-returns-in-File t c =
-    let kid = c.args.upper.now in
-    file_stays c.args.way.now c.requires.way (kids_in c.args.kids.now) kid
-    (lone_file _ c.in-File.field-0 c.in-File.field-1 kid.node (ap (λ (k : Child). k.node) c.upper.view_is) c.in-File.is)
-
-pub laid_over-returns-in-None : goal.laid_over-returns-in-None
-laid_over-returns-in-None t c =
-    let kid = c.args.upper.now in
-    let kids = kids_in c.args.kids.now in
-    new_stays c.args.way.now c.requires.way kids kid (sym (c.in-None.ensures ∙ ap (λ n. child n kids) (c.deref.ensures ∙ ap name_of c.upper.view_is)))
+pub laid_over-returns-in_default : goal.laid_over-returns-in_default
+laid_over-returns-in_default t c old there =
+    new_stays c.args.way.now c.requires.way old c.args.upper.now (sym there ∙ ap (option_map (λ k. k.now.node)) c.in_default.is)
 
 pub laid_over-returns-then-branch : goal.laid_over-returns-then-branch
-laid_over-returns-then-branch t c q =
+laid_over-returns-then-branch t c old there q =
     let kid = c.args.upper.now in
-    let kids = kids_in c.args.kids.now in
-    let laid = c.in_ok-lay_node-in-Some.ensures in
+    let laid = c.in_ok-lay_node.ensures in
     ap (λ s. finite.get s q) (sym (laid.whole c.if-branch.true)) ∙ laid.ok q
     ∙ ap (λ o. over_at c.args.way.now (look_in o) (finite.get kid.node) q)
-    (ap (λ t. Some t) c.in_ok-node-in-Some.ensures ∙ c.in-Some.ensures ∙ ap (λ n. child n kids) (c.deref.ensures ∙ ap name_of c.upper.view_is))
+    (ap (λ t. Some t) c.in_ok-node.ensures ∙ sym (ap (option_map (λ k. k.now.node)) c.in-Some.is) ∙ there)
 
-pub laid_over-returns-else-branch : goal.laid_over-returns-else-branch
-laid_over-returns-else-branch t c q =
+pub laid_over-returns : goal.laid_over-returns
+laid_over-returns t c old there q =
     let kid = c.args.upper.now in
-    let kids = kids_in c.args.kids.now in
-    c.in_ok-lay_node-in-Some.ensures.ok q
+    c.in_ok-lay_node.ensures.ok q
     ∙ ap (λ o. over_at c.args.way.now (look_in o) (finite.get kid.node) q)
-    (ap (λ t. Some t) c.in_ok-node-in-Some.ensures ∙ c.in-Some.ensures ∙ ap (λ n. child n kids) (c.deref.ensures ∙ ap name_of c.upper.view_is))
+    (ap (λ t. Some t) c.in_ok-node.ensures ∙ sym (ap (option_map (λ k. k.now.node)) c.in-Some.is) ∙ there)
 
 -- ---- upper children over those whose names they have
 
@@ -96,15 +87,21 @@ laid_rows-loop-i-preserved t c =
     let old = kids_in c.args.kids.now in
     let upper = c.args.upper.now in
     let kid = c.index-upper-i.result in
-    let over = λ (o : Option TreeMap) (is : c.in_ok-node.field-0 ≡ o). subst (λ x. IsOver w old kid (unwrap_or x kid.node)) is c.in_ok-node.ensures in
-    elim c.match-branch-2.branch [
-      | laid_rows-in-Some+in_ok-with_node x ↦
-          one_written w old c.loop-i.i upper (map pair_of (those c.loop-i.made upper)) kid c.loop-i-test.true c.index-upper-i.is c.loop-i.invariant
-          x.in-Some.node _ (over _ x.in-Some.is) (ap (λ o. map pair_of (those o upper)) x.made-is ∙ x.in_ok-with_node.ensures)
-      | laid_rows-in_default x ↦
-          subst (λ o. HasLaid w old (c.loop-i.i + 1) upper (map pair_of (those o upper))) (sym x.made-is)
-          (one_stays w old c.loop-i.i upper (map pair_of (those c.loop-i.made upper)) kid c.loop-i-test.true c.index-upper-i.is c.loop-i.invariant
-          (over _ x.in_default.is))
+    let so_far = map pair_of (those c.loop-i.made upper) in
+    let stays = one_stays w old c.loop-i.i upper so_far kid c.loop-i-test.true c.index-upper-i.is c.loop-i.invariant in
+    let kept = λ (o : Option (Vec Child Global)). HasLaid w old (c.loop-i.i + 1) upper (map pair_of (those o upper)) in
+    elim c.match-kid.branch [
+      | laid_rows-in-Dir+in_ok-node+in-Some+in_ok-with_node x ↦
+          let there = x.child_near-lower.ensures ∙ ap (λ n. child n old) (x.deref.ensures ∙ ap name_of c.kid.view_is) in
+          one_written w old c.loop-i.i upper so_far kid c.loop-i-test.true c.index-upper-i.is c.loop-i.invariant x.in-Some.node _
+          (subst (λ o. IsOver w old kid (unwrap_or o kid.node)) x.in-Some.is (x.in_ok-node.ensures old there))
+          (ap (λ o. map pair_of (those o upper)) x.made-is ∙ x.in_ok-with_node.ensures)
+      | laid_rows-in-Dir+in_ok-node+in_default-2 x ↦
+          let there = x.child_near-lower.ensures ∙ ap (λ n. child n old) (x.deref.ensures ∙ ap name_of c.kid.view_is) in
+          subst kept (sym x.made-is)
+          (stays (subst (λ o. IsOver w old kid (unwrap_or o kid.node)) x.in_default-2.is (x.in_ok-node.ensures old there)))
+      | laid_rows-in_default x ↦ subst kept (sym x.made-is) (stays (file_stays w c.requires.way old kid
+          (lone_file _ x.in_default.field-0 x.in_default.field-1 kid.node (ap (λ (k : Child). k.node) c.kid.view_is) x.in_default.is)))
     ]
 
 pub laid_rows-returns : goal.laid_rows-returns
@@ -154,55 +151,39 @@ lay_all-returns-in_ok-kids-in-Some-clause-pieced t c =
     subst ArePieced same (laid_pieced w (kids_in old) upper c.in-Some.list.items c.requires.upper c.requires.covers
     (subst (λ o. PiecesLaid w (kids_in old) upper (those_pieces o upper)) c.in-Some.is laid))
 
-pub laid_all-loop-piece-preserved : goal.laid_all-loop-piece-preserved
-laid_all-loop-piece-preserved t c =
+pub laid_all-loop-i-init : goal.laid_all-loop-i-init
+laid_all-loop-i-init t c = no_piece_yet c.args.way.now (kids_in c.args.kids.now) c.args.upper.now
+
+pub laid_all-with_rows-requires : goal.laid_all-with_rows-requires
+laid_all-with_rows-requires t c = omega (
+  arith,
+  c.loop-i-test.true,
+  as_many c.args.way.now (kids_in c.args.kids.now) c.loop-i.i c.args.upper.now (those_pieces c.loop-i.made c.args.upper.now) c.loop-i.invariant,
+)
+
+pub laid_all-loop-i-preserved : goal.laid_all-loop-i-preserved
+laid_all-loop-i-preserved t c =
     let w = c.args.way.now in
     let old = kids_in c.args.kids.now in
     let us = c.args.upper.now in
-    let i = c.loop-piece.piece-index in
-    let piece = c.piece-item.result in
-    let step = c.in_ok-whole.ensures in
-    let either : c.if-changed.changed ≡ (c.loop-piece.changed || not c.in_ok-whole.whole) = elim c.if-changed.branch [
-      | laid_all-then-changed w ↦ w.changed-is ∙ w.if-changed.true ∙ ap (λ b. b || not c.in_ok-whole.whole) (sym w.if-changed.true)
-      | laid_all-else-changed w ↦ w.changed-is ∙ ap (λ b. b || not c.in_ok-whole.whole) (sym w.if-changed.false)
-    ] in
-    record {
-      laid = piece_laid w old us c.loop-piece.list.items c.lay_piece.new.list.items i piece step.made c.loop-piece-test.true c.piece-item.is step.pushed
-          c.loop-piece.invariant.laid step.laid;
-      whole = λ unchanged.
-          let both = both_whole c.if-changed.changed c.loop-piece.changed c.in_ok-whole.whole either unchanged in
-          piece_stays w old us i piece c.loop-piece-test.true c.piece-item.is (c.loop-piece.invariant.whole both.0) (step.whole_laid both.1);
-    }
+    let piece = c.index-upper-i.result in
+    let so_far = map row_pairs (those_pieces c.loop-i.made us) in
+    let rows : c.as_slice.result.now ≡ rows_in piece = c.as_slice.ensures.value ∙ ap (λ v. v.items) c.deref.ensures in
+    let laid = λ (o : Option (Vec Child Global)) (is : c.in_ok-rows.field-0 ≡ o). subst (λ ks. AreLaid w old ks (those o ks)) rows
+    (subst (λ o. AreLaid w old c.as_slice.result.now (those o c.as_slice.result.now)) is c.in_ok-rows.ensures) in
+    elim c.match-branch-2.branch [
+      | laid_all-in-Some+in_ok-with_rows x ↦
+          piece_written w old c.loop-i.i us so_far piece c.loop-i-test.true c.index-upper-i.is c.loop-i.invariant x.in-Some.rows.items _ (laid _ x.in-Some.is)
+          (ap (λ o. map row_pairs (those_pieces o us)) x.made-is ∙ x.in_ok-with_rows.ensures)
+      | laid_all-in_default x ↦
+          subst (λ o. HaveLaid w old (c.loop-i.i + 1) us (map row_pairs (those_pieces o us))) (sym x.made-is)
+          (piece_stays w old c.loop-i.i us so_far piece c.loop-i-test.true c.index-upper-i.is c.loop-i.invariant (laid _ x.in_default.is))
+    ]
 
-pub lay_piece-returns-in_ok-push-in-None : goal.lay_piece-returns-in_ok-push-in-None
-lay_piece-returns-in_ok-push-in-None t c =
-    let w = c.args.way.now in
-    let old = kids_in c.args.kids.now in
-    let upper = c.args.upper.now in
-    let rows : c.as_slice.result.now ≡ rows_in upper = c.as_slice.ensures.value ∙ ap (λ v. v.items) c.deref.ensures in
-    let whole : AreLaid w old (rows_in upper) (rows_in upper) = subst (λ us. AreLaid w old us us) rows
-    (subst (λ o. AreLaid w old c.as_slice.result.now (those o c.as_slice.result.now)) c.in-None.is c.in_ok-laid_rows.ensures) in
-    record {
-      made = c.in_ok-copy-in-None.field-0;
-      pushed = c.in_ok-push-in-None.ensures.items;
-      laid = subst (AreLaid w old (rows_in upper)) (sym c.in_ok-copy-in-None.ensures) whole;
-      whole_laid = λ _. whole;
-    }
-
-pub lay_piece-returns-in_ok-push-in-Some : goal.lay_piece-returns-in_ok-push-in-Some
-lay_piece-returns-in_ok-push-in-Some t c =
-    let w = c.args.way.now in
-    let old = kids_in c.args.kids.now in
-    let upper = c.args.upper.now in
-    let rows : c.as_slice.result.now ≡ rows_in upper = c.as_slice.ensures.value ∙ ap (λ v. v.items) c.deref.ensures in
-    let laid : AreLaid w old (rows_in upper) c.in-Some.rows.items = subst (λ us. AreLaid w old us c.in-Some.rows.items) rows
-    (subst (λ o. AreLaid w old c.as_slice.result.now (those o c.as_slice.result.now)) c.in-Some.is c.in_ok-laid_rows.ensures) in
-    record {
-      made = c.in_ok-of-in-Some.field-0;
-      pushed = c.in_ok-push-in-Some.ensures.items;
-      laid = subst (AreLaid w old (rows_in upper)) (sym c.in_ok-of-in-Some.ensures) laid;
-      whole_laid = λ is. absurd (true≢false (sym is));
-    }
+pub laid_all-returns : goal.laid_all-returns
+laid_all-returns t c =
+    all_pieces c.args.way.now (kids_in c.args.kids.now) c.loop-i.i c.args.upper.now (those_pieces c.loop-i.made c.args.upper.now) c.loop-i-test.false
+    c.loop-i.invariant
 
 -- ---- children over children
 

@@ -3,10 +3,12 @@ use denote.Param.Weighed.{most}
 use Rattle.std.specs.Arc.{arc_value}
 use Rattle.llb_tree.specs.Tree.{height}
 use Rattle.llb_tree.specs.Nodes.{pair_of, kids_in, left_in}
-use Rattle.llb_tree.specs.Laying.{AreLaid, PiecesLaid, those}
+use Rattle.llb_tree.specs.Pieces.{row_pairs}
+use Rattle.llb_tree.specs.Laying.{AreLaid, those, those_pieces}
 use Rattle.llb_tree.specs.declared.node.Node.TheDeep.{deep-Child, deep-Piece}
 use Rattle.llb_tree.proofs.Covered.{HasLaid}
 use Rattle.llb_tree.proofs.Cursor.{IsAt}
+use Rattle.llb_tree.proofs.LaidPieces.{HaveLaid}
 use Rattle.llb_tree.proofs.overlay.+lay.Given as goal
 
 abbrev pub decreases-lay_node : goal.decreases-lay_node
@@ -20,9 +22,6 @@ decreases-lay_all l = 7 * most deep-Piece (arc_value l.upper.now).items + 5
 
 abbrev pub decreases-laid_all : goal.decreases-laid_all
 decreases-laid_all l = 7 * most deep-Piece l.upper.now + 4
-
-abbrev pub decreases-lay_piece : goal.decreases-lay_piece
-decreases-lay_piece l = 7 * deep-Piece l.upper.now + 3
 
 abbrev pub decreases-laid_rows : goal.decreases-laid_rows
 decreases-laid_rows l = 7 * most deep-Child l.upper.now + 2
@@ -39,11 +38,8 @@ decreases-laid_children l = 7 * most deep-Child (left_in l.upper) + 2
 abbrev pub decreases-laid_child : goal.decreases-laid_child
 decreases-laid_child l = 7 * height l.upper.now.node + 8
 
-abbrev pub invariant-laid_all-loop-piece : goal.invariant-laid_all-loop-piece
-invariant-laid_all-loop-piece l = record {
-  laid : PiecesLaid l.way (kids_in l.kids) (take l.piece-index l.upper) l.list.items;
-  whole : l.changed ≡ false → PiecesLaid l.way (kids_in l.kids) (take l.piece-index l.upper) (take l.piece-index l.upper);
-}
+abbrev pub invariant-laid_all-loop-i : goal.invariant-laid_all-loop-i
+invariant-laid_all-loop-i l = HaveLaid l.way (kids_in l.kids) l.i l.upper (map row_pairs (those_pieces l.made l.upper))
 
 abbrev pub invariant-laid_rows-loop-i : goal.invariant-laid_rows-loop-i
 invariant-laid_rows-loop-i l = HasLaid l.way (kids_in l.kids) l.i l.upper (map pair_of (those l.made l.upper))

@@ -2,7 +2,7 @@ use Rattle.std.proofs.Common.{ℕ, length, take}
 use Rattle.llb_tree.specs.Nodes.{left_in}
 use Rattle.llb_tree.specs.Laying.{Covers}
 use Rattle.llb_tree.proofs.Cursor.{IsAt}
-use Rattle.llb_tree.proofs.covering.covers.Given as goal
+use Rattle.llb_tree.proofs.covering.has_all.Given as goal
 
 abbrev pub invariant-loop-kid : goal.invariant-loop-kid
 invariant-loop-kid l = (i : ℕ) × IsAt (left_in l.lower) (left_in l.left) i × Covers (left_in l.upper) (take i (left_in l.lower))
