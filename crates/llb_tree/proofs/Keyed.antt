@@ -24,7 +24,7 @@ AllUnder n (e ∷ es) = (name_cmp n e.0 ≡ Greater) × AllUnder n es
 abbrev pub AllOver : List ℕ → Pairs → Type 0
 AllOver n es = T (below_all name_cmp n es)
 
-turned : (p q : List ℕ) (o : Ordering) → name_cmp p q ≡ o → name_cmp q p ≡ ordering_reverse o
+pub turned : (p q : List ℕ) (o : Ordering) → name_cmp p q ≡ o → name_cmp q p ≡ ordering_reverse o
 turned p q o is = nat_list_cmp_total.antisymm q p ∙ ap ordering_reverse is
 
 over_left : (n : List ℕ) (xs ys : Pairs) → AllOver n (xs ++ ys) → AllOver n xs

@@ -13,6 +13,7 @@ use crate::name::Name;
 use crate::pieces::child_of;
 use llb_wire::Bytes;
 use std::alloc::{AllocError, Global};
+use std::cmp::Ordering;
 use std::marker::Model;
 use std::sync::Arc;
 
@@ -73,13 +74,19 @@ impl Model for Node {
     ghost size_decreases = { λ a h. falls a.kind };
 }
 
-// Where the name is, or where it would go.
+// Where the name is, or where it would go. Names most often come in their order, so it is seen first whether it goes to the end.
 pub(crate) fn place_of(kids: &[Child], name: &Name) -> Result<usize, usize>
     requires { AreSorted kids.now }
     ensures place { result ≡ place name.now kids.now }
     ensures row { IfOk result (λ i. i < length kids.now) }
     ensures gap { IfErr result (λ i. i ≤ length kids.now) }
 {
+    let count = kids.len();
+    if count > 0 {
+        if let Ordering::Less = (*kids[count - 1].name).cmp(name) {
+            return Err(count);
+        }
+    }
     kids.binary_search_by(|kid| (*kid.name).cmp(name))
 }
 
