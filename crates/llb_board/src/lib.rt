@@ -1,5 +1,5 @@
 //! One state, which only the transition table changes: claims, steps, settles and cancels of workers on the vertices of a graph with
-//! caches, and the record of them. It is built on llb_state's parts and what changes one of them; it starts no thread and takes no lock.
+//! caches, and the record of them. It is built on `llb_state`, whose parts it keeps together; it starts no thread and takes no lock.
 #![tactic(auto)]
 
 mod board;

@@ -1,5 +1,5 @@
 //! What is asked of a board and its replies: the events, their replies, how vertices and workers look, why an event is refused, and
-//! the gate before work. Types alone: which event is granted, and what it changes, is the board's.
+//! the gate before work. Types alone: which event is granted, and what it changes, is the board's. It is built on `llb_model`.
 #![tactic(auto)]
 
 mod event;

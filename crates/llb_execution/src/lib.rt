@@ -1,5 +1,5 @@
 //! One vertex's execution: its program of micro-steps, what they work on, and the outputs that they leave. It knows no state and no
-//! worker, and it keeps no caches. `missing_local` alone looks at all vertices of a graph.
+//! worker, and it keeps no caches. `missing_local` alone looks at all vertices of a graph. It is built on `llb_model`.
 #![tactic(auto)]
 
 mod filling;

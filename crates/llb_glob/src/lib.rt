@@ -1,5 +1,6 @@
 //! Patterns: which paths a text with `*`, `?`, classes and `\` matches. A pattern is read part by part, as a path is, and
-//! a path matches if it has as many names as parts, and each name matches the part at its place. Nothing here knows a tree or an operation.
+//! a path matches if it has as many names as parts, and each name matches the part at its place. It is built on `llb_tree`, of which it
+//! uses names and paths alone; nothing here knows an operation.
 #![tactic(auto)]
 
 mod class;

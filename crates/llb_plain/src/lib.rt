@@ -1,5 +1,5 @@
 //! The plain outcome of every vertex of a graph that mounts no cache, by number: on one thread, one vertex after another, with no
-//! record and no workers. It shares the execution of one vertex with the board, and nothing of the machine that runs many at a time.
+//! record and no workers. It is built on `llb_execution`, which it shares with the board; it has nothing of the machine that runs many at a time.
 #![tactic(auto)]
 
 mod cache;

@@ -1,5 +1,5 @@
-//! A stepping session: each line of commands gets its reply from a stepper before the next one is waited for. It uses the
-//! stepper, the texts of trees, and the assembler's reader of decimal numbers.
+//! A stepping session: each line of commands gets its reply from a stepper before the next one is waited for. It is built
+//! on `llb_asm`, `llb_stepper` and `llb_treetext`; of the assembler it uses the reader of decimal numbers alone.
 #![tactic(auto)]
 
 mod answering;

@@ -1,5 +1,6 @@
 //! The parts of a board's state and what changes one of them: the state of each vertex, what each worker runs, its cache instances,
-//! the record, jobs and the outcomes of their work. `llb_board` keeps these parts together; the definitions of a whole board are in `specs/` here.
+//! the record, jobs and the outcomes of their work. It is built on `llb_links` and `llb_needs`. `llb_board` keeps these parts together; the
+//! definitions of a whole board are in `specs/` here.
 #![tactic(auto)]
 
 mod build;

@@ -1,5 +1,5 @@
 //! Steps through a run, forwards and backwards: event by event, up to breakpoints, or over a given record. Each event that was done can be
-//! taken back without memory. It changes the board by the board's calls only.
+//! taken back without memory. It is built on `llb_board`, which it changes by the board's calls only.
 #![tactic(auto)]
 
 mod fault;

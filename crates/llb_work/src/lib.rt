@@ -1,5 +1,5 @@
-//! Runs a board to its end: by one driver on the caller's own thread, or by threads that share one lock. The board is changed only by its
-//! own calls, and the numbers of ready vertices go through a queue of `llb_ready`.
+//! Runs a board to its end: by one driver on the caller's own thread, or by threads that share one lock. It is built on
+//! `llb_board` and `llb_ready`: the board is changed only by its own calls, and the numbers of ready vertices go through a queue.
 #![tactic(auto)]
 
 mod alone;
