@@ -169,7 +169,7 @@ impl View {
                 Ok(None)
             }
             MicroStep::Run(setting, command, later) => {
-                self.run(alloc, k, setting, command, later, trees)
+                self.run(k, setting, command, later, trees)
             }
         }
     }
@@ -278,7 +278,6 @@ impl View {
     // and the last status. Returns its fault: its status, where no later command may run.
     fn run(
         &mut self,
-        alloc: Global,
         k: u32,
         setting: &Setting,
         command: &Joined,
@@ -297,6 +296,7 @@ impl View {
                 if !runs_after(command.join, *last) {
                     return Ok(None);
                 }
+                let alloc = *trees.allocator();
                 let status = run_filled(alloc, &command.command, setting, mounts, caches, trees)?;
                 *last = status;
                 Ok(exit_of(k, status, later))

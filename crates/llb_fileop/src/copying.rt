@@ -25,13 +25,13 @@ pub fn copy(alloc: Global, action: &CopyFile, base: &Tree, second: &Tree) -> Res
 {
     if action.allow_wildcard {
         let pattern = Pattern::read(alloc, action.src.as_str())?;
-        let (dest, inside) = resolve(alloc, action.dest.as_str())?;
-        let tree = copy_matches(alloc, action, &dest, inside, &pattern, base, second)?;
+        let dest = resolve(alloc, action.dest.as_str())?;
+        let tree = copy_matches(alloc, action, &dest, &pattern, base, second)?;
         return Ok(tree);
     }
     let source = Path::read(alloc, action.src.as_str())?;
-    let (dest, inside) = resolve(alloc, action.dest.as_str())?;
-    let tree = copy_path(alloc, action, &dest, inside, &source, base, second)?;
+    let dest = resolve(alloc, action.dest.as_str())?;
+    let tree = copy_path(alloc, action, &dest, &source, base, second)?;
     Ok(tree)
 }
 
@@ -39,19 +39,18 @@ pub fn copy(alloc: Global, action: &CopyFile, base: &Tree, second: &Tree) -> Res
 fn copy_path(
     alloc: Global,
     action: &CopyFile,
-    dest: &Path,
-    inside: bool,
+    dest: &(Path, bool),
     source: &Path,
     base: &Tree,
     second: &Tree,
 ) -> Result<Tree, TreeFault>
-    ensures { trees.Gives (λ t. t) result (copy_chosen action.now (dest.now, inside) base.now second.now (OnePath source.now)) }
+    ensures { trees.Gives (λ t. t) result (copy_chosen action.now dest.now base.now second.now (OnePath source.now)) }
 {
     if second.get(source).is_none() {
         return Err(TreeFault::NotFound);
     }
     let mut tree = base.copy()?;
-    copy_one(alloc, action, dest, inside, second, source, &mut tree)?;
+    copy_one(alloc, action, dest, second, source, &mut tree)?;
     Ok(tree)
 }
 
@@ -59,13 +58,12 @@ fn copy_path(
 fn copy_matches(
     alloc: Global,
     action: &CopyFile,
-    dest: &Path,
-    inside: bool,
+    dest: &(Path, bool),
     pattern: &Pattern,
     base: &Tree,
     second: &Tree,
 ) -> Result<Tree, TreeFault>
-    ensures { trees.Gives (λ t. t) result (copy_chosen action.now (dest.now, inside) base.now second.now (EachMatch pattern.now)) }
+    ensures { trees.Gives (λ t. t) result (copy_chosen action.now dest.now base.now second.now (EachMatch pattern.now)) }
 {
     let sources = second.passing(pattern.parts())?;
     if sources.is_empty() {
@@ -73,7 +71,7 @@ fn copy_matches(
     }
     let mut tree = base.copy()?;
     for path in &sources {
-        copy_one(alloc, action, dest, inside, second, path, &mut tree)?;
+        copy_one(alloc, action, dest, second, path, &mut tree)?;
     }
     Ok(tree)
 }
@@ -82,40 +80,39 @@ fn copy_matches(
 fn copy_one(
     alloc: Global,
     action: &CopyFile,
-    dest: &Path,
-    inside: bool,
+    dest: &(Path, bool),
     second: &Tree,
     source: &Path,
     tree: &mut Tree,
 ) -> Result<(), TreeFault>
     requires { IsSome (finite.get second.now source.now) }
-    ensures { trees.Gives (λ _. tree.new) result (copy_one action.now (dest.now, inside) second.now source.now tree.old) }
+    ensures { trees.Gives (λ _. tree.new) result (copy_one action.now dest.now second.now source.now tree.old) }
 {
-    let goal = target(action, dest, inside, second, source, tree)?;
+    let goal = target(action, dest, second, source, tree)?;
     if action.create_dest_path {
         make_parents(alloc, tree, &goal, Meta::new_dir())?;
     }
     land(alloc, action, second, source, &goal, tree)
 }
 
-// Returns the path that a source is copied to.
+// Returns the path that a source is copied to. The destination is the path that its text reads as, and whether the text ends in `/`.
 fn target(
     action: &CopyFile,
-    dest: &Path,
-    inside: bool,
+    dest: &(Path, bool),
     second: &Tree,
     source: &Path,
     tree: &Tree,
 ) -> Result<Path, TreeFault>
-    ensures { trees.Gives (λ p. p) result (placed (target action.now (dest.now, inside) second.now source.now tree.now)) }
+    ensures { trees.Gives (λ p. p) result (placed (target action.now dest.now second.now source.now tree.now)) }
 {
+    let (path, inside) = dest;
     if action.dir_copy_contents && second.is_dir(source) {
-        return dest.copy();
+        return path.copy();
     }
-    if inside || tree.is_dir(dest) {
-        return place_in(dest, source);
+    if *inside || tree.is_dir(path) {
+        return place_in(path, source);
     }
-    dest.copy()
+    path.copy()
 }
 
 // Returns the path of a source's last name in a directory; for the root, which has no name, the directory itself.

@@ -1,4 +1,4 @@
-// Laws of the numbering, and of the results of loading.
+//! Laws of the numbering, and of the results of loading.
 
 ghost use Rattle.std.specs.Prelude.{◌≡◌};
 ghost use Rattle.llb_loader.specs.Rows.{lists};

@@ -1,4 +1,4 @@
-// The numbering of the reached rows.
+//! The numbering of the reached rows.
 
 ghost use Rattle.std.specs.Prelude.{◌≡◌, ◌↔◌, ℕ, ◌<◌, ◌≤◌, length, slice_index, slice_index_or, true, false, IfOk, OnOk, MatchOption, List, [], vec_len};
 ghost use Rattle.std.specs.Option.{IfSome, IfNone};

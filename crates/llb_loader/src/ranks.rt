@@ -1,4 +1,4 @@
-// The vertex numbers of the rows.
+//! The vertex numbers of the rows.
 
 ghost use Rattle.std.specs.Prelude.{◌≡◌, ℕ, ◌<◌, ◌≤◌, length, slice_index, IfOk};
 ghost use Rattle.std.specs.List.{All};
