@@ -1,4 +1,5 @@
-use Rattle.std.proofs.Common.{◌≡◌, ◌+◌, ◌≤◌, ◌||◌, not, true≢false, [], Option, Some, None, Vec, Global, arith, map, option_map, unwrap_or, sym, ap, subst, ◌∙◌, refl}
+use Rattle.std.proofs.Common.{◌≡◌, ◌+◌, ◌≤◌, [], Option, Some, None}
+use Rattle.std.proofs.Common.{Vec, Global, arith, map, option_map, unwrap_or, sym, ap, subst, ◌∙◌, refl}
 use Rattle.std.proofs.lemmas.List.{take_all}
 use denote.Param.Weighed.{most}
 use Rattle.std.specs.Arc.{arc_value}
@@ -22,7 +23,9 @@ use Rattle.llb_tree.proofs.Laying.{lone_file, root_there, on_ok, node_laid, over
 use Rattle.llb_tree.proofs.Pieced.{sorted_kids}
 use Rattle.llb_tree.proofs.Setting.{same_dir, same_pieces}
 use Rattle.llb_tree.proofs.overlay.+lay.Goals.{lay_node-in_default-via-in-Dir+in_default, lay_node-in_default-via-in_default}
-use Rattle.llb_tree.proofs.overlay.+lay.Goals.{laid_rows-in-Dir+in_ok-node+in-Some+in_ok-with_node, laid_rows-in-Dir+in_ok-node+in_default-2, laid_rows-in_default}
+use Rattle.llb_tree.proofs.overlay.+lay.Goals.{laid_rows-in-Dir+in_ok-node+in-Some+in_ok-with_node}
+use Rattle.llb_tree.proofs.overlay.+lay.Goals.{laid_rows-in-Dir+in_ok-node+in_default-2}
+use Rattle.llb_tree.proofs.overlay.+lay.Goals.{laid_rows-in_default}
 use Rattle.llb_tree.proofs.overlay.+lay.Goals.{laid_all-in-Some+in_ok-with_rows, laid_all-in_default}
 use Rattle.llb_tree.proofs.overlay.+lay.Goals as goal
 
