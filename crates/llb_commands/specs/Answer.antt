@@ -18,7 +18,7 @@ use Rattle.llb_model.specs.Run.{run, is_complete, StandsPlainly}
 use Rattle.llb_model.specs.Laws.{HasNoCaches}
 use Rattle.llb_treetext.specs.TreeText.{tree_text}
 use Rattle.llb_model.specs.Failure.{failure_text}
-use Rattle.llb_state.specs.Views.{look_at}
+use Rattle.llb_events.specs.Views.{look_at}
 use Rattle.llb_events.specs.declared.event.Status.{Status}
 use Rattle.llb_events.specs.declared.event.Status.TheVariants as look
 use Rattle.llb_board.specs.Opening.{may_work}

@@ -1,7 +1,8 @@
 -- What a micro-step leaves: its work and its fault, and as many mounts and trees as there were.
-use Rattle.std.proofs.Common.{◌≡◌, ◌≢◌, ℕ, ℤ, Bool, true, false, not, cond, List, length, refl, ap, sym, ◌∙◌, arith}
+use Rattle.std.proofs.Common.{◌≡◌, ◌≢◌, ℕ, ℤ, Bool, true, false, not, cond, List, length, refl, ap, sym, subst, ◌∙◌, arith}
 use Rattle.std.specs.Prelude.{Option, Some, None, Result, Ok, Err}
 use Rattle.std.proofs.lemmas.Bool.{false≢true}
+use Rattle.llb_fileop.specs.Faults.{Gives, is_memory}
 use Rattle.llb_fileop.specs.declared.fault.ActFault.{ActFault}
 use Rattle.llb_ops.specs.declared.file.Action.{Action}
 use Rattle.llb_tree.specs.Tree.{TreeMap}
@@ -20,17 +21,25 @@ use Rattle.llb_execution.proofs.Exchanges.{as_many_filled}
 
 -- ---- actions
 
--- an action that returns a tree leaves the view with that result more, and no fault
-pub acted : (k : ℕ) (view : View) (a : Action) (t : TreeMap) (trees : List TreeMap) → act_among a (trees_in view) ≡ Ok t
-    → left_with (with_tree view t) trees None ≡ step_on k (Some (Act a)) (work_with view trees)
-unfolding micro_step
-acted k view a t trees is = ap (λ r. tried (work_with view trees) (with_result k view r)) (sym is)
+-- what an action returns is put into the view: its tree as one result more, and then there is no fault
+pub put_tree : (k : ℕ) (view : View) (acted rule : Result TreeMap ActFault) (t : TreeMap) (trees : List TreeMap) → acted ≡ Ok t
+    → Gives (λ t. t) acted rule
+    → left_with (with_tree view t) trees None ≡ tried (work_with view trees) (with_result k view rule)
+put_tree k view acted rule t trees is gives =
+    ap (λ r. tried (work_with view trees) (with_result k view r)) (sym (subst (λ a. Gives (λ t. t) a rule) is gives))
 
--- an action that fails leaves the view as it was, and the fault with the numbers of both
-pub act_failed : (k : ℕ) (view : View) (a : Action) (e : ActFault) (trees : List TreeMap) → act_among a (trees_in view) ≡ Err e
-    → left_with view trees (Some (fault.Action k (fault_number e))) ≡ step_on k (Some (Act a)) (work_with view trees)
+-- or its fault, which is not that of memory, and then the view is as it was
+pub put_fault : (k : ℕ) (view : View) (acted rule : Result TreeMap ActFault) (e : ActFault) (trees : List TreeMap) → acted ≡ Err e → is_memory e ≡ false
+    → Gives (λ t. t) acted rule
+    → left_with view trees (Some (fault.Action k (fault_number e))) ≡ tried (work_with view trees) (with_result k view rule)
+put_fault k view acted rule e trees is other gives =
+    ap (λ r. tried (work_with view trees) (with_result k view r)) (sym (subst (λ a. Gives (λ t. t) a rule) is gives other))
+
+-- an action leaves what its result leaves
+pub has_acted : (k : ℕ) (view : View) (a : Action) (trees : List TreeMap)
+    → tried (work_with view trees) (with_result k view (act_among a (trees_in view))) ≡ step_on k (Some (Act a)) (work_with view trees)
 unfolding micro_step
-act_failed k view a e trees is = ap (λ r. tried (work_with view trees) (with_result k view r)) (sym is)
+has_acted k view a trees = refl
 
 -- ---- the other micro-steps
 

@@ -8,7 +8,7 @@ use Rattle.llb_model.specs.State.{ending_at}
 use Rattle.llb_model.specs.Outcome.{output_in}
 use Rattle.llb_model.specs.Run.{chosen}
 use Rattle.llb_model.specs.Table.{Event}
-use Rattle.llb_state.specs.Views.{event_of}
+use Rattle.llb_events.specs.Views.{event_of}
 use Rattle.llb_stepper.specs.declared.stop.Stop.{Stop}
 use Rattle.llb_stepper.specs.declared.fault.StepperFault.{StepperFault}
 use Rattle.llb_stepper.specs.declared.fault.StepperFault.TheVariants.{NothingBefore, BadCommand}

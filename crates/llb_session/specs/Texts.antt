@@ -5,7 +5,7 @@ use Rattle.llb_tree.specs.Tree.{TreeMap}
 use Rattle.llb_treetext.specs.TreeText.{tree_text}
 use Rattle.llb_model.specs.Failure.{failure_text}
 use Rattle.llb_state.specs.Board.{Seen}
-use Rattle.llb_state.specs.Views.{look_at}
+use Rattle.llb_events.specs.Views.{look_at}
 use Rattle.llb_events.specs.declared.event.Status.{Status}
 use Rattle.llb_events.specs.declared.event.Status.TheVariants.{Waiting, Ready, Blocked, Running, Done, Failed}
 use Rattle.llb_stepper.specs.declared.fault.StepperFault.{StepperFault}

@@ -5,7 +5,7 @@ use Rattle.llb_loader.specs.declared.graph.Vertex.{Vertex}
 use Rattle.llb_model.specs.Table.{Event}
 use Rattle.llb_model.specs.Table as table
 use Rattle.llb_board.specs.Undo.{told}
-use Rattle.llb_state.specs.Views.{event_of}
+use Rattle.llb_events.specs.Views.{event_of}
 use Rattle.llb_events.specs.declared.event.Event as own
 use Rattle.llb_events.specs.declared.event.Stepped.{Stepped}
 use Rattle.llb_events.specs.declared.event.Stepped.TheVariants.{Read, Acted, Merged, Ran, Skipped, Fault}

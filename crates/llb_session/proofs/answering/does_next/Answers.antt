@@ -1,5 +1,5 @@
 use Rattle.std.proofs.Common.{sym, ap, option_map, ◌∙◌}
-use Rattle.llb_state.specs.Views.{event_of}
+use Rattle.llb_events.specs.Views.{event_of}
 use Rattle.llb_session.proofs.Granting.{chosen_comes}
 use Rattle.llb_session.proofs.answering.does_next.Goals as goal
 

@@ -1,6 +1,6 @@
 use Rattle.std.proofs.Common.{[], ◌∷◌, ◌++◌, reverse, ap, sym, subst, ◌∙◌}
 use Rattle.std.specs.List.{list_any}
-use Rattle.llb_state.specs.Views.{event_of}
+use Rattle.llb_events.specs.Views.{event_of}
 use Rattle.llb_stepper.specs.Kept.{AreWalked}
 use Rattle.llb_stepper.specs.Told.{meets_told}
 use Rattle.llb_stepper.proofs.Walked.{walked_more, meets_more}

@@ -1,9 +1,12 @@
-//! A job is what a worker has to do: a vertex's program, and what it works on. All parts own their data. Only the beginning of a claim
-//! makes one, and by the type's invariant its micro-steps can be done.
+//! A job is what a worker has to do: a vertex's program, and what it works on. All parts own their data. By the type's invariant its
+//! micro-steps can be done.
 
 ghost use Rattle.std.specs.Prelude.{◌≡◌};
+ghost use Rattle.llb_execution.specs.Jobs.{IsWorkable};
+ghost use Rattle.llb_execution.specs.Parts.{work_with};
 
-use llb_execution::{Program, View};
+use crate::program::Program;
+use crate::view::View;
 use llb_tree::Tree;
 use llb_wire::Many;
 use std::marker::Model;
@@ -16,7 +19,7 @@ pub struct Job {
     pub(crate) done: u32,
     pub(crate) view: View,
     pub(crate) trees: Many<Tree>,
-    pub(crate) instances: Many<u32>,
+    instances: Many<u32>,
 }
 
 // It is written out so that the crates above drop one by this one function.
@@ -39,7 +42,7 @@ impl Model for Job {
     ghost use Rattle.llb_tree.specs.Tree.{coded_tree};
     ghost use Rattle.llb_execution.specs.Parts.{work_with};
     ghost use Rattle.llb_model.specs.Table as table;
-    ghost use Rattle.llb_state.specs.Jobs.{IsWorkable};
+    ghost use Rattle.llb_execution.specs.Jobs.{IsWorkable};
 
     ghost Value = { table.Job };
 
@@ -58,6 +61,37 @@ impl Model for Job {
 }
 
 impl Job {
+    /// Makes a job of which no micro-step is done. The trees and the numbers are those of the cache instances, in the order of the mounts that
+    /// show them. Does not allocate.
+    pub fn new(
+        worker: u32,
+        vertex: u32,
+        program: Program,
+        view: View,
+        trees: Many<Tree>,
+        instances: Many<u32>,
+    ) -> Job
+        requires { IsWorkable program (work_with view trees) }
+        ensures { result ≡ record {
+          worker = worker;
+          vertex = vertex;
+          program = program;
+          done = 0;
+          work = work_with view trees;
+          instances = instances;
+        } }
+    {
+        Job {
+            worker,
+            vertex,
+            program,
+            done: 0,
+            view,
+            trees,
+            instances,
+        }
+    }
+
     /// Returns the number of the worker that does it.
     pub fn worker(&self) -> u32
         ensures { result ≡ self.now.worker }

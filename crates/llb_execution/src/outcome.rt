@@ -2,15 +2,17 @@
 
 ghost use Rattle.std.specs.Prelude.{◌≡◌, IfOk, IsTrue, Err};
 ghost use Rattle.llb_execution.specs.Parts.{left_with};
-ghost use Rattle.llb_state.specs.Jobs.{IsOutcome};
-ghost use Rattle.llb_events.specs.declared.fault.WorkFault.TheVariants as work;
+ghost use Rattle.llb_execution.specs.Jobs.{IsOutcome};
+ghost use Rattle.llb_execution.specs.declared.fault.WorkFault.TheVariants as work;
 
-use crate::copying::copied_trees;
+use crate::fault::WorkFault;
+use crate::further::{Further, do_further};
+use crate::gate::Gate;
 use crate::job::Job;
-use llb_events::{Gate, Memory, WorkFault};
-use llb_execution::{Further, View, do_further};
+use crate::view::{View, tree_copies};
 use llb_model::VertexFault;
 use llb_tree::Tree;
+use llb_wire::Memory;
 use std::alloc::Global;
 use std::marker::Model;
 
@@ -18,18 +20,18 @@ use std::marker::Model;
 /// leave. By the type's invariant they are what the job's program leaves, so no board has to check it.
 #[derive(Drop)]
 pub struct Outcome {
-    pub(crate) job: Job,
-    pub(crate) count: u32,
-    pub(crate) view: View,
-    pub(crate) trees: Vec<Tree>,
-    pub(crate) fault: Option<VertexFault>,
+    job: Job,
+    count: u32,
+    view: View,
+    trees: Vec<Tree>,
+    fault: Option<VertexFault>,
 }
 
 impl Model for Outcome {
     ghost use Rattle.std.specs.Coded.{codes};
     ghost use Rattle.llb_tree.specs.Tree.{coded_tree};
     ghost use Rattle.llb_execution.specs.Parts.{left_with};
-    ghost use Rattle.llb_state.specs.Jobs.{OutcomeValue, IsOutcome};
+    ghost use Rattle.llb_execution.specs.Jobs.{OutcomeValue, IsOutcome};
 
     ghost Value = { OutcomeValue };
 
@@ -100,7 +102,7 @@ fn worked(alloc: Global, job: Job) -> Result<Outcome, Memory>
     ensures { IfOk result (λ o. o.job ≡ job) }
 {
     let mut view = job.view.copy()?;
-    let mut trees = copied_trees(alloc, job.trees.as_slice())?;
+    let mut trees = tree_copies(alloc, job.trees.as_slice())?;
     let further = do_further(alloc, &job.program, job.done, &mut view, &mut trees)?;
     let Further { count, fault } = further;
     Ok(Outcome {
