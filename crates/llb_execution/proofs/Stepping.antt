@@ -14,8 +14,8 @@ use Rattle.llb_applet.specs.Commands.{run, status_of, left as left_of}
 use Rattle.llb_model.specs.declared.fault.VertexFault.{VertexFault}
 use Rattle.llb_model.specs.declared.fault.VertexFault.TheVariants as fault
 use Rattle.llb_model.specs.Program.{MicroStep, ReadLocal, Act, LayInput, Run, View, LocalTree, Files, Layers, Mounted, Work, Left, micro_step, tried, step_on}
-use Rattle.llb_model.specs.Program.{trees_in, base_in, with_tree, act_among, with_result, fault_number, lay_on, last_of, is_run, no_fault, after_run, exit_of, ran}
-use Rattle.llb_model.specs.Program.{run_on, filled, taken, blanked}
+use Rattle.llb_model.specs.Program.{trees_in, base_in, with_tree, act_among, with_result, fault_number, lay_on, last_of, is_run, no_fault, after_run}
+use Rattle.llb_model.specs.Program.{exit_of, ran, run_on, filled, taken, blanked}
 use Rattle.llb_model.proofs.Parts.{step_keeps}
 use Rattle.llb_execution.specs.Parts.{work_with, left_with, is_skipped, mounts_in, shown_in}
 use Rattle.llb_execution.proofs.Commands.{left_as_many}

@@ -29,7 +29,7 @@ returns-in_ok-put_result-in-Act c =
           c.tree-second.ensures w.acted-is w.act-acted-in-None.ensures
     ] in
     let left = c.in_ok-put_result-in-Act.ensures.left (act_among a (trees_in view)) trees gives ∙ has_acted c.args.k view a trees
-        ∙ sym (ap (λ (m : MicroStep). step_on c.args.k (Some (step_in m)) (work_with view trees)) c.in-Act.is) in
+    ∙ sym (ap (λ (m : MicroStep). step_on c.args.k (Some (step_in m)) (work_with view trees)) c.in-Act.is) in
     let stepped = has_stepped c.args.k (step_in c.args.step) view c.put_result.new.self trees trees c.in_ok-put_result-in-Act.field-0 left in
     record { left = left; mounts = stepped.mounts; shown = stepped.shown; count = stepped.count; err = tt }
 
@@ -48,6 +48,6 @@ returns-in_ok-run-in-Run c =
     let trees = c.args.trees.now.items in
     let run = c.in-Run in
     let left = c.in_ok-run-in-Run.ensures.left ∙ has_run c.args.k run.setting.now run.command.now (all_and run.later.now) view trees
-        ∙ sym (ap (λ (m : MicroStep). step_on c.args.k (Some (step_in m)) (work_with view trees)) run.is) in
+    ∙ sym (ap (λ (m : MicroStep). step_on c.args.k (Some (step_in m)) (work_with view trees)) run.is) in
     let stepped = has_stepped c.args.k (step_in c.args.step) view c.run.new.self trees c.run.new.trees.items c.in_ok-run-in-Run.field-0 left in
     record { left = left; mounts = stepped.mounts; shown = stepped.shown; count = stepped.count; err = tt }
