@@ -24,10 +24,11 @@ use Rattle.llb_model.proofs.Lists.{Each_of, got_set, got_replicate, get_set_same
 use Rattle.llb_model.proofs.Outcomes.{HasOutputs, each_below, inputs_same, inputs_there}
 use Rattle.llb_model.proofs.Plain.{ending_settled}
 use Rattle.llb_model.proofs.Ready.{ready_waits}
-use Rattle.llb_state.specs.Vertices.{IsWhole, done_in, is_over, AreOver, TellsInputs, IsInStep}
+use Rattle.llb_state.specs.Vertices.{IsWhole, done_in, is_over, AreOver, TellsInputs, IsInStep, status_of}
+use Rattle.llb_state.specs.declared.vertices.stage.Stage.{Stage}
 use Rattle.llb_state.proofs.Behind.{test_set, others_done, done_here, below, linked_open, ready_so, spread_stops}
 use Rattle.llb_state.proofs.Choices.{low_or_not}
-use Rattle.llb_state.proofs.Lists.{set_back}
+use Rattle.llb_state.proofs.Lists.{length_map, map_set, get_map, set_back}
 use Rattle.llb_state.proofs.Marked.{marks_stay, unmarked}
 
 -- ---- what is done is whole
@@ -238,3 +239,42 @@ in_step_at_first b marks l graph are so = record {
   linked = linked_open b.graph.vertices l so;
   over = λ v low. absurd (omega (arith, low));
 }
+
+-- ---- a vertex gets another state
+
+module _ (b : Build) (ss : List Stage) (v : ℕ) (s : Stage) (marks : List Bool) (l : Linked) (n : ℕ) (kept : IsInStep b (map status_of ss) marks l n)
+    (low : v < length ss) (whole : IsWhole (slice_get b.graph.vertices v) (status_of s)) where
+  abbrev pub after : List Status
+  after = map status_of (slice_set ss v s)
+
+  pub low_vertex : v < length b.graph.vertices
+  low_vertex = omega (arith, low, length_map status_of ss, kept.count)
+
+  pub count_after : length (slice_set ss v s) ≡ length b.graph.vertices
+  count_after = length_set ss v s ∙ sym (length_map status_of ss) ∙ kept.count
+
+  -- with the former state put back, the statuses are what they were
+  pub before_is : (had : Stage) → slice_get ss v ≡ Some had → slice_set after v (status_of had) ≡ map status_of ss
+  before_is had at =
+      ap (λ S. slice_set S v (status_of had)) (map_set status_of ss v s)
+      ∙ set_back (map status_of ss) v (status_of s) (status_of had) (get_map status_of ss v had at)
+
+  pub whole_after : AreWhole b.graph.vertices after
+  whole_after = subst (AreWhole b.graph.vertices) (sym (map_set status_of ss v s)) (whole_set b.graph.vertices (map status_of ss) v (status_of s) kept.whole whole)
+
+  pub over_after : (r : ℕ) → r ≤ n → r ≤ v → AreOver b after r
+  over_after r fits under =
+      subst (λ S. AreOver b S r) (sym (map_set status_of ss v s))
+      (over_set b (map status_of ss) v (status_of s) n r kept.graph low_vertex fits under kept.over)
+
+  -- what is kept is in step again
+  pub in_step_after : (marked : List Bool) (m : Linked) (r : ℕ) → marked ≡ stopped b after → IsLinked b.graph.vertices (done_in after) m → AreOver b after r
+      → IsInStep b after marked m r
+  in_step_after marked m r are linked over = record {
+    graph = kept.graph;
+    count = length_map status_of (slice_set ss v s) ∙ count_after;
+    whole = whole_after;
+    marks = are;
+    linked = linked;
+    over = over;
+  }

@@ -1,8 +1,8 @@
 //! What is known of the vertices: the graph with its local trees, the state of each vertex, and what follows from these, kept so that no
 //! call begins anew: which vertices are stopped, how many inputs of each are open, and where the search for a Ready vertex begins.
 
-ghost use Rattle.std.specs.Prelude.{◌≡◌, ◌<◌, ◌^◌, ◌×◌, ◌||◌, IfOk, IfErr, length, option_map, replicate, slice_get, false, is_ok, true, Some, Err};
-ghost use Rattle.std.specs.Prelude.{MatchResult};
+ghost use Rattle.std.specs.Prelude.{◌≡◌, ◌<◌, ◌^◌, ◌||◌, IfOk, IfErr, length, option_map, replicate, slice_get, false, is_ok, true, Some, Err};
+ghost use Rattle.std.specs.Prelude.{MatchResult, map};
 ghost use Rattle.llb_events.specs.Faults.{GivesClaim};
 ghost use Rattle.llb_loader.specs.Graph.{IsGraph, IsVertexOf};
 ghost use Rattle.llb_links.specs.Links.{IsLinked, users_of};
