@@ -4,7 +4,7 @@ use Rattle.std.proofs.Common.{unwrap_or, is_some, inl, inr, refl, sym, ap, subst
 use Rattle.std.specs.Prelude.{All, Option, None, slice_get, slice_set, replicate, nat_lt, not, ◌==◌, option_map}
 use Rattle.std.specs.List.{list_any}
 use Rattle.std.proofs.Math.Bool.{and-false}
-use Rattle.std.proofs.lemmas.Bool.{ltb-true, ltb-false}
+use Rattle.std.proofs.lemmas.Bool.{cases_lt, ltb-true, ltb-false}
 use Rattle.std.proofs.lemmas.Option.{slice_get_within}
 use Rattle.std.proofs.lemmas.List.{length-replicate}
 use Rattle.std.proofs.lemmas.List.Elements.{All-weaker}
@@ -27,7 +27,6 @@ use Rattle.llb_model.proofs.Ready.{ready_waits}
 use Rattle.llb_state.specs.Vertices.{IsWhole, done_in, is_over, AreOver, TellsInputs, IsInStep, status_of}
 use Rattle.llb_state.specs.declared.vertices.stage.Stage.{Stage}
 use Rattle.llb_state.proofs.Behind.{test_set, others_done, done_here, below, linked_open, ready_so, spread_stops}
-use Rattle.llb_state.proofs.Choices.{low_or_not}
 use Rattle.llb_state.proofs.Lists.{length_map, map_set, get_map, set_back}
 use Rattle.llb_state.proofs.Marked.{marks_stay, unmarked}
 
@@ -167,7 +166,7 @@ ready_below b S T v k graph same low there =
   where
     each : (edges : List Edge) → Each_of (LeadsBelow b.graph.vertices k) edges → Each_of (λ (e : Edge). ending_at T e.vertex ≡ ending_at S e.vertex) edges
     each [] leads = tt
-    each (e ∷ es) leads = (let lower = leads.0.lower in ap ending_of (same e.vertex (omega (arith, lower, low))), each es leads.1)
+    each (e ∷ es) leads = let lower = leads.0.lower in (ap ending_of (same e.vertex (omega (arith, lower, low))), each es leads.1)
 
     by_status : (x : Vertex) (o : Option Status) → inputs_from (ending_at T) x.inputs ≡ inputs_from (ending_at S) x.inputs
         → is_some (start_from T o (Some x)) ≡ is_some (start_from S o (Some x))
@@ -191,7 +190,7 @@ over_set b S v new n r graph there fits under over k low =
 
 -- one vertex more is over
 pub over_more : (b : Build) (S : List Status) (n : ℕ) → AreOver b S n → is_over b S n ≡ true → AreOver b S (n + 1)
-over_more b S n under here v low = elim (low_or_not v n) [
+over_more b S n under here v low = elim (cases_lt v n) [
   | inl lt ↦ under v lt
   | inr ge ↦ let same : v ≡ n = omega (arith, low, ge) in ap (is_over b S) same ∙ here
 ]
