@@ -222,9 +222,9 @@ pub ended_over : (b : Build) (S : List Status) (v : ℕ) → (is_settled (slice_
 ended_over b S v ended unready = by_tests (is_settled (slice_get S v)) (is_blocked b S v) (is_ready b S v) ended unready
   where
     by_tests : (a c d : Bool) → (a || c) ≡ true → d ≡ false → (a || (c && not d)) ≡ true
-    by_tests true c d h no = refl
-    by_tests false true d h no = ap not no
-    by_tests false false d h no = h
+    by_tests true c d h is = refl
+    by_tests false true d h is = ap not is
+    by_tests false false d h is = h
 
 -- ---- all vertices wait
 

@@ -7,7 +7,7 @@ use Rattle.llb_state.specs.Vertices.{status_of}
 use Rattle.llb_state.specs.declared.vertices.stage.Stage.{Stage}
 use Rattle.llb_state.specs.declared.vertices.stage.Stage.TheVariants as stage
 
-stage_of : Status → Stage
+abbrev stage_of : Status → Stage
 stage_of Waiting = stage.Waiting
 stage_of (Running w) = stage.Running w
 stage_of (Settled (Done trees)) = stage.Done trees

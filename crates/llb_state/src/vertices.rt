@@ -249,15 +249,7 @@ impl Vertices {
     pub(crate) fn inputs(&self, alloc: Global, vertex: &Vertex) -> Result<Vec<Tree>, ClaimFault>
         ensures { GivesClaim (λ trees. trees.items) result (or_not_ready (inputs_from (ending_at self.now.statuses) vertex.now.inputs)) }
     {
-        let edges = vertex.inputs.as_slice();
-        let mut trees = Vec::with_capacity(alloc, edges.len())?;
-        for edge in edges {
-            match output_at(&self.stages, edge.vertex, edge.index) {
-                Some(tree) => trees.push_reserved(tree.copy()?),
-                None => return Err(ClaimFault::NotReady),
-            }
-        }
-        Ok(trees)
+        gathered(alloc, &self.stages, vertex.inputs.as_slice())
     }
 }
 
@@ -310,6 +302,20 @@ fn output_at(stages: &[Stage], v: u32, i: u32) -> Option<&Tree>
         Some(Stage::Done(outputs)) => outputs.as_slice().get(i as usize),
         _ => None,
     }
+}
+
+// Returns copies of the trees that the edges lead to.
+fn gathered(alloc: Global, stages: &[Stage], inputs: &[Edge]) -> Result<Vec<Tree>, ClaimFault>
+    ensures { GivesClaim (λ trees. trees.items) result (or_not_ready (inputs_from (ending_at (map status_of stages.now)) inputs.now)) }
+{
+    let mut trees = Vec::with_capacity(alloc, inputs.len())?;
+    for edge in inputs {
+        match output_at(stages, edge.vertex, edge.index) {
+            Some(tree) => trees.push_reserved(tree.copy()?),
+            None => return Err(ClaimFault::NotReady),
+        }
+    }
+    Ok(trees)
 }
 
 // Returns how a vertex looks, given its state, whether it has no open input, and whether it is marked.

@@ -1,5 +1,7 @@
 use Rattle.std.proofs.Common.{◌≡◌, ◌<◌, map, length, sym, ◌∙◌, ap}
-use Rattle.llb_model.specs.State.{is_ready}
+use Rattle.std.specs.Prelude.{◌&&◌, slice_get}
+use Rattle.llb_links.specs.Links.{has_inputs}
+use Rattle.llb_model.specs.State.{is_ready, is_waiting}
 use Rattle.llb_model.specs.Run.{least}
 use Rattle.llb_state.specs.Vertices.{VerticesValue, status_of}
 use Rattle.llb_state.proofs.Choices.{least_here, least_later, least_from}
@@ -20,6 +22,7 @@ ready_is c =
     let S = map status_of b.stages.items in
     let kept = c.self.invariant in
     c.is_ready.ensures
+    ∙ ap (λ ss. is_waiting (slice_get (map status_of ss) c.loop-v.v) && has_inputs b.links c.loop-v.v) c.deref.ensures.value
     ∙ ready_here b.build S b.links c.loop-v.v (tells_in b.build S b.links kept.graph kept.whole kept.linked) (rw c.vertices.ensures.all at c.loop-v-test.true)
 
 pub loop-v-preserved : goal.loop-v-preserved
