@@ -1,4 +1,4 @@
-use Rattle.std.proofs.Common.{◌≡◌, ◌∙◌, Bool, map, length, refl, sym, ap, arith}
+use Rattle.std.proofs.Common.{◌≡◌, ◌<◌, ◌∙◌, Bool, map, length, refl, sym, ap, arith}
 use Rattle.std.specs.Prelude.{Some, ◌&&◌, false, unwrap_or, option_map, slice_get}
 use Rattle.std.proofs.lemmas.Option.{slice_get_within}
 use Rattle.llb_links.specs.Links.{has_inputs}
