@@ -23,12 +23,12 @@ use Rattle.llb_ready.specs.contracts.queue.ReadyQueue as queue
 use Rattle.llb_board.specs.contracts.board.Board as board
 use Rattle.llb_work.specs.declared.noted.Gated as gated
 use Rattle.llb_work.specs.contracts.noted.Tally as tally
-use Rattle.llb_work.specs.contracts.desk.Desk as desk
+use Rattle.llb_work.specs.contracts.shared_board.SharedBoard as shared
 use Rattle.llb_work.specs.contracts.held.Held as held
 use Rattle.llb_work.specs.contracts.idle.Idle as idle
 use Rattle.llb_work.proofs.held.Held.TheSendSync as held_crosses
 use Rattle.llb_work.proofs.idle.Idle.TheSendSync as idle_crosses
-use Rattle.llb_work.specs.contracts.worker.Kit as kit
+use Rattle.llb_work.specs.contracts.worker.WorkerKit as kit
 
 -- several threads may have the queue of the run at once
 pub queue_shared : IsSync queue.the_row
@@ -60,8 +60,8 @@ module _ (T : RattleType) (g' : ledger.Ghosts T.Denot) where
   )
 
 module _ (T : RattleType) (g : gated.Ghosts T.Denot) (g' : ledger.Ghosts T.Denot) where
-  desk_crosses : IsSend (desk.the_row T g g')
-  desk_crosses = declared_send (desk.the_type T g g') (
+  shared_board_crosses : IsSend (shared.the_row T g g')
+  shared_board_crosses = declared_send (shared.the_type T g g') (
     board_send,
     (
       board_send,
@@ -78,9 +78,9 @@ module _ (T : RattleType) (g : gated.Ghosts T.Denot) (g' : ledger.Ghosts T.Denot
     ),
   )
 
-  -- the desk in its lock may be used by several threads at once
-  pub lock_crosses : IsSync (mutex.the_row (desk.the_row T g g'))
-  lock_crosses = search (desk_crosses, crosses, sendable) depth 20
+  -- the shared board in its lock may be used by several threads at once
+  pub lock_crosses : IsSync (mutex.the_row (shared.the_row T g g'))
+  lock_crosses = search (shared_board_crosses, crosses, sendable) depth 20
 
 -- eight values, which a closure takes with it, may go to another thread together if each may
 pub eight_cross : (ν : Sym) (A B C D E F G H : RattleType) → IsSend A → IsSend B → IsSend C → IsSend D → IsSend E → IsSend F → IsSend G → IsSend H
