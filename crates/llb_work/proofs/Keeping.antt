@@ -5,14 +5,15 @@ use Rattle.llb_work.specs.declared.worker_thread.WorkerThread.{WorkerThread}
 use Rattle.llb_work.specs.Threads.{ThreadKeeps, AllKeep}
 
 module _ {L : Type 0} where
-  pub keeps_rest : (q : ReadyQueue) (from : ℕ) (p : WorkerThread L) (threads : List (WorkerThread L)) → AllKeep q from (p ∷ threads) → AllKeep q (suc from) threads
+  pub keeps_rest : (q : ReadyQueue) (from : ℕ) (p : WorkerThread L) (threads : List (WorkerThread L)) → AllKeep q from (p ∷ threads)
+      → AllKeep q (suc from) threads
   keeps_rest q from p threads h k d low =
       let P : ℕ → Type 0 = λ n. ThreadKeeps q n (get_or threads k d) in
       let e : from + suc k ≡ suc from + k = omega arith in
       subst P e (h (suc k) d (omega arith))
 
-  pub keeps_more : (q : ReadyQueue) (from : ℕ) (threads : List (WorkerThread L)) (p : WorkerThread L) → AllKeep q from threads → ThreadKeeps q (from + length threads) p
-      → AllKeep q from (threads ++ p ∷ [])
+  pub keeps_more : (q : ReadyQueue) (from : ℕ) (threads : List (WorkerThread L)) (p : WorkerThread L) → AllKeep q from threads
+      → ThreadKeeps q (from + length threads) p → AllKeep q from (threads ++ p ∷ [])
   keeps_more q from [] p h mine zero d low = mine
   keeps_more q from [] p h mine (suc k) d low = absurd (omega arith)
   keeps_more q from (x ∷ xs) p h mine zero d low = h zero d (omega arith)
@@ -44,9 +45,8 @@ module _ {L : Type 0} where
       (keeps_first q from p rest all, subst Q e' (keeps_rest q from p rest all))
 
   -- if a thread that keeps its pass is pushed at the place of its worker, all threads keep their passes
-  pub keeps_pushed : (q : ReadyQueue) (n : ℕ) (xs threads : List (WorkerThread L)) (p : WorkerThread L) → xs ≡ threads ++ p ∷ [] → length threads ≡ n → AllKeep q 0 threads
-      → ThreadKeeps q n p
-      → AllKeep q 0 xs
+  pub keeps_pushed : (q : ReadyQueue) (n : ℕ) (xs threads : List (WorkerThread L)) (p : WorkerThread L) → xs ≡ threads ++ p ∷ [] → length threads ≡ n
+      → AllKeep q 0 threads → ThreadKeeps q n p → AllKeep q 0 xs
   keeps_pushed q n xs threads p e len h mine =
       let P : ℕ → Type 0 = λ k. ThreadKeeps q k p in
       let e' : n ≡ 0 + length threads = omega (arith, len) in

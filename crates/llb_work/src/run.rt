@@ -47,19 +47,20 @@ pub fn run_workers<G: Gate + Sync, R: Threads + Wait + Sync>(
     let Ok(outside) = board.copy() else {
         return refused(board);
     };
-    let workers = workers(&board);
+    let n = workers(&board);
     let begin = CrewStart {
         board,
         start,
-        blank: Blank::new(u64::from(workers)),
-        workers,
+        blank: Blank::new(u64::from(n)),
+        workers: n,
     };
+    let left = run_crew::<Brand, G, R>(rt, alloc, begin, gate);
     let CrewEnd {
         board,
         start,
         made,
         noted,
-    } = run_crew::<Brand, G, R>(rt, alloc, begin, gate);
+    } = left;
     if !start.same(&outside) {
         let fault = Some(RunFault::Foreign(start));
         return RunEnd { board, made, fault };
