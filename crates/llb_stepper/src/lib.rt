@@ -2,6 +2,7 @@
 //! taken back without memory. It is built on `llb_board`, which it changes by the board's calls only.
 #![tactic(auto)]
 
+mod breakpoints;
 mod fault;
 mod record_text;
 mod stepper;

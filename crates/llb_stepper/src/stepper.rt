@@ -10,9 +10,10 @@ ghost use Rattle.llb_stepper.specs.Records.{record_at, record_text, TellsTheRun}
 ghost use Rattle.llb_stepper.specs.Told.{seen_pair, told_pair};
 ghost use Rattle.llb_stepper.specs.declared.fault.StepperFault.TheVariants as fault;
 
+use crate::breakpoints::Breakpoints;
 use crate::fault::StepperFault;
 use crate::record_text::line_text;
-use crate::stop::{Break, Stop, meets_any};
+use crate::stop::{Break, Stop};
 use llb_board::laws::chosen_is_granted;
 use llb_board::{Board, Event, Reply, Walked};
 use llb_wire::Text;
@@ -25,7 +26,7 @@ pub struct Stepper {
     alloc: Global,
     board: Board,
     walked: Vec<Walked>,
-    breaks: Vec<Break>,
+    breaks: Breakpoints,
 }
 
 // Written out, so that the crates above drop one by this one function.
@@ -52,7 +53,7 @@ impl Model for Stepper {
 
     ghost coded = { Prim.hlevel (codes, coded_tree, coded_store) };
 
-    ghost view = { λ s. stepping s.board s.walked.items s.breaks.items };
+    ghost view = { λ s. stepping s.board s.walked.items s.breaks };
 
     ghost invariant = { λ s. AreWalked s.board (reverse s.walked.items) };
 }
@@ -66,7 +67,7 @@ impl Stepper {
             alloc,
             board,
             walked: Vec::new(alloc),
-            breaks: Vec::new(alloc),
+            breaks: Breakpoints::new(alloc),
         }
     }
 
@@ -174,7 +175,7 @@ impl Stepper {
         self.walked.reserve(1)?;
         match self.board.walk(event) {
             Ok(walked) => {
-                let met = meets_any(&self.breaks, event, walked.reply);
+                let met = self.breaks.is_met_by(event, walked.reply);
                 self.walked.push_reserved(walked);
                 Ok(met)
             }
