@@ -35,13 +35,13 @@ status_lines b zero = []
 status_lines b (suc v) = status_lines b v ++ status_line_of v (look_at b.build b.state v)
 
 -- a text with a line end after it; empty if there is no text
-abbrev pub ended : Option (List ℕ) → List ℕ
-ended None = []
-ended (Some text) = text ++ codes "\n"
+abbrev pub with_line_end : Option (List ℕ) → List ℕ
+with_line_end None = []
+with_line_end (Some text) = text ++ codes "\n"
 
 -- the line of event i of the record, counted from 1; empty if `record_at` has no such event
 abbrev pub record_line : Stepping → ℕ → List ℕ
-record_line s i = ended (option_map (record_text s.board.build.graph.vertices i) (record_at s i))
+record_line s i = with_line_end (option_map (record_text s.board.build.graph.vertices i) (record_at s i))
 
 -- the lines of the k events that follow the first `from` events of the record
 unfoldable pub record_lines : Stepping → ℕ → ℕ → List ℕ

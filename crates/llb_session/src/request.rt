@@ -1,7 +1,7 @@
 //! What a line of a session asks for.
 
 ghost use Rattle.std.specs.Prelude.{◌≡◌, option_map};
-ghost use Rattle.llb_session.specs.Request.{parted, number_in, pair_in, request_in, alone, break_in, break_at, behind, by_words};
+ghost use Rattle.llb_session.specs.Request.{parted, number_in, pair_in, request_in, alone, break_in, break_at, word_with_rest, by_words};
 
 use llb_asm::magnitude;
 use llb_board::Event;
@@ -100,8 +100,8 @@ fn break_in(rest: &str) -> Option<Request>
 }
 
 // A line of a word and the rest after it.
-fn behind(word: &str, rest: &str) -> Option<Request>
-    ensures { result ≡ behind word.now rest.now }
+fn word_with_rest(word: &str, rest: &str) -> Option<Request>
+    ensures { result ≡ word_with_rest word.now rest.now }
 {
     if word == "break" {
         break_in(rest)
@@ -131,7 +131,7 @@ fn by_words(line: &str) -> Option<Request>
 {
     match line.split_once(' ') {
         None => alone(line),
-        Some((word, rest)) => behind(word, rest),
+        Some((word, rest)) => word_with_rest(word, rest),
     }
 }
 

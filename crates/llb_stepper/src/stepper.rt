@@ -6,7 +6,7 @@ ghost use Rattle.llb_model.specs.Run.{chosen};
 ghost use Rattle.llb_state.specs.Views.{event_of};
 ghost use Rattle.llb_stepper.specs.Rules.{GivesEvent, done_of, stepper_memory, IsRefusedAt, MeetsOn, ChosenIsDone, ThereAndBack};
 ghost use Rattle.llb_stepper.specs.Stepping.{GoesBack, IsStop, IsGo, IsReplayed, PastIsTheRecords, line, lesser};
-ghost use Rattle.llb_stepper.specs.Records.{record_at, record_text, TellsTheRun};
+ghost use Rattle.llb_stepper.specs.Records.{record_at, record_text, RecordIsTheRun};
 ghost use Rattle.llb_stepper.specs.Told.{seen_pair, told_pair};
 ghost use Rattle.llb_stepper.specs.declared.fault.StepperFault.TheVariants as fault;
 
@@ -290,8 +290,8 @@ pub fn past_is_the_records(stepper: &Stepper)
 }
 
 /// A law: the events and replies in the lines of a record are those of the run of the whole record from the board's opening.
-pub fn tells_the_run(stepper: &Stepper)
-    ensures { TellsTheRun stepper.now }
+pub fn record_is_the_run(stepper: &Stepper)
+    ensures { RecordIsTheRun stepper.now }
 {
     let _ = &stepper.board;
 }

@@ -11,9 +11,11 @@ pub enum Break {
     Fails,
 }
 
-/// How many events a `go` or a replay did, and whether the last of them meets a breakpoint.
+/// How a `go` or a replay stopped.
 #[derive(Clone, Copy, Debug, PartialEq, Eq)]
 pub struct Stop {
+    /// How many events were done.
     pub events: u64,
+    /// Whether the last of them meets a breakpoint.
     pub at_break: bool,
 }
