@@ -120,11 +120,7 @@ fn tree(alloc: Global, stepper: &mut Stepper, v: u32, i: u32) -> Result<Vec<u8>,
 }
 
 // What is asked for, and what it prints.
-fn perform(
-    alloc: Global,
-    stepper: &mut Stepper,
-    request: Request,
-) -> Result<Vec<u8>, StepperFault>
+fn perform(alloc: Global, stepper: &mut Stepper, request: Request) -> Result<Vec<u8>, StepperFault>
     ensures { IsPerformed request stepper.old stepper.new result }
 {
     match request {

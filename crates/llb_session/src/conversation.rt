@@ -116,9 +116,14 @@ pub fn converse<R: Read, W: Write>(
     limit: usize,
     reads: u64,
 ) -> Result<(), SessionFault>
-    ensures { Converses (record { limit = limit; reads = reads; before = session.old; after = session.new;
-        commands = record { before = R.remaining commands.old; after = R.remaining commands.new };
-        replies = record { before = W.contents out.old; after = W.contents out.new } }) result }
+    ensures { Converses (record {
+      limit = limit;
+      reads = reads;
+      before = session.old;
+      after = session.new;
+      commands = record { before = R.remaining commands.old; after = R.remaining commands.new };
+      replies = record { before = W.contents out.old; after = W.contents out.new };
+    }) result }
 {
     let mut pending = Pending {
         answered: 0,
