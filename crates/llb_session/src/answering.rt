@@ -64,8 +64,8 @@ fn bytes_of(alloc: Global, text: &str) -> Result<Vec<u8>, AllocError>
     Ok(bytes)
 }
 
-// The lines of a walk, and how it ends.
-fn walk_text(
+// The lines of a `go`, and how it ended.
+fn go_text(
     alloc: Global,
     stepper: &Stepper,
     from: u64,
@@ -86,7 +86,7 @@ fn go(alloc: Global, stepper: &mut Stepper) -> Result<Vec<u8>, StepperFault>
 {
     let from = stepper.board().events().len() as u64;
     let stop = stepper.go()?;
-    match walk_text(alloc, stepper, from, stop.at_break) {
+    match go_text(alloc, stepper, from, stop.at_break) {
         Ok(text) => Ok(text.into_bytes()),
         Err(fault) => {
             stepper.back_many(stop.events as usize);

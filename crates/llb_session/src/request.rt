@@ -8,26 +8,26 @@ use llb_board::Event;
 use llb_stepper::Break;
 use std::str::from_utf8;
 
-/// What is asked for.
+/// What a line of a session asks for.
 #[derive(Clone, Copy, Debug, PartialEq, Eq)]
 pub enum Request {
-    /// One breakpoint more.
+    /// Adds that breakpoint.
     Break(Break),
-    /// No breakpoint is left.
+    /// Removes all breakpoints.
     Clear,
-    /// That event.
+    /// Does that event.
     Event(Event),
-    /// The chosen event.
+    /// Does the chosen event.
     Next,
-    /// The chosen events, up to a breakpoint.
+    /// Does the chosen events, up to one that meets a breakpoint.
     Go,
-    /// The last event taken back.
+    /// Takes the last event back.
     Back,
-    /// How the vertices look.
+    /// Prints how the vertices look.
     Status,
-    /// Output I of vertex V, as text.
+    /// Prints an output of a vertex as text: the number of the vertex and that of the output.
     Tree(u32, u32),
-    /// The end of the session.
+    /// Ends the session.
     Quit,
 }
 
