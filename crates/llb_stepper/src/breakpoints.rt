@@ -1,5 +1,5 @@
-//! The breakpoints of a stepper: the list of them, and beside it the vertices by kind of breakpoint. So the look at an event takes the
-//! logarithm of their number, and tries none of them.
+//! The breakpoints of a stepper: the list of them, and beside it the vertices by kind of breakpoint, in which those of an event are looked
+//! up. So an event costs at most the logarithm of the number of breakpoints.
 
 ghost use Rattle.std.specs.Prelude.{◌≡◌, ◌++◌, ◌∷◌, [], OnOk, OnErr};
 ghost use Rattle.std.specs.List.{list_any};
@@ -27,6 +27,7 @@ struct Kinds {
 /// Breakpoints, in the order in which they were added. Contracts see the list of them.
 #[derive(Drop)]
 pub(crate) struct Breakpoints {
+    /// What contracts see. No code reads it.
     list: Vec<Break>,
     kinds: Kinds,
 }
