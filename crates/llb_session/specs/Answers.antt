@@ -39,6 +39,7 @@ pub record GrantsGo (s : Stepping) (text : List ℕ) (t : Stepping) : Type 0 whe
   pub goes : IsGo s t stop
   pub lines : text ≡ record_lines t (length s.board.events) (length t.board.events - length s.board.events) ++ stop_line stop.at_break
 
+-- the request is granted on stepper s: it prints the text and leads to stepper t
 abbrev pub Grants : Request → Stepping → List ℕ → Stepping → Type 0
 Grants (ask.Break b) s text t = (t ≡ record s { breaks = s.breaks ++ b ∷ [] }) × (text ≡ [])
 Grants ask.Clear s text t = (t ≡ record s { breaks = [] }) × (text ≡ [])
@@ -52,6 +53,7 @@ Grants ask.Quit s text t = (t ≡ s) × (text ≡ [])
 
 -- ---- a request that is refused for another cause than memory
 
+-- the fault is one with which the request is refused
 abbrev pub Refuses : Request → Stepping → StepperFault → Type 0
 Refuses (ask.Event e) s fault = done_of s (event_of e) ≡ Err fault
 Refuses ask.Back s fault = (s.past ≡ []) × (fault ≡ NothingBefore)
@@ -84,6 +86,7 @@ pub record PrintsWant (s : Stepping) (text : List ℕ) (t : Stepping) : Type 0 w
   pub printed : text ≡ fault_line fault
   pub same : t ≡ s
 
+-- the reply to line n, by what it asks for, if anything; where memory was refused for the reply itself, that is the reply
 abbrev pub AnswersAs : Option Request → Stepping → ℕ → List ℕ → Stepping → Type 0
 AnswersAs None s n text t = ((t ≡ s) × (text ≡ fault_line (BadCommand n))) ⊎ PrintsWant s text t
 AnswersAs (Some r) s n text t = Grants r s text t ⊎ PrintsRefusal r s text t

@@ -44,6 +44,7 @@ pub record Standing : Type 0 where
   pub number : ℕ
   pub line : List ℕ
 
+-- before the first byte: line 1 is begun
 abbrev pub opening : Stepping → Standing
 opening s = record { session = s; number = 1; line = [] }
 

@@ -8,6 +8,7 @@ use Rattle.llb_stepper.specs.declared.stop.Break.TheVariants.{Claims, Settles, F
 use Rattle.llb_session.specs.declared.request.Request.{Request}
 use Rattle.llb_session.specs.declared.request.Request.TheVariants as ask
 
+-- whether a byte is a space
 abbrev pub is_space : ℕ → Bool
 is_space b = b == 32
 
@@ -56,6 +57,7 @@ word_with_rest word rest =
     else if is_text word (codes "tree") then option_map (λ (p : ℕ × ℕ). ask.Tree p.0 p.1) (pair_in rest)
     else None
 
+-- a line by its first word and the rest after it, if it has more words than one
 abbrev pub by_words : List ℕ → Option (List ℕ × List ℕ) → Option Request
 by_words line None = alone line
 by_words line (Some p) = word_with_rest p.0 p.1

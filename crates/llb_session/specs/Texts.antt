@@ -22,9 +22,11 @@ look_text (Running w) = codes "running " ++ decimal w
 look_text Done = codes "done"
 look_text (Failed f) = codes "failed " ++ failure_text f
 
+-- the line of a vertex
 abbrev pub status_line : ℕ → Status → List ℕ
 status_line v look = decimal v ++ (codes " " ++ (look_text look ++ codes "\n"))
 
+-- the same; empty if there is no such vertex
 abbrev pub status_line_of : ℕ → Option Status → List ℕ
 status_line_of v None = []
 status_line_of v (Some look) = status_line v look
@@ -53,6 +55,7 @@ abbrev pub tree_lines : Option TreeMap → List ℕ
 tree_lines None = codes "none\n"
 tree_lines (Some t) = tree_text t
 
+-- the line of a refusal
 abbrev pub fault_line : StepperFault → List ℕ
 fault_line e = codes "fault " ++ (stepper_text e ++ codes "\n")
 
