@@ -57,15 +57,21 @@ pub fn aim(
     replay_is_the_run(board);
 }
 
+/// What a board is opened with beside its graph.
+#[derive(Drop)]
+pub struct BoardOptions {
+    pub locals: Locals,
+    pub workers: u32,
+}
+
 /// A caller of `aim`: the results of the calls that load a definition, open boards over its graph and make a stepper meet its premises.
 pub fn aim_is_met(
     alloc: Global,
     text: &[u8],
     definition: &Bytes,
     entries: &Entries,
-    locals: Locals,
-    workers: u32,
-    others: Locals,
+    board: BoardOptions,
+    stepper: BoardOptions,
 ) -> Result<(Board, Stepper), ProgramFault>
     ensures { IfOk result (λ made. (graph : Numbered) × IsAccepted definition.now graph made.0 made.1
         × Aim text.now definition.now entries.now graph made.0 made.1) }
@@ -80,8 +86,10 @@ pub fn aim_is_met(
     let Ok(second) = graph.copy() else {
         return Err(ProgramFault::Memory);
     };
+    let BoardOptions { locals, workers } = board;
     let board = opened(alloc, first, locals, workers)?;
-    let other = opened(alloc, second, others, 1)?;
+    let BoardOptions { locals, workers } = stepper;
+    let other = opened(alloc, second, locals, workers)?;
     let stepper = Stepper::new(alloc, other);
     aim(text, definition, entries, &graph, &board, &stepper);
     Ok((board, stepper))
