@@ -1,7 +1,7 @@
 //! Dispatches a command line: one of the commands, over the program's streams and the local trees; and the program whole.
 
 ghost use Rattle.std.specs.Prelude.{map};
-ghost use Rattle.llb_commands.specs.Commands.{IsProgram, Performs, StepsAt};
+ghost use Rattle.llb_commands.specs.Commands.{IsProgram, Performs};
 ghost use Rattle.llb_commands.specs.Running.{Opens};
 
 use crate::assembling::asm_over;
@@ -46,28 +46,6 @@ fn board_of<S: Sources>(
     }
 }
 
-// Steps through the definition in a file.
-fn step_in<S: Sources, R: Read, W: Write, E: Write>(
-    alloc: Global,
-    line: &Line<'_>,
-    sources: &S,
-    streams: &mut Streams<R, W, E>,
-    locals: Locals,
-) -> u8
-    ensures { StepsAt (S.bytes sources.now) line.now.file line.now.workers locals (record {
-        input = record { before = R.remaining streams.old.input; after = R.remaining streams.new.input };
-        output = record { before = W.contents streams.old.out; after = W.contents streams.new.out };
-        errors = record { before = E.contents streams.old.err; after = E.contents streams.new.err };
-    }) result }
-{
-    let Streams { input, out, err } = streams;
-    let Some(file) = line.file else {
-        return words_refusal(&WordsFault::Words(None), err);
-    };
-    let board = board_of(alloc, sources, file, locals, line.workers);
-    session_over(alloc, board, input, out, err)
-}
-
 /// Does what the line says on the local trees, which are those of its local sources, and returns the exit status: that of the
 /// command's own call. A session's definition is read from the line's file, to its end, before the first of its commands: where none is
 /// named, `fault 183` and 2, and where it is not opened, `fault 181` and 3. It may wait where the command is `run` with more than one worker.
@@ -80,20 +58,24 @@ pub fn perform<T: Threads + Wait + Sync, S: Sources, R: Read, W: Write, E: Write
     locals: Locals,
 ) -> u8
     ensures { Performs (S.bytes sources.now) line.now locals (record {
-        input = record { before = R.remaining streams.old.input; after = R.remaining streams.new.input };
-        output = record { before = W.contents streams.old.out; after = W.contents streams.new.out };
-        errors = record { before = E.contents streams.old.err; after = E.contents streams.new.err };
+      input = record { before = R.remaining streams.old.input; after = R.remaining streams.new.input };
+      output = record { before = W.contents streams.old.out; after = W.contents streams.new.out };
+      errors = record { before = E.contents streams.old.err; after = E.contents streams.new.err };
     }) result }
 {
+    let Streams { input, out, err } = streams;
     match line.command {
-        Command::Run => {
-            let Streams { input, out, err } = streams;
-            run_many_over(rt, alloc, input, out, err, locals, line.workers)
+        Command::Run => run_many_over(rt, alloc, input, out, err, locals, line.workers),
+        Command::Show => show_over(alloc, input, out, err),
+        Command::Step => {
+            let Some(file) = line.file else {
+                return words_refusal(&WordsFault::Words(None), err);
+            };
+            let board = board_of(alloc, sources, file, locals, line.workers);
+            session_over(alloc, board, input, out, err)
         }
-        Command::Show => show_over(alloc, &mut streams.input, &mut streams.out, &mut streams.err),
-        Command::Step => step_in(alloc, line, sources, streams, locals),
-        Command::Assemble => asm_over(alloc, &mut streams.input, &mut streams.out, &mut streams.err),
-        Command::Disassemble => dis_over(alloc, &mut streams.input, &mut streams.out, &mut streams.err),
+        Command::Assemble => asm_over(alloc, input, out, err),
+        Command::Disassemble => dis_over(alloc, input, out, err),
     }
 }
 
@@ -109,9 +91,9 @@ pub fn program<T: Threads + Wait + Sync, A: AsStr, S: Sources, R: Read, W: Write
     streams: &mut Streams<R, W, E>,
 ) -> u8
     ensures { IsProgram (S.bytes sources.now) (map A.text words.now) (record {
-        input = record { before = R.remaining streams.old.input; after = R.remaining streams.new.input };
-        output = record { before = W.contents streams.old.out; after = W.contents streams.new.out };
-        errors = record { before = E.contents streams.old.err; after = E.contents streams.new.err };
+      input = record { before = R.remaining streams.old.input; after = R.remaining streams.new.input };
+      output = record { before = W.contents streams.old.out; after = W.contents streams.new.out };
+      errors = record { before = E.contents streams.old.err; after = E.contents streams.new.err };
     }) result }
 {
     let line = match line_or_page(alloc, words) {

@@ -48,11 +48,7 @@ enum Ended {
 }
 
 // Runs the definition that is read to its end with one worker.
-fn finished<R: Read>(
-    alloc: Global,
-    input: &mut R,
-    locals: Locals,
-) -> Result<Board, ProgramFault>
+fn finished<R: Read>(alloc: Global, input: &mut R, locals: Locals) -> Result<Board, ProgramFault>
     ensures { Finishes 1 locals (R.remaining input.old) result }
 {
     let board = opened_on(alloc, input, locals, 1)?;
@@ -189,9 +185,9 @@ pub fn run_over<R: Read, W: Write, E: Write>(
     locals: Locals,
 ) -> u8
     ensures { Runs 1 locals (record {
-        input = record { before = R.remaining input.old; after = R.remaining input.new };
-        output = record { before = W.contents out.old; after = W.contents out.new };
-        errors = record { before = E.contents err.old; after = E.contents err.new };
+      input = record { before = R.remaining input.old; after = R.remaining input.new };
+      output = record { before = W.contents out.old; after = W.contents out.new };
+      errors = record { before = E.contents err.old; after = E.contents err.new };
     }) result }
 {
     let board = finished(alloc, input, locals);
@@ -212,9 +208,9 @@ pub fn run_many_over<T: Threads + Wait + Sync, R: Read, W: Write, E: Write>(
     workers: u32,
 ) -> u8
     ensures { Runs workers locals (record {
-        input = record { before = R.remaining input.old; after = R.remaining input.new };
-        output = record { before = W.contents out.old; after = W.contents out.new };
-        errors = record { before = E.contents err.old; after = E.contents err.new };
+      input = record { before = R.remaining input.old; after = R.remaining input.new };
+      output = record { before = W.contents out.old; after = W.contents out.new };
+      errors = record { before = E.contents err.old; after = E.contents err.new };
     }) result }
 {
     let board = finished_by(rt, alloc, input, locals, workers);

@@ -46,9 +46,9 @@ pub fn show_over<R: Read, W: Write, E: Write>(
     err: &mut E,
 ) -> u8
     ensures { Draws (record {
-        input = record { before = R.remaining input.old; after = R.remaining input.new };
-        output = record { before = W.contents out.old; after = W.contents out.new };
-        errors = record { before = E.contents err.old; after = E.contents err.new };
+      input = record { before = R.remaining input.old; after = R.remaining input.new };
+      output = record { before = W.contents out.old; after = W.contents out.new };
+      errors = record { before = E.contents err.old; after = E.contents err.new };
     }) result }
 {
     match shown(alloc, input, out) {

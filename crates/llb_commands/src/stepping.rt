@@ -55,9 +55,9 @@ pub(crate) fn session_over<C: Read, W: Write, E: Write>(
     err: &mut E,
 ) -> u8
     ensures { (workers : ℕ) (locals : List Local) (file : Option (List ℕ)) → Opens workers locals file board → Steps workers locals file (record {
-        input = record { before = C.remaining commands.old; after = C.remaining commands.new };
-        output = record { before = W.contents out.old; after = W.contents out.new };
-        errors = record { before = E.contents err.old; after = E.contents err.new };
+      input = record { before = C.remaining commands.old; after = C.remaining commands.new };
+      output = record { before = W.contents out.old; after = W.contents out.new };
+      errors = record { before = E.contents err.old; after = E.contents err.new };
     }) result }
 {
     match stepped(alloc, board, commands, out) {
@@ -82,9 +82,9 @@ pub fn step_over<R: Read, C: Read, W: Write, E: Write>(
     workers: u32,
 ) -> u8
     ensures { Steps workers locals (R.remaining file.old) (record {
-        input = record { before = C.remaining commands.old; after = C.remaining commands.new };
-        output = record { before = W.contents out.old; after = W.contents out.new };
-        errors = record { before = E.contents err.old; after = E.contents err.new };
+      input = record { before = C.remaining commands.old; after = C.remaining commands.new };
+      output = record { before = W.contents out.old; after = W.contents out.new };
+      errors = record { before = E.contents err.old; after = E.contents err.new };
     }) result }
 {
     let board = opened_on(alloc, file, locals, workers);

@@ -5,8 +5,7 @@ use Rattle.llb_commands.proofs.run.finished.Goals as goal
 pub returns-in-None : goal.returns-in-None
 returns-in-None g c =
     let (graph, loads, begun) = c.in_ok-board.ensures in
-    let ends = c.run_alone-board.ensures in
-    (
+    let ends = c.run_alone-board.ensures in (
       graph,
       loads,
       finishes c.args.locals graph c.in_ok-board.board c.run_alone-board.result.board c.is_graph.ensures begun ends.goes

@@ -8,8 +8,7 @@ returns-in-None g c =
     let (graph, loads, begun) = c.in_ok-board.ensures in
     let ran = c.run_workers-board.ensures in
     let complete = ran.complete c.in-None.is in
-    let several = c.if-workers-eq1.false in
-    (
+    let several = c.if-workers-eq1.false in (
       graph,
       loads,
       finishes_by c.args.locals graph c.args.workers c.in_ok-board.board c.run_workers-board.result.board (search rules) begun ran.leads.0 complete
