@@ -12,7 +12,7 @@ use Rattle.llb_board.specs.Opening.{may_work, open_unless, open_of}
 use Rattle.llb_board.specs.declared.fault.OpenFault.{OpenFault}
 use Rattle.llb_board.specs.declared.fault.OpenFault.TheVariants as opening
 use Rattle.llb_stepper.specs.Stepping.{Stepping}
-use Rattle.llb_session.specs.Conversation.{Converses}
+use Rattle.llb_session.specs.Conversation.{Conversation, Converses}
 use Rattle.llb_session.specs.declared.fault.SessionFault.{SessionFault}
 use Rattle.llb_session.specs.declared.fault.SessionFault.TheVariants as session
 use Rattle.llb_commands.specs.Answer.{build_of, IsNotRun}
@@ -78,9 +78,12 @@ begins locals g workers s b made is = made ∙ ap on is where
   on x = record { board = x; past = []; breaks = [] }
 
 module _ (workers : ℕ) (locals : List Local) (file : Option (List ℕ)) (commands output : Stream) where
+  abbrev on : Stepping → Stepping → Conversation
+  on s t = record { limit = limit; reads = most_reads; before = s; after = t; commands = commands; replies = output }
+
   -- a session was held over the graph of the bytes
   pub tells_session : (g : Numbered) (s t : Stepping) (r : Result (Unit {0}) SessionFault) → IfSome file (λ bytes. IsGraphIn bytes g)
-      → s ≡ begun locals g workers → Converses limit most_reads s t commands.before commands.after output.before output.after r
+      → s ≡ begun locals g workers → Converses (on s t) r
       → IfSome file (IsSession workers locals commands output r)
   tells_session g s t r loads same talks =
       some_map (λ bytes. IsGraphIn bytes g) (IsSession workers locals commands output r) file
@@ -88,7 +91,7 @@ module _ (workers : ℕ) (locals : List Local) (file : Option (List ℕ)) (comma
         graph = g;
         loaded = loaded;
         end = t;
-        talks = subst (λ x. Converses limit most_reads x t commands.before commands.after output.before output.after r) same talks;
+        talks = subst (λ x. Converses (on x t) r) same talks;
       }) loads
 
   broken : (f : SessionFault) → IfSome file (IsSession workers locals commands output (Err f)) → IfSome file (IsBroken workers locals commands output)

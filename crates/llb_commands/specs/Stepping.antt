@@ -5,7 +5,7 @@ use Rattle.llb_loader.specs.Load.{IsGraphIn}
 use Rattle.llb_loader.specs.Locals.{Local}
 use Rattle.llb_state.specs.Board.{opened}
 use Rattle.llb_stepper.specs.Stepping.{Stepping}
-use Rattle.llb_session.specs.Conversation.{Converses}
+use Rattle.llb_session.specs.Conversation.{Conversation, Converses}
 use Rattle.llb_session.specs.declared.fault.SessionFault.{SessionFault}
 use Rattle.llb_session.specs.declared.fault.SessionFault.TheVariants as session
 use Rattle.llb_commands.specs.Answer.{build_of, IsNotRun}
@@ -21,12 +21,23 @@ use Rattle.llb_commands.specs.declared.fault.ProgramFault.TheVariants as fault
 abbrev pub begun : List Local → Numbered → ℕ → Stepping
 begun locals g workers = record { board = opened (build_of locals g) workers []; past = []; breaks = [] }
 
+-- a conversation on a stepper over a graph, within the bounds on commands and on reads
+abbrev pub conversation : List Local → Numbered → ℕ → Stepping → Stream → Stream → Conversation
+conversation locals graph workers end commands output = record {
+  limit = limit;
+  reads = most_reads;
+  before = begun locals graph workers;
+  after = end;
+  commands = commands;
+  replies = output;
+}
+
 -- a session over the graph of the bytes: the replies to the commands are written
 pub record IsSession (workers : ℕ) (locals : List Local) (commands output : Stream) (result : Result (Unit {0}) SessionFault) (bytes : List ℕ) : Type 0 where
   pub graph : Numbered
   pub loaded : IsGraphIn bytes graph
   pub end : Stepping
-  pub talks : Converses limit most_reads (begun locals graph workers) end commands.before commands.after output.before output.after result
+  pub talks : Converses (conversation locals graph workers end commands output) result
 
 -- how a fault of a session is passed on
 abbrev pub session_fault : SessionFault → ProgramFault

@@ -11,8 +11,8 @@ use llb_asm::one_answer;
 use llb_board::Board;
 use llb_loader::{Graph, Locals, load, one_answer_in};
 use llb_ops::{Entries, definition_is_read_again};
-use llb_session::laws::go_tells_the_run;
-use llb_stepper::{Stepper, past_is_the_records, replay_is_the_run, tells_the_run};
+use llb_session::laws::go_prints_the_run;
+use llb_stepper::{Stepper, past_is_the_records, record_is_the_run, replay_is_the_run};
 use llb_wire::Bytes;
 use std::alloc::Global;
 
@@ -52,8 +52,8 @@ pub fn aim(
     let stepped = stepper.board();
     stepped.replays();
     past_is_the_records(stepper);
-    tells_the_run(stepper);
-    go_tells_the_run(stepper);
+    record_is_the_run(stepper);
+    go_prints_the_run(stepper);
     replay_is_the_run(board);
 }
 
