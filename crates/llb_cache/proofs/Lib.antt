@@ -5,3 +5,4 @@ pub mod Copies
 pub mod Differing
 pub mod Marked
 pub mod Holding
+pub mod Placed
