@@ -1,6 +1,7 @@
 //! Equal second owners of caches and of leases, and whether two are the same.
 
 ghost use Rattle.std.specs.Prelude.{◌≡◌, ◌↔◌, IsTrue, IfOk};
+ghost use Rattle.llb_cache.specs.Ordered.{AreOrdered};
 
 use crate::fault::Memory;
 use crate::key::Key;
@@ -12,8 +13,9 @@ use llb_wire::{Many, Same};
 use std::alloc::Global;
 
 pub(crate) fn copied_rows(rows: &Rows) -> Result<Rows, Memory>
+    requires { AreOrdered rows.now }
     ensures entries { IfOk result (λ r. r.entries.items ≡ rows.now.entries.items) }
-    ensures order { IfOk result (λ r. r.order.items ≡ rows.now.order.items) }
+    ensures order { IfOk result (λ r. AreOrdered r) }
 {
     let entries = copied_entries(&rows.entries)?;
     let order = rows.order.clone()?;

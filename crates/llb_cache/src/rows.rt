@@ -112,6 +112,7 @@ pub(crate) fn trees_at<'a>(rows: &'a Rows, key: &Key) -> &'a Trees
 pub(crate) fn reserve(rows: &mut Rows, more: usize) -> Result<(), Memory>
     ensures entries { rows.new.entries.items ≡ rows.old.entries.items }
     ensures order { rows.new.order.items ≡ rows.old.order.items }
+    ensures kept { AreOrdered rows.old → AreOrdered rows.new }
     ensures room { OnOk result (HasRoom rows.new more) }
 {
     rows.entries.reserve(more)?;
