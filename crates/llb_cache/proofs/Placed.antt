@@ -1,5 +1,5 @@
 -- A search in the order of the keys finds the row of a key, and a row that is put at its place keeps the order.
-use Rattle.std.proofs.Common.{◌≡◌, ℕ, zero, suc, ◌+◌, ◌<◌, ◌≤◌, Bool, true, false, cond, List, [], ◌∷◌, ◌++◌, length, insert, Some, None, position, is_some}
+use Rattle.std.proofs.Common.{◌≡◌, ℕ, zero, suc, ◌+◌, ◌<◌, ◌≤◌, Bool, true, false, ◌||◌, List, [], ◌∷◌, ◌++◌, length, insert, Some, None, position, is_some}
 use Rattle.std.proofs.Common.{slice_get, slice_index_or, refl, sym, ap, ◌∙◌, subst, inl, inr, ◌⊎◌, arith, true≢false}
 use Rattle.std.specs.List.{IsDistinct, list_any}
 use Rattle.std.specs.Map.{keys_of, values_of, lookup}
@@ -16,7 +16,7 @@ use Rattle.llb_cache.specs.Key.{same_key, same_keys, key_equiv}
 use Rattle.llb_cache.specs.Order.{key_cmp, key_cmp-IsTotalOrder, tie_is_same}
 use Rattle.llb_cache.specs.Caches.{Row}
 use Rattle.llb_cache.specs.Firsts.{IsAbsent, IsFirst, keys_long, first_within, first_or_none, place_first, place_absent, first_trees, first_found, absent_trees}
-use Rattle.llb_cache.specs.Ordered.{key_at, row_at, is_before, IsOrdered, IsPlace}
+use Rattle.llb_cache.specs.Ordered.{no_key, key_at, row_at, is_before, IsOrdered, IsPlace}
 
 -- ---- two keys
 
@@ -124,7 +124,7 @@ none_ordered = record {
 pub ordered_again : (es fs : List Row) (order : List ℕ) → keys_of fs ≡ keys_of es → IsOrdered es order → IsOrdered fs order
 ordered_again es fs order same is =
     let long : length fs ≡ length es = sym (keys_long fs) ∙ ap length same ∙ keys_long es in
-    let at : (i : ℕ) → key_at fs i ≡ key_at es i = λ i. ap (λ (ks : List Key). slice_index_or ks i _) same in
+    let at : (i : ℕ) → key_at fs i ≡ key_at es i = λ i. ap (λ (ks : List Key). slice_index_or ks i no_key) same in
     record {
       distinct = subst (IsDistinct same_key) (sym same) is.distinct;
       within = λ j below. let h = is.within j below in omega (arith, h, long);
@@ -151,7 +151,7 @@ key_added (x ∷ es) e = key_added es e
 
 none_among : (k : Key) (es : List Row) → IsAbsent k es → list_any (same_key k) (keys_of es) ≡ false
 none_among k [] none = refl
-none_among k (e ∷ es) none = (λ i. cond (none.0 i) true (none_among k es none.1 i))
+none_among k (e ∷ es) none = (λ i. none.0 i || none_among k es none.1 i)
 
 -- a place of the order with a row more: it is before the new one, the new one, or behind it
 abbrev Stands : List ℕ → ℕ → ℕ → ℕ → Type 0

@@ -11,8 +11,11 @@ use Rattle.llb_cache.specs.Key.{same_key}
 use Rattle.llb_cache.specs.Order.{key_cmp}
 
 -- the key of a row; past the last row the empty one
+abbrev pub no_key : Key
+no_key = record { id = []; seed = None; mode = Shared }
+
 abbrev pub key_at : List Row → ℕ → Key
-key_at rows i = slice_index_or (keys_of rows) i (record { id = []; seed = None; mode = Shared })
+key_at rows i = slice_index_or (keys_of rows) i no_key
 
 -- whether the key of a row comes before a key
 abbrev pub is_before : List Row → ℕ → Key → Bool
