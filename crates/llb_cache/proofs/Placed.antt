@@ -260,3 +260,9 @@ ordered_pushed es order k ts place is at none = record {
         over i j z low here (inl b) = absurd (omega (arith, low, here, b.0))
         over i j z low here (inr b) = b.0
     pair i j low (inr s) (inr t) = absurd (omega (arith, low, s.0, t.0))
+
+-- the key of a row that is read
+pub key_read : (es : List Row) (i : ℕ) (e : Row) → i < length es → e ≡ slice_index_or es i e → e.0 ≡ key_at es i
+key_read [] i e below is = absurd (omega (arith, below))
+key_read (x ∷ es) zero e below is = ap (λ (r : Row). r.0) is
+key_read (x ∷ es) (suc i) e below is = key_read es i e (omega (arith, below)) is
