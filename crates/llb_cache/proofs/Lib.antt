@@ -6,3 +6,4 @@ pub mod Differing
 pub mod Marked
 pub mod Holding
 pub mod Placed
+pub mod Searched
