@@ -1,4 +1,4 @@
-use Rattle.std.proofs.Common.{◌≡◌, List, ℕ, ◌++◌, ◌∷◌, [], insert, Result, Ok, Err, IsOk, is_ok, refl, subst, sym, ap, ◌∙◌, arith}
+use Rattle.std.proofs.Common.{◌≡◌, List, ℕ, ◌++◌, ◌∷◌, [], insert, length, Result, Ok, Err, IsOk, is_ok, refl, subst, sym, ap, ◌∙◌, arith, true≢false}
 use Rattle.std.specs.Prelude.{if◌then◌else◌}
 use Rattle.llb_cache.specs.declared.key.Key.{Key}
 use Rattle.llb_cache.specs.Caches.{Row}
@@ -14,7 +14,7 @@ returns-clause-rows c =
 
 put_there : {A E : Type 0} (r : Result A E) (new old : List ℕ) → IsOk r → (if is_ok r then new else old) ≡ new
 put_there (Ok x) new old ok = refl
-put_there (Err e) new old ok = absurd ok
+put_there (Err e) new old ok = absurd (true≢false (sym ok))
 
 pub returns-clause-order : goal.returns-clause-order
 returns-clause-order c =
@@ -23,8 +23,9 @@ returns-clause-order c =
     let place = c.place_of-place.result in
     let at : IsPlace es order c.args.key place = subst (λ (k : Key). IsPlace es order k place) c.by_ref.ensures c.place_of-place.ensures in
     let room = c.requires.room.1 in
+    let long : c.len.result ≡ length es = omega (arith, c.len.ensures) in
     let items = c.insert.ensures.items
         ∙ put_there c.insert.result (insert order place c.len.result) order (c.insert.ensures.succeeds (omega (arith, room)))
-        ∙ ap (λ n. insert order place n) c.len.ensures in
+        ∙ ap (λ n. insert order place n) long in
     subst (λ (s : List Row × List ℕ). IsOrdered s.0 s.1) (λ i. ((sym c.push_reserved.ensures.items) i, (sym items) i))
     (ordered_pushed es order c.args.key c.args.trees place c.requires.order at (absent_found c.args.key es c.requires.apart))
