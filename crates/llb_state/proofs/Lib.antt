@@ -21,3 +21,4 @@ pub mod Skipping
 pub mod Stepping
 pub mod PutBack
 pub mod Alike
+pub mod Crews
