@@ -11,10 +11,10 @@ ghost use Rattle.llb_model.specs.Table.{claim_grant};
 ghost use Rattle.llb_needs.specs.Needs.{need_of};
 ghost use Rattle.llb_state.specs.Begun.{outfit_as, outfit_of};
 ghost use Rattle.llb_state.specs.Caches.{rows_after};
-ghost use Rattle.llb_state.specs.Room.{supplies_for};
+ghost use Rattle.llb_state.specs.Room.{supplies_for, supplies_of};
 ghost use Rattle.llb_state.specs.Rules as rules;
 ghost use Rattle.llb_state.specs.Vertices.{with_status};
-ghost use Rattle.llb_state.specs.Views.{claim_reply};
+ghost use Rattle.llb_state.specs.Views.{claim_reply, execution_of};
 ghost use Rattle.llb_state.specs.Workers.{IsBegunOn, Fits, claim_in, reply_of, state_in, rule_of};
 
 use crate::instances::lease_for;
@@ -69,6 +69,23 @@ impl Model for Begun {
     } };
 }
 
+impl Begun {
+    // Returns the parts.
+    fn into_parts(self) -> (Job, Execution, Vec<Need>)
+        ensures job { result.0 ≡ self.job }
+        ensures execution { execution_of result.1 ≡ self.execution }
+        ensures supplies { supplies_of result.1 ≡ self.supplies }
+        ensures needs { result.2.items ≡ self.needs }
+    {
+        let Begun {
+            job,
+            execution,
+            needs,
+        } = self;
+        (job, execution, needs)
+    }
+}
+
 impl Workers {
     /// Makes what a worker's claim of a vertex begins with; nothing changes. Fails with the first of 131 `NoWorker`, 132 `Busy`, 133 `NoVertex`,
     /// 134 `NotReady` and 135 `Held` that applies, or with 141 `Memory`: for the text of the key that is held, or where nothing else refuses it.
@@ -108,11 +125,7 @@ impl Workers {
         ensures memory { IfErr result (λ e. e ≡ claim.Memory) }
         ensures err { OnErr result (self.new ≡ self.old) }
     {
-        let Begun {
-            job,
-            execution,
-            needs,
-        } = begun;
+        let (job, execution, needs) = begun.into_parts();
         let w = job.worker();
         let _ = vertices.vertex(0);
         self.caches.is_exclusive();

@@ -76,6 +76,17 @@ impl Model for Undo {
     ghost view = { λ u. record { back = back_in u.back; caches = caches_in u.caches } };
 }
 
+impl Undo {
+    // Returns the parts.
+    fn into_parts(self) -> (Back, Option<Before>)
+        ensures back { back_in result.0 ≡ self.back }
+        ensures caches { caches_in result.1 ≡ self.caches }
+    {
+        let Undo { back, caches } = self;
+        (back, caches)
+    }
+}
+
 impl Workers {
     /// Returns what puts an event back, before it is done. Fails with 131 `NoWorker` or 136 `NotRunning` where the event would, and with
     /// 141 `Memory`.
@@ -179,7 +190,7 @@ impl Workers {
         ensures supplies { self.new.supplies ≡ supplies_before undo.back self.old.supplies }
         ensures change { option_map change_of result ≡ change_in undo.back }
     {
-        let Undo { back, caches } = undo;
+        let (back, caches) = undo.into_parts();
         let change = displace(&mut self.seats, &mut self.caches, back);
         put_caches(&mut self.seats, &mut self.caches, caches);
         change
