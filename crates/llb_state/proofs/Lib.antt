@@ -22,3 +22,7 @@ pub mod Stepping
 pub mod PutBack
 pub mod Alike
 pub mod Crews
+pub mod Worked
+pub mod Claims
+pub mod Landings
+pub mod Undoings

@@ -1,5 +1,5 @@
 -- What the workers do, and what contracts see of them.
-use Rattle.std.specs.Prelude.{◌≡◌, ℕ, ◌+◌, ◌<◌, ◌≤◌, ◌×◌, List, map, length, Option, Some, None, slice_get, slice_set, Result, Ok, Err}
+use Rattle.std.specs.Prelude.{◌≡◌, ℕ, ◌+◌, ◌<◌, ◌≤◌, List, map, length, Option, Some, None, slice_get, slice_set, Result, Ok, Err}
 use Rattle.llb_cache.specs.declared.need.Need as cache_need
 use Rattle.llb_cache.specs.Caches.{Row, Leases}
 use Rattle.llb_loader.specs.declared.graph.Vertex.{Vertex}
@@ -68,24 +68,28 @@ pub record BegunValue : Type 0 where
   pub supplies : Supplies
   pub needs : List cache_need.Need
 
--- it was begun on this state: the table grants the claim, and what is begun is the table's
-pub record IsBegunOn (vs : VerticesValue) (ws : WorkersValue) (b : BegunValue) : Type 0 where
+-- worker w's claim of vertex v was begun on this state: the table grants the claim, and what is begun is the table's
+pub record IsBegunAt (vs : VerticesValue) (ws : WorkersValue) (w v : ℕ) (b : BegunValue) : Type 0 where
   pub vertex : Vertex
   pub inputs : List TreeMap
-  pub there : slice_get vs.build.graph.vertices b.job.vertex ≡ Some vertex
-  pub starts : claim_start vs.statuses b.job.vertex (slice_get ws.workers b.job.worker) (Some vertex) ≡ Ok (start_with vertex inputs)
+  pub there : slice_get vs.build.graph.vertices v ≡ Some vertex
+  pub starts : claim_start vs.statuses v (slice_get ws.workers w) (Some vertex) ≡ Ok (start_with vertex inputs)
   pub free : held_key (held ws.workers) (needs_of vertex) ≡ None
-  pub grants : claim_at vs.build (state_in vs ws) b.job.worker b.job.vertex (start_with vertex inputs) (places_for (held ws.workers) (needs_of vertex))
+  pub grants : claim_at vs.build (state_in vs ws) w v (start_with vertex inputs) (places_for (held ws.workers) (needs_of vertex))
       ≡ (
         record {
-          statuses = slice_set vs.statuses b.job.vertex (Running b.job.worker);
-          workers = slice_set ws.workers b.job.worker (Runs b.execution);
+          statuses = slice_set vs.statuses v (Running w);
+          workers = slice_set ws.workers w (Runs b.execution);
           store = put_all (store_of ws.rows) b.execution.places b.job.work.trees;
         },
         Claimed b.job,
       )
   pub supplied : b.supplies ≡ supplies_for (Some vertex)
   pub asks : b.needs ≡ asked inputs (needs_of vertex)
+
+-- the claim of a job was begun on this state
+abbrev pub IsBegunOn : VerticesValue → WorkersValue → BegunValue → Type 0
+IsBegunOn vs ws b = IsBegunAt vs ws b.job.worker b.job.vertex b
 
 -- what is begun, without the supplies
 abbrev pub rule_of : BegunValue → Begun

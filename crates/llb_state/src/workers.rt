@@ -1,7 +1,7 @@
 //! What the workers of a board do, on which cache instances, and the caches themselves. By the invariant of `Workers` there are 1 to 64
 //! workers, and each that runs with instances has a lease of its own of them.
 
-ghost use Rattle.std.specs.Prelude.{◌≡◌, ◌↔◌, ◌×◌, ◌<◌, ◌≤◌, [], IsTrue, length, option_map, replicate, slice_get, IfOk, IfErr};
+ghost use Rattle.std.specs.Prelude.{◌≡◌, ◌↔◌, ◌<◌, ◌≤◌, [], IsTrue, length, option_map, replicate, slice_get, IfOk, IfErr};
 ghost use Rattle.llb_cache.specs.Caches.{leases};
 ghost use Rattle.llb_model.specs.Leases.{HoldsAs};
 ghost use Rattle.llb_model.specs.State.{Idle};

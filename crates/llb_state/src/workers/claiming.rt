@@ -1,6 +1,6 @@
 //! A claim: all tests that can refuse it, and what the worker will run; then the lease, which memory alone can refuse.
 
-ghost use Rattle.std.specs.Prelude.{◌≡◌, ◌×◌, ◌<◌, ◌^◌, length, map, slice_get, true, Ok, Some, OnErr, OnOk, IfErr, IfOk};
+ghost use Rattle.std.specs.Prelude.{◌≡◌, ◌<◌, ◌^◌, length, map, slice_get, true, Ok, Some, OnErr, OnOk, IfErr, IfOk};
 ghost use Rattle.llb_events.specs.Faults.{GivesClaim, claim_memory, claim_may_want};
 ghost use Rattle.llb_events.specs.declared.fault.ClaimFault.TheVariants as claim;
 ghost use Rattle.llb_loader.specs.Graph.{IsVertexOf};
@@ -109,7 +109,7 @@ impl Workers {
         let vertex = vertices.ready(v)?;
         self.caches.is_exclusive();
         let wanted = wanted_by(alloc, &self.caches, vertex)?;
-        begun(alloc, vertices, &self.caches, (w, v), vertex, wanted)
+        begun_with(alloc, vertices, &self.caches, (w, v), vertex, wanted)
     }
 
     /// Makes a worker run what was begun on this state, with a lease of its instances. Fails with 141 `Memory` alone; then nothing has changed.
@@ -142,7 +142,7 @@ impl Workers {
 // Makes the job and the execution of a vertex, before its first micro-step, with the caches that it wants: both have the trees of the
 // inputs and the cache instances that a lease will give; the execution also has an empty tree for each output, and where its commands
 // run. Fails with 134 `NotReady` where an input is not there, with 141 `Memory`.
-fn begun(
+fn begun_with(
     alloc: Global,
     vertices: &Vertices,
     caches: &Caches,
