@@ -1,6 +1,6 @@
 -- A claim in two halves: what it begins is the table's, and with a lease of it the table's claim is done.
 use Rattle.std.proofs.Common.{◌≡◌, ◌≢◌, ℕ, ◌<◌, List, [], map, length, Option, Some, None, refl, sym, ap, subst, ◌∙◌, arith}
-use Rattle.std.specs.Prelude.{Bool, true, false, Result, Ok, Err, AllPairs, is_ok, option_map, slice_get, slice_set}
+use Rattle.std.specs.Prelude.{Bool, true, false, Result, Ok, Err, AllPairs, IfOk, IfErr, is_ok, option_map, slice_get, slice_set}
 use Rattle.std.proofs.lemmas.Option.{slice_get_within}
 use Rattle.llb_cache.specs.declared.key.Key.{Key}
 use Rattle.llb_cache.specs.declared.need.Need as cache_need
@@ -20,7 +20,7 @@ use Rattle.llb_model.proofs.Leases.{makes_alike}
 use Rattle.llb_model.proofs.Leasing.{leased_holds_as}
 use Rattle.llb_model.proofs.Lists.{get_set_same}
 use Rattle.llb_model.proofs.Needs.{graph_distinct}
-use Rattle.llb_events.specs.Faults.{claim_may_want}
+use Rattle.llb_events.specs.Faults.{GivesClaim, claim_memory, claim_may_want}
 use Rattle.llb_events.specs.declared.fault.ClaimFault.{ClaimFault}
 use Rattle.llb_needs.specs.Needs.{shut_key, unless_shut, places_taken}
 use Rattle.llb_state.specs.Caches.{lease_if, written, places_at, rows_after}
@@ -161,6 +161,41 @@ module _ (vs : VerticesValue) (ws : WorkersValue) (out : Leases) (w v : ℕ) (x 
         asks = needs_asked vs.build (record { rows = ws.rows; out = out }) w v x can.trees (inputs_from (ending_at vs.statuses) x.inputs) (rule_of g)
             can.inputs begins;
       })
+
+-- what is returned, by whether it is what is begun or a fault
+module _ (vs : VerticesValue) (ws : WorkersValue) (out : Leases) (w v : ℕ) (x : Vertex) (can : CanClaim vs.build (state_in vs ws) w v x)
+    (leased : Leased (record { rows = ws.rows; out = out }) ws.workers) (ns : List Need)
+    (admitted : unless_shut (needs_of x) (shut_key out (needs_of x)) ≡ Ok ns) where
+  begun_ok : (e : ClaimFault)
+      → begun vs.build (record { rows = ws.rows; out = out }) w v x (inputs_from (ending_at vs.statuses) x.inputs) ≡ Err e → ⊥
+  begun_ok e is = apart (ap (begun vs.build (record { rows = ws.rows; out = out }) w v x) (sym can.inputs) ∙ is)
+    where
+      apart : {g : Begun} → ◌≡◌ {A = Result Begun ClaimFault} (Ok g) (Err e) → ⊥
+      apart is = cc
+
+  pub begin_gives : (r : Result BegunValue ClaimFault)
+      → GivesClaim rule_of r (begun vs.build (record { rows = ws.rows; out = out }) w v x (inputs_from (ending_at vs.statuses) x.inputs))
+      → GivesClaim (λ g. claim_reply g.job) r (reply_of (claim_in vs ws w v))
+  begin_gives (Ok g) begins = replies vs ws out w v x can leased ns admitted g begins
+  begin_gives (Err e) begins = λ known. absurd (begun_ok e (begins known))
+
+  pub begin_last : (r : Result BegunValue ClaimFault) → IfErr r (λ e. claim_memory e ≡ true → claim_may_want (claim_in vs ws w v) ≡ true)
+  begin_last (Ok g) = tt
+  begin_last (Err e) = λ memory.
+      wants_as vs.build (state_in vs ws) w v x (record { rows = ws.rows; out = out }) can leased.same ∙ ap claim_may_want admitted
+
+  pub begin_on : (r : Result BegunValue ClaimFault)
+      → GivesClaim rule_of r (begun vs.build (record { rows = ws.rows; out = out }) w v x (inputs_from (ending_at vs.statuses) x.inputs))
+      → IfOk r (λ g. g.supplies ≡ supplies_for (Some x)) → IfOk r (λ g. IsBegunOn vs ws g)
+  begin_on (Ok g) begins supplied = begun_on vs ws out w v x can leased ns admitted g begins supplied
+  begin_on (Err e) begins supplied = tt
+
+  pub begin_at_them : (r : Result BegunValue ClaimFault)
+      → GivesClaim rule_of r (begun vs.build (record { rows = ws.rows; out = out }) w v x (inputs_from (ending_at vs.statuses) x.inputs))
+      → IfOk r (λ g. (g.job.worker ≡ w) × (g.job.vertex ≡ v))
+  begin_at_them (Ok g) begins =
+      (worker_is vs ws out w v x can leased ns admitted g begins, vertex_is vs ws out w v x can leased ns admitted g begins)
+  begin_at_them (Err e) begins = tt
 
 -- ---- what was begun is started
 

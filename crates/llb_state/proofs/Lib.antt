@@ -26,3 +26,4 @@ pub mod Worked
 pub mod Claims
 pub mod Landings
 pub mod Undoings
+pub mod Befores
