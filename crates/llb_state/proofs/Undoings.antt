@@ -3,22 +3,23 @@ use Rattle.std.proofs.Common.{◌≡◌, ℕ, zero, suc, ◌-◌, ◌<◌, List,
 use Rattle.std.specs.Prelude.{slice_get, slice_set}
 use Rattle.std.specs.Option.{ForSome}
 use Rattle.std.proofs.lemmas.Option.{slice_get_within}
-use Rattle.llb_cache.specs.Caches.{CachesValue, Leases}
+use Rattle.llb_cache.specs.Caches.{CachesValue, Row, Leases}
 use Rattle.llb_execution.specs.Marks.{Mark, put_back}
 use Rattle.llb_execution.specs.Parts.{mounts_in}
 use Rattle.llb_execution.proofs.Marks.{shown_back}
 use Rattle.llb_model.specs.Leases.{AreLeased}
 use Rattle.llb_model.specs.State.{At, Idle, Runs, Execution}
-use Rattle.llb_model.proofs.Lists.{get_within}
+use Rattle.llb_model.proofs.Lists.{get_within, length_set}
 use Rattle.llb_state.specs.Caches.{IsOutIf, given_back}
 use Rattle.llb_state.specs.Room.{ready_made, supplies_of}
-use Rattle.llb_state.specs.Undo.{Unclaim, Unstep, Resume, workers_before, supplies_before, step_before, IsStepped, FitsLeases, Back, rows_before}
+use Rattle.llb_state.specs.Undo.{Unclaim, Unstep, Resume, workers_before, supplies_before, step_before, IsStepped, HasNoPlaces, FitsLeases, Back, rows_before}
 use Rattle.llb_state.specs.Undoing.{Before, caches_in, desk_before, leases_before, caches_before, left_in, HasPlaceFor}
 use Rattle.llb_state.specs.Views.{at_of, leased_by, execution_of}
 use Rattle.llb_state.specs.declared.stand.Desk.{Desk}
 use Rattle.llb_state.specs.declared.stand.Desk.TheVariants as desk
 use Rattle.llb_state.specs.declared.stand.Execution as own
 use Rattle.llb_state.specs.declared.undoing.Before as before
+use Rattle.llb_state.proofs.Crews.{Crew}
 use Rattle.llb_state.proofs.Kept.{leased_claimed}
 use Rattle.llb_state.proofs.Lent.{leased_settled, lease_out}
 use Rattle.llb_state.proofs.Lists.{map_set, get_map, length_map, set_same}
@@ -104,3 +105,41 @@ places_put k o workers now fits same c is =
     place_for c.caches.out now c.leases.items
     (subst (λ ws. AreLeased c.caches.out ws c.leases.items) (sym same)
     (subst (λ (x : Option before.Before). FitsLeases k workers (caches_in x)) is fits))
+
+as_many : (k : Back) (workers : List At) → length (workers_before k workers) ≡ length workers
+as_many (Unclaim w v) workers = length_set workers w Idle
+as_many (Unstep w mark) workers = length_set workers w (step_before mark (slice_get workers w))
+as_many (Resume e w left) workers = length_set workers w (Runs left.execution)
+
+leased_put : (k : Back) (ds ds1 ds2 : List Desk) (c1 c2 : CachesValue) (o : Option Before) → FitsLeases k (map at_of ds) o
+    → map at_of ds1 ≡ workers_before k (map at_of ds) → (HasNoPlaces k → AreLeased c1.out (map at_of ds1) (map leased_by ds1))
+    → map at_of ds2 ≡ map at_of ds1 → map leased_by ds2 ≡ leases_before o (map leased_by ds1) → c2 ≡ caches_before o c1
+    → AreLeased c2.out (map at_of ds2) (map leased_by ds2)
+leased_put k ds ds1 ds2 c1 c2 (Some b) fits first else workers leases caches =
+    subst (λ ws. AreLeased c2.out ws (map leased_by ds2)) (sym (workers ∙ first))
+    (subst (AreLeased c2.out (workers_before k (map at_of ds))) (sym leases)
+    (subst (λ (x : CachesValue). AreLeased x.out (workers_before k (map at_of ds)) b.leases) (sym caches) fits))
+leased_put k ds ds1 ds2 c1 c2 None fits first else workers leases caches =
+    subst (λ ws. AreLeased c2.out ws (map leased_by ds2)) (sym workers)
+    (subst (AreLeased c2.out (map at_of ds1)) (sym leases)
+    (subst (λ (x : CachesValue). AreLeased x.out (map at_of ds1) (map leased_by ds1)) (sym caches) (else fits)))
+
+-- with the caches and their leases put back, or as they are, each running worker has its own lease
+pub crew_put : (k : Back) (ds ds1 ds2 : List Desk) (out : Leases) (c1 c2 : CachesValue) (o : Option Before) → Crew ds out
+    → FitsLeases k (map at_of ds) o
+    → map at_of ds1 ≡ workers_before k (map at_of ds) → (HasNoPlaces k → AreLeased c1.out (map at_of ds1) (map leased_by ds1))
+    → map at_of ds2 ≡ map at_of ds1 → map leased_by ds2 ≡ leases_before o (map leased_by ds1) → c2 ≡ caches_before o c1 → Crew ds2 c2.out
+crew_put k ds ds1 ds2 out c1 c2 o crew fits first else workers leases caches =
+    let count : length (map at_of ds2) ≡ length (map at_of ds) = ap length (workers ∙ first) ∙ as_many k (map at_of ds) in
+    let some = crew.some in
+    let few = crew.few in
+    record {
+      some = omega (arith, count, some);
+      few = omega (arith, count, few);
+      leased = leased_put k ds ds1 ds2 c1 c2 o fits first else workers leases caches;
+    }
+
+-- the lists of instances come from the caches that are put back, or stay
+pub rows_put : (o : Option Before) (c c' : CachesValue) (rows : List Row) → c.rows ≡ rows → c' ≡ caches_before o c → c'.rows ≡ rows_before o rows
+rows_put (Some k) c c' rows same caches = ap (λ (x : CachesValue). x.rows) caches
+rows_put None c c' rows same caches = ap (λ (x : CachesValue). x.rows) caches ∙ same

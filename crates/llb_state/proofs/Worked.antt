@@ -5,7 +5,7 @@ use Rattle.llb_wire.specs.Answer.{MemoryLast}
 use Rattle.llb_cache.specs.Caches.{Row, Leases, trees_of, AreApart, AreThere}
 use Rattle.llb_model.specs.Caches.{Place, Has, trees_at}
 use Rattle.llb_model.specs.Kept.{store_of}
-use Rattle.llb_model.specs.Leases.{AreLeased}
+use Rattle.llb_model.specs.Leases.{AreLeased, put_each}
 use Rattle.llb_model.specs.Program.{Build, MicroStep, step_on}
 use Rattle.llb_model.specs.State.{Status, Execution, At, Runs, State, program_in, next_step}
 use Rattle.llb_model.specs.Table.{Reply, step_grant, stepped, step_with, with_step, step_reply}
@@ -14,9 +14,8 @@ use Rattle.llb_execution.specs.Parts.{work_with}
 use Rattle.llb_events.specs.declared.event.Stepped.{Stepped}
 use Rattle.llb_events.specs.declared.fault.StepFault.{StepFault}
 use Rattle.llb_state.specs.Caches.{written, rows_after}
-use Rattle.llb_state.specs.Room.{ready_made, needed, supplies_of}
+use Rattle.llb_state.specs.Room.{ready_made, needed, supplies_of, supplies_for}
 use Rattle.llb_state.specs.Rules.{faulted, step_fault, step_memory, GivesStep, Written, worked_by, written_by, worked_in}
-use Rattle.llb_state.specs.Rules as rules
 use Rattle.llb_state.specs.Vertices.{VerticesValue}
 use Rattle.llb_state.specs.Views as views
 use Rattle.llb_state.specs.Views.{at_of, leased_by, execution_of}
@@ -24,9 +23,13 @@ use Rattle.llb_state.specs.Workers.{WorkersValue, Fits, state_in, step_in}
 use Rattle.llb_state.specs.declared.stand.Desk.{Desk}
 use Rattle.llb_state.specs.declared.stand.Desk.TheVariants as desk
 use Rattle.llb_state.specs.declared.stand.Execution as own
-use Rattle.llb_state.proofs.Crews.{Crew}
+use Rattle.llb_state.proofs.Crews.{Crew, crew_set}
+use Rattle.llb_state.proofs.Kept.{made_enough, supplies_claimed}
 use Rattle.llb_state.proofs.Lists.{get_map, map_set, set_same}
-use Rattle.llb_state.proofs.Stepping.{holding, ok_through, rows_through, places_set}
+use Rattle.llb_state.proofs.Stepping.{holding, ok_through, rows_through, places_set, leased_stepped}
+
+inside_ok : {A E : Type 0} {x y : A} → ◌≡◌ {A = Result A E} (Ok x) (Ok y) → x ≡ y
+inside_ok e = cc
 
 -- what contracts see of seats and caches
 abbrev pub seen_of : List Desk → List Row → WorkersValue
@@ -112,3 +115,28 @@ module _ (vs : VerticesValue) (ds : List Desk) (rows : List Row) (out : Leases) 
       ∙ ap (written (store_of after) rows) (sym (places_set ds w (desk.Runs l x) l y at)))
       (rows_through vs.build rows after (execution_of x) (execution_of y) r views.step_reply
       (holding rows out ds w l x apart there crew.leased at).distinct within gives)
+
+  pub step_crew : (y : own.Execution) (new : Leases) → new ≡ out → y.places ≡ x.places → Crew (slice_set ds w (desk.Runs l y)) new
+  step_crew y new same places = crew_set ds w (desk.Runs l y) out new crew (leased_stepped out new ds w l x y crew.leased at same places)
+
+  -- the worker goes on with its vertex
+  vertex_stays : (y : own.Execution) (after : List Row) (q : Reply) (o : Option MicroStep)
+      → written_by rows x.places.items (worked_by (execution_of x) (trees_at (store_of rows) x.places.items) o) ≡ Ok (execution_of y, after, q)
+      → y.vertex ≡ x.vertex
+  vertex_stays y after q None is = absurd cc
+  vertex_stays y after q (Some m) is =
+      let left = step_on x.done (Some m) (work_with x.view (trees_at (store_of rows) x.places.items)) in
+      let whole : ◌≡◌ {A = Written}
+          (with_step (execution_of x) left, put_each rows x.places.items left.work.trees, step_reply x.done m x.view left) (execution_of y, after, q)
+      = inside_ok is in
+      sym (ap (λ (p : Written). p.0.vertex) whole)
+
+  pub step_fits : (r : Result Stepped StepFault) (y : own.Execution) (after : List Row) → supplies_of y ≡ supplies_of x
+      → GivesStep (λ s. (execution_of y, after, views.step_reply s)) r (worked_in vs.build rows (execution_of x))
+      → Fits vs.build (seen_of ds rows) → OnOk r (Fits vs.build (seen_of (slice_set ds w (desk.Runs l y)) after))
+  step_fits (Ok s) y after same gives fits =
+      supplies_claimed vs.build ds w l y fits
+      (same ∙ made_enough vs.build ds w l x fits at
+      ∙ ap (λ k. supplies_for (slice_get vs.build.graph.vertices k))
+      (sym (vertex_stays y after (views.step_reply s) (next_step (program_in vs.build (execution_of x)).steps (execution_of x)) gives)))
+  step_fits (Err e) y after same gives fits = tt
