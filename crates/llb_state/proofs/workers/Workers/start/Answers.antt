@@ -13,8 +13,8 @@ use Rattle.llb_state.specs.declared.stand.Desk.TheVariants as desk
 use Rattle.llb_state.proofs.Claims.{differ, few, low_seat, start_grants, start_rows, start_crew, start_fits}
 use Rattle.llb_state.proofs.Lists.{length_map}
 use Rattle.llb_state.proofs.Worked.{seen_of}
-use Rattle.llb_state.proofs.workers.claiming.Workers.start.Goals as goal
-use Rattle.llb_state.proofs.workers.claiming.Workers.start.Goals.{After-is_exclusive, In-Ok}
+use Rattle.llb_state.proofs.workers.Workers.start.Goals as goal
+use Rattle.llb_state.proofs.workers.Workers.start.Goals.{After-is_exclusive, In-Ok}
 
 -- it was begun on this state, over the fields
 on : (c : After-is_exclusive) → IsBegunAt c.args.vertices.now (seen_of c.self.inside.seats.items c.self.inside.caches.rows) c.args.begun.job.worker

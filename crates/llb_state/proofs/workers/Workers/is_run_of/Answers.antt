@@ -5,7 +5,7 @@ use Rattle.llb_state.specs.Views.{at_of, leased_by, execution_of}
 use Rattle.llb_state.specs.Workers.{WorkersValue}
 use Rattle.llb_state.specs.declared.stand.Desk.{Desk}
 use Rattle.llb_state.proofs.Stepping.{held_within}
-use Rattle.llb_state.proofs.workers.landing.Workers.is_run_of.Goals as goal
+use Rattle.llb_state.proofs.workers.Workers.is_run_of.Goals as goal
 
 pub is_left-requires-clause-vertex : goal.is_left-requires-clause-vertex
 is_left-requires-clause-vertex c =

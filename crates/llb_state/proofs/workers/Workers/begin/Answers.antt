@@ -15,8 +15,8 @@ use Rattle.llb_state.proofs.Calls.{CanClaim, Leased, can_claim}
 use Rattle.llb_state.proofs.Claims.{refused_start, refused_held, wants_as, begin_gives, begin_last, begin_on, begin_at_them}
 use Rattle.llb_state.proofs.Wanting.{graph_edges}
 use Rattle.llb_state.proofs.Worked.{seen_of}
-use Rattle.llb_state.proofs.workers.claiming.Workers.begin.Goals as goal
-use Rattle.llb_state.proofs.workers.claiming.Workers.begin.Goals.{In_ok-vertex, After-is_exclusive}
+use Rattle.llb_state.proofs.workers.Workers.begin.Goals as goal
+use Rattle.llb_state.proofs.workers.Workers.begin.Goals.{In_ok-vertex, After-is_exclusive}
 
 -- what contracts see of the workers, over the fields
 abbrev seen : In_ok-vertex → WorkersValue

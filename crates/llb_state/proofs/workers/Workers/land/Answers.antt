@@ -7,8 +7,8 @@ use Rattle.llb_state.specs.Workers.{WorkersValue, Fits, RunsJob}
 use Rattle.llb_state.proofs.Crews.{Crew}
 use Rattle.llb_state.proofs.Landings.{HasSeat, has_seat, low_seat, few_steps, leased_count, few_trees, land_crew, land_workers, land_rows, land_fits}
 use Rattle.llb_state.proofs.Worked.{seen_of}
-use Rattle.llb_state.proofs.workers.landing.Workers.land.Goals as goal
-use Rattle.llb_state.proofs.workers.landing.Workers.land.Goals.{After-into_left-count}
+use Rattle.llb_state.proofs.workers.Workers.land.Goals as goal
+use Rattle.llb_state.proofs.workers.Workers.land.Goals.{After-into_left-count}
 
 -- the outcome, by its parts
 outcome : After-into_left-count → OutcomeValue

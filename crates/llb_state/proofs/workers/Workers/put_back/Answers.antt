@@ -6,8 +6,8 @@ use Rattle.llb_state.specs.Undoing.{Before, caches_in}
 use Rattle.llb_state.specs.Views.{at_of}
 use Rattle.llb_state.specs.Workers.{WorkersValue}
 use Rattle.llb_state.proofs.Undoings.{places_put, crew_put, rows_put}
-use Rattle.llb_state.proofs.workers.undoing.Workers.put_back.Goals as goal
-use Rattle.llb_state.proofs.workers.undoing.Workers.put_back.Goals.{After-into_parts-back, After-displace-change}
+use Rattle.llb_state.proofs.workers.Workers.put_back.Goals as goal
+use Rattle.llb_state.proofs.workers.Workers.put_back.Goals.{After-into_parts-back, After-displace-change}
 
 behind : (c : After-into_parts-back) → IsBehind c.args.undo.back (map at_of c.self.inside.seats.items)
 behind c = subst (λ (v : WorkersValue). IsBehind c.args.undo.back v.workers) (sym c.self.view_is) c.requires.behind
