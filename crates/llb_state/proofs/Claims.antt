@@ -15,7 +15,7 @@ use Rattle.llb_model.specs.Leases.{HoldsAs, AreLeased, asked}
 use Rattle.llb_model.specs.Outcome.{inputs_from}
 use Rattle.llb_model.specs.Program.{Build, Need, Start, key_of, needs_of, start_with}
 use Rattle.llb_model.specs.State.{Status, At, Idle, Runs, State, Running, Execution, ending_at, begin_at, start_from, held, held_key, places_for, first_trees}
-use Rattle.llb_model.specs.Table.{Job, Reply, Claimed, claim_start, claim_at, claim_unless, claimed, claim_grant, or_not_ready, execution_on}
+use Rattle.llb_model.specs.Table.{Job, Reply, Claimed, claim_start, claim_at, claim_unless, claimed, claim_grant, or_not_ready, execution_on, job_on}
 use Rattle.llb_model.proofs.Leases.{makes_alike}
 use Rattle.llb_model.proofs.Leasing.{leased_holds_as}
 use Rattle.llb_model.proofs.Lists.{get_set_same}
@@ -77,17 +77,8 @@ wants_as b s w v x c can same =
 
 -- ---- what is begun
 
-trees_in : Reply → List TreeMap
-trees_in (Claimed job) = job.work.trees
-trees_in other = []
-
-worker_in : Reply → ℕ
-worker_in (Claimed job) = job.worker
-worker_in other = 0
-
-vertex_in : Reply → ℕ
-vertex_in (Claimed job) = job.vertex
-vertex_in other = 0
+claimed_inside : {x y : Job} → ◌≡◌ {A = Reply} (Claimed x) (Claimed y) → x ≡ y
+claimed_inside e = cc
 
 start_is : (b : Build) (s : State) (w v : ℕ) (x : Vertex) (can : CanClaim b s w v x)
     → claim_start s.statuses v (slice_get s.workers w) (Some x) ≡ Ok (start_with x can.trees)
@@ -101,12 +92,6 @@ module _ (vs : VerticesValue) (ws : WorkersValue) (out : Leases) (w v : ℕ) (x 
     (leased : Leased (record { rows = ws.rows; out = out }) ws.workers) (ns : List Need)
     (admitted : unless_shut (needs_of x) (shut_key out (needs_of x)) ≡ Ok ns) (g : BegunValue)
     (begins : begun vs.build (record { rows = ws.rows; out = out }) w v x (inputs_from (ending_at vs.statuses) x.inputs) ≡ Ok (rule_of g)) where
-  c : CachesValue
-  c = record { rows = ws.rows; out = out }
-
-  places : List Place
-  places = places_for (held ws.workers) (needs_of x)
-
   at_places : begun_at vs.build (record { rows = ws.rows; out = out }) w v x can.trees (places_for (held ws.workers) (needs_of x)) ≡ rule_of g
   at_places =
       ap (begun_at vs.build (record { rows = ws.rows; out = out }) w v x can.trees)
@@ -118,11 +103,17 @@ module _ (vs : VerticesValue) (ws : WorkersValue) (out : Leases) (w v : ℕ) (x 
       sym (shut_as_held (record { rows = ws.rows; out = out }) ws.workers can.trees x leased.same)
       ∙ (open_is (needs_of x) ns (shut_key out (needs_of x)) admitted).0
 
+  same_job : job_on w v x
+      (begin_at vs.build (store_of ws.rows) (start_with x can.trees) (places_for (held ws.workers) (needs_of x)))
+      (places_for (held ws.workers) (needs_of x))
+      ≡ g.job
+  same_job = claimed_inside (ap (λ (r : Begun). r.reply) at_places)
+
   pub worker_is : g.job.worker ≡ w
-  worker_is = ap (λ (r : Begun). worker_in r.reply) (sym at_places)
+  worker_is = ap (λ (j : Job). j.worker) (sym same_job)
 
   pub vertex_is : g.job.vertex ≡ v
-  vertex_is = ap (λ (r : Begun). vertex_in r.reply) (sym at_places)
+  vertex_is = ap (λ (j : Job). j.vertex) (sym same_job)
 
   grants : claim_at vs.build (state_in vs ws) w v (start_with x can.trees) (places_for (held ws.workers) (needs_of x))
       ≡ (
@@ -137,9 +128,9 @@ module _ (vs : VerticesValue) (ws : WorkersValue) (out : Leases) (w v : ℕ) (x 
     record {
       statuses = slice_set vs.statuses v (Running w);
       workers = slice_set ws.workers w (Runs (at_places i).execution);
-      store = put_all (store_of ws.rows) (at_places i).execution.places (trees_in (at_places i).reply);
+      store = put_all (store_of ws.rows) (at_places i).execution.places (same_job i).work.trees;
     },
-    (at_places i).reply,
+    Claimed (same_job i),
   )
 
   pub replies : reply_of (claim_in vs ws w v) ≡ Ok (claim_reply g.job)

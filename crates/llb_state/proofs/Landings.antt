@@ -1,13 +1,12 @@
 -- A landing: what a worker has after the micro-steps of an outcome.
 use Rattle.std.proofs.Common.{◌≡◌, ℕ, ◌+◌, ◌<◌, ◌^◌, List, map, length, Option, Some, None, refl, sym, ap, subst, ◌∙◌, arith}
-use Rattle.std.specs.Prelude.{option_map, slice_get, slice_set}
+use Rattle.std.specs.Prelude.{Bool, true, false, IsTrue, ◌↔◌, option_map, slice_get, slice_set}
+use Rattle.std.specs.Bool.{OnTrue, OnFalse}
 use Rattle.std.proofs.lemmas.Option.{slice_get-map, slice_get_within}
 use Rattle.llb_cache.specs.Caches.{Row, Leases, AreThere}
 use Rattle.llb_loader.specs.Graph.{IsGraph}
-use Rattle.llb_tree.specs.Tree.{TreeMap, empty_tree}
 use Rattle.llb_model.specs.Caches.{Place, trees_at}
 use Rattle.llb_model.specs.Kept.{store_of}
-use Rattle.llb_model.specs.Landing.{further}
 use Rattle.llb_model.specs.Leases.{HasLease, put_each}
 use Rattle.llb_model.specs.Program.{Build, Left, key_of}
 use Rattle.llb_model.specs.State.{At, Idle, Runs, Execution, program_in}
@@ -19,7 +18,7 @@ use Rattle.llb_state.specs.Jobs.{OutcomeValue, IsOutcome, IsRunOf, begun_on, job
 use Rattle.llb_state.specs.Room.{Supplies, supplies_of, supplies_for, needs_at}
 use Rattle.llb_state.specs.Vertices.{VerticesValue}
 use Rattle.llb_state.specs.Views.{at_of, leased_by, execution_of}
-use Rattle.llb_state.specs.Workers.{Fits, RunsJob, steps_left}
+use Rattle.llb_state.specs.Workers.{WorkersValue, Fits, RunsJob, steps_left}
 use Rattle.llb_state.specs.declared.stand.Desk.{Desk}
 use Rattle.llb_state.specs.declared.stand.Desk.TheVariants as desk
 use Rattle.llb_state.specs.declared.stand.Execution as own
@@ -54,6 +53,27 @@ has_seat vs ds rows w job can = by_seat (slice_get ds w) refl (sym (slice_get-ma
       run = subst (λ (x : Execution). IsRunOf vs.build (store_of rows) w x job) (sym (inside_at is)) can.own;
     }
 
+-- ---- whether a job is what a worker has left to do
+
+not_true : IsTrue false → ⊥
+not_true e = cc
+
+runs_inside : {x y : Execution} → ◌≡◌ {A = Option At} (Some (Runs x)) (Some (Runs y)) → x ≡ y
+runs_inside e = cc
+
+-- a worker that runs: a test of its execution tells
+module _ (vs : VerticesValue) (ws : WorkersValue) (w : ℕ) (x : Execution) (job : Job) (runs : slice_get ws.workers w ≡ Some (Runs x)) where
+  pub run_yes : (r : Bool) → IsTrue r ↔ IsRunOf vs.build (store_of ws.rows) w x job → OnTrue r (RunsJob vs ws w job)
+  run_yes true tells = record { x = x; runs = runs; own = tells.0 refl }
+  run_yes false tells = tt
+
+  pub run_no : (r : Bool) → IsTrue r ↔ IsRunOf vs.build (store_of ws.rows) w x job → OnFalse r (RunsJob vs ws w job → ⊥)
+  run_no true tells = tt
+  run_no false tells =
+      λ q. not_true (tells.1 (subst (λ (y : Execution). IsRunOf vs.build (store_of ws.rows) w y job) (runs_inside (sym q.runs ∙ runs)) q.own))
+
+-- ---- the worker after the micro-steps
+
 own_inside : {l k : Option ℕ} {x y : own.Execution} → ◌≡◌ {A = Option Desk} (Some (desk.Runs l x)) (Some (desk.Runs k y)) → x ≡ y
 own_inside e = cc
 
@@ -64,9 +84,6 @@ module _ (b : Build) (ds : List Desk) (rows : List Row) (out : Leases) (w : ℕ)
 
   now : IsOutcome (job_now b (store_of rows) w (execution_of seat.own)) o.count o.left
   now = subst (λ (j : Job). IsOutcome j o.count o.left) seat.run.same is
-
-  trees : List TreeMap
-  trees = trees_at (store_of rows) seat.own.places.items
 
   -- the worker has a seat
   pub low_seat : w < length ds
