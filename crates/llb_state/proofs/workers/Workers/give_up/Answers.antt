@@ -1,0 +1,30 @@
+use Rattle.std.proofs.Common.{◌≡◌, ◌∙◌, ◌<◌, length, map, sym, ap, subst, rules}
+use Rattle.std.specs.Prelude.{Some, slice_get, slice_set}
+use Rattle.std.proofs.lemmas.Option.{slice_get-get_or}
+use Rattle.llb_cache.specs.Caches.{CachesValue}
+use Rattle.llb_state.specs.Rules.{given_up_at}
+use Rattle.llb_state.specs.Views.{at_of}
+use Rattle.llb_state.specs.Workers.{WorkersValue}
+use Rattle.llb_state.specs.declared.stand.Desk.{Desk}
+use Rattle.llb_state.specs.declared.stand.Desk.TheVariants as desk
+use Rattle.llb_state.proofs.Crews.{Crew, crew_idle, crew_out, crew_same}
+use Rattle.llb_state.proofs.Lists.{get_map}
+use Rattle.llb_state.proofs.workers.Workers.give_up.Goals as goal
+
+pub give_back-requires : goal.give_back-requires
+give_back-requires c =
+    let s = c.self.inside in
+    let ds = s.seats.items in
+    let low : c.args.w < length ds = search rules in
+    let at : slice_get ds c.args.w ≡ Some (desk.Runs c.in-Runs.lease c.in-Runs.execution)
+    = slice_get-get_or ds c.args.w c.index_mut.result.now low ∙ ap (λ d. Some d) (sym (c.replace.ensures.value ∙ c.index_mut.ensures.value) ∙ c.in-Runs.is) in
+    crew_out ds c.args.w c.in-Runs.lease c.in-Runs.execution s.caches.out c.self.invariant at
+
+pub returns-in-Runs-clause-gives : goal.returns-in-Runs-clause-gives
+returns-in-Runs-clause-gives c =
+    let ds = c.self.inside.seats.items in
+    let low : c.args.w < length ds = search rules in
+    let at : slice_get ds c.args.w ≡ Some (desk.Runs c.in-Runs.lease c.in-Runs.execution)
+    = slice_get-get_or ds c.args.w c.index_mut.result.now low ∙ ap (λ d. Some d) (sym (c.replace.ensures.value ∙ c.index_mut.ensures.value) ∙ c.in-Runs.is) in
+    ap (λ (v : WorkersValue). given_up_at (slice_get v.workers c.args.w)) (sym c.self.view_is)
+    ∙ ap given_up_at (get_map at_of ds c.args.w (desk.Runs c.in-Runs.lease c.in-Runs.execution) at)
