@@ -32,12 +32,14 @@ use Rattle.llb_model.proofs.Landing.{first_step, steps_as_block, after_again, fu
 use Rattle.llb_state.specs.Events.{Space}
 use Rattle.llb_state.specs.Board.{Seen, Replays, kept_next, kept_along, opening_with, after_event, recorded}
 use Rattle.llb_state.specs.Caches.{written, places_at, rows_after, leased_places}
-use Rattle.llb_state.specs.Jobs.{OutcomeValue, IsOutcome, begun_on}
+use Rattle.llb_execution.specs.Jobs.{OutcomeValue, IsOutcome, begun_on}
 use Rattle.llb_board.specs.Landing.{CanLand, IsThrough, Lands}
 use Rattle.llb_state.specs.Jobs.{job_now, IsRunOf, desk_left}
 use Rattle.llb_state.specs.Room.{Supplies, supplies_of, supplies_for, needs_at}
-use Rattle.llb_state.specs.Rules.{settle_fault, settle_of, GivesSettle}
-use Rattle.llb_state.specs.Views.{at_of, leased_by, execution_of, settle_reply}
+use Rattle.llb_events.specs.Causes.{settle_fault, GivesSettle}
+use Rattle.llb_state.specs.Rules.{settle_of}
+use Rattle.llb_state.specs.Views.{at_of, leased_by, execution_of}
+use Rattle.llb_events.specs.Views.{settle_reply}
 use Rattle.llb_events.specs.declared.event.Settled.{Settled}
 use Rattle.llb_events.specs.declared.fault.SettleFault.{SettleFault}
 use Rattle.llb_state.specs.declared.stand.Desk.{Desk}

@@ -20,7 +20,7 @@ use Rattle.llb_model.proofs.Lists.{get_set_same}
 use Rattle.llb_state.specs.Board.{Seen, Replays, after_event, recorded}
 use Rattle.llb_state.specs.Caches.{written, places_at, rows_after}
 use Rattle.llb_state.specs.Room.{Supplies, supplies_for, ready_made, needed, mounts_at, needs_at}
-use Rattle.llb_state.specs.Rules.{claim_fault, step_fault, settle_fault, cancel_fault}
+use Rattle.llb_events.specs.Causes.{claim_fault, step_fault, settle_fault, cancel_fault}
 use Rattle.llb_board.specs.Undo.{told_as, walk_of, Back, Unclaim, Unstep, Resume, Displaced}
 use Rattle.llb_state.specs.Undoing.{Before, left_in}
 use Rattle.llb_board.specs.Undo.{statuses_before, with_view_back, step_before, workers_before, rows_before, store_before, undone}

@@ -6,7 +6,8 @@ use Rattle.llb_model.specs.Table.{Job, Reply, settle_grant}
 use Rattle.llb_model.specs.Run.{run}
 use Rattle.llb_model.specs.Landing.{steps_by, landing}
 use Rattle.llb_state.specs.Board.{Seen, kept_along}
-use Rattle.llb_state.specs.Jobs.{OutcomeValue, has_shared, IsRunOf}
+use Rattle.llb_execution.specs.Jobs.{OutcomeValue}
+use Rattle.llb_state.specs.Jobs.{has_shared, IsRunOf}
 use Rattle.llb_board.specs.declared.fault.LandFault.{LandFault}
 use Rattle.llb_board.specs.declared.fault.LandFault.TheVariants as fault
 use Rattle.llb_board.specs.declared.landing.LandCause.{LandCause}

@@ -15,26 +15,29 @@ ghost use Rattle.llb_wire.specs.Answer.{MemoryLast};
 ghost use Rattle.llb_cache.specs.Caches.{leases};
 ghost use Rattle.llb_model.specs.Kept.{store_of};
 ghost use Rattle.llb_model.specs.Leases.{HoldsAs};
-ghost use Rattle.llb_state.specs.Rules.{step_memory};
+ghost use Rattle.llb_events.specs.Causes.{step_memory};
 ghost use Rattle.llb_board.specs.Opening.{may_work, open_memory, GivesOpen, open_of, open_with};
 ghost use Rattle.llb_events.specs.Faults.{claim_memory, claim_may_want};
 ghost use Rattle.llb_board.specs.Opening.{returned, may_want_memory};
-ghost use Rattle.llb_state.specs.Rules.{claim_of, GivesStep, step_of, GivesSettle, settle_of, GivesCancel, cancel_of};
+ghost use Rattle.llb_state.specs.Rules.{claim_of, step_of, settle_of, cancel_of};
+ghost use Rattle.llb_events.specs.Causes.{GivesStep, GivesSettle, GivesCancel};
 ghost use Rattle.llb_events.specs.Faults.{GivesClaim};
-ghost use Rattle.llb_state.specs.Views.{event_of, claim_reply, step_reply, settle_reply, cancel_reply, status_of, look, look_at, worker_look};
+ghost use Rattle.llb_events.specs.Views.{event_of, claim_reply, step_reply, settle_reply, cancel_reply, look, look_at, worker_look};
+ghost use Rattle.llb_state.specs.Views.{status_of};
 
 use crate::fault::OpenFault;
 use llb_cache::Caches;
 use llb_events::{
     At, CancelFault, Cancelled, ClaimFault, Event, SettleFault, Settled, Status, StepFault, Stepped,
 };
+use llb_execution::Job;
 use llb_links::Links;
 use llb_loader::{Graph, Locals};
 use llb_needs::wanted_by;
 use llb_state::{
-    Begun, Build, Desk, Events, History, Job, Stand, all_settled, begin, claimable, desk_at,
-    first_open, give_all_back, give_back, give_up, is_finished, is_marked, is_ready,
-    lease_with_room, leave, next_claim, next_event, opening, output_at, stand_at, step_at,
+    Begun, Build, Desk, Events, History, Stand, all_settled, begin, claimable, desk_at, first_open,
+    give_all_back, give_back, give_up, is_finished, is_marked, is_ready, lease_with_room, leave,
+    next_claim, next_event, opening, output_at, stand_at, step_at,
 };
 use llb_tree::Tree;
 use llb_wire::{Memory, Text};

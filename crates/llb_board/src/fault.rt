@@ -2,8 +2,8 @@
 //! gives back is in its fault.
 
 use llb_cache::Caches;
+use llb_execution::Outcome;
 use llb_loader::{Graph, Locals};
-use llb_state::Outcome;
 use llb_wire::Text;
 use std::fmt;
 use thiserror::Error;

@@ -4,14 +4,15 @@
 ghost use Rattle.std.specs.Prelude.{◌≡◌, slice_get, IfOk, IfErr, OnOk, OnErr};
 ghost use Rattle.llb_board.specs.Begun.{IsKnown};
 ghost use Rattle.llb_board.specs.Landing.{CanLand, StandsInWay, IsRefused, land_fault, places_had, runs_shared, IsThrough, Lands};
-ghost use Rattle.llb_state.specs.Views.{settle_reply};
+ghost use Rattle.llb_events.specs.Views.{settle_reply};
 
 use crate::board::Board;
 use crate::fault::LandFault;
 use crate::laws::begun_are_plain;
 use llb_cache::Place;
 use llb_events::Settled;
-use llb_state::{Desk, Job, Outcome, desk_at, has_shared, is_run_of, put_left, write_back};
+use llb_execution::{Job, Outcome};
+use llb_state::{Desk, desk_at, has_shared, is_run_of, put_left, write_back};
 
 /// Why an outcome does not land.
 #[derive(Clone, Copy)]

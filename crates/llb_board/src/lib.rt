@@ -14,11 +14,11 @@ mod walk;
 pub use board::Board;
 pub use fault::{LandFault, OpenFault};
 pub use llb_events::{
-    At, CancelFault, Cancelled, ClaimFault, Event, Gate, Memory, SettleFault, Settled, Status,
-    StepFault, Stepped, Stopped, WalkFault, WorkFault,
+    At, CancelFault, Cancelled, ClaimFault, Event, Memory, SettleFault, Settled, Status, StepFault,
+    Stepped, WalkFault,
 };
-pub use llb_execution::{Program, View};
-pub use llb_state::{Events, Job, Outcome, work};
+pub use llb_execution::{Gate, Job, Outcome, Program, Stopped, View, WorkFault, work};
+pub use llb_state::Events;
 pub use llb_wire::{Bytes, Text};
 pub use undo::Undo;
 pub use walk::{Reply, Walked};

@@ -6,7 +6,7 @@ ghost use Rattle.llb_board.specs.Undo.{GivesWalk, walk_of, walk_memory, undone, 
 ghost use Rattle.llb_board.specs.Undo.{end_of, no_worker, not_running};
 ghost use Rattle.llb_state.specs.Undoing.{caches_in};
 ghost use Rattle.llb_board.specs.Walking.{KeepsIf};
-ghost use Rattle.llb_state.specs.Views.{event_of};
+ghost use Rattle.llb_events.specs.Views.{event_of};
 ghost use Rattle.llb_model.specs.Table.{Step};
 
 use crate::board::Board;

@@ -1,10 +1,8 @@
 -- What a run prints for the bytes that it read.
 use Rattle.std.proofs.Common.{◌≡◌, ℕ, ◌<◌, Bool, true, false, cond, ltb, List, [], length, ◌⊎◌, Option, Some, None, Result, Ok, Err, inl}
 use Rattle.std.proofs.Common.{inr, refl, sym, ap, subst, ◌∙◌}
-use Rattle.std.specs.Prelude.{IfSome}
+use Rattle.std.specs.Prelude.{IfSome, IfOk, IfErr}
 use Rattle.std.proofs.lemmas.Bool.{lt-ltb}
-use Rattle.std.specs.Io.KnownBytes.{Appends}
-use Rattle.llb_wire.specs.Sink.{PartOut}
 use Rattle.llb_ops.specs.declared.fault.OpFault.TheVariants.{OverLimit}
 use Rattle.llb_ops.specs.Limits.{definition_limit}
 use Rattle.llb_ops.specs.Definition.{definition_of}
@@ -15,7 +13,7 @@ use Rattle.llb_loader.specs.Faults.{is_memory}
 use Rattle.llb_loader.specs.Graph.{Numbered, IsGraph}
 use Rattle.llb_loader.specs.Locals.{Local}
 use Rattle.llb_loader.specs.Load.{IsGraphIn, IsRefusalIn}
-use Rattle.llb_state.specs.Board.{Seen}
+use Rattle.llb_state.specs.Board.{Seen, opened}
 use Rattle.llb_commands.specs.declared.fault.ProgramFault.{ProgramFault}
 use Rattle.llb_commands.specs.declared.fault.ProgramFault.TheVariants.{Refused, Loading}
 use Rattle.llb_commands.specs.declared.fault.ProgramFault.TheVariants as fault
@@ -26,8 +24,11 @@ use Rattle.llb_commands.specs.GraphText.{graph_text}
 use Rattle.llb_commands.specs.Answer.{build_of, result_in, Yields, YieldsAll, IsRefused, IsUnopened, IsNotRun, YieldsPart, DrawsPart, FailsAll, failed_lines}
 use Rattle.llb_commands.specs.Answer.{Runs}
 use Rattle.llb_commands.specs.Faults.{Tells, TellsWhy, status_of}
+use Rattle.llb_commands.specs.Io.{Stream, IsKept, IsPartWritten, IsWritten}
 use Rattle.llb_commands.proofs.Ending.{result_fails, tree_fails_none, plain_tree}
-use Rattle.llb_commands.specs.Running.{passed_on, unread_as, IsRefusal, TellsRefusal, IsFinished, Shows, YieldsNoneOn, Answers, Ends}
+use Rattle.llb_commands.specs.Running.{passed_on, unread_as, IsRefusal, TellsRefusal, IsFinished, Finishes, Opens, Shows, YieldsNoneOn, Answers, Ends}
+use Rattle.llb_commands.specs.declared.run.Ended.{Ended}
+use Rattle.llb_commands.specs.declared.run.Ended.TheVariants as ended
 use Rattle.llb_commands.specs.Assembly.{IsUnread}
 use Rattle.llb_commands.specs.Bounded.{ReadsAll}
 use Rattle.llb_commands.specs.declared.bounded.ReadFault.{ReadFault}
@@ -38,6 +39,10 @@ use Rattle.std.specs.Global.{Global}
 use Rattle.std.specs.Io.KnownBytes.{Keeps}
 use Rattle.std.proofs.KnownBytes.{Appends-kept, Keeps-refl, Keeps-trans}
 use Rattle.std.proofs.lemmas.List.{append-nil}
+
+-- a stream by what it held and what it holds
+abbrev pub stream : Option (List ℕ) → Option (List ℕ) → Stream
+stream before after = record { before = before; after = after }
 
 -- where what is known has one fact, it has any that follows from it
 pub some_map : {A : Type 0} (P Q : A → Type 0) (o : Option A) → ((x : A) → P x → Q x) → IfSome o P → IfSome o Q
@@ -85,14 +90,13 @@ module _ (workers : ℕ) (ls : List Local) (left : Option (List ℕ)) (g : Numbe
     printed = refl;
   }
 
-  answers_text : (out out' : Option (List ℕ)) (t : TreeMap) → result_in b.state g ≡ Some t → Appends out out' (tree_text t)
-      → IfSome left (YieldsAll workers ls out out')
-  answers_text out out' t is app = some_map (λ bytes. IsGraphIn bytes g) (YieldsAll workers ls out out') left (λ bytes loaded.
+  answers_text : (output : Stream) (t : TreeMap) → result_in b.state g ≡ Some t → IsWritten output (tree_text t) → IfSome left (YieldsAll workers ls output)
+  answers_text output t is app = some_map (λ bytes. IsGraphIn bytes g) (YieldsAll workers ls output) left (λ bytes loaded.
       (tree_text t, yields bytes loaded t is, app)) loads
 
-  answers_part : (out out' : Option (List ℕ)) (t : TreeMap) → result_in b.state g ≡ Some t → PartOut out out' (tree_text t)
-      → IfSome left (YieldsPart workers ls out out')
-  answers_part out out' t is part = some_map (λ bytes. IsGraphIn bytes g) (YieldsPart workers ls out out') left (λ bytes loaded.
+  answers_part : (output : Stream) (t : TreeMap) → result_in b.state g ≡ Some t → IsPartWritten output (tree_text t)
+      → IfSome left (YieldsPart workers ls output)
+  answers_part output t is part = some_map (λ bytes. IsGraphIn bytes g) (YieldsPart workers ls output) left (λ bytes loaded.
       (tree_text t, yields bytes loaded t is, part)) loads
 
   answers_none : result_in b.state g ≡ None → IfSome left (YieldsNoneOn workers ls b)
@@ -104,12 +108,17 @@ module _ (workers : ℕ) (ls : List Local) (left : Option (List ℕ)) (g : Numbe
         sym fin.build,
       )) loads
 
-  -- what is shown of the result is the answer of the run
-  pub answers : (out out' : Option (List ℕ)) (r : Result (Option Seen) ProgramFault) → Shows b out out' (result_in b.state g) r
-      → Answers workers ls left out out' r
-  answers out out' (Ok None) s = answers_text out out' s.0 s.1 s.2
-  answers out out' (Ok (Some x)) s = (s.2, subst (λ y. IfSome left (YieldsNoneOn workers ls y)) (sym s.0) (answers_none s.1))
-  answers out out' (Err e) s = inr (s.0, answers_part out out' s.1.0 s.1.1 s.1.2)
+  shown : (output : Stream) (r : Result Ended ProgramFault) → Shows b output (result_in b.state g) r → Answers workers ls left output r
+  shown output (Ok ended.Printed) s = answers_text output s.0 s.1 s.2
+  shown output (Ok (ended.Failed x)) s = (s.2, subst (λ y. IfSome left (YieldsNoneOn workers ls y)) (sym s.0) (answers_none s.1))
+  shown output (Err e) s = inr (s.0, answers_part output s.1.0 s.1.1 s.1.2)
+
+-- what is shown of the result is the answer of the run
+pub answers : (workers : ℕ) (ls : List Local) (left : Option (List ℕ)) (b : Seen) → IsGraph b.build.graph → Finishes workers ls left (Ok b) → (output : Stream)
+    (r : Result Ended ProgramFault) → Shows b output (result_in b.state b.build.graph) r → Answers workers ls left output r
+answers workers ls left b graph (g, loads, fin) output r shows =
+    let same : b.build.graph ≡ g = ap (λ (x : Build). x.graph) fin.build in
+    shown workers ls left g (subst IsGraph same graph) b fin loads output r (subst (λ h. Shows b output (result_in b.state h) r) same shows)
 
 -- ---- what the parts returned, where it is known
 
@@ -171,76 +180,81 @@ refusal_or_three fault.Read = inr refl
 refusal_or_three fault.Memory = inr refl
 
 -- how a command ends with a fault, by the line and the status for it: 2 and the line where the input is refused, else 3
-pub ends_told : (IsSo : ProgramFault → List ℕ → Type 0) (Part : Type 0) (input out out' err err' : Option (List ℕ)) (e : ProgramFault) (status : ℕ)
-    → ((Keeps out out' × TellsRefusal IsSo input e) ⊎ ((¬ IsRefusal e) × Part)) → Tells err err' e status
-    → ((status ≡ 2) × Keeps out out' × TellsWhy IsSo input err err') ⊎ ((status ≡ 3) × (Keeps out out' ⊎ Part))
-ends_told IsSo Part input out out' err err' e status (inl (kept, tells)) (inr three) = inr (three, inl kept)
-ends_told IsSo Part input out out' err err' e status (inr (none, part)) (inr three) = inr (three, inr part)
-ends_told IsSo Part input out out' err err' e status (inl (kept, tells)) (inl (is, line)) = elim (refusal_or_three e) [
+pub ends_told : (IsSo : ProgramFault → List ℕ → Type 0) (Part : Type 0) (input : Option (List ℕ)) (output errors : Stream) (e : ProgramFault) (status : ℕ)
+    → ((IsKept output × TellsRefusal IsSo input e) ⊎ ((¬ IsRefusal e) × Part)) → Tells errors.before errors.after e status
+    → ((status ≡ 2) × IsKept output × TellsWhy IsSo input errors) ⊎ ((status ≡ 3) × (IsKept output ⊎ Part))
+ends_told IsSo Part input output errors e status (inl (kept, tells)) (inr three) = inr (three, inl kept)
+ends_told IsSo Part input output errors e status (inr (none, part)) (inr three) = inr (three, inr part)
+ends_told IsSo Part input output errors e status (inl (kept, tells)) (inl (is, line)) = elim (refusal_or_three e) [
   | inl h ↦ inl (is ∙ h.1, kept, (e, tells h.0, line))
   | inr three ↦ inr (is ∙ three, inl kept)
 ]
-ends_told IsSo Part input out out' err err' e status (inr (none, part)) (inl (is, line)) = elim (refusal_or_three e) [
+ends_told IsSo Part input output errors e status (inr (none, part)) (inl (is, line)) = elim (refusal_or_three e) [
   | inl h ↦ absurd (none h.0)
   | inr three ↦ inr (is ∙ three, inr part)
 ]
 
 -- the line and the status of a fault are those of its result
-pub tells_fault : (out err err' : Option (List ℕ)) (r : Result (Option Seen) ProgramFault) (e : ProgramFault) (status : ℕ) → r ≡ Err e
-    → Tells err err' e status → Ends out out err err' r status
-tells_fault out err err' r e status is told = subst (λ x. Ends out out err err' x status) (sym is) (Keeps-refl out, told)
+pub tells_fault : (out : Option (List ℕ)) (errors : Stream) (r : Result Ended ProgramFault) (e : ProgramFault) (status : ℕ) → r ≡ Err e
+    → Tells errors.before errors.after e status → Ends (stream out out) errors r status
+tells_fault out errors r e status is told = subst (λ x. Ends (stream out out) errors x status) (sym is) (Keeps-refl out, told)
 
-module _ (workers : ℕ) (ls : List Local) (left out out' last err err' : Option (List ℕ)) where
-  all_kept : Keeps out' last → (bytes : List ℕ) → YieldsAll workers ls out out' bytes → YieldsAll workers ls out last bytes
+-- what is written and then kept, from the first to the last
+module _ (workers : ℕ) (ls : List Local) (left left' out out' last : Option (List ℕ)) (errors : Stream) where
+  abbrev whole : Stream
+  whole = stream out last
+
+  all_kept : Keeps out' last → (bytes : List ℕ) → YieldsAll workers ls (stream out out') bytes → YieldsAll workers ls whole bytes
   all_kept keeps bytes y = (y.0, y.1, Appends-kept out out' last y.0 y.2 keeps)
 
-  all_part : Keeps out' last → (bytes : List ℕ) → YieldsAll workers ls out out' bytes → YieldsPart workers ls out last bytes
+  all_part : Keeps out' last → (bytes : List ℕ) → YieldsAll workers ls (stream out out') bytes → YieldsPart workers ls whole bytes
   all_part keeps bytes y = (y.0, y.1, (y.0, [], sym (append-nil y.0), Appends-kept out out' last y.0 y.2 keeps))
 
-  part_kept : Keeps out' last → (bytes : List ℕ) → YieldsPart workers ls out out' bytes → YieldsPart workers ls out last bytes
+  part_kept : Keeps out' last → (bytes : List ℕ) → YieldsPart workers ls (stream out out') bytes → YieldsPart workers ls whole bytes
   part_kept keeps bytes (text, yields, (front, rest, split, app)) = (text, yields, (front, rest, split, Appends-kept out out' last front app keeps))
 
   -- the lines of a board are those of the run that it is the end of
-  fails_on : (b : Seen) → Appends err err' (failed_lines b.build b.state (length b.build.graph.vertices)) → (bytes : List ℕ)
-      → YieldsNoneOn workers ls b bytes → FailsAll workers ls err err' bytes
+  fails_on : (b : Seen) → IsWritten errors (failed_lines b.build b.state (length b.build.graph.vertices)) → (bytes : List ℕ)
+      → YieldsNoneOn workers ls b bytes → FailsAll workers ls errors bytes
   fails_on b lines bytes (y, state, build) =
       let same = ap (λ (x : Build). failed_lines x b.state (length x.graph.vertices)) (sym build)
       ∙ ap (λ (t : State). failed_lines (build_of ls y.graph) t (length y.graph.vertices)) (sym state) in
-      (y, subst (Appends err err') same lines)
+      (y, subst (IsWritten errors) same lines)
 
-  answered : (e : ProgramFault) → Answers workers ls left out out' (Err e) → Keeps out' last
-      → (Keeps out last × TellsRefusal (IsNotRun workers ls) left e) ⊎ ((¬ IsRefusal e) × IfSome left (YieldsPart workers ls out last))
+  answered : (e : ProgramFault) → Answers workers ls left (stream out out') (Err e) → Keeps out' last
+      → (IsKept whole × TellsRefusal (IsNotRun workers ls) left e) ⊎ ((¬ IsRefusal e) × IfSome left (YieldsPart workers ls whole))
   answered e (inl (kept, tells)) keeps = inl (Keeps-trans out out' last kept keeps, tells)
-  answered e (inr (none, part)) keeps = inr (none, some_map (YieldsPart workers ls out out') (YieldsPart workers ls out last) left (part_kept keeps) part)
+  answered e (inr (none, part)) keeps =
+      inr (none, some_map (YieldsPart workers ls (stream out out')) (YieldsPart workers ls whole) left (part_kept keeps) part)
 
   -- a result and the status that is returned for it are a run
-  pub run_told : (r : Result (Option Seen) ProgramFault) (status : ℕ) → Answers workers ls left out out' r → Ends out' last err err' r status
-      → Runs workers ls left out last err err' status
-  run_told (Ok None) status done (keeps, inl (zero, kept)) = inl (
+  pub run_told : (r : Result Ended ProgramFault) (status : ℕ) → Answers workers ls left (stream out out') r → Ends (stream out' last) errors r status
+      → Runs workers ls (record { input = stream left left'; output = whole; errors = errors }) status
+  run_told (Ok ended.Printed) status done (keeps, inl (zero, kept)) = inl (
     zero,
     kept,
-    some_map (YieldsAll workers ls out out') (YieldsAll workers ls out last) left (all_kept keeps) done,
+    some_map (YieldsAll workers ls (stream out out')) (YieldsAll workers ls whole) left (all_kept keeps) done,
   )
-  run_told (Ok None) status done (keeps, inr three) = inr (inr (inr (
+  run_told (Ok ended.Printed) status done (keeps, inr three) = inr (inr (inr (
     three,
-    inr (some_map (YieldsAll workers ls out out') (YieldsPart workers ls out last) left (all_part keeps) done),
+    inr (some_map (YieldsAll workers ls (stream out out')) (YieldsPart workers ls whole) left (all_part keeps) done),
   )))
-  run_told (Ok (Some b)) status (kept, lacks) (keeps, inl (one, lines)) = inr (inl (
+  run_told (Ok (ended.Failed b)) status (kept, lacks) (keeps, inl (one, lines)) = inr (inl (
     one,
     Keeps-trans out out' last kept keeps,
-    some_map (YieldsNoneOn workers ls b) (FailsAll workers ls err err') left (fails_on b lines) lacks,
+    some_map (YieldsNoneOn workers ls b) (FailsAll workers ls errors) left (fails_on b lines) lacks,
   ))
-  run_told (Ok (Some b)) status (kept, lacks) (keeps, inr three) = inr (inr (inr (three, inl (Keeps-trans out out' last kept keeps))))
+  run_told (Ok (ended.Failed b)) status (kept, lacks) (keeps, inr three) = inr (inr (inr (three, inl (Keeps-trans out out' last kept keeps))))
   run_told (Err e) status answer (keeps, told) =
-      inr (inr (ends_told (IsNotRun workers ls) (IfSome left (YieldsPart workers ls out last)) left out last err err' e status (answered e answer keeps) told))
+      inr (inr (ends_told (IsNotRun workers ls) (IfSome left (YieldsPart workers ls whole)) left whole errors e status (answered e answer keeps) told))
 
 -- ---- a show
 
 -- a text that is written is a prefix of itself
 pub drawn_unflushed : (left out out' last : Option (List ℕ)) (g : Numbered) → IfSome left (λ bytes. IsGraphIn bytes g)
-    → Appends out out' (graph_text g) → Keeps out' last → IfSome left (DrawsPart out last)
+    → IsWritten (stream out out') (graph_text g) → Keeps out' last → IfSome left (DrawsPart (stream out last))
 drawn_unflushed left out out' last g loads whole keeps =
-    some_map (λ bytes. IsGraphIn bytes g) (DrawsPart out last) left
+    some_map (λ bytes. IsGraphIn bytes g) (DrawsPart (stream out last)) left
     (λ bytes loaded. (g, loaded, (graph_text g, [], sym (append-nil (graph_text g)), Appends-kept out out' last (graph_text g) whole keeps))) loads
 
 -- ---- a definition that is not run
@@ -250,8 +264,14 @@ pub tells_no_run : (workers : ℕ) (ls : List Local) (left : Option (List ℕ)) 
     → TellsRefusal (IsNotRun workers ls) left e
 tells_no_run workers ls left e tells h = some_map (IsRefused e) (IsNotRun workers ls e) left (λ bytes refused. inl refused) (tells h)
 
--- nor is what has no board, or too many workers
+-- nor has what has no board
 pub tells_unrun : (workers : ℕ) (ls : List Local) (left : Option (List ℕ)) (g : Numbered) (e : ProgramFault) → IfSome left (λ bytes. IsGraphIn bytes g)
     → (IsRefusal e → IsUnopened ls g workers e) → TellsRefusal (IsNotRun workers ls) left e
 tells_unrun workers ls left g e loads unrun h =
     some_map (λ bytes. IsGraphIn bytes g) (IsNotRun workers ls e) left (λ bytes loaded. inr (g, loaded, unrun h)) loads
+
+-- the board of the graph, or why there is none
+pub opens : (workers : ℕ) (ls : List Local) (left : Option (List ℕ)) (g : Numbered) (r : Result Seen ProgramFault) → IfSome left (λ bytes. IsGraphIn bytes g)
+    → IfOk r (λ b. b ≡ opened (build_of ls g) workers []) → IfErr r (λ e. IsRefusal e → IsUnopened ls g workers e) → Opens workers ls left r
+opens workers ls left g (Ok b) loads is unopened = (g, loads, is)
+opens workers ls left g (Err e) loads is unopened = tells_unrun workers ls left g e loads unopened

@@ -79,10 +79,12 @@ module _ (ls : List Local) (g : Numbered) (workers : ℕ) (old new : Seen) (fres
   fresh_state = ap (λ (x : Seen). x.state) fresh ∙ ap (λ store. opening (build_of ls g) (record { workers = workers; store = store })) no_rows
 
 -- where a run of a board that was just opened has ended
-pub finishes : (ls : List Local) (g : Numbered) (old new : Seen) → IsGraph g → old ≡ opened (build_of ls g) 1 [] → Goes old new
+pub finishes : (ls : List Local) (g : Numbered) (old new : Seen) → IsGraph old.build.graph → old ≡ opened (build_of ls g) 1 [] → Goes old new
     → (old.events ≡ [] → EndsInClaimOrder new.build new.opening new.events new.state) → IsPlain new.build new.state → IsConsistent new.build new.state
     → IsFinished 1 ls g new
-finishes ls g old new graph fresh goes ends plain here =
+finishes ls g old new over fresh goes ends plain here =
+    let same : old.build.graph ≡ g = ap (λ (x : Seen). x.build.graph) fresh in
+    let graph : IsGraph g = subst IsGraph same over in
     let build = fresh_build ls g 1 old new fresh goes.build in
     let start = fresh_start ls g 1 old new fresh goes.opening in
     let ended = subst (λ x. EndsInClaimOrder x (run_opening 1) new.events new.state) build (subst

@@ -12,15 +12,14 @@ use Rattle.llb_board.specs.Opening.{may_work, open_unless, open_of}
 use Rattle.llb_board.specs.declared.fault.OpenFault.{OpenFault}
 use Rattle.llb_board.specs.declared.fault.OpenFault.TheVariants as opening
 use Rattle.llb_stepper.specs.Stepping.{Stepping}
-use Rattle.llb_session.specs.Conversation.{Converses}
+use Rattle.llb_session.specs.Conversation.{Conversation, Converses}
 use Rattle.llb_session.specs.declared.fault.SessionFault.{SessionFault}
 use Rattle.llb_session.specs.declared.fault.SessionFault.TheVariants as session
-use Rattle.std.specs.Io.KnownBytes.{Appends, Keeps}
-use Rattle.llb_commands.specs.Answer.{IsRefused, build_of, IsUnopened}
+use Rattle.llb_commands.specs.Answer.{build_of, IsNotRun}
 use Rattle.llb_commands.specs.Faults.{Tells, TellsWhy, status_of, fault_line, program_text}
-use Rattle.llb_commands.specs.Running.{IsRefusal, TellsRefusal}
+use Rattle.llb_commands.specs.Io.{Io, Stream, IsKept, IsWritten}
 use Rattle.llb_commands.specs.Sources.{limit, most_reads}
-use Rattle.llb_commands.specs.Stepping.{begun, session_fault, IsNotOpened, IsSession, IsBroken, StepsIn, Steps}
+use Rattle.llb_commands.specs.Stepping.{begun, session_fault, IsSession, IsBroken, StepsIn, Steps}
 use Rattle.llb_commands.specs.declared.fault.ProgramFault.{ProgramFault}
 use Rattle.llb_commands.proofs.Answering.{some_map, ends_told}
 
@@ -78,58 +77,50 @@ begins locals g workers s b made is = made ∙ ap on is where
   on : Seen → Stepping
   on x = record { board = x; past = []; breaks = [] }
 
-module _ (locals : List Local) (workers : ℕ) (file : Option (List ℕ)) where
-  -- what is refused has no session
-  pub tells_unread : (e : ProgramFault) → TellsRefusal IsRefused file e → TellsRefusal (IsNotOpened locals workers) file e
-  tells_unread e tells is = some_map (IsRefused e) (IsNotOpened locals workers e) file (λ bytes refused. inl refused) (tells is)
+module _ (workers : ℕ) (locals : List Local) (file : Option (List ℕ)) (commands output : Stream) where
+  abbrev on : Stepping → Stepping → Conversation
+  on s t = record { limit = limit; reads = most_reads; before = s; after = t; commands = commands; replies = output }
 
-  -- the graph of the bytes has no board
-  pub tells_unopened : (g : Numbered) (e : ProgramFault) → IfSome file (λ bytes. IsGraphIn bytes g) → (IsRefusal e → IsUnopened locals g workers e)
-      → TellsRefusal (IsNotOpened locals workers) file e
-  tells_unopened g e loads unopened is =
-      some_map (λ bytes. IsGraphIn bytes g) (IsNotOpened locals workers e) file (λ bytes loaded. inr (g, loaded, unopened is)) loads
+  -- a session was held over the graph of the bytes
+  pub tells_session : (g : Numbered) (s t : Stepping) (r : Result (Unit {0}) SessionFault) → IfSome file (λ bytes. IsGraphIn bytes g)
+      → s ≡ begun locals g workers → Converses (on s t) r
+      → IfSome file (IsSession workers locals commands output r)
+  tells_session g s t r loads same talks =
+      some_map (λ bytes. IsGraphIn bytes g) (IsSession workers locals commands output r) file
+      (λ bytes loaded. record {
+        graph = g;
+        loaded = loaded;
+        end = t;
+        talks = subst (λ x. Converses (on x t) r) same talks;
+      }) loads
 
-  module _ (commands commands' out out' : Option (List ℕ)) where
-    -- a session was held over the graph of the bytes
-    pub tells_session : (g : Numbered) (s t : Stepping) (r : Result (Unit {0}) SessionFault) → IfSome file (λ bytes. IsGraphIn bytes g)
-        → s ≡ begun locals g workers → Converses limit most_reads s t commands commands' out out' r
-        → IfSome file (IsSession locals workers commands commands' out out' r)
-    tells_session g s t r loads same talks =
-        some_map (λ bytes. IsGraphIn bytes g) (IsSession locals workers commands commands' out out' r) file
-        (λ bytes loaded. record {
-          graph = g;
-          loaded = loaded;
-          end = t;
-          talks = subst (λ x. Converses limit most_reads x t commands commands' out out' r) same talks;
-        }) loads
+  broken : (f : SessionFault) → IfSome file (IsSession workers locals commands output (Err f)) → IfSome file (IsBroken workers locals commands output)
+  broken f held = some_map (IsSession workers locals commands output (Err f)) (IsBroken workers locals commands output) file (λ bytes is. (f, is)) held
 
-    broken : (f : SessionFault) → IfSome file (IsSession locals workers commands commands' out out' (Err f))
-        → IfSome file (IsBroken locals workers commands commands' out out')
-    broken f held = some_map (IsSession locals workers commands commands' out out' (Err f)) (IsBroken locals workers commands commands' out out') file
-        (λ bytes is. (f, is)) held
+  module _ (errors : Stream) where
+    abbrev io : Io
+    io = record { input = commands; output = output; errors = errors }
 
-    module _ (err err' : Option (List ℕ)) where
-      -- how it ended, by the fault of the session, and the line and the status for it
-      by_session : (f : SessionFault) (status : ℕ) → IfSome file (IsSession locals workers commands commands' out out' (Err f))
-          → (status ≡ status_of (session_fault f)) × Appends err err' (fault_line (program_text (session_fault f)))
-          → Steps locals workers file commands commands' out out' err err' status
-      by_session session.TooLong status held (two, line) = inr (inl (two, inr (held, line)))
-      by_session (session.Failed kind) status held (three, line) = inr (inr (three, inr (broken (session.Failed kind) held)))
-      by_session (session.Unending interrupted) status held (three, line) = inr (inr (three, inr (broken (session.Unending interrupted) held)))
-      by_session session.Write status held (three, line) = inr (inr (three, inr (broken session.Write held)))
-      by_session session.Memory status held (three, line) = inr (inr (three, inr (broken session.Memory held)))
+    -- how it ended, by the fault of the session, and the line and the status for it
+    by_session : (f : SessionFault) (status : ℕ) → IfSome file (IsSession workers locals commands output (Err f))
+        → (status ≡ status_of (session_fault f)) × IsWritten errors (fault_line (program_text (session_fault f))) → Steps workers locals file io status
+    by_session session.TooLong status held (two, line) = inr (inl (two, inr (held, line)))
+    by_session (session.Failed kind) status held (three, line) = inr (inr (three, inr (broken (session.Failed kind) held)))
+    by_session (session.Unending interrupted) status held (three, line) = inr (inr (three, inr (broken (session.Unending interrupted) held)))
+    by_session session.Write status held (three, line) = inr (inr (three, inr (broken session.Write held)))
+    by_session session.Memory status held (three, line) = inr (inr (three, inr (broken session.Memory held)))
 
-      not_opened : (status : ℕ) → ((status ≡ 2) × Keeps out out' × TellsWhy (IsNotOpened locals workers) file err err')
-          ⊎ ((status ≡ 3) × (Keeps out out' ⊎ ⊥)) → Steps locals workers file commands commands' out out' err err' status
-      not_opened status (inl (two, keeps, why)) = inr (inl (two, inl (keeps, why)))
-      not_opened status (inr (three, inl keeps)) = inr (inr (three, inl keeps))
-      not_opened status (inr (three, inr part)) = absurd part
+    not_opened : (status : ℕ) → ((status ≡ 2) × IsKept output × TellsWhy (IsNotRun workers locals) file errors) ⊎ ((status ≡ 3) × (IsKept output ⊎ ⊥))
+        → Steps workers locals file io status
+    not_opened status (inl (two, keeps, why)) = inr (inl (two, inl (keeps, why)))
+    not_opened status (inr (three, inl keeps)) = inr (inr (three, inl keeps))
+    not_opened status (inr (three, inr part)) = absurd part
 
-      -- a run that ended with a fault has the status for it, with its line
-      pub ends_by : (e : ProgramFault) (status : ℕ) → StepsIn locals workers file commands commands' out out' (Err e) → Tells err err' e status
-          → Steps locals workers file commands commands' out out' err err' status
-      ends_by e status (inl (keeps, tells)) told =
-          not_opened status (ends_told (IsNotOpened locals workers) ⊥ file out out' err err' e status (inl (keeps, tells)) told)
-      ends_by e status (inr (f, same, held)) (inr three) = inr (inr (three, inr (broken f held)))
-      ends_by e status (inr (f, same, held)) (inl (is, line)) =
-          by_session f status held (is ∙ ap status_of same, subst (λ x. Appends err err' (fault_line (program_text x))) same line)
+    -- a run that ended with a fault has the status for it, with its line
+    pub ends_by : (e : ProgramFault) (status : ℕ) → StepsIn workers locals file commands output (Err e) → Tells errors.before errors.after e status
+        → Steps workers locals file io status
+    ends_by e status (inl (keeps, tells)) told =
+        not_opened status (ends_told (IsNotRun workers locals) ⊥ file output errors e status (inl (keeps, tells)) told)
+    ends_by e status (inr (f, same, held)) (inr three) = inr (inr (three, inr (broken f held)))
+    ends_by e status (inr (f, same, held)) (inl (is, line)) =
+        by_session f status held (is ∙ ap status_of same, subst (λ x. IsWritten errors (fault_line (program_text x))) same line)

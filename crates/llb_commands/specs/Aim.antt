@@ -10,9 +10,9 @@ use Rattle.llb_model.specs.Table.{Reply}
 use Rattle.llb_model.specs.Run.{run}
 use Rattle.llb_state.specs.Board.{Seen, Replays, SettledArePlain}
 use Rattle.llb_board.specs.Headline.{LockedOnce}
-use Rattle.llb_stepper.specs.Records.{TellsTheRun}
+use Rattle.llb_stepper.specs.Records.{RecordIsTheRun}
 use Rattle.llb_stepper.specs.Stepping.{Stepping, PastIsTheRecords, IsReplayed}
-use Rattle.llb_session.specs.Told.{GoTellsTheRun}
+use Rattle.llb_session.specs.Told.{GoPrintsTheRun}
 use Rattle.llb_commands.specs.Assembly.{IsAssembled}
 
 -- The definition is accepted: it is loaded as the graph. The machine's board is over the graph, with some local trees, and so is the stepper's.
@@ -49,7 +49,7 @@ pub record Aim (text definition : List ℕ) (entries : List (List ℕ)) (graph :
   -- its lines are the events and replies of that run, and so are those that a session's `go` prints
   pub stepper_state : Replays stepper.board
   pub stepper_past : PastIsTheRecords stepper
-  pub stepper_lines : TellsTheRun stepper
-  pub session_lines : GoTellsTheRun stepper
+  pub stepper_lines : RecordIsTheRun stepper
+  pub session_lines : GoPrintsTheRun stepper
   -- and the machine's record, replayed, leads to the machine's board
   pub stepper_replays : IsReplayed board

@@ -1,8 +1,6 @@
 -- What the program prints for the bytes that it reads.
 use Rattle.std.specs.Prelude.{◌≡◌, ◌≤◌, ◌<◌, ◌⊎◌, ℕ, zero, suc, true, false, List, [], ◌++◌, length, codes, Option, Some, None, IfSome, slice_get}
 use Rattle.std.specs.Fmt.{decimal}
-use Rattle.std.specs.Io.KnownBytes.{Appends, Keeps}
-use Rattle.llb_wire.specs.Sink.{PartOut}
 use Rattle.llb_tree.specs.Tree.{TreeMap}
 use Rattle.llb_loader.specs.declared.fault.LoadFault.{LoadFault}
 use Rattle.llb_loader.specs.Graph.{Numbered}
@@ -18,7 +16,7 @@ use Rattle.llb_model.specs.Run.{run, is_complete, StandsPlainly}
 use Rattle.llb_model.specs.Laws.{HasNoCaches}
 use Rattle.llb_treetext.specs.TreeText.{tree_text}
 use Rattle.llb_model.specs.Failure.{failure_text}
-use Rattle.llb_state.specs.Views.{look_at}
+use Rattle.llb_events.specs.Views.{look_at}
 use Rattle.llb_events.specs.declared.event.Status.{Status}
 use Rattle.llb_events.specs.declared.event.Status.TheVariants as look
 use Rattle.llb_board.specs.Opening.{may_work}
@@ -26,6 +24,7 @@ use Rattle.llb_work.specs.Alone.{EndsInClaimOrder}
 use Rattle.llb_commands.specs.declared.fault.ProgramFault.{ProgramFault}
 use Rattle.llb_commands.specs.declared.fault.ProgramFault.TheVariants as fault
 use Rattle.llb_commands.specs.Faults.{TellsWhy}
+use Rattle.llb_commands.specs.Io.{Io, Stream, IsKept, IsPartWritten, IsWritten}
 use Rattle.llb_commands.specs.GraphText.{graph_text}
 
 -- the build of a run: a graph and the local trees
@@ -98,17 +97,17 @@ IsUnopened locals g workers (fault.MissingLocal name) = missing_local locals g.v
 IsUnopened locals g workers fault.Workers = (missing_local locals g.vertices ≡ None) × (may_work workers ≡ false)
 IsUnopened locals g workers _ = ⊥
 
--- bytes that are no definition of a graph, or of one on which no run is begun, and why
+-- bytes that are no definition of a graph, or of one on which no board is opened, and so no run begun, and why
 abbrev pub IsNotRun : ℕ → List Local → ProgramFault → List ℕ → Type 0
 IsNotRun workers locals p bytes = IsRefused p bytes ⊎ ((g : Numbered) × IsGraphIn bytes g × IsUnopened locals g workers p)
 
 -- a prefix of the text that the bytes yield is written, and no more
-abbrev pub YieldsPart : ℕ → List Local → Option (List ℕ) → Option (List ℕ) → List ℕ → Type 0
-YieldsPart workers locals out out' bytes = (text : List ℕ) × Yields workers locals bytes text × PartOut out out' text
+abbrev pub YieldsPart : ℕ → List Local → Stream → List ℕ → Type 0
+YieldsPart workers locals output bytes = (text : List ℕ) × Yields workers locals bytes text × IsPartWritten output text
 
 -- the text is written, and nothing else
-abbrev pub YieldsAll : ℕ → List Local → Option (List ℕ) → Option (List ℕ) → List ℕ → Type 0
-YieldsAll workers locals out out' bytes = (text : List ℕ) × Yields workers locals bytes text × Appends out out' text
+abbrev pub YieldsAll : ℕ → List Local → Stream → List ℕ → Type 0
+YieldsAll workers locals output bytes = (text : List ℕ) × Yields workers locals bytes text × IsWritten output text
 
 -- ---- the lines of failures
 
@@ -123,32 +122,32 @@ failed_lines b s zero = []
 failed_lines b s (suc v) = failed_lines b s v ++ failed_line v (look_at b s v)
 
 -- the result is no tree, and the lines of all failures are written
-abbrev pub FailsAll : ℕ → List Local → Option (List ℕ) → Option (List ℕ) → List ℕ → Type 0
-FailsAll workers locals err err' bytes = (y : YieldsNone workers locals bytes)
-    × Appends err err' (failed_lines (build_of locals y.graph) y.state (length y.graph.vertices))
+abbrev pub FailsAll : ℕ → List Local → Stream → List ℕ → Type 0
+FailsAll workers locals errors bytes = (y : YieldsNone workers locals bytes)
+    × IsWritten errors (failed_lines (build_of locals y.graph) y.state (length y.graph.vertices))
 
 -- How a run by a number of workers ends. 0: the text of the result is written, and nothing else. 1: a vertex failed, so that the result is no tree, and
 -- nothing is written but the lines of the failures. 2: the bytes are refused, a local tree is missing, or there are no workers or too many, and nothing is
 -- written but the line that says which. 3: a device, a thread or memory failed; nothing is written, or a prefix of the text.
-abbrev pub Runs : ℕ → List Local → Option (List ℕ) → Option (List ℕ) → Option (List ℕ) → Option (List ℕ) → Option (List ℕ) → ℕ → Type 0
-Runs workers locals input out out' err err' status =
-    ((status ≡ 0) × Keeps err err' × IfSome input (YieldsAll workers locals out out'))
-    ⊎ (((status ≡ 1) × Keeps out out' × IfSome input (FailsAll workers locals err err'))
-    ⊎ (((status ≡ 2) × Keeps out out' × TellsWhy (IsNotRun workers locals) input err err')
-    ⊎ ((status ≡ 3) × (Keeps out out' ⊎ IfSome input (YieldsPart workers locals out out')))))
+abbrev pub Runs : ℕ → List Local → Io → ℕ → Type 0
+Runs workers locals io status =
+    ((status ≡ 0) × IsKept io.errors × IfSome io.input.before (YieldsAll workers locals io.output))
+    ⊎ (((status ≡ 1) × IsKept io.output × IfSome io.input.before (FailsAll workers locals io.errors))
+    ⊎ (((status ≡ 2) × IsKept io.output × TellsWhy (IsNotRun workers locals) io.input.before io.errors)
+    ⊎ ((status ≡ 3) × (IsKept io.output ⊎ IfSome io.input.before (YieldsPart workers locals io.output)))))
 
 -- the text of the graph of the bytes is written, and nothing else
-abbrev pub DrawsAll : Option (List ℕ) → Option (List ℕ) → List ℕ → Type 0
-DrawsAll out out' bytes = (g : Numbered) × IsGraphIn bytes g × Appends out out' (graph_text g)
+abbrev pub DrawsAll : Stream → List ℕ → Type 0
+DrawsAll output bytes = (g : Numbered) × IsGraphIn bytes g × IsWritten output (graph_text g)
 
 -- a prefix of it is written, and no more
-abbrev pub DrawsPart : Option (List ℕ) → Option (List ℕ) → List ℕ → Type 0
-DrawsPart out out' bytes = (g : Numbered) × IsGraphIn bytes g × PartOut out out' (graph_text g)
+abbrev pub DrawsPart : Stream → List ℕ → Type 0
+DrawsPart output bytes = (g : Numbered) × IsGraphIn bytes g × IsPartWritten output (graph_text g)
 
 -- How a show ends. 0: the text of the graph is written, and nothing else. 2: the bytes are refused, and nothing is written but the line that says why. 3: a
 -- device or memory failed; nothing is written, or a prefix of the text.
-abbrev pub Draws : Option (List ℕ) → Option (List ℕ) → Option (List ℕ) → Option (List ℕ) → Option (List ℕ) → ℕ → Type 0
-Draws input out out' err err' status =
-    ((status ≡ 0) × Keeps err err' × IfSome input (DrawsAll out out'))
-    ⊎ (((status ≡ 2) × Keeps out out' × TellsWhy IsRefused input err err')
-    ⊎ ((status ≡ 3) × (Keeps out out' ⊎ IfSome input (DrawsPart out out'))))
+abbrev pub Draws : Io → ℕ → Type 0
+Draws io status =
+    ((status ≡ 0) × IsKept io.errors × IfSome io.input.before (DrawsAll io.output))
+    ⊎ (((status ≡ 2) × IsKept io.output × TellsWhy IsRefused io.input.before io.errors)
+    ⊎ ((status ≡ 3) × (IsKept io.output ⊎ IfSome io.input.before (DrawsPart io.output))))

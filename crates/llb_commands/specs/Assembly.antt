@@ -1,7 +1,5 @@
 -- Between a text and the definition of its entries: what assembling and disassembling write.
-use Rattle.std.specs.Prelude.{◌≡◌, ◌⊎◌, ◌<◌, ℕ, List, length, Option, Ok, Err, Bool, true, false, IfSome}
-use Rattle.std.specs.Io.KnownBytes.{Appends, Keeps}
-use Rattle.llb_wire.specs.Sink.{PartOut}
+use Rattle.std.specs.Prelude.{◌≡◌, ◌⊎◌, ◌<◌, ℕ, List, length, Ok, Err, Bool, true, false, IfSome}
 use Rattle.llb_ops.specs.declared.fault.OpFault.{OpFault}
 use Rattle.llb_ops.specs.Definition.{definition_of, definition_bytes}
 use Rattle.llb_asm.specs.Lines.{kept}
@@ -17,6 +15,7 @@ use Rattle.llb_loader.specs.declared.fault.LoadFault.TheVariants.{Definition}
 use Rattle.llb_commands.specs.declared.fault.ProgramFault.{ProgramFault}
 use Rattle.llb_commands.specs.declared.fault.ProgramFault.TheVariants as fault
 use Rattle.llb_commands.specs.Faults.{TellsWhy}
+use Rattle.llb_commands.specs.Io.{Io, Stream, IsKept, IsPartWritten, IsWritten}
 use Rattle.llb_commands.specs.Sources.{limit}
 
 -- the definition that a text is assembled to: the canonical bytes of the entries that the text is read as
@@ -54,28 +53,27 @@ IsUnread p definition = ((e : OpFault) × (definition_of definition ≡ Err e) �
     ⊎ ((limit < length definition) × (p ≡ fault.Refused (Definition OverLimit)))
 
 -- the bytes made from the input are written, and nothing else
-abbrev pub IsOut : (List ℕ → List ℕ → Type 0) → Option (List ℕ) → Option (List ℕ) → List ℕ → Type 0
-IsOut Comes out out' input = (text : List ℕ) × Comes input text × Appends out out' text
+abbrev pub IsOut : (List ℕ → List ℕ → Type 0) → Stream → List ℕ → Type 0
+IsOut Comes output input = (text : List ℕ) × Comes input text × IsWritten output text
 
 -- a prefix of them is written, and no more
-abbrev pub IsPartOut : (List ℕ → List ℕ → Type 0) → Option (List ℕ) → Option (List ℕ) → List ℕ → Type 0
-IsPartOut Comes out out' input = (text : List ℕ) × Comes input text × PartOut out out' text
+abbrev pub IsPartOut : (List ℕ → List ℕ → Type 0) → Stream → List ℕ → Type 0
+IsPartOut Comes output input = (text : List ℕ) × Comes input text × IsPartWritten output text
 
 -- How a command ends that writes what it makes from its input. 0: all of it is written, and nothing else. 2: the input is refused, and nothing is written but
 -- the line that says why. 3: a device or memory failed; nothing is written, or a prefix of it.
-abbrev pub Ends : (List ℕ → List ℕ → Type 0) → (ProgramFault → List ℕ → Type 0) → Option (List ℕ) → Option (List ℕ) → Option (List ℕ) → Option (List ℕ)
-    → Option (List ℕ) → ℕ → Type 0
-Ends Comes IsRefused input out out' err err' status =
-    ((status ≡ 0) × Keeps err err' × IfSome input (IsOut Comes out out'))
-    ⊎ (((status ≡ 2) × Keeps out out' × TellsWhy IsRefused input err err')
-    ⊎ ((status ≡ 3) × (Keeps out out' ⊎ IfSome input (IsPartOut Comes out out'))))
+abbrev pub Ends : (List ℕ → List ℕ → Type 0) → (ProgramFault → List ℕ → Type 0) → Io → ℕ → Type 0
+Ends Comes IsRefused io status =
+    ((status ≡ 0) × IsKept io.errors × IfSome io.input.before (IsOut Comes io.output))
+    ⊎ (((status ≡ 2) × IsKept io.output × TellsWhy IsRefused io.input.before io.errors)
+    ⊎ ((status ≡ 3) × (IsKept io.output ⊎ IfSome io.input.before (IsPartOut Comes io.output))))
 
 -- a text is assembled to the definition of the entries that it is read as
-abbrev pub Assembles : Option (List ℕ) → Option (List ℕ) → Option (List ℕ) → Option (List ℕ) → Option (List ℕ) → ℕ → Type 0
+abbrev pub Assembles : Io → ℕ → Type 0
 Assembles = Ends IsAssembled IsNoText
 
 -- a definition is written as the text of its entries
-abbrev pub Disassembles : Option (List ℕ) → Option (List ℕ) → Option (List ℕ) → Option (List ℕ) → Option (List ℕ) → ℕ → Type 0
+abbrev pub Disassembles : Io → ℕ → Type 0
 Disassembles = Ends IsDisassembled IsUnread
 
 -- the definition that a text is assembled to, and any bytes whose entries are those that the text is read as, run to the same text of the result

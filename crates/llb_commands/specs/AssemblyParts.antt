@@ -1,6 +1,5 @@
 -- The parts of assembling and disassembling, each with what it says of the input.
 use Rattle.std.specs.Prelude.{◌≡◌, ◌⊎◌, ℕ, List, Option, Result, Ok, Err, IfSome, if◌then◌else◌}
-use Rattle.std.specs.Io.KnownBytes.{Keeps}
 use Rattle.llb_ops.specs.declared.fault.OpFault.{OpFault}
 use Rattle.llb_ops.specs.Faults as ops
 use Rattle.llb_ops.specs.Definition.{definition_of}
@@ -10,6 +9,7 @@ use Rattle.llb_commands.specs.declared.bounded.ReadFault.{ReadFault}
 use Rattle.llb_commands.specs.declared.bounded.ReadFault.TheVariants as reading
 use Rattle.llb_commands.specs.declared.fault.ProgramFault.{ProgramFault}
 use Rattle.llb_commands.specs.declared.fault.ProgramFault.TheVariants as fault
+use Rattle.llb_commands.specs.Io.{Stream, IsKept}
 use Rattle.llb_commands.specs.Running.{IsRefusal, TellsRefusal}
 use Rattle.llb_commands.specs.Assembly.{IsOut, IsPartOut, IsAssembled, IsNoText, IsUnread}
 
@@ -32,10 +32,9 @@ text_unread_as (reading.Unending interrupted) = fault.Read
 text_unread_as reading.Memory = fault.Memory
 
 -- the text made from the input is written; or there is a fault, and at most a prefix of the text is written
-abbrev pub EndsIn : (List ℕ → List ℕ → Type 0) → (ProgramFault → List ℕ → Type 0) → Option (List ℕ) → Option (List ℕ) → Option (List ℕ)
-    → Result (Unit {0}) ProgramFault → Type 0
-EndsIn Comes IsRefused input out out' (Ok u) = IfSome input (IsOut Comes out out')
-EndsIn Comes IsRefused input out out' (Err e) = (Keeps out out' × TellsRefusal IsRefused input e) ⊎ ((¬ IsRefusal e) × IfSome input (IsPartOut Comes out out'))
+abbrev pub EndsIn : (List ℕ → List ℕ → Type 0) → (ProgramFault → List ℕ → Type 0) → Option (List ℕ) → Stream → Result (Unit {0}) ProgramFault → Type 0
+EndsIn Comes IsRefused input output (Ok u) = IfSome input (IsOut Comes output)
+EndsIn Comes IsRefused input output (Err e) = (IsKept output × TellsRefusal IsRefused input e) ⊎ ((¬ IsRefusal e) × IfSome input (IsPartOut Comes output))
 
 -- the definition that a text is assembled to, or why there is none
 abbrev pub IsDefinitionOf : List ℕ → Result (List ℕ) ProgramFault → Type 0

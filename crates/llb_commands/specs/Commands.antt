@@ -1,12 +1,12 @@
 -- How each command ends, and the program.
 use Rattle.std.specs.Prelude.{◌⊎◌, ℕ, List, [], Option, Some, None, Ok, Err}
 use Rattle.std.specs.Borrow.{Bor}
-use Rattle.std.specs.Io.KnownBytes.{Keeps}
 use Rattle.clap.specs.Words.{Text, fault_of, subcommand_of}
 use Rattle.llb_loader.specs.Locals.{Local}
 use Rattle.llb_commands.specs.Answer.{Runs, Draws}
 use Rattle.llb_commands.specs.Assembly.{Assembles, Disassembles}
 use Rattle.llb_commands.specs.CommandLine.{llbm_app, given, IsByWords, Says, TellsWords}
+use Rattle.llb_commands.specs.Io.{Io, IsKept}
 use Rattle.llb_commands.specs.Pages.{HasPage, TellsWithPage}
 use Rattle.llb_commands.specs.Sources.{Gathers, TellsSource}
 use Rattle.llb_commands.specs.Stepping.{Steps}
@@ -22,54 +22,50 @@ abbrev pub Shelf : Type 0
 Shelf = List ℕ → Option (List ℕ)
 
 -- a session over the definition in a file; where no file is named, or it is not opened or not read, nothing is written but the line that says so
-abbrev pub StepsAt : Shelf → Option (Bor (List ℕ)) → ℕ → List Local → Option (List ℕ) → Option (List ℕ) → Option (List ℕ) → Option (List ℕ)
-    → Option (List ℕ) → Option (List ℕ) → ℕ → Type 0
-StepsAt files None workers locals commands commands' out out' err err' status = Keeps out out' × TellsWords err err' (Words None) status
-StepsAt files (Some file) workers locals commands commands' out out' err err' status =
-    Steps locals workers (files file.now) commands commands' out out' err err' status
+abbrev pub StepsAt : Shelf → Option (Bor (List ℕ)) → ℕ → List Local → Io → ℕ → Type 0
+StepsAt files None workers locals io status = IsKept io.output × TellsWords io.errors.before io.errors.after (Words None) status
+StepsAt files (Some file) workers locals io status = Steps workers locals (files file.now) io status
 
-abbrev pub PerformsAs : Shelf → Command → Line → List Local → Option (List ℕ) → Option (List ℕ) → Option (List ℕ) → Option (List ℕ) → Option (List ℕ)
-    → Option (List ℕ) → ℕ → Type 0
-PerformsAs files Run line locals input input' = Runs line.workers locals input
-PerformsAs files Show line locals input input' = Draws input
-PerformsAs files Step line locals input input' = StepsAt files line.file line.workers locals input input'
-PerformsAs files Assemble line locals input input' = Assembles input
-PerformsAs files Disassemble line locals input input' = Disassembles input
+-- the command ends as it does by itself, on the line's workers and file
+abbrev pub PerformsAs : Shelf → Command → Line → List Local → Io → ℕ → Type 0
+PerformsAs files Run line locals io = Runs line.workers locals io
+PerformsAs files Show line locals io = Draws io
+PerformsAs files Step line locals io = StepsAt files line.file line.workers locals io
+PerformsAs files Assemble line locals io = Assembles io
+PerformsAs files Disassemble line locals io = Disassembles io
 
-abbrev pub Performs : Shelf → Line → List Local → Option (List ℕ) → Option (List ℕ) → Option (List ℕ) → Option (List ℕ) → Option (List ℕ) → Option (List ℕ)
-    → ℕ → Type 0
+abbrev pub Performs : Shelf → Line → List Local → Io → ℕ → Type 0
 Performs files line = PerformsAs files line.command line
 
 -- The words are refused, and a line says so; the page that they ask for follows it.
-pub record IsRefusedByWords (words : List Text) (out out' err err' : Option (List ℕ)) (status : ℕ) : Type 0 where
+pub record IsRefusedByWords (words : List Text) (io : Io) (status : ℕ) : Type 0 where
   pub fault : WordsFault
   pub page : Text
   pub refused : IsByWords (fault_of llbm_app words) (given (subcommand_of llbm_app words)) (Err fault)
   pub asked : HasPage (fault_of llbm_app words) words fault page
-  pub none : Keeps out out'
-  pub told : TellsWithPage err err' fault page status
+  pub none : IsKept io.output
+  pub told : TellsWithPage io.errors.before io.errors.after fault page status
 
 -- The words name a local source that has no tree, and a line says why.
-pub record LacksSource (files : Shelf) (line : Line) (out out' err err' : Option (List ℕ)) (status : ℕ) : Type 0 where
+pub record LacksSource (files : Shelf) (line : Line) (io : Io) (status : ℕ) : Type 0 where
   pub fault : SourceFault
   pub gathered : Gathers files line.locals [] (Err fault)
-  pub none : Keeps out out'
-  pub told : TellsSource err err' fault status
+  pub none : IsKept io.output
+  pub told : TellsSource io.errors.before io.errors.after fault status
 
 -- The command is done on the trees of the local sources.
-pub record IsDone (files : Shelf) (line : Line) (input input' out out' err err' : Option (List ℕ)) (status : ℕ) : Type 0 where
+pub record IsDone (files : Shelf) (line : Line) (io : Io) (status : ℕ) : Type 0 where
   pub locals : List Local
   pub gathered : Gathers files line.locals [] (Ok locals)
-  pub done : Performs files line locals input input' out out' err err' status
+  pub done : Performs files line locals io status
 
-pub record IsAsked (files : Shelf) (words : List Text) (input input' out out' err err' : Option (List ℕ)) (status : ℕ) : Type 0 where
+-- The words are a line, and what it asks for is done, or cannot be for want of a local source's tree.
+pub record IsAsked (files : Shelf) (words : List Text) (io : Io) (status : ℕ) : Type 0 where
   pub line : Line
   pub taken : IsByWords (fault_of llbm_app words) (given (subcommand_of llbm_app words)) (Ok line)
   pub says : Says (subcommand_of llbm_app words) line
-  pub does : LacksSource files line out out' err err' status ⊎ IsDone files line input input' out out' err err' status
+  pub does : LacksSource files line io status ⊎ IsDone files line io status
 
 -- the whole program
-abbrev pub IsProgram : Shelf → List Text → Option (List ℕ) → Option (List ℕ) → Option (List ℕ) → Option (List ℕ) → Option (List ℕ) → Option (List ℕ) → ℕ
-    → Type 0
-IsProgram files words input input' out out' err err' status =
-    IsRefusedByWords words out out' err err' status ⊎ IsAsked files words input input' out out' err err' status
+abbrev pub IsProgram : Shelf → List Text → Io → ℕ → Type 0
+IsProgram files words io status = IsRefusedByWords words io status ⊎ IsAsked files words io status

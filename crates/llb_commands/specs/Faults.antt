@@ -6,6 +6,7 @@ use Rattle.llb_asm.specs.Faults.{asm_text}
 use Rattle.llb_treetext.specs.Faults.{reading_text, printing_text}
 use Rattle.llb_loader.specs.Faults.{load_text}
 use Rattle.llb_work.specs.Faults.{run_text}
+use Rattle.llb_commands.specs.Io.{Stream, IsWritten}
 use Rattle.llb_commands.specs.declared.fault.OutputFault.{OutputFault}
 use Rattle.llb_commands.specs.declared.fault.OutputFault.TheVariants as output
 use Rattle.llb_commands.specs.declared.fault.ProgramFault.{ProgramFault}
@@ -63,5 +64,5 @@ abbrev pub Tells : Option (List ℕ) → Option (List ℕ) → ProgramFault → 
 Tells err err' e = TellsLine err err' (program_text e) (status_of e)
 
 -- the input is refused, and the line of the fault that says why is written
-abbrev pub TellsWhy : (ProgramFault → List ℕ → Type 0) → Option (List ℕ) → Option (List ℕ) → Option (List ℕ) → Type 0
-TellsWhy IsRefused input err err' = (e : ProgramFault) × IfSome input (IsRefused e) × Appends err err' (fault_line (program_text e))
+abbrev pub TellsWhy : (ProgramFault → List ℕ → Type 0) → Option (List ℕ) → Stream → Type 0
+TellsWhy IsRefused input errors = (e : ProgramFault) × IfSome input (IsRefused e) × IsWritten errors (fault_line (program_text e))

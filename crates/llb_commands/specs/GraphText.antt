@@ -1,26 +1,15 @@
 -- The text of a graph: one line for each vertex by number, and one for the result.
-use Rattle.std.specs.Prelude.{ℕ, List, [], ◌∷◌, ◌++◌, codes, Bool, true, false, Option, Some, None, Result}
+use Rattle.std.specs.Prelude.{ℕ, List, [], ◌∷◌, ◌++◌, codes, Bool, true, false, Option, Result}
 use Rattle.std.specs.List.{flat_map, enumerate_from}
 use Rattle.std.specs.Fmt.{decimal}
 use Rattle.llb_wire.specs.Answer as answer
-use Rattle.llb_ops.specs.declared.op.Kind.{Kind}
-use Rattle.llb_ops.specs.declared.op.Kind.TheVariants.{Exec, Source, File, Build, Merge, Diff}
 use Rattle.llb_loader.specs.declared.graph.Edge.{Edge}
 use Rattle.llb_loader.specs.declared.graph.Vertex.{Vertex}
 use Rattle.llb_loader.specs.Graph.{Numbered}
+use Rattle.llb_stepper.specs.Records.{kind_text}
 use Rattle.llb_commands.specs.Output as output
 use Rattle.llb_commands.specs.declared.fault.OutputFault.{OutputFault}
 use Rattle.llb_commands.specs.declared.fault.OutputFault.TheVariants.{Write, Memory}
-
--- the kind of an op; no graph has an op of the last two, or of none
-abbrev pub kind_text : Option Kind → List ℕ
-kind_text (Some (Source s)) = codes "source"
-kind_text (Some (File f)) = codes "file"
-kind_text (Some (Merge m)) = codes "merge"
-kind_text (Some (Exec e)) = codes "exec"
-kind_text (Some (Build b)) = codes "build"
-kind_text (Some (Diff d)) = codes "diff"
-kind_text None = codes "none"
 
 -- the text of an edge: its vertex and its index
 abbrev pub edge_text : Edge → List ℕ

@@ -1,15 +1,15 @@
 -- How a stepping session over the run of a definition ends.
 use Rattle.std.specs.Prelude.{◌≡◌, ◌⊎◌, ℕ, List, [], Option, Result, Ok, Err, IfSome}
-use Rattle.std.specs.Io.KnownBytes.{Appends, Keeps}
 use Rattle.llb_loader.specs.Graph.{Numbered}
 use Rattle.llb_loader.specs.Load.{IsGraphIn}
 use Rattle.llb_loader.specs.Locals.{Local}
 use Rattle.llb_state.specs.Board.{opened}
 use Rattle.llb_stepper.specs.Stepping.{Stepping}
-use Rattle.llb_session.specs.Conversation.{Converses}
+use Rattle.llb_session.specs.Conversation.{Conversation, Converses}
 use Rattle.llb_session.specs.declared.fault.SessionFault.{SessionFault}
 use Rattle.llb_session.specs.declared.fault.SessionFault.TheVariants as session
-use Rattle.llb_commands.specs.Answer.{build_of, IsRefused, IsUnopened}
+use Rattle.llb_commands.specs.Answer.{build_of, IsNotRun}
+use Rattle.llb_commands.specs.Io.{Io, Stream, IsKept, IsWritten}
 use Rattle.llb_commands.specs.Running.{TellsRefusal}
 use Rattle.llb_commands.specs.Faults.{TellsWhy, fault_line, program_text}
 use Rattle.llb_commands.specs.Sources.{limit, most_reads}
@@ -21,17 +21,23 @@ use Rattle.llb_commands.specs.declared.fault.ProgramFault.TheVariants as fault
 abbrev pub begun : List Local → Numbered → ℕ → Stepping
 begun locals g workers = record { board = opened (build_of locals g) workers []; past = []; breaks = [] }
 
--- bytes that are no definition of a graph, or of one on which no board is opened, and why
-abbrev pub IsNotOpened : List Local → ℕ → ProgramFault → List ℕ → Type 0
-IsNotOpened locals workers p bytes = IsRefused p bytes ⊎ ((g : Numbered) × IsGraphIn bytes g × IsUnopened locals g workers p)
+-- a conversation on a stepper over a graph, within the bounds on commands and on reads
+abbrev pub conversation : List Local → Numbered → ℕ → Stepping → Stream → Stream → Conversation
+conversation locals graph workers end commands output = record {
+  limit = limit;
+  reads = most_reads;
+  before = begun locals graph workers;
+  after = end;
+  commands = commands;
+  replies = output;
+}
 
 -- a session over the graph of the bytes: the replies to the commands are written
-pub record IsSession (locals : List Local) (workers : ℕ) (commands commands' out out' : Option (List ℕ)) (result : Result (Unit {0}) SessionFault)
-    (bytes : List ℕ) : Type 0 where
+pub record IsSession (workers : ℕ) (locals : List Local) (commands output : Stream) (result : Result (Unit {0}) SessionFault) (bytes : List ℕ) : Type 0 where
   pub graph : Numbered
   pub loaded : IsGraphIn bytes graph
   pub end : Stepping
-  pub talks : Converses limit most_reads (begun locals graph workers) end commands commands' out out' result
+  pub talks : Converses (conversation locals graph workers end commands output) result
 
 -- how a fault of a session is passed on
 abbrev pub session_fault : SessionFault → ProgramFault
@@ -42,24 +48,22 @@ session_fault session.Memory = fault.Memory
 session_fault session.TooLong = fault.TooLong
 
 -- a session went on to its end; or there is none, and nothing is written; or it ended with a fault
-abbrev pub StepsIn : List Local → ℕ → Option (List ℕ) → Option (List ℕ) → Option (List ℕ) → Option (List ℕ) → Option (List ℕ)
-    → Result (Unit {0}) ProgramFault → Type 0
-StepsIn locals workers file commands commands' out out' (Ok u) = IfSome file (IsSession locals workers commands commands' out out' (Ok u))
-StepsIn locals workers file commands commands' out out' (Err e) =
-    (Keeps out out' × TellsRefusal (IsNotOpened locals workers) file e)
-    ⊎ ((f : SessionFault) × (e ≡ session_fault f) × IfSome file (IsSession locals workers commands commands' out out' (Err f)))
+abbrev pub StepsIn : ℕ → List Local → Option (List ℕ) → Stream → Stream → Result (Unit {0}) ProgramFault → Type 0
+StepsIn workers locals file commands output (Ok u) = IfSome file (IsSession workers locals commands output (Ok u))
+StepsIn workers locals file commands output (Err e) =
+    (IsKept output × TellsRefusal (IsNotRun workers locals) file e)
+    ⊎ ((f : SessionFault) × (e ≡ session_fault f) × IfSome file (IsSession workers locals commands output (Err f)))
 
 -- a session that ended with some fault
-abbrev pub IsBroken : List Local → ℕ → Option (List ℕ) → Option (List ℕ) → Option (List ℕ) → Option (List ℕ) → List ℕ → Type 0
-IsBroken locals workers commands commands' out out' bytes = (f : SessionFault) × IsSession locals workers commands commands' out out' (Err f) bytes
+abbrev pub IsBroken : ℕ → List Local → Stream → Stream → List ℕ → Type 0
+IsBroken workers locals commands output bytes = (f : SessionFault) × IsSession workers locals commands output (Err f) bytes
 
--- How the command ends. 0: the session went on to its end. 2: the bytes are refused, a local tree is missing, or the number of workers is not 1 to 64, and
--- nothing is written but the line that says which; or there were too many bytes of commands, which a line says. 3: a device or memory failed; nothing is
--- written, or the replies up to there.
-abbrev pub Steps : List Local → ℕ → Option (List ℕ) → Option (List ℕ) → Option (List ℕ) → Option (List ℕ) → Option (List ℕ) → Option (List ℕ)
-    → Option (List ℕ) → ℕ → Type 0
-Steps locals workers file commands commands' out out' err err' status =
-    ((status ≡ 0) × Keeps err err' × IfSome file (IsSession locals workers commands commands' out out' (Ok tt)))
-    ⊎ (((status ≡ 2) × ((Keeps out out' × TellsWhy (IsNotOpened locals workers) file err err')
-    ⊎ (IfSome file (IsSession locals workers commands commands' out out' (Err session.TooLong)) × Appends err err' (fault_line (program_text fault.TooLong)))))
-    ⊎ ((status ≡ 3) × (Keeps out out' ⊎ IfSome file (IsBroken locals workers commands commands' out out'))))
+-- How the command ends, by the definition in a file, with the commands as its input. 0: the session went on to its end. 2: the bytes are refused, a local
+-- tree is missing, or the number of workers is not 1 to 64, and nothing is written but the line that says which; or there were too many bytes of commands,
+-- which a line says. 3: a device or memory failed; nothing is written, or the replies up to there.
+abbrev pub Steps : ℕ → List Local → Option (List ℕ) → Io → ℕ → Type 0
+Steps workers locals file io status =
+    ((status ≡ 0) × IsKept io.errors × IfSome file (IsSession workers locals io.input io.output (Ok tt)))
+    ⊎ (((status ≡ 2) × ((IsKept io.output × TellsWhy (IsNotRun workers locals) file io.errors)
+    ⊎ (IfSome file (IsSession workers locals io.input io.output (Err session.TooLong)) × IsWritten io.errors (fault_line (program_text fault.TooLong)))))
+    ⊎ ((status ≡ 3) × (IsKept io.output ⊎ IfSome file (IsBroken workers locals io.input io.output))))

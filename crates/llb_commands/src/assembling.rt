@@ -74,7 +74,7 @@ fn assembled<R: Read, W: Write>(
     input: &mut R,
     out: &mut W,
 ) -> Result<(), ProgramFault>
-    ensures { EndsIn IsAssembled IsNoText (R.remaining input.old) (W.contents out.old) (W.contents out.new) result }
+    ensures { EndsIn IsAssembled IsNoText (R.remaining input.old) (record { before = W.contents out.old; after = W.contents out.new }) result }
 {
     let definition = definition_from(alloc, input)?;
     match bytes_over(definition.as_slice(), out) {
@@ -96,7 +96,11 @@ pub fn asm_over<R: Read, W: Write, E: Write>(
     out: &mut W,
     err: &mut E,
 ) -> u8
-    ensures { Assembles (R.remaining input.old) (W.contents out.old) (W.contents out.new) (E.contents err.old) (E.contents err.new) result }
+    ensures { Assembles (record {
+      input = record { before = R.remaining input.old; after = R.remaining input.new };
+      output = record { before = W.contents out.old; after = W.contents out.new };
+      errors = record { before = E.contents err.old; after = E.contents err.new };
+    }) result }
 {
     match assembled(alloc, input, out) {
         Ok(()) => 0,

@@ -147,7 +147,7 @@ pub fn llbm_command<'a>(alloc: Global) -> Result<clap::Command<'a>, AllocError>
     graph_commands(alloc)?.subcommand(asm)?.subcommand(dis)
 }
 
-// The command of that name.
+// The command of that name; that there is none cannot be met.
 fn command_named(name: &str) -> Command
     requires { IsName name.now }
     ensures { name_of result ≡ name.now }
@@ -221,7 +221,7 @@ fn line_of<'a>(
 }
 
 // The command `run` on no local sources.
-fn run_alone<'a>(alloc: Global) -> Line<'a>
+fn bare_run<'a>(alloc: Global) -> Line<'a>
     ensures { Says None result }
 {
     Line {
@@ -263,7 +263,7 @@ pub(crate) fn line_or_page<'a, S: AsStr>(
     };
     match matches.subcommand() {
         Some((name, own)) => Ok(line_of(alloc, command_named(name), own)?),
-        None => Ok(run_alone(alloc)),
+        None => Ok(bare_run(alloc)),
     }
 }
 

@@ -52,7 +52,7 @@ fn disassembled<R: Read, W: Write>(
     input: &mut R,
     out: &mut W,
 ) -> Result<(), ProgramFault>
-    ensures { EndsIn IsDisassembled IsUnread (R.remaining input.old) (W.contents out.old) (W.contents out.new) result }
+    ensures { EndsIn IsDisassembled IsUnread (R.remaining input.old) (record { before = W.contents out.old; after = W.contents out.new }) result }
 {
     let entries = entries_from(alloc, input)?;
     match text_over(alloc, &entries, out) {
@@ -74,7 +74,11 @@ pub fn dis_over<R: Read, W: Write, E: Write>(
     out: &mut W,
     err: &mut E,
 ) -> u8
-    ensures { Disassembles (R.remaining input.old) (W.contents out.old) (W.contents out.new) (E.contents err.old) (E.contents err.new) result }
+    ensures { Disassembles (record {
+      input = record { before = R.remaining input.old; after = R.remaining input.new };
+      output = record { before = W.contents out.old; after = W.contents out.new };
+      errors = record { before = E.contents err.old; after = E.contents err.new };
+    }) result }
 {
     match disassembled(alloc, input, out) {
         Ok(()) => 0,

@@ -2,30 +2,13 @@
 //! time.
 
 ghost use Rattle.std.specs.Prelude.{◌≡◌, ◌++◌, Ok, string_bytes};
-ghost use Rattle.llb_commands.specs.GraphText.{Gives, kind_text, inputs_text, input_text, vertex_line, vertex_lines, result_line, graph_text, Writes};
+ghost use Rattle.llb_commands.specs.GraphText.{Gives, inputs_text, input_text, vertex_line, vertex_lines, result_line, graph_text, Writes};
 
 use crate::fault::OutputFault;
 use llb_loader::{Edge, Graph, Vertex};
-use llb_ops::{Kind, Op};
+use llb_stepper::kind_name;
 use llb_wire::{Sink, write_all};
 use std::alloc::Global;
-
-// The name of an op's kind. No graph has an op of the last two, or of none.
-fn kind_name(op: &Op) -> &'static str
-    ensures { result.now ≡ kind_text op.now.kind }
-{
-    match &op.kind {
-        Some(kind) => match kind {
-            Kind::Source(_) => "source",
-            Kind::File(_) => "file",
-            Kind::Merge(_) => "merge",
-            Kind::Exec(_) => "exec",
-            Kind::Build(_) => "build",
-            Kind::Diff(_) => "diff",
-        },
-        None => "none",
-    }
-}
 
 // A space, the vertex and the index of an input.
 fn push_input(line: &mut String, input: Edge) -> Result<(), OutputFault>

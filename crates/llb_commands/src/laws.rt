@@ -11,8 +11,8 @@ use llb_asm::one_answer;
 use llb_board::Board;
 use llb_loader::{Graph, Locals, load, one_answer_in};
 use llb_ops::{Entries, definition_is_read_again};
-use llb_session::laws::go_tells_the_run;
-use llb_stepper::{Stepper, past_is_the_records, replay_is_the_run, tells_the_run};
+use llb_session::laws::go_prints_the_run;
+use llb_stepper::{Stepper, past_is_the_records, record_is_the_run, replay_is_the_run};
 use llb_wire::Bytes;
 use std::alloc::Global;
 
@@ -52,9 +52,16 @@ pub fn aim(
     let stepped = stepper.board();
     stepped.replays();
     past_is_the_records(stepper);
-    tells_the_run(stepper);
-    go_tells_the_run(stepper);
+    record_is_the_run(stepper);
+    go_prints_the_run(stepper);
     replay_is_the_run(board);
+}
+
+/// What a board is opened with beside its graph.
+#[derive(Drop)]
+pub struct BoardOptions {
+    pub locals: Locals,
+    pub workers: u32,
 }
 
 /// A caller of `aim`: the results of the calls that load a definition, open boards over its graph and make a stepper meet its premises.
@@ -63,9 +70,8 @@ pub fn aim_is_met(
     text: &[u8],
     definition: &Bytes,
     entries: &Entries,
-    locals: Locals,
-    workers: u32,
-    others: Locals,
+    board: BoardOptions,
+    stepper: BoardOptions,
 ) -> Result<(Board, Stepper), ProgramFault>
     ensures { IfOk result (λ made. (graph : Numbered) × IsAccepted definition.now graph made.0 made.1
         × Aim text.now definition.now entries.now graph made.0 made.1) }
@@ -80,8 +86,10 @@ pub fn aim_is_met(
     let Ok(second) = graph.copy() else {
         return Err(ProgramFault::Memory);
     };
+    let BoardOptions { locals, workers } = board;
     let board = opened(alloc, first, locals, workers)?;
-    let other = opened(alloc, second, others, 1)?;
+    let BoardOptions { locals, workers } = stepper;
+    let other = opened(alloc, second, locals, workers)?;
     let stepper = Stepper::new(alloc, other);
     aim(text, definition, entries, &graph, &board, &stepper);
     Ok((board, stepper))

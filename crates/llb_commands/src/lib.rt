@@ -26,7 +26,7 @@ pub use disassembling::dis_over;
 pub use fault::{OutputFault, ProgramFault, refusal};
 pub use graph_text::print_graph;
 pub use input::unread;
-pub use performing::{perform, program};
+pub use performing::{Streams, perform, program};
 pub use run::{run_many_over, run_over};
 pub use show::show_over;
 pub use sources::{SourceFault, Sources, local_from, locals_of, source_refusal};

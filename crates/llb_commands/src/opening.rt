@@ -3,13 +3,15 @@
 ghost use Rattle.std.specs.Prelude.{◌≡◌, [], IfOk, IfErr};
 ghost use Rattle.llb_state.specs.Board.{opened};
 ghost use Rattle.llb_commands.specs.Answer.{build_of, IsUnopened};
-ghost use Rattle.llb_commands.specs.Running.{IsRefusal};
+ghost use Rattle.llb_commands.specs.Running.{IsRefusal, Opens};
 
 use crate::fault::ProgramFault;
+use crate::input::loaded;
 use llb_board::{Board, OpenFault};
 use llb_cache::Caches;
 use llb_loader::{Graph, Locals};
 use std::alloc::Global;
+use std::io::Read;
 
 /// Opens a board with this number of workers and no caches, or fails with why there is none.
 pub(crate) fn opened(
@@ -27,4 +29,17 @@ pub(crate) fn opened(
         Err(OpenFault::Workers(_, _, _)) => Err(ProgramFault::Workers),
         Err(OpenFault::Memory(_, _, _)) => Err(ProgramFault::Opening),
     }
+}
+
+/// Opens a board on the graph of the definition that is read, or fails with why there is none.
+pub(crate) fn opened_on<R: Read>(
+    alloc: Global,
+    input: &mut R,
+    locals: Locals,
+    workers: u32,
+) -> Result<Board, ProgramFault>
+    ensures { Opens workers locals (R.remaining input.old) result }
+{
+    let graph = loaded(alloc, input)?;
+    opened(alloc, graph, locals, workers)
 }

@@ -1,54 +1,49 @@
-//! Dispatches a command line: one of the commands, over the readers, writers and local trees; and the program whole.
+//! Dispatches a command line: one of the commands, over the program's streams and the local trees; and the program whole.
 
 ghost use Rattle.std.specs.Prelude.{map};
-ghost use Rattle.llb_commands.specs.Commands.{IsProgram, Performs, StepsAt};
-ghost use Rattle.llb_commands.specs.Running.{Loads};
+ghost use Rattle.llb_commands.specs.Commands.{IsProgram, Performs};
+ghost use Rattle.llb_commands.specs.Running.{Opens};
 
 use crate::assembling::asm_over;
 use crate::command_line::line_or_page;
 use crate::disassembling::dis_over;
 use crate::fault::ProgramFault;
-use crate::input::loaded;
+use crate::opening::opened_on;
 use crate::run::run_many_over;
 use crate::show::show_over;
 use crate::sources::{Sources, locals_of, source_refusal};
 use crate::stepping::session_over;
 use crate::words::{Command, Line, WordsFault, tell_refusal, words_refusal};
-use llb_loader::{Graph, Locals};
+use llb_board::Board;
+use llb_loader::Locals;
 use std::alloc::Global;
 use std::convert::AsStr;
 use std::io::{Read, Write};
 use std::sync::Wait;
 use std::thread::Threads;
 
-// The graph of the definition in a file, which is read to its end and closed; or 181 where it is not opened.
-fn graph_in<S: Sources>(alloc: Global, sources: &S, file: &str) -> Result<Graph, ProgramFault>
-    ensures { Loads (S.bytes sources.now file.now) result }
-{
-    match sources.open(file) {
-        Ok(mut definition) => loaded(alloc, &mut definition),
-        Err(_) => Err(ProgramFault::Read),
-    }
+/// What the program reads, what it writes, and where it writes the lines of faults and failures.
+#[derive(Drop)]
+pub struct Streams<R, W, E> {
+    pub input: R,
+    pub out: W,
+    pub err: E,
 }
 
-// Steps through the definition in a file.
-fn step_in<S: Sources, R: Read, W: Write, E: Write>(
+// The board of the definition in a file, which is read to its end and closed; or 181 where it is not opened.
+fn board_of<S: Sources>(
     alloc: Global,
     sources: &S,
-    line: &Line<'_>,
+    file: &str,
     locals: Locals,
-    input: &mut R,
-    out: &mut W,
-    err: &mut E,
-) -> u8
-    ensures { StepsAt (S.bytes sources.now) line.now.file line.now.workers locals (R.remaining input.old) (R.remaining input.new)
-        (W.contents out.old) (W.contents out.new) (E.contents err.old) (E.contents err.new) result }
+    workers: u32,
+) -> Result<Board, ProgramFault>
+    ensures { Opens workers locals (S.bytes sources.now file.now) result }
 {
-    let Some(file) = line.file else {
-        return words_refusal(&WordsFault::Words(None), err);
-    };
-    let graph = graph_in(alloc, sources, file);
-    session_over(alloc, graph, input, out, err, locals, line.workers)
+    match sources.open(file) {
+        Ok(mut definition) => opened_on(alloc, &mut definition, locals, workers),
+        Err(_) => Err(ProgramFault::Read),
+    }
 }
 
 /// Does what the line says on the local trees, which are those of its local sources, and returns the exit status: that of the
@@ -57,20 +52,28 @@ fn step_in<S: Sources, R: Read, W: Write, E: Write>(
 pub fn perform<T: Threads + Wait + Sync, S: Sources, R: Read, W: Write, E: Write>(
     rt: &T,
     alloc: Global,
-    sources: &S,
     line: &Line<'_>,
+    sources: &S,
+    streams: &mut Streams<R, W, E>,
     locals: Locals,
-    input: &mut R,
-    out: &mut W,
-    err: &mut E,
 ) -> u8
-    ensures { Performs (S.bytes sources.now) line.now locals (R.remaining input.old) (R.remaining input.new)
-        (W.contents out.old) (W.contents out.new) (E.contents err.old) (E.contents err.new) result }
+    ensures { Performs (S.bytes sources.now) line.now locals (record {
+      input = record { before = R.remaining streams.old.input; after = R.remaining streams.new.input };
+      output = record { before = W.contents streams.old.out; after = W.contents streams.new.out };
+      errors = record { before = E.contents streams.old.err; after = E.contents streams.new.err };
+    }) result }
 {
+    let Streams { input, out, err } = streams;
     match line.command {
         Command::Run => run_many_over(rt, alloc, input, out, err, locals, line.workers),
         Command::Show => show_over(alloc, input, out, err),
-        Command::Step => step_in(alloc, sources, line, locals, input, out, err),
+        Command::Step => {
+            let Some(file) = line.file else {
+                return words_refusal(&WordsFault::Words(None), err);
+            };
+            let board = board_of(alloc, sources, file, locals, line.workers);
+            session_over(alloc, board, input, out, err)
+        }
         Command::Assemble => asm_over(alloc, input, out, err),
         Command::Disassemble => dis_over(alloc, input, out, err),
     }
@@ -85,19 +88,20 @@ pub fn program<T: Threads + Wait + Sync, A: AsStr, S: Sources, R: Read, W: Write
     alloc: Global,
     words: &[A],
     sources: &S,
-    input: &mut R,
-    out: &mut W,
-    err: &mut E,
+    streams: &mut Streams<R, W, E>,
 ) -> u8
-    ensures { IsProgram (S.bytes sources.now) (map A.text words.now) (R.remaining input.old) (R.remaining input.new)
-        (W.contents out.old) (W.contents out.new) (E.contents err.old) (E.contents err.new) result }
+    ensures { IsProgram (S.bytes sources.now) (map A.text words.now) (record {
+      input = record { before = R.remaining streams.old.input; after = R.remaining streams.new.input };
+      output = record { before = W.contents streams.old.out; after = W.contents streams.new.out };
+      errors = record { before = E.contents streams.old.err; after = E.contents streams.new.err };
+    }) result }
 {
     let line = match line_or_page(alloc, words) {
         Ok(line) => line,
-        Err(refusal) => return tell_refusal(&refusal, err),
+        Err(refusal) => return tell_refusal(&refusal, &mut streams.err),
     };
     match locals_of(alloc, sources, line.locals.as_slice()) {
-        Ok(locals) => perform(rt, alloc, sources, &line, locals, input, out, err),
-        Err(fault) => source_refusal(&fault, err),
+        Ok(locals) => perform(rt, alloc, &line, sources, streams, locals),
+        Err(fault) => source_refusal(&fault, &mut streams.err),
     }
 }

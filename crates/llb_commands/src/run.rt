@@ -1,20 +1,20 @@
 //! From the bytes of a definition to the text of its result: read, load, open a board, run it with one worker or with several, print.
 
-ghost use Rattle.std.specs.Prelude.{length, IfOk, IfErr, OnOk};
+ghost use Rattle.std.specs.Prelude.{ℕ, List, Option, length, OnOk};
+ghost use Rattle.std.specs.Io.KnownBytes.{Appends};
+ghost use Rattle.llb_loader.specs.Locals.{Local};
 ghost use Rattle.llb_model.specs.Outcome.{output_in};
 ghost use Rattle.llb_model.specs.State.{ending_at};
-ghost use Rattle.llb_commands.specs.Answer.{IsUnopened, Runs, failed_line, failed_lines};
-ghost use Rattle.llb_commands.specs.Output.{PrintsOut};
 ghost use Rattle.llb_treetext.specs.TreeText.{tree_text};
-ghost use Rattle.llb_commands.specs.Running.{IsFinished, IsRefusal, Shows, Answers, Ends};
-ghost use Rattle.std.specs.Io.KnownBytes.{Appends};
+ghost use Rattle.llb_commands.specs.Answer.{Runs, failed_line, failed_lines};
+ghost use Rattle.llb_commands.specs.Output.{PrintsOut};
+ghost use Rattle.llb_commands.specs.Running.{Answers, Ends, Finishes, Shows};
 
 use crate::fault::{ProgramFault, refusal};
-use crate::input::loaded;
-use crate::opening::opened;
+use crate::opening::opened_on;
 use llb_board::laws::{complete_is_plain, is_consistent};
 use llb_board::{Board, Gate, Status, Stopped};
-use llb_loader::{Edge, Graph, Locals};
+use llb_loader::{Edge, Locals};
 use llb_tree::Tree;
 use llb_treetext::{PrintFault, print_tree};
 use llb_wire::Over;
@@ -38,13 +38,21 @@ impl Gate for Open {
     }
 }
 
-// Runs the graph to its end with one worker.
-fn finished(alloc: Global, graph: Graph, locals: Locals) -> Result<Board, ProgramFault>
-    ensures board { IfOk result (IsFinished 1 locals graph) }
-    ensures fault { IfErr result (λ e. IsRefusal e → IsUnopened locals graph 1 e) }
+// How a run ended that no fault cut short.
+#[derive(Drop)]
+enum Ended {
+    // The text of its result is written.
+    Printed,
+    // A vertex failed, so that the result is no tree: the board has them all.
+    Failed(Board),
+}
+
+// Runs the definition that is read to its end with one worker.
+fn finished<R: Read>(alloc: Global, input: &mut R, locals: Locals) -> Result<Board, ProgramFault>
+    ensures { Finishes 1 locals (R.remaining input.old) result }
 {
-    graph.is_graph();
-    let board = opened(alloc, graph, locals, 1)?;
+    let board = opened_on(alloc, input, locals, 1)?;
+    board.is_graph();
     let RunEnd { board, fault, .. } = run_alone(board);
     is_consistent(&board);
     match fault {
@@ -53,22 +61,20 @@ fn finished(alloc: Global, graph: Graph, locals: Locals) -> Result<Board, Progra
     }
 }
 
-// The same with several, each in a thread of its own.
-fn finished_by<R: Threads + Wait + Sync>(
-    rt: &R,
+// The same with this number of workers, where they are several each in a thread of its own.
+fn finished_by<T: Threads + Wait + Sync, R: Read>(
+    rt: &T,
     alloc: Global,
-    graph: Graph,
+    input: &mut R,
     locals: Locals,
     workers: u32,
 ) -> Result<Board, ProgramFault>
-    ensures board { IfOk result (IsFinished workers locals graph) }
-    ensures fault { IfErr result (λ e. IsRefusal e → IsUnopened locals graph workers e) }
+    ensures { Finishes workers locals (R.remaining input.old) result }
 {
     if workers == 1 {
-        return finished(alloc, graph, locals);
+        return finished(alloc, input, locals);
     }
-    graph.is_graph();
-    let board = opened(alloc, graph, locals, workers)?;
+    let board = opened_on(alloc, input, locals, workers)?;
     let RunEnd { board, fault, .. } = run_workers(rt, alloc, board, &Open);
     is_consistent(&board);
     complete_is_plain(&board);
@@ -86,60 +92,42 @@ fn print_over<W: Write>(alloc: Global, tree: &Tree, out: &mut W) -> Result<(), P
     print_tree(alloc, tree, &mut sink)
 }
 
-// Writes the text of the result, where it is a tree; where it is none, the board comes back.
-fn print_result<W: Write>(
+// Writes the text of an output, where it is a tree; where it is none, the board comes back.
+fn print_output<W: Write>(
     alloc: Global,
     board: Board,
     edge: Edge,
     out: &mut W,
-) -> Result<Option<Board>, ProgramFault>
-    ensures { Shows board (W.contents out.old) (W.contents out.new) (output_in (ending_at board.state.statuses edge.vertex) edge.index) result }
+) -> Result<Ended, ProgramFault>
+    ensures { Shows board (record { before = W.contents out.old; after = W.contents out.new })
+        (output_in (ending_at board.state.statuses edge.vertex) edge.index) result }
 {
     let Some(tree) = board.output(edge.vertex, edge.index) else {
-        return Ok(Some(board));
+        return Ok(Ended::Failed(board));
     };
     match print_over(alloc, tree, out) {
-        Ok(()) => Ok(None),
+        Ok(()) => Ok(Ended::Printed),
         Err(fault) => Err(ProgramFault::Print(fault)),
     }
 }
 
-// The whole way with one worker; a board comes back where the result is no tree.
-fn answer<R: Read, W: Write>(
+// Writes the text of the result of a run that has ended, whatever its definition was read from.
+fn print_result<W: Write>(
     alloc: Global,
-    input: &mut R,
+    board: Result<Board, ProgramFault>,
     out: &mut W,
-    locals: Locals,
-) -> Result<Option<Board>, ProgramFault>
-    ensures { Answers 1 locals (R.remaining input.old) (W.contents out.old) (W.contents out.new) result }
+) -> Result<Ended, ProgramFault>
+    ensures { (workers : ℕ) (locals : List Local) (input : Option (List ℕ)) → Finishes workers locals input board
+        → Answers workers locals input (record { before = W.contents out.old; after = W.contents out.new }) result }
 {
-    let graph = loaded(alloc, input)?;
-    graph.is_graph();
-    let edge = graph.result();
-    let board = finished(alloc, graph, locals)?;
-    print_result(alloc, board, edge, out)
-}
-
-// The same with this number of workers.
-fn answer_by<T: Threads + Wait + Sync, R: Read, W: Write>(
-    rt: &T,
-    alloc: Global,
-    input: &mut R,
-    out: &mut W,
-    locals: Locals,
-    workers: u32,
-) -> Result<Option<Board>, ProgramFault>
-    ensures { Answers workers locals (R.remaining input.old) (W.contents out.old) (W.contents out.new) result }
-{
-    let graph = loaded(alloc, input)?;
-    graph.is_graph();
-    let edge = graph.result();
-    let board = finished_by(rt, alloc, graph, locals, workers)?;
-    print_result(alloc, board, edge, out)
+    let board = board?;
+    board.is_graph();
+    let edge = board.graph().result();
+    print_output(alloc, board, edge, out)
 }
 
 // The line of a vertex, where it has failed.
-fn failure<E: Write>(v: u32, status: Option<Status>, err: &mut E) -> io::Result<()>
+fn print_failure<E: Write>(v: u32, status: Option<Status>, err: &mut E) -> io::Result<()>
     ensures { OnOk result (Appends (E.contents err.old) (E.contents err.new) (failed_line v status)) }
 {
     match status {
@@ -149,32 +137,33 @@ fn failure<E: Write>(v: u32, status: Option<Status>, err: &mut E) -> io::Result<
 }
 
 // A line for each vertex that failed, by number.
-fn failures<E: Write>(board: &Board, err: &mut E) -> io::Result<()>
+fn print_failures<E: Write>(board: &Board, err: &mut E) -> io::Result<()>
     ensures { OnOk result (Appends (E.contents err.old) (E.contents err.new)
         (failed_lines board.now.build board.now.state (length board.now.build.graph.vertices))) }
 {
     board.is_graph();
     for v in 0..board.graph().vertices().len() as u32 {
-        failure(v, board.status(v), err)?;
+        print_failure(v, board.status(v), err)?;
     }
     Ok(())
 }
 
-// The exit status for a result, once its lines are written.
-fn told<W: Write, E: Write>(
-    answer: Result<Option<Board>, ProgramFault>,
+// The exit status for how a run ended, once its lines are written.
+fn exit_status<W: Write, E: Write>(
+    ended: Result<Ended, ProgramFault>,
     out: &mut W,
     err: &mut E,
 ) -> u8
-    ensures { Ends (W.contents out.old) (W.contents out.new) (E.contents err.old) (E.contents err.new) answer result }
+    ensures { Ends (record { before = W.contents out.old; after = W.contents out.new })
+        (record { before = E.contents err.old; after = E.contents err.new }) ended result }
 {
-    match answer {
-        Ok(None) => match out.flush() {
+    match ended {
+        Ok(Ended::Printed) => match out.flush() {
             Ok(()) => 0,
             Err(_) => refusal(&ProgramFault::Print(PrintFault::Write), err),
         },
-        Ok(Some(board)) => {
-            if failures(&board, err).is_err() {
+        Ok(Ended::Failed(board)) => {
+            if print_failures(&board, err).is_err() {
                 return 3;
             }
             1
@@ -195,10 +184,15 @@ pub fn run_over<R: Read, W: Write, E: Write>(
     err: &mut E,
     locals: Locals,
 ) -> u8
-    ensures { Runs 1 locals (R.remaining input.old) (W.contents out.old) (W.contents out.new) (E.contents err.old) (E.contents err.new) result }
+    ensures { Runs 1 locals (record {
+      input = record { before = R.remaining input.old; after = R.remaining input.new };
+      output = record { before = W.contents out.old; after = W.contents out.new };
+      errors = record { before = E.contents err.old; after = E.contents err.new };
+    }) result }
 {
-    let answer = answer(alloc, input, out, locals);
-    told(answer, out, err)
+    let board = finished(alloc, input, locals);
+    let ended = print_result(alloc, board, out);
+    exit_status(ended, out, err)
 }
 
 /// Does the same with this number of workers, where they are several each in a thread of its own, which it waits for. Where no cache is mounted,
@@ -213,8 +207,13 @@ pub fn run_many_over<T: Threads + Wait + Sync, R: Read, W: Write, E: Write>(
     locals: Locals,
     workers: u32,
 ) -> u8
-    ensures { Runs workers locals (R.remaining input.old) (W.contents out.old) (W.contents out.new) (E.contents err.old) (E.contents err.new) result }
+    ensures { Runs workers locals (record {
+      input = record { before = R.remaining input.old; after = R.remaining input.new };
+      output = record { before = W.contents out.old; after = W.contents out.new };
+      errors = record { before = E.contents err.old; after = E.contents err.new };
+    }) result }
 {
-    let answer = answer_by(rt, alloc, input, out, locals, workers);
-    told(answer, out, err)
+    let board = finished_by(rt, alloc, input, locals, workers);
+    let ended = print_result(alloc, board, out);
+    exit_status(ended, out, err)
 }

@@ -24,7 +24,7 @@ fn graph_over<W: Write>(alloc: Global, graph: &Graph, out: &mut W) -> Result<(),
 
 // The whole way.
 fn shown<R: Read, W: Write>(alloc: Global, input: &mut R, out: &mut W) -> Result<(), ProgramFault>
-    ensures { ShowsIn (R.remaining input.old) (W.contents out.old) (W.contents out.new) result }
+    ensures { ShowsIn (R.remaining input.old) (record { before = W.contents out.old; after = W.contents out.new }) result }
 {
     let graph = loaded(alloc, input)?;
     match graph_over(alloc, &graph, out) {
@@ -45,7 +45,11 @@ pub fn show_over<R: Read, W: Write, E: Write>(
     out: &mut W,
     err: &mut E,
 ) -> u8
-    ensures { Draws (R.remaining input.old) (W.contents out.old) (W.contents out.new) (E.contents err.old) (E.contents err.new) result }
+    ensures { Draws (record {
+      input = record { before = R.remaining input.old; after = R.remaining input.new };
+      output = record { before = W.contents out.old; after = W.contents out.new };
+      errors = record { before = E.contents err.old; after = E.contents err.new };
+    }) result }
 {
     match shown(alloc, input, out) {
         Ok(()) => 0,

@@ -94,7 +94,7 @@ fn tree_of<F: Sources>(alloc: Global, files: &F, file: &str) -> Result<Tree, Sou
 }
 
 // Keeps a tree under a name.
-fn keep(alloc: Global, locals: &mut Locals, name: &str, tree: Tree) -> Result<(), SourceFault>
+fn keep(alloc: Global, name: &str, tree: Tree, locals: &mut Locals) -> Result<(), SourceFault>
     ensures ok { OnOk result (locals.new ≡ with_local locals.old name.now tree) }
     ensures err { IfErr result (λ e. e ≡ Adding) }
 {
@@ -119,7 +119,7 @@ pub fn locals_of<F: Sources>(
     let mut trees = Locals::new(alloc);
     for local in locals {
         let tree = tree_of(alloc, files, local.file)?;
-        keep(alloc, &mut trees, local.name, tree)?;
+        keep(alloc, local.name, tree, &mut trees)?;
     }
     Ok(trees)
 }

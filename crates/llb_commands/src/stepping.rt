@@ -1,14 +1,15 @@
 //! A stepping session over the run of a definition: read, load, open a board, reply to the commands.
 
 ghost use Rattle.std.specs.Prelude.{◌≡◌, ℕ, List, Option};
-ghost use Rattle.llb_commands.specs.Running.{Loads};
+ghost use Rattle.llb_loader.specs.Locals.{Local};
+ghost use Rattle.llb_commands.specs.Running.{Opens};
 ghost use Rattle.llb_commands.specs.Stepping.{Steps, StepsIn, session_fault};
 
 use crate::bounded::{LIMIT, READS};
 use crate::fault::{OutputFault, ProgramFault, refusal};
-use crate::input::loaded;
-use crate::opening::opened;
-use llb_loader::{Graph, Locals};
+use crate::opening::opened_on;
+use llb_board::Board;
+use llb_loader::Locals;
 use llb_session::{SessionFault, converse};
 use llb_stepper::Stepper;
 use std::alloc::Global;
@@ -26,20 +27,18 @@ fn session_fault(fault: SessionFault) -> ProgramFault
     }
 }
 
-// The whole way over a definition that was read, whatever it was read from.
+// The whole session on a board, whatever its definition was read from.
 fn stepped<C: Read, W: Write>(
     alloc: Global,
-    graph: Result<Graph, ProgramFault>,
+    board: Result<Board, ProgramFault>,
     commands: &mut C,
     out: &mut W,
-    locals: Locals,
-    workers: u32,
 ) -> Result<(), ProgramFault>
-    ensures { (file : Option (List ℕ)) → Loads file graph → StepsIn locals workers file (C.remaining commands.old) (C.remaining commands.new)
-        (W.contents out.old) (W.contents out.new) result }
+    ensures { (workers : ℕ) (locals : List Local) (file : Option (List ℕ)) → Opens workers locals file board → StepsIn workers locals file
+        (record { before = C.remaining commands.old; after = C.remaining commands.new })
+        (record { before = W.contents out.old; after = W.contents out.new }) result }
 {
-    let graph = graph?;
-    let board = opened(alloc, graph, locals, workers)?;
+    let board = board?;
     let mut stepper = Stepper::new(alloc, board);
     match converse(alloc, &mut stepper, commands, out, LIMIT, READS) {
         Ok(()) => Ok(()),
@@ -47,20 +46,21 @@ fn stepped<C: Read, W: Write>(
     }
 }
 
-/// Runs a session over a definition that was read, whatever it was read from; or passes on the refusal. Returns the exit status.
+/// Runs a session on a board that was opened, whatever its definition was read from; or passes on why there is none. Returns the exit status.
 pub(crate) fn session_over<C: Read, W: Write, E: Write>(
     alloc: Global,
-    graph: Result<Graph, ProgramFault>,
+    board: Result<Board, ProgramFault>,
     commands: &mut C,
     out: &mut W,
     err: &mut E,
-    locals: Locals,
-    workers: u32,
 ) -> u8
-    ensures { (file : Option (List ℕ)) → Loads file graph → Steps locals workers file (C.remaining commands.old) (C.remaining commands.new)
-        (W.contents out.old) (W.contents out.new) (E.contents err.old) (E.contents err.new) result }
+    ensures { (workers : ℕ) (locals : List Local) (file : Option (List ℕ)) → Opens workers locals file board → Steps workers locals file (record {
+      input = record { before = C.remaining commands.old; after = C.remaining commands.new };
+      output = record { before = W.contents out.old; after = W.contents out.new };
+      errors = record { before = E.contents err.old; after = E.contents err.new };
+    }) result }
 {
-    match stepped(alloc, graph, commands, out, locals, workers) {
+    match stepped(alloc, board, commands, out) {
         Ok(()) => 0,
         Err(fault) => refusal(&fault, err),
     }
@@ -81,9 +81,12 @@ pub fn step_over<R: Read, C: Read, W: Write, E: Write>(
     locals: Locals,
     workers: u32,
 ) -> u8
-    ensures { Steps locals workers (R.remaining file.old) (C.remaining commands.old) (C.remaining commands.new)
-        (W.contents out.old) (W.contents out.new) (E.contents err.old) (E.contents err.new) result }
+    ensures { Steps workers locals (R.remaining file.old) (record {
+      input = record { before = C.remaining commands.old; after = C.remaining commands.new };
+      output = record { before = W.contents out.old; after = W.contents out.new };
+      errors = record { before = E.contents err.old; after = E.contents err.new };
+    }) result }
 {
-    let graph = loaded(alloc, file);
-    session_over(alloc, graph, commands, out, err, locals, workers)
+    let board = opened_on(alloc, file, locals, workers);
+    session_over(alloc, board, commands, out, err)
 }

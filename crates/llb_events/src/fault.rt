@@ -1,9 +1,8 @@
-//! Why an event is refused, and why a job has no outcome. A fault prints its number, and after it the ID of a held key.
+//! Why an event is refused. A fault prints its number, and after it the ID of a held key.
 
 ghost use Rattle.std.specs.Prelude.{Some};
 ghost use Rattle.llb_events.specs.Faults.{claim_text, step_text, settle_text, cancel_text, walk_text};
 
-use crate::gate::Stopped;
 use llb_cache::Key;
 use llb_tree::TreeFault;
 use std::alloc::{AllocError, AllocFailed};
@@ -14,17 +13,6 @@ use thiserror::Error;
 #[derive(Clone, Copy, Debug, Error)]
 #[error("141")]
 pub struct Memory;
-
-/// Why a job has no outcome.
-#[derive(Clone, Copy, Debug, Error)]
-pub enum WorkFault {
-    /// 143: the gate let no work begin.
-    #[error("143")]
-    Stopped,
-    /// 142: memory was refused.
-    #[error("142")]
-    Memory,
-}
 
 /// Why a vertex is not claimed: the first cause that applies.
 #[derive(Debug, Drop)]
@@ -210,28 +198,6 @@ impl From<llb_loader::Memory> for Memory {
 impl From<llb_applet::Memory> for Memory {
     fn from(_: llb_applet::Memory) -> Memory {
         Memory
-    }
-}
-
-impl From<Stopped> for WorkFault {
-    ghost use Rattle.std.specs.Prelude.{◌≡◌};
-    ghost use Rattle.llb_events.specs.declared.fault.WorkFault.TheVariants as work;
-
-    ghost from_gives = { λ _ e. e ≡ work.Stopped };
-
-    fn from(_: Stopped) -> WorkFault {
-        WorkFault::Stopped
-    }
-}
-
-impl From<Memory> for WorkFault {
-    ghost use Rattle.std.specs.Prelude.{◌≡◌};
-    ghost use Rattle.llb_events.specs.declared.fault.WorkFault.TheVariants as work;
-
-    ghost from_gives = { λ _ e. e ≡ work.Memory };
-
-    fn from(_: Memory) -> WorkFault {
-        WorkFault::Memory
     }
 }
 

@@ -1,11 +1,9 @@
-//! What is asked of a board and its replies: the events, their replies, how vertices and workers look, why an event is refused, and
-//! the gate before work. Types alone: which event is granted, and what it changes, is the board's. It is built on `llb_model`.
+//! What is asked of a board and its replies: the events, their replies, how vertices and workers look, and why an event is refused.
+//! Types alone: which event is granted, and what it changes, is the board's. It is built on `llb_model`.
 #![tactic(auto)]
 
 mod event;
 mod fault;
-mod gate;
 
 pub use event::{At, Cancelled, Event, Settled, Status, Stepped};
-pub use fault::{CancelFault, ClaimFault, Memory, SettleFault, StepFault, WalkFault, WorkFault};
-pub use gate::{Gate, Stopped};
+pub use fault::{CancelFault, ClaimFault, Memory, SettleFault, StepFault, WalkFault};

@@ -1,7 +1,9 @@
 -- What a micro-step leaves: its work and its fault, and as many mounts and trees as there were.
-use Rattle.std.proofs.Common.{◌≡◌, ◌≢◌, ℕ, ℤ, Bool, true, false, not, cond, List, length, refl, ap, sym, ◌∙◌, arith}
+use Rattle.std.proofs.Common.{◌≡◌, ◌≢◌, ℕ, ℤ, Bool, true, false, not, cond, List, length, refl, ap, sym, subst, ◌∙◌, arith}
 use Rattle.std.specs.Prelude.{Option, Some, None, Result, Ok, Err}
 use Rattle.std.proofs.lemmas.Bool.{false≢true}
+use Rattle.llb_fileop.specs.Act.{act}
+use Rattle.llb_fileop.specs.Faults.{Gives, is_memory}
 use Rattle.llb_fileop.specs.declared.fault.ActFault.{ActFault}
 use Rattle.llb_ops.specs.declared.file.Action.{Action}
 use Rattle.llb_tree.specs.Tree.{TreeMap}
@@ -12,25 +14,43 @@ use Rattle.llb_applet.specs.Commands.{run, status_of, left as left_of}
 use Rattle.llb_model.specs.declared.fault.VertexFault.{VertexFault}
 use Rattle.llb_model.specs.declared.fault.VertexFault.TheVariants as fault
 use Rattle.llb_model.specs.Program.{MicroStep, ReadLocal, Act, LayInput, Run, View, LocalTree, Files, Layers, Mounted, Work, Left, micro_step, tried, step_on}
-use Rattle.llb_model.specs.Program.{trees_in, with_tree, act_among, with_result, fault_number, lay_on, last_of, is_run, no_fault, after_run, exit_of, ran}
-use Rattle.llb_model.specs.Program.{run_on, filled, taken, blanked}
+use Rattle.llb_model.specs.Program.{trees_in, base_in, with_tree, act_among, with_result, fault_number, lay_on, last_of, is_run, no_fault, after_run}
+use Rattle.llb_model.specs.Program.{exit_of, ran, run_on, filled, taken, blanked}
+use Rattle.llb_model.proofs.Parts.{step_keeps}
 use Rattle.llb_execution.specs.Parts.{work_with, left_with, is_skipped, mounts_in, shown_in}
 use Rattle.llb_execution.proofs.Commands.{left_as_many}
 use Rattle.llb_execution.proofs.Exchanges.{as_many_filled}
 
 -- ---- actions
 
--- an action that returns a tree leaves the view with that result more, and no fault
-pub acted : (k : ℕ) (view : View) (a : Action) (t : TreeMap) (trees : List TreeMap) → act_among a (trees_in view) ≡ Ok t
-    → left_with (with_tree view t) trees None ≡ step_on k (Some (Act a)) (work_with view trees)
-unfolding micro_step
-acted k view a t trees is = ap (λ r. tried (work_with view trees) (with_result k view r)) (sym is)
+-- what an action returns is put into the view: its tree as one result more, and then there is no fault
+pub put_tree : (k : ℕ) (view : View) (acted rule : Result TreeMap ActFault) (t : TreeMap) (trees : List TreeMap) → acted ≡ Ok t
+    → Gives (λ t. t) acted rule
+    → left_with (with_tree view t) trees None ≡ tried (work_with view trees) (with_result k view rule)
+put_tree k view acted rule t trees is gives =
+    ap (λ r. tried (work_with view trees) (with_result k view r)) (sym (subst (λ a. Gives (λ t. t) a rule) is gives))
 
--- an action that fails leaves the view as it was, and the fault with the numbers of both
-pub act_failed : (k : ℕ) (view : View) (a : Action) (e : ActFault) (trees : List TreeMap) → act_among a (trees_in view) ≡ Err e
-    → left_with view trees (Some (fault.Action k (fault_number e))) ≡ step_on k (Some (Act a)) (work_with view trees)
+-- or its fault, which is not that of memory, and then the view is as it was
+pub put_fault : (k : ℕ) (view : View) (acted rule : Result TreeMap ActFault) (e : ActFault) (trees : List TreeMap) → acted ≡ Err e → is_memory e ≡ false
+    → Gives (λ t. t) acted rule
+    → left_with view trees (Some (fault.Action k (fault_number e))) ≡ tried (work_with view trees) (with_result k view rule)
+put_fault k view acted rule e trees is other gives =
+    ap (λ r. tried (work_with view trees) (with_result k view r)) (sym (subst (λ a. Gives (λ t. t) a rule) is gives other))
+
+-- an action's result is that of its rule on the trees of a view, where it began with two of these
+pub acts_among : (a : Action) (view : View) (acted result : Result TreeMap ActFault) (base second : TreeMap) (n m : ℤ)
+    → n ≡ a.input → m ≡ a.secondary_input → base ≡ base_in n (trees_in view) → second ≡ base_in m (trees_in view)
+    → acted ≡ result → Gives (λ t. t) result (act a.kind base second) → Gives (λ t. t) acted (act_among a (trees_in view))
+acts_among a view acted result base second n m is_input is_secondary is_base is_second is gives =
+    subst (λ r. Gives (λ t. t) r (act_among a (trees_in view))) (sym is)
+    (subst (λ rule. Gives (λ t. t) result rule)
+    (λ i. act a.kind ((is_base ∙ ap (λ z. base_in z (trees_in view)) is_input) i) ((is_second ∙ ap (λ z. base_in z (trees_in view)) is_secondary) i)) gives)
+
+-- an action leaves what its result leaves
+pub has_acted : (k : ℕ) (view : View) (a : Action) (trees : List TreeMap)
+    → tried (work_with view trees) (with_result k view (act_among a (trees_in view))) ≡ step_on k (Some (Act a)) (work_with view trees)
 unfolding micro_step
-act_failed k view a e trees is = ap (λ r. tried (work_with view trees) (with_result k view r)) (sym is)
+has_acted k view a trees = refl
 
 -- ---- the other micro-steps
 
@@ -160,3 +180,19 @@ seen_so k ReadLocal view trees = record { mounts = refl; shown = refl }
 seen_so k (Act a) view trees = seen_acted k view trees (act_among a (trees_in view))
 seen_so k (LayInput i) view trees = seen_laid i view
 seen_so k (Run s m ends) view trees = seen_run k s m ends view trees
+
+-- what a micro-step leaves, and that it has as many mounts, of which the same show caches, and as many trees
+pub record HasStepped (k : ℕ) (m : MicroStep) (view after : View) (trees now : List TreeMap) (f : Option VertexFault) : Type 0 where
+  pub left : left_with after now f ≡ step_on k (Some m) (work_with view trees)
+  pub mounts : mounts_in after ≡ mounts_in view
+  pub shown : shown_in after ≡ shown_in view
+  pub count : length now ≡ length trees
+
+pub has_stepped : (k : ℕ) (m : MicroStep) (view after : View) (trees now : List TreeMap) (f : Option VertexFault)
+    → left_with after now f ≡ step_on k (Some m) (work_with view trees) → HasStepped k m view after trees now f
+has_stepped k m view after trees now f left = record {
+  left = left;
+  mounts = ap (λ (l : Left). mounts_in l.work.own) left ∙ (seen_so k m view trees).mounts;
+  shown = ap (λ (l : Left). shown_in l.work.own) left ∙ (seen_so k m view trees).shown;
+  count = ap (λ (l : Left). length l.work.trees) left ∙ step_keeps k (Some m) (work_with view trees);
+}

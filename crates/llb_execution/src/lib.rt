@@ -1,25 +1,34 @@
-//! One vertex's execution: its program of micro-steps, what they work on, and the outputs that they leave. It knows no state and no
-//! worker, and it keeps no caches. `missing_local` alone looks at all vertices of a graph. It is built on `llb_model`.
+//! One vertex's execution: its program of micro-steps, what they work on, the outputs that they leave, and the work of a whole job away
+//! from any board, behind a gate. It knows no state, and it keeps no caches. `missing_local` alone looks at all vertices of a graph. It is
+//! built on `llb_model`.
 #![tactic(auto)]
 
+mod fault;
 mod filling;
 mod further;
+mod gate;
+mod job;
 mod mark;
 mod micro_step;
 mod missing;
 mod mounting;
+mod outcome;
 mod outputs;
 mod program;
 mod refusal;
 mod same;
 mod view;
 
+pub use fault::WorkFault;
 pub use filling::empty_trees;
 pub use further::{Further, do_further};
+pub use gate::{Gate, Stopped};
+pub use job::Job;
 pub use llb_wire::Memory;
 pub use mark::Mark;
 pub use micro_step::{MicroStep, step_count, step_of};
 pub use missing::missing_local;
 pub use mounting::{input_tree, mounts_of, setting_of};
+pub use outcome::{Outcome, work};
 pub use program::Program;
 pub use view::View;

@@ -1,14 +1,15 @@
 //! What a program works on, which owns its data: it begins on the trees of the vertex's inputs, each micro-step changes it, and the
 //! outputs are taken from it at the end. It rests on what one action, one laying and one command do.
 
-ghost use Rattle.std.specs.Prelude.{◌≡◌, ◌<◌, List, length, map, option_map, replicate, unwrap_or, Some, None, IfOk, OnOk, OnErr};
+ghost use Rattle.std.specs.Prelude.{◌≡◌, ◌<◌, List, length, map, option_map, replicate, unwrap_or, Some, None, Result, IfOk, OnOk, OnErr};
 ghost use Rattle.std.specs.List.{All};
 ghost use Rattle.llb_tree.specs.Tree.{TreeMap, empty_tree};
 ghost use Rattle.llb_merge.specs.Laying.{lay};
 ghost use Rattle.llb_fileop.specs.Faults.{Gives};
+ghost use Rattle.llb_fileop.specs.declared.fault.ActFault.{ActFault};
 ghost use Rattle.llb_loader.specs.Graph.{IsVertexOf};
 ghost use Rattle.llb_model.specs.Caches.{Distinct};
-ghost use Rattle.llb_model.specs.Program.{Act, program_of, view_on, local_tree, mount_of, needs_of, trees_in, base_in, with_tree, act_among};
+ghost use Rattle.llb_model.specs.Program.{program_of, view_on, local_tree, mount_of, needs_of, trees_in, base_in, with_tree, with_result, tried};
 ghost use Rattle.llb_model.specs.Program.{tree_fault_number, fault_number, is_and, all_and, is_run, exit_of, last_of, lay_on, run_on, step_on, outputs_of};
 ghost use Rattle.llb_execution.specs.Marks.{put_back, Results, Laid};
 ghost use Rattle.llb_execution.specs.Marks as marks;
@@ -133,7 +134,24 @@ impl View {
         ensures count { length trees.new.items ≡ length trees.old.items }
         ensures err { OnErr result ((self.new ≡ self.old) × (trees.new.items ≡ trees.old.items)) }
     {
-        Ok(self.do_step(alloc, k, step, trees)?)
+        match step {
+            MicroStep::ReadLocal => Ok(None),
+            MicroStep::Act(action) => {
+                let second = self.tree(action.secondary_input);
+                let acted = match self.tree(action.input) {
+                    Some(base) => act(alloc, action, base, second),
+                    None => act(alloc, action, &empty(alloc)?, second),
+                };
+                Ok(self.put_result(k, acted)?)
+            }
+            MicroStep::LayInput(input) => {
+                self.lay(alloc, input)?;
+                Ok(None)
+            }
+            MicroStep::Run(setting, command, later) => {
+                Ok(self.run(k, setting, command, later, trees)?)
+            }
+        }
     }
 
     /// Returns the outputs of what all micro-steps of the vertex left, each in the place of an empty tree that was made for it
@@ -146,46 +164,17 @@ impl View {
         outputs_of(own, outputs, vertex)
     }
 
-    // Does micro-step k.
-    fn do_step(
+    // Puts in what action k returned: its tree as one result more, or else its fault.
+    fn put_result(
         &mut self,
-        alloc: Global,
         k: u32,
-        step: MicroStep<'_>,
-        trees: &mut Vec<Tree>,
+        acted: Result<Tree, ActFault>,
     ) -> Result<Option<VertexFault>, NoMemory>
-        requires apart { Distinct (shown_in self.old) }
-        requires within { All (λ n. n < mounts_in self.old) (shown_in self.old) }
-        requires count { length trees.old.items ≡ length (shown_in self.old) }
-        ensures left { IfOk result (λ fault. left_with self.new trees.new.items fault
-            ≡ step_on k (Some (step_in step.entry)) (work_with self.old trees.old.items)) }
-        ensures err { OnErr result ((self.new ≡ self.old) × (trees.new.items ≡ trees.old.items)) }
-    {
-        match step {
-            MicroStep::ReadLocal => Ok(None),
-            MicroStep::Act(action) => self.act(alloc, k, action),
-            MicroStep::LayInput(input) => {
-                self.lay(alloc, input)?;
-                Ok(None)
-            }
-            MicroStep::Run(setting, command, later) => {
-                self.run(k, setting, command, later, trees)
-            }
-        }
-    }
-
-    // Does action k on the trees so far.
-    fn act(
-        &mut self,
-        alloc: Global,
-        k: u32,
-        action: &Action,
-    ) -> Result<Option<VertexFault>, NoMemory>
-        ensures left { IfOk result (λ fault. (trees : List TreeMap) →
-            left_with self.new trees fault ≡ step_on k (Some (Act action.now)) (work_with self.old trees)) }
+        ensures left { IfOk result (λ fault. (rule : Result TreeMap ActFault) (trees : List TreeMap) → Gives (λ t. t) acted rule
+            → left_with self.new trees fault ≡ tried (work_with self.old trees) (with_result k self.old rule)) }
         ensures err { OnErr result (self.new ≡ self.old) }
     {
-        match act_in(alloc, action, self) {
+        match acted {
             Ok(tree) => {
                 self.push(tree)?;
                 Ok(None)
@@ -312,8 +301,14 @@ fn copy_of(own: &Own) -> Result<Own, NoMemory>
 {
     match own {
         Own::Local(tree) => Ok(Own::Local(tree.copy()?)),
-        Own::Files(inputs, results) => Ok(Own::Files(tree_copies(inputs)?, tree_copies(results)?)),
-        Own::Layers(inputs, laid) => Ok(Own::Layers(tree_copies(inputs)?, laid.copy()?)),
+        Own::Files(inputs, results) => {
+            let alloc = *inputs.allocator();
+            Ok(Own::Files(tree_copies(alloc, inputs)?, tree_copies(alloc, results)?))
+        }
+        Own::Layers(inputs, laid) => {
+            let alloc = *inputs.allocator();
+            Ok(Own::Layers(tree_copies(alloc, inputs)?, laid.copy()?))
+        }
         Own::Mounted(mounts, numbers, last) => {
             Ok(Own::Mounted(mounts.copy()?, numbers.clone()?, *last))
         }
@@ -321,10 +316,10 @@ fn copy_of(own: &Own) -> Result<Own, NoMemory>
 }
 
 // Second owners of trees.
-fn tree_copies(trees: &Vec<Tree>) -> Result<Vec<Tree>, NoMemory>
-    ensures { IfOk result (λ v. v.items ≡ trees.now.items) }
+pub(crate) fn tree_copies(alloc: Global, trees: &[Tree]) -> Result<Vec<Tree>, NoMemory>
+    ensures { IfOk result (λ v. v.items ≡ trees.now) }
 {
-    let mut copies = Vec::new(*trees.allocator());
+    let mut copies = Vec::new(alloc);
     for tree in trees {
         copies.push(tree.copy()?)?;
     }
@@ -365,15 +360,11 @@ fn local_tree(alloc: Global, locals: &Locals, vertex: &Vertex) -> Result<Tree, N
     }
 }
 
-// The result of an action on a view's trees.
-fn act_in(alloc: Global, action: &Action, view: &View) -> Result<Tree, ActFault>
-    ensures { Gives (λ t. t) result (act_among action.now (trees_in view.now)) }
+// An empty tree.
+fn empty(alloc: Global) -> Result<Tree, NoMemory>
+    ensures { IfOk result (λ t. t ≡ empty_tree) }
 {
-    let second = view.tree(action.secondary_input);
-    match view.tree(action.input) {
-        Some(base) => act(alloc, action, base, second),
-        None => act(alloc, action, &Tree::empty(alloc)?, second),
-    }
+    Ok(Tree::empty(alloc)?)
 }
 
 // The number of an action's fault.

@@ -23,6 +23,15 @@ use llb_ops::Op;
 use std::alloc::Global;
 use std::collections::BTreeMap;
 
+// The rows, which of them is the terminal and which the result's, and the rows that each of them names.
+#[derive(Clone, Copy)]
+struct Linked<'a> {
+    rows: &'a [Row],
+    terminal: usize,
+    start: usize,
+    links: &'a [Vec<usize>],
+}
+
 /// Returns the graph of the rows. The last row given is the terminal; its first input is the result.
 ///
 /// Fails with the first fault, of the least row and its least input: `Entry` (82), `TooFew` (83), `Collision` (84),
@@ -72,60 +81,66 @@ fn link_read(
     let seen = reached(alloc, &links, start)?;
     check_names(rows, &index, terminal, &ops, &seen)?;
     drop(index);
-    link_named(alloc, rows, terminal, start, ops, &links, &seen)
+    let linked = Linked {
+        rows,
+        terminal,
+        start,
+        links: &links,
+    };
+    link_named(alloc, linked, ops, &seen)
 }
 
 // The inputs of the reached rows name rows.
 fn link_named(
     alloc: Global,
-    rows: &[Row],
-    terminal: usize,
-    start: usize,
+    linked: Linked<'_>,
     ops: Vec<Op>,
-    links: &[Vec<usize>],
     seen: &[bool],
 ) -> Result<Graph, LoadFault>
-    requires few { length rows.now ≤ 65_536 }
-    requires ops { length ops.items ≡ length rows.now }
+    requires few { length linked.rows.now ≤ 65_536 }
+    requires ops { length ops.items ≡ length linked.rows.now }
     requires within { All IsWithinLimits ops.items }
-    requires links { lists links.now ≡ links_in (plan rows.now ops.items terminal start) }
-    requires planned { IsPlanOf rows.now ops.items (plan rows.now ops.items terminal start) }
-    requires named { IsNamed (plan rows.now ops.items terminal start) }
-    requires seen { length seen.now ≡ length rows.now }
-    requires exact { (k : ℕ) → (slice_index_or seen.now k false ≡ true) ↔ ReachedRow (plan rows.now ops.items terminal start) k }
-    ensures graph { IfOk result (λ g. GraphOf rows.now ops.items g) }
-    ensures refused { IfErr result (λ e. is_memory e ≡ false → Refused rows.now ops.items e) }
+    requires links { lists linked.links.now ≡ links_in (plan linked.rows.now ops.items linked.terminal linked.start) }
+    requires planned { IsPlanOf linked.rows.now ops.items (plan linked.rows.now ops.items linked.terminal linked.start) }
+    requires named { IsNamed (plan linked.rows.now ops.items linked.terminal linked.start) }
+    requires seen { length seen.now ≡ length linked.rows.now }
+    requires exact { (k : ℕ) → (slice_index_or seen.now k false ≡ true) ↔ ReachedRow (plan linked.rows.now ops.items linked.terminal linked.start) k }
+    ensures graph { IfOk result (λ g. GraphOf linked.entry.rows.now ops.items g) }
+    ensures refused { IfErr result (λ e. is_memory e ≡ false → Refused linked.entry.rows.now ops.items e) }
 {
-    let Some(order) = number(alloc, links, start, seen)? else {
+    let Some(order) = number(alloc, linked.links, linked.start, seen)? else {
         return Err(LoadFault::Cycle);
     };
     check_features(&ops, seen)?;
     check_rules(alloc, &ops, seen)?;
     let counts = counts_of(alloc, &ops)?;
-    check_indexes(&ops, links, &counts, seen, terminal)?;
-    link_whole(alloc, rows, terminal, start, ops, links, &order)
+    check_indexes(&ops, linked.links, &counts, seen, linked.terminal)?;
+    link_whole(alloc, linked, ops, &order)
 }
 
 // Nothing is refused any more.
 fn link_whole(
     alloc: Global,
-    rows: &[Row],
-    terminal: usize,
-    start: usize,
+    linked: Linked<'_>,
     ops: Vec<Op>,
-    links: &[Vec<usize>],
     order: &[usize],
 ) -> Result<Graph, LoadFault>
-    requires few { length rows.now ≤ 65_536 }
-    requires ops { length ops.items ≡ length rows.now }
+    requires few { length linked.rows.now ≤ 65_536 }
+    requires ops { length ops.items ≡ length linked.rows.now }
     requires within { All IsWithinLimits ops.items }
-    requires links { lists links.now ≡ links_in (plan rows.now ops.items terminal start) }
-    requires planned { IsPlanOf rows.now ops.items (plan rows.now ops.items terminal start) }
-    requires whole { IsWhole (plan rows.now ops.items terminal start) order.now }
-    requires short { length order.now ≤ length rows.now }
-    ensures graph { IfOk result (λ g. GraphOf rows.now ops.items g) }
+    requires links { lists linked.links.now ≡ links_in (plan linked.rows.now ops.items linked.terminal linked.start) }
+    requires planned { IsPlanOf linked.rows.now ops.items (plan linked.rows.now ops.items linked.terminal linked.start) }
+    requires whole { IsWhole (plan linked.rows.now ops.items linked.terminal linked.start) order.now }
+    requires short { length order.now ≤ length linked.rows.now }
+    ensures graph { IfOk result (λ g. GraphOf linked.entry.rows.now ops.items g) }
     ensures refused { IfErr result (λ e. is_memory e ≡ true) }
 {
+    let Linked {
+        rows,
+        terminal,
+        start,
+        links,
+    } = linked;
     let ranks = ranks_of(alloc, links, start, order)?;
     let result = first_edge(ranks[start], &ops[terminal]);
     let vertices = vertices_of(alloc, rows, ops, links, order, &ranks)?;

@@ -9,33 +9,39 @@ use Rattle.std.proofs.KnownBytes.{Appends-trans, Appends-kept, Consumes-nil, Con
 use Rattle.llb_stepper.specs.Stepping.{Stepping}
 use Rattle.llb_session.specs.declared.fault.SessionFault.{SessionFault}
 use Rattle.llb_session.specs.declared.fault.SessionFault.TheVariants.{Failed, Unending, Write, Memory, TooLong}
-use Rattle.llb_session.specs.Conversation.{Standing, opening, Answered, last_line, Converses}
+use Rattle.llb_session.specs.Streams.{Stream}
+use Rattle.llb_session.specs.Conversation.{Standing, opening, Answered, last_line, Conversation, Converses}
 use Rattle.llb_session.specs.Answers.{Answers}
-use Rattle.llb_session.specs.Hearing.{IsLast, IsSaid, Went, Comes, Hears}
+use Rattle.llb_session.specs.Hearing.{IsLast, IsSaid, Went, IsHeard, Hears}
+use Rattle.llb_session.proofs.Streams.{between}
 use Rattle.llb_session.proofs.Talking.{Talks-more, Talks-one, few_said}
 use Rattle.llb_session.proofs.Heard.{went_none, went_more, went_all, hears_after}
 
+-- a conversation from stepper s to stepper t
+abbrev leads_to : (limit reads : ℕ) (s t : Stepping) (commands replies : Stream) → Conversation
+leads_to limit reads s t commands replies = record { limit = limit; reads = reads; before = s; after = t; commands = commands; replies = replies }
+
 -- all that was taken was heard, and the session goes on
-pub record Listened (limit room : ℕ) (s : Stepping) (q : Standing) (left left' o o' : Option (List ℕ)) : Type 0 where
+pub record Listened (limit room : ℕ) (s : Stepping) (q : Standing) (commands out : Stream) : Type 0 where
   pub heard : List ℕ
-  pub taken : Consumes left left' heard
-  pub went : Went (opening s) heard q o o'
+  pub taken : Consumes commands.before commands.after heard
+  pub went : Went (opening s) heard q out
   pub rest : length heard + room ≡ limit
 
 -- before the first read
 pub listened_none : (limit : ℕ) (s : Stepping) (line : List ℕ) (left o : Option (List ℕ)) → line ≡ []
-    → Listened limit limit s (record { session = s; number = 1; line = line }) left left o o
+    → Listened limit limit s (record { session = s; number = 1; line = line }) (between left left) (between o o)
 listened_none limit s line left o none = record {
   heard = [];
   taken = Consumes-nil left;
   went =
-      let P : List ℕ → Type 0 = λ x. Went (opening s) [] (record { session = s; number = 1; line = x }) o o in
+      let P : List ℕ → Type 0 = λ x. Went (opening s) [] (record { session = s; number = 1; line = x }) (between o o) in
       subst P (sym none) (went_none (opening s) o (λ k d h. absurd (omega arith)));
   rest = omega arith;
 }
 
 -- no more lines than bytes
-pub few_listened : (limit room : ℕ) (s : Stepping) (q : Standing) (a b o o' : Option (List ℕ)) → Listened limit room s q a b o o'
+pub few_listened : (limit room : ℕ) (s : Stepping) (q : Standing) (a b o o' : Option (List ℕ)) → Listened limit room s q (between a b) (between o o')
     → q.number + length q.line + room ≤ limit + 1
 few_listened limit room s q a b o o' l = omega (arith, l.rest, few_said (opening s) q l.heard l.went.text l.went.talked)
 
@@ -47,8 +53,9 @@ both_taken a b buffer piece fits over n k taken is front back =
     subst P (sym (ap (λ x. x ++ over) front ∙ ap (λ x. take k piece ++ x) back ∙ take-append-drop k piece ∙ is)) taken
 
 -- a read that gave nothing
-pub listened_still : (limit room : ℕ) (s : Stepping) (q : Standing) (a b c o o' : Option (List ℕ)) → Listened limit room s q a b o o' → Keeps b c
-    → Listened limit room s q a c o o'
+pub listened_still : (limit room : ℕ) (s : Stepping) (q : Standing) (a b c o o' : Option (List ℕ)) → Listened limit room s q (between a b) (between o o')
+    → Keeps b c
+    → Listened limit room s q (between a c) (between o o')
 listened_still limit room s q a b c o o' l keeps = record {
   heard = l.heard;
   taken = Consumes-kept a b c l.heard l.taken keeps;
@@ -58,8 +65,9 @@ listened_still limit room s q a b c o o' l keeps = record {
 
 -- a piece within the limit
 pub listened_on : (limit room left n : ℕ) (s : Stepping) (q r : Standing) (a b c o o1 o2 : Option (List ℕ)) (fits over : List ℕ)
-    → Listened limit room s q a b o o1 → Consumes b c (fits ++ over) → over ≡ [] → length fits ≡ n → left + n ≡ room → Hears q fits r o1 o2 (Ok true)
-    → Listened limit left s r a c o o2
+    → Listened limit room s q (between a b) (between o o1) → Consumes b c (fits ++ over) → over ≡ [] → length fits ≡ n → left + n ≡ room
+    → Hears q fits r (between o1 o2) (Ok true)
+    → Listened limit left s r (between a c) (between o o2)
 listened_on limit room left n s q r a b c o o1 o2 fits over l taken none long less h = record {
   heard = l.heard ++ fits;
   taken =
@@ -85,16 +93,17 @@ none_taken a b buffer n none taken = let P : ℕ → Type 0 = λ k. Consumes a b
 -- ---- the bound on reads, and a read that failed
 
 -- what is written where reading ends: all that was taken before was heard and has its reply
-answered : (limit room : ℕ) (s : Stepping) (q : Standing) (a b o o' : Option (List ℕ)) (l : Listened limit room s q a b o o') → Answered (opening s) l.heard
-    q.session o o'
+answered : (limit room : ℕ) (s : Stepping) (q : Standing) (a b o o' : Option (List ℕ)) (l : Listened limit room s q (between a b) (between o o'))
+    → Answered (opening s) l.heard q.session (between o o')
 answered limit room s q a b o o' l = record { text = l.went.text; at = q; talked = l.went.talked; same = refl; printed = l.went.printed }
 
-all_taken : (limit room : ℕ) (s : Stepping) (q : Standing) (a b o o' : Option (List ℕ)) (l : Listened limit room s q a b o o') → Consumes a b (l.heard ++ [])
+all_taken : (limit room : ℕ) (s : Stepping) (q : Standing) (a b o o' : Option (List ℕ)) (l : Listened limit room s q (between a b) (between o o'))
+    → Consumes a b (l.heard ++ [])
 all_taken limit room s q a b o o' l = let P : List ℕ → Type 0 = Consumes a b in subst P (sym (append-nil l.heard)) l.taken
 
 -- a read fails
 pub ends_failed : (reads limit room : ℕ) (s : Stepping) (q : Standing) (a b o o' : Option (List ℕ)) (kind : ErrorKind) → kind ≢ Interrupted
-    → Listened limit room s q a b o o' → Converses limit reads s q.session a b o o' (Err (Failed kind))
+    → Listened limit room s q (between a b) (between o o') → Converses (leads_to limit reads s q.session (between a b) (between o o')) (Err (Failed kind))
 ends_failed reads limit room s q a b o o' kind other l = record {
   heard = l.heard;
   unheard = [];
@@ -105,7 +114,8 @@ ends_failed reads limit room s q a b o o' kind other l = record {
 
 -- the bound on reads is met
 pub ends_unending : (reads limit room interrupted : ℕ) (s : Stepping) (q : Standing) (a b o o' : Option (List ℕ)) → reads + room ≤ limit + interrupted
-    → interrupted ≤ reads → Listened limit room s q a b o o' → Converses limit reads s q.session a b o o' (Err (Unending interrupted))
+    → interrupted ≤ reads → Listened limit room s q (between a b) (between o o')
+    → Converses (leads_to limit reads s q.session (between a b) (between o o')) (Err (Unending interrupted))
 ends_unending reads limit room interrupted s q a b o o' met some l = record {
   heard = l.heard;
   unheard = [];
@@ -117,7 +127,8 @@ ends_unending reads limit room interrupted s q a b o o' met some l = record {
 -- ---- the end of the input
 
 ends_so : (reads limit : ℕ) (s t : Stepping) (q : Standing) (heard : List ℕ) (a b o o1 o2 : Option (List ℕ)) (r : Result (Unit {0}) SessionFault)
-    → Consumes a b (heard ++ []) → IsAtEnd b → length heard ≤ limit → Went (opening s) heard q o o1 → IsLast q t o1 o2 r → Converses limit reads s t a b o o2 r
+    → Consumes a b (heard ++ []) → IsAtEnd b → length heard ≤ limit → Went (opening s) heard q (between o o1) → IsLast q t (between o1 o2) r
+    → Converses (leads_to limit reads s t (between a b) (between o o2)) r
 ends_so reads limit s t q heard a b o o1 o2 (Ok u) taken end few w (inl (text, talks, printed)) = record {
   heard = heard;
   unheard = [];
@@ -141,7 +152,7 @@ ends_so reads limit s t q heard a b o o1 o2 (Ok u) taken end few w (inr (some, q
   taken = taken;
   few = few;
   ends =
-      let before : Answered (opening s) heard t o o2 =
+      let before : Answered (opening s) heard t (between o o2) =
       record { text = w.text; at = q; talked = w.talked; same = same; printed = Appends-kept o o1 o2 w.text w.printed keeps } in
       inr (inl ((refl, end), (record { before = before; quits = quits }, some)));
 }
@@ -175,23 +186,25 @@ ends_so reads limit s t q heard a b o o1 o2 (Err TooLong) taken end few w last =
 
 -- the input ends: the conversation ends as is said to its last line
 pub ends_last : (reads limit room : ℕ) (s t : Stepping) (q : Standing) (a b c o o1 o2 : Option (List ℕ)) (r : Result (Unit {0}) SessionFault)
-    → Listened limit room s q a b o o1 → Consumes b c [] → IsAtEnd c → IsLast q t o1 o2 r → Converses limit reads s t a c o o2 r
+    → Listened limit room s q (between a b) (between o o1) → Consumes b c [] → IsAtEnd c → IsLast q t (between o1 o2) r
+    → Converses (leads_to limit reads s t (between a c) (between o o2)) r
 ends_last reads limit room s t q a b c o o1 o2 r l none end last =
     ends_so reads limit s t q l.heard a c o o1 o2 r (Consumes-trans a b c l.heard [] l.taken none) end (omega (arith, l.rest)) l.went last
 
 -- ---- a piece that is not heard to its end
 
 -- what of it was heard, after all before
-record Piece (limit : ℕ) (s : Stepping) (r : Standing) (a c o o2 : Option (List ℕ)) (result : Result Bool SessionFault) : Type 0 where
+record Piece (limit : ℕ) (s : Stepping) (r : Standing) (commands out : Stream) (result : Result Bool SessionFault) : Type 0 where
   heard : List ℕ
   behind : List ℕ
   unheard : List ℕ
-  taken : Consumes a c (heard ++ unheard)
+  taken : Consumes commands.before commands.after (heard ++ unheard)
   few : length heard ≤ limit
-  comes : Comes (opening s) heard behind r o o2 result
+  comes : IsHeard (opening s) heard behind r out result
 
 piece_of : (limit room : ℕ) (s : Stepping) (q r : Standing) (a b c o o1 o2 : Option (List ℕ)) (fits over : List ℕ) (result : Result Bool SessionFault)
-    → Listened limit room s q a b o o1 → Consumes b c (fits ++ over) → length fits ≤ room → Hears q fits r o1 o2 result → Piece limit s r a c o o2 result
+    → Listened limit room s q (between a b) (between o o1) → Consumes b c (fits ++ over) → length fits ≤ room → Hears q fits r (between o1 o2) result
+    → Piece limit s r (between a c) (between o o2) result
 piece_of limit room s q r a b c o o1 o2 fits over result l taken few h =
     let all = hears_after (opening s) q r l.heard fits l.went.text o o1 o2 result l.went.talked l.went.printed h in
     let P : List ℕ → Type 0 = Consumes a c in
@@ -207,14 +220,15 @@ piece_of limit room s q r a b c o o1 o2 fits over result l taken few h =
 
 -- a line of a piece ends the session: the conversation ends there without a fault
 pub ends_quit : (reads limit room : ℕ) (s : Stepping) (q r : Standing) (a b c o o1 o2 : Option (List ℕ)) (fits over : List ℕ)
-    → Listened limit room s q a b o o1 → Consumes b c (fits ++ over) → length fits ≤ room → Hears q fits r o1 o2 (Ok false)
-    → Converses limit reads s r.session a c o o2 (Ok tt)
+    → Listened limit room s q (between a b) (between o o1) → Consumes b c (fits ++ over) → length fits ≤ room → Hears q fits r (between o1 o2) (Ok false)
+    → Converses (leads_to limit reads s r.session (between a c) (between o o2)) (Ok tt)
 ends_quit reads limit room s q r a b c o o1 o2 fits over l taken few h =
     let p = piece_of limit room s q r a b c o o1 o2 fits over (Ok false) l taken few h in
     record { heard = p.heard; unheard = p.unheard; taken = p.taken; few = p.few; ends = inr (inr p.comes) }
 
-fault_of : (reads limit : ℕ) (s : Stepping) (r : Standing) (a c o o2 : Option (List ℕ)) (e : SessionFault) → Piece limit s r a c o o2 (Err e)
-    → Converses limit reads s r.session a c o o2 (Err e)
+fault_of : (reads limit : ℕ) (s : Stepping) (r : Standing) (a c o o2 : Option (List ℕ)) (e : SessionFault)
+    → Piece limit s r (between a c) (between o o2) (Err e)
+    → Converses (leads_to limit reads s r.session (between a c) (between o o2)) (Err e)
 fault_of reads limit s r a c o o2 Write p = record { heard = p.heard; unheard = p.unheard; taken = p.taken; few = p.few; ends = inr p.comes }
 fault_of reads limit s r a c o o2 Memory p = record { heard = p.heard; unheard = p.unheard; taken = p.taken; few = p.few; ends = p.comes }
 fault_of reads limit s r a c o o2 (Failed kind) p = absurd p.comes
@@ -223,15 +237,16 @@ fault_of reads limit s r a c o o2 TooLong p = absurd p.comes
 
 -- a piece is heard up to a fault: the conversation ends with it
 pub ends_fault : (reads limit room : ℕ) (s : Stepping) (q r : Standing) (a b c o o1 o2 : Option (List ℕ)) (fits over : List ℕ) (e : SessionFault)
-    → Listened limit room s q a b o o1 → Consumes b c (fits ++ over) → length fits ≤ room → Hears q fits r o1 o2 (Err e)
-    → Converses limit reads s r.session a c o o2 (Err e)
+    → Listened limit room s q (between a b) (between o o1) → Consumes b c (fits ++ over) → length fits ≤ room → Hears q fits r (between o1 o2) (Err e)
+    → Converses (leads_to limit reads s r.session (between a c) (between o o2)) (Err e)
 ends_fault reads limit room s q r a b c o o1 o2 fits over e l taken few h =
     fault_of reads limit s r a c o o2 e (piece_of limit room s q r a b c o o1 o2 fits over (Err e) l taken few h)
 
 -- bytes after the limit are left
 pub ends_long : (reads limit room : ℕ) (s : Stepping) (q r : Standing) (a b c o o1 o2 : Option (List ℕ)) (fits over : List ℕ)
-    → Listened limit room s q a b o o1 → Consumes b c (fits ++ over) → length fits ≡ room → 0 < length over → Hears q fits r o1 o2 (Ok true)
-    → Converses limit reads s r.session a c o o2 (Err TooLong)
+    → Listened limit room s q (between a b) (between o o1) → Consumes b c (fits ++ over) → length fits ≡ room → 0 < length over
+    → Hears q fits r (between o1 o2) (Ok true)
+    → Converses (leads_to limit reads s r.session (between a c) (between o o2)) (Err TooLong)
 ends_long reads limit room s q r a b c o o1 o2 fits over l taken full more h =
     let w = went_more (opening s) q r l.heard fits o o1 o2 l.went (went_all q r fits o1 o2 h) in
     let all : length (l.heard ++ fits) ≡ limit = omega (arith, l.rest, full, length-append l.heard fits) in
@@ -247,12 +262,12 @@ ends_long reads limit room s q r a b c o o1 o2 fits over l taken full more h =
 -- ---- what is said to a last line without its end
 
 said_last : (s t : Stepping) (n : ℕ) (line : List ℕ) (o o' : Option (List ℕ)) (text : List ℕ) → 0 < length line → Answers s n line text t → Appends o o' text
-    → IsLast (record { session = s; number = n; line = line }) t o o' (Ok tt)
+    → IsLast (record { session = s; number = n; line = line }) t (between o o') (Ok tt)
 said_last s t n [] o o' text more answers printed = absurd (omega (arith, more))
 said_last s t n (b ∷ line) o o' text more answers printed = inl (text, Talks-one s t n (b ∷ line) text answers, printed)
 
 -- what is said to a line at its end is said to a last one without an end, where it is not empty
-pub last_said : (p : Standing) (t : Stepping) (o o' : Option (List ℕ)) (goes_on : Bool) → 0 < length p.line → IsSaid p t o o' (Ok goes_on)
-    → IsLast p t o o' (Ok tt)
+pub last_said : (p : Standing) (t : Stepping) (o o' : Option (List ℕ)) (goes_on : Bool) → 0 < length p.line → IsSaid p t (between o o') (Ok goes_on)
+    → IsLast p t (between o o') (Ok tt)
 last_said p t o o' true more (text, answers, printed) = said_last p.session t p.number p.line o o' text more answers printed
 last_said p t o o' false more (quits, same, keeps) = inr (more, quits, same, keeps)

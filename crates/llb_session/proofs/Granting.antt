@@ -4,7 +4,7 @@ use Rattle.std.specs.Prelude.{Result, Ok, Err, Vec}
 use Rattle.std.specs.Global.{Global}
 use Rattle.llb_wire.specs.declared.sink.Failed.{Failed}
 use Rattle.llb_model.specs.Run.{chosen}
-use Rattle.llb_state.specs.Views.{event_of}
+use Rattle.llb_events.specs.Views.{event_of}
 use Rattle.llb_events.specs.declared.event.Event as own
 use Rattle.llb_stepper.specs.Rules.{ChosenIsDone, stepper_memory}
 use Rattle.llb_stepper.specs.declared.fault.StepperFault.{StepperFault}
@@ -13,12 +13,13 @@ use Rattle.llb_stepper.specs.declared.fault.StepperFault.TheVariants.{Memory}
 use Rattle.llb_session.specs.declared.request.Request.{Request}
 use Rattle.llb_session.specs.declared.request.Request.TheVariants as ask
 use Rattle.llb_session.specs.Request.{request_in}
-use Rattle.llb_session.specs.Answers.{Comes, GrantsNext, AnswersAs, Answers, Quits, Puts, Says}
+use Rattle.llb_session.proofs.Streams.{between}
+use Rattle.llb_session.specs.Answers.{IsPerformed, GrantsNext, AnswersAs, Answers, Quits, IsReplyWritten, Says}
 
 -- `next` prints what the chosen event prints, which is refused only for want of memory
 pub chosen_comes : (s t : Stepping) (e : own.Event) (r : Result (Vec ℕ Global) StepperFault) → ChosenIsDone s
     → Some (event_of e) ≡ chosen s.board.build s.board.state
-    → Comes (ask.Event e) s t r → Comes ask.Next s t r
+    → IsPerformed (ask.Event e) s t r → IsPerformed ask.Next s t r
 chosen_comes s t e (Ok text) law is comes = subst (λ o. GrantsNext o s text.items t) is comes
 chosen_comes s t e (Err fault) law is (same, refused) = (same, λ not. absurd (differ (law (event_of e) fault (sym is) (refused not)) not))
   where
@@ -28,8 +29,8 @@ chosen_comes s t e (Err fault) law is (same, refused) = (same, λ not. absurd (d
 -- ---- no memory for the line of a refusal
 
 want_as : (s t : Stepping) (n : ℕ) (o : Option Request) → t ≡ s → AnswersAs o s n (codes "fault 174\n") t
-want_as s t n None same = inr (record { fault = Memory; want = refl; told = refl; same = same })
-want_as s t n (Some r) same = inr (record { fault = Memory; refused = λ not. absurd cc; told = refl; same = same })
+want_as s t n None same = inr (record { fault = Memory; want = refl; printed = refl; same = same })
+want_as s t n (Some r) same = inr (record { fault = Memory; refused = λ not. absurd cc; printed = refl; same = same })
 
 -- it is printed as `fault 174`, whatever the line asks for
 pub wants : (s t : Stepping) (n : ℕ) (line : List ℕ) → ¬ Quits line → t ≡ s → Answers s n line (codes "fault 174\n") t
@@ -37,7 +38,7 @@ wants s t n line goes_on same = record { goes_on = goes_on; answers = want_as s 
 
 -- what is put is what is said
 pub says : (s t : Stepping) (n : ℕ) (line text : List ℕ) (out out' : Option (List ℕ)) (r : Result Bool Failed) → Answers s n line text t
-    → Puts text out out' r → Says s n line t out out' r
+    → IsReplyWritten text (between out out') r → Says s n line t (between out out') r
 says s t n line text out out' (Ok true) answers puts = (text, answers, puts)
 says s t n line text out out' (Ok false) answers puts = absurd puts
 says s t n line text out out' (Err e) answers puts = (text, answers, puts)

@@ -1,4 +1,5 @@
 pub mod Requests
+pub mod Streams
 pub mod Granting
 pub mod Lines
 pub mod Talking

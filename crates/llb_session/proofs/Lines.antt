@@ -1,19 +1,20 @@
 -- Lines that bytes spell: more lines after them, one more byte, and how many they are.
 use Rattle.std.proofs.Common.{◌≡◌, ◌≢◌, ℕ, ◌+◌, ◌≤◌, List, [], ◌∷◌, ◌++◌, length, refl, sym, ap, ◌∙◌, append_assoc, append-nil, length-append, arith}
 use Rattle.std.proofs.lemmas.List.Elements.{All-nil, All-cons, All-push, All-append}
-use Rattle.llb_session.specs.Conversation.{IsLine, ended, Spelled}
+use Rattle.llb_session.specs.Conversation.{IsLine, with_line_ends, Spelled}
 
-pub ended-append : (ls ms : List (List ℕ)) → ended (ls ++ ms) ≡ ended ls ++ ended ms
-ended-append [] ms = refl
-ended-append (l ∷ ls) ms = ap (λ e. l ++ 10 ∷ e) (ended-append ls ms) ∙ sym (append_assoc l (10 ∷ ended ls) (ended ms))
+pub with_line_ends-append : (ls ms : List (List ℕ)) → with_line_ends (ls ++ ms) ≡ with_line_ends ls ++ with_line_ends ms
+with_line_ends-append [] ms = refl
+with_line_ends-append (l ∷ ls) ms = ap (λ e. l ++ 10 ∷ e) (with_line_ends-append ls ms) ∙ sym (append_assoc l (10 ∷ with_line_ends ls) (with_line_ends ms))
 
 -- what is begun after some lines is ended and begun anew by more bytes
 pub Spelled-more : (ls ms : List (List ℕ)) (line rest bytes more : List ℕ)
     → Spelled ls line bytes → Spelled ms rest (line ++ more) → Spelled (ls ++ ms) rest (bytes ++ more)
 Spelled-more ls ms line rest bytes more a b = record {
   are =
-      ap (λ x. x ++ more) a.are ∙ append_assoc (ended ls) line more ∙ ap (λ x. ended ls ++ x) b.are ∙ sym (append_assoc (ended ls) (ended ms) rest)
-      ∙ ap (λ x. x ++ rest) (sym (ended-append ls ms));
+      ap (λ x. x ++ more) a.are ∙ append_assoc (with_line_ends ls) line more ∙ ap (λ x. with_line_ends ls ++ x) b.are
+      ∙ sym (append_assoc (with_line_ends ls) (with_line_ends ms) rest)
+      ∙ ap (λ x. x ++ rest) (sym (with_line_ends-append ls ms));
   each = All-append IsLine ls ms a.each b.each;
   begun = b.begun;
 }
@@ -34,10 +35,10 @@ Spelled-end line is = record {
   begun = All-nil (λ x. x ≢ 10);
 }
 
-few_ended : (ls : List (List ℕ)) → length ls ≤ length (ended ls)
-few_ended [] = omega arith
-few_ended (l ∷ ls) = omega (arith, few_ended ls, length-append l (10 ∷ ended ls))
+few_with_ends : (ls : List (List ℕ)) → length ls ≤ length (with_line_ends ls)
+few_with_ends [] = omega arith
+few_with_ends (l ∷ ls) = omega (arith, few_with_ends ls, length-append l (10 ∷ with_line_ends ls))
 
 -- no more lines than bytes
 pub few_lines : (ls : List (List ℕ)) (rest bytes : List ℕ) → Spelled ls rest bytes → length ls + length rest ≤ length bytes
-few_lines ls rest bytes a = omega (arith, few_ended ls, ap length a.are, length-append (ended ls) rest)
+few_lines ls rest bytes a = omega (arith, few_with_ends ls, ap length a.are, length-append (with_line_ends ls) rest)

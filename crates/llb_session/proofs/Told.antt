@@ -5,12 +5,12 @@ use Rattle.llb_model.specs.Table.{Event}
 use Rattle.llb_state.specs.Board.{Replays}
 use Rattle.llb_stepper.specs.Records.{record_at, record_text}
 use Rattle.llb_stepper.specs.Stepping.{Stepping, line}
-use Rattle.llb_stepper.proofs.Lines.{reached, ran_on, tells}
-use Rattle.llb_session.specs.Texts.{ended}
-use Rattle.llb_session.specs.Told.{GoTellsTheRun}
+use Rattle.llb_stepper.proofs.Lines.{reached, ran_on, is_the_run}
+use Rattle.llb_session.specs.Texts.{with_line_end}
+use Rattle.llb_session.specs.Told.{GoPrintsTheRun}
 
-pub go_tells : (s : Stepping) → Replays s.board → GoTellsTheRun s
-go_tells s here text t granted =
+pub go_prints : (s : Stepping) → Replays s.board → GoPrintsTheRun s
+go_prints s here text t granted =
     let stop = granted.goes.stop in
     let n = granted.stop.events in
     let es : List Event = take n granted.goes.events in
@@ -25,6 +25,6 @@ go_tells s here text t granted =
       runs = ran.1;
       each = λ i e r low at there.
           let told : record_at t i ≡ Some (e, r) =
-          (tells t stop.records).all i e r t.board.state ran.0 ran.1 (omega (arith, low)) (omega (arith, low, added, few, back, dropped)) at there in
-          ap (λ o. ended (option_map (record_text t.board.build.graph.vertices i) o)) told;
+          (is_the_run t stop.records).complete i e r t.board.state ran.0 ran.1 (omega (arith, low)) (omega (arith, low, added, few, back, dropped)) at there in
+          ap (λ o. with_line_end (option_map (record_text t.board.build.graph.vertices i) o)) told;
     }

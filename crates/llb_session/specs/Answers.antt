@@ -1,14 +1,12 @@
 -- The reply to each line of a session, and the stepper after it.
 use Rattle.std.specs.Prelude.{◌≡◌, ◌⊎◌, ◌-◌, ◌++◌, ◌∷◌, ℕ, Bool, true, false, if◌then◌else◌, List, [], length, codes, Option, Some, None, Result, Ok, Err, Vec}
 use Rattle.std.specs.Global.{Global}
-use Rattle.std.specs.Io.KnownBytes.{Appends, Keeps}
-use Rattle.llb_wire.specs.Sink.{PartOut}
 use Rattle.llb_wire.specs.declared.sink.Failed.{Failed}
 use Rattle.llb_model.specs.State.{ending_at}
 use Rattle.llb_model.specs.Outcome.{output_in}
 use Rattle.llb_model.specs.Run.{chosen}
 use Rattle.llb_model.specs.Table.{Event}
-use Rattle.llb_state.specs.Views.{event_of}
+use Rattle.llb_events.specs.Views.{event_of}
 use Rattle.llb_stepper.specs.declared.stop.Stop.{Stop}
 use Rattle.llb_stepper.specs.declared.fault.StepperFault.{StepperFault}
 use Rattle.llb_stepper.specs.declared.fault.StepperFault.TheVariants.{NothingBefore, BadCommand}
@@ -17,6 +15,7 @@ use Rattle.llb_stepper.specs.Stepping.{Stepping, GoesBack, IsGo}
 use Rattle.llb_session.specs.declared.request.Request.{Request}
 use Rattle.llb_session.specs.declared.request.Request.TheVariants as ask
 use Rattle.llb_session.specs.Request.{request_in}
+use Rattle.llb_session.specs.Streams.{Stream, IsKept, IsWritten, IsPartWritten}
 use Rattle.llb_session.specs.Texts.{status_lines, record_line, record_lines, tree_lines, fault_line, back_line}
 
 -- ---- a request that is granted: what it prints, and where it leads
@@ -40,6 +39,7 @@ pub record GrantsGo (s : Stepping) (text : List ℕ) (t : Stepping) : Type 0 whe
   pub goes : IsGo s t stop
   pub lines : text ≡ record_lines t (length s.board.events) (length t.board.events - length s.board.events) ++ stop_line stop.at_break
 
+-- the request is granted on stepper s: it prints the text and leads to stepper t
 abbrev pub Grants : Request → Stepping → List ℕ → Stepping → Type 0
 Grants (ask.Break b) s text t = (t ≡ record s { breaks = s.breaks ++ b ∷ [] }) × (text ≡ [])
 Grants ask.Clear s text t = (t ≡ record s { breaks = [] }) × (text ≡ [])
@@ -53,6 +53,7 @@ Grants ask.Quit s text t = (t ≡ s) × (text ≡ [])
 
 -- ---- a request that is refused for another cause than memory
 
+-- the fault is one with which the request is refused
 abbrev pub Refuses : Request → Stepping → StepperFault → Type 0
 Refuses (ask.Event e) s fault = done_of s (event_of e) ≡ Err fault
 Refuses ask.Back s fault = (s.past ≡ []) × (fault ≡ NothingBefore)
@@ -65,29 +66,30 @@ Refuses (ask.Tree v i) s fault = ⊥
 Refuses ask.Quit s fault = ⊥
 
 -- the result of a request: it is granted, or all is as before, and memory was refused or a cause applies
-abbrev pub Comes : Request → Stepping → Stepping → Result (Vec ℕ Global) StepperFault → Type 0
-Comes r s t (Ok text) = Grants r s text.items t
-Comes r s t (Err fault) = (t ≡ s) × (stepper_memory fault ≡ false → Refuses r s fault)
+abbrev pub IsPerformed : Request → Stepping → Stepping → Result (Vec ℕ Global) StepperFault → Type 0
+IsPerformed r s t (Ok text) = Grants r s text.items t
+IsPerformed r s t (Err fault) = (t ≡ s) × (stepper_memory fault ≡ false → Refuses r s fault)
 
 -- ---- a line
 
 -- a refusal prints a line, and changes nothing
-pub record TellsRefusal (r : Request) (s : Stepping) (text : List ℕ) (t : Stepping) : Type 0 where
+pub record PrintsRefusal (r : Request) (s : Stepping) (text : List ℕ) (t : Stepping) : Type 0 where
   pub fault : StepperFault
   pub refused : stepper_memory fault ≡ false → Refuses r s fault
-  pub told : text ≡ fault_line fault
+  pub printed : text ≡ fault_line fault
   pub same : t ≡ s
 
 -- memory was refused, and nothing is changed
-pub record TellsWant (s : Stepping) (text : List ℕ) (t : Stepping) : Type 0 where
+pub record PrintsWant (s : Stepping) (text : List ℕ) (t : Stepping) : Type 0 where
   pub fault : StepperFault
   pub want : stepper_memory fault ≡ true
-  pub told : text ≡ fault_line fault
+  pub printed : text ≡ fault_line fault
   pub same : t ≡ s
 
+-- the reply to line n, by what it asks for, if anything; where memory was refused for the reply itself, that is the reply
 abbrev pub AnswersAs : Option Request → Stepping → ℕ → List ℕ → Stepping → Type 0
-AnswersAs None s n text t = ((t ≡ s) × (text ≡ fault_line (BadCommand n))) ⊎ TellsWant s text t
-AnswersAs (Some r) s n text t = Grants r s text t ⊎ TellsRefusal r s text t
+AnswersAs None s n text t = ((t ≡ s) × (text ≡ fault_line (BadCommand n))) ⊎ PrintsWant s text t
+AnswersAs (Some r) s n text t = Grants r s text t ⊎ PrintsRefusal r s text t
 
 -- the line ends the session
 abbrev pub Quits : List ℕ → Type 0
@@ -99,13 +101,13 @@ pub record Answers (s : Stepping) (n : ℕ) (line text : List ℕ) (t : Stepping
   pub answers : AnswersAs (request_in line) s n text t
 
 -- bytes are written, and the session goes on; or a prefix of them is, where the writer failed
-abbrev pub Puts : List ℕ → Option (List ℕ) → Option (List ℕ) → Result Bool Failed → Type 0
-Puts bytes out out' (Ok true) = Appends out out' bytes
-Puts bytes out out' (Ok false) = ⊥
-Puts bytes out out' (Err e) = PartOut out out' bytes
+abbrev pub IsReplyWritten : List ℕ → Stream → Result Bool Failed → Type 0
+IsReplyWritten bytes out (Ok true) = IsWritten out bytes
+IsReplyWritten bytes out (Ok false) = ⊥
+IsReplyWritten bytes out (Err e) = IsPartWritten out bytes
 
 -- what is written after a line: its reply, a prefix of it where the writer failed, or nothing where it ends the session
-abbrev pub Says : Stepping → ℕ → List ℕ → Stepping → Option (List ℕ) → Option (List ℕ) → Result Bool Failed → Type 0
-Says s n line t out out' (Ok true) = (text : List ℕ) × Answers s n line text t × Appends out out' text
-Says s n line t out out' (Ok false) = Quits line × (t ≡ s) × Keeps out out'
-Says s n line t out out' (Err e) = (text : List ℕ) × Answers s n line text t × PartOut out out' text
+abbrev pub Says : Stepping → ℕ → List ℕ → Stepping → Stream → Result Bool Failed → Type 0
+Says s n line t out (Ok true) = (text : List ℕ) × Answers s n line text t × IsWritten out text
+Says s n line t out (Ok false) = Quits line × (t ≡ s) × IsKept out
+Says s n line t out (Err e) = (text : List ℕ) × Answers s n line text t × IsPartWritten out text

@@ -1,10 +1,11 @@
 -- A session as a conversation: which lines bytes spell, the replies to them one after the other, and how it ends.
-use Rattle.std.specs.Prelude.{◌≡◌, ◌≢◌, ◌≤◌, ◌<◌, ◌+◌, ◌⊎◌, ℕ, List, [], ◌∷◌, ◌++◌, length, All, Option, Result, Ok, Err}
-use Rattle.std.specs.Io.KnownBytes.{Appends, Consumes, IsAtEnd}
+use Rattle.std.specs.Prelude.{◌≡◌, ◌≢◌, ◌≤◌, ◌<◌, ◌+◌, ◌⊎◌, ℕ, List, [], ◌∷◌, ◌++◌, length, All, Result, Ok, Err}
+use Rattle.std.specs.Io.KnownBytes.{Consumes, IsAtEnd}
 use Rattle.std.specs.declared.io.ErrorKind.TheVariants.{Interrupted}
 use Rattle.llb_stepper.specs.Stepping.{Stepping}
 use Rattle.llb_session.specs.declared.fault.SessionFault.{SessionFault}
 use Rattle.llb_session.specs.declared.fault.SessionFault.TheVariants.{Failed, Unending, Write, Memory, TooLong}
+use Rattle.llb_session.specs.Streams.{Stream, IsWritten}
 use Rattle.llb_session.specs.Answers.{Answers, Quits}
 
 -- ---- lines
@@ -14,13 +15,13 @@ abbrev pub IsLine : List ℕ → Type 0
 IsLine line = All (λ b. b ≢ 10) line
 
 -- lines, each with its end
-abbrev pub ended : List (List ℕ) → List ℕ
-ended [] = []
-ended (line ∷ lines) = line ++ 10 ∷ ended lines
+abbrev pub with_line_ends : List (List ℕ) → List ℕ
+with_line_ends [] = []
+with_line_ends (line ∷ lines) = line ++ 10 ∷ with_line_ends lines
 
 -- bytes are lines, each with its end, and after them a rest without one
 pub record Spelled (lines : List (List ℕ)) (rest bytes : List ℕ) : Type 0 where
-  pub are : bytes ≡ ended lines ++ rest
+  pub are : bytes ≡ with_line_ends lines ++ rest
   pub each : All IsLine lines
   pub begun : IsLine rest
 
@@ -43,6 +44,7 @@ pub record Standing : Type 0 where
   pub number : ℕ
   pub line : List ℕ
 
+-- before the first byte: line 1 is begun
 abbrev pub opening : Stepping → Standing
 opening s = record { session = s; number = 1; line = [] }
 
@@ -56,20 +58,20 @@ pub record Talked (p : Standing) (bytes text : List ℕ) (q : Standing) : Type 0
 -- ---- what is written when it ends
 
 -- the replies to the lines that ended in the bytes are written, and nothing else
-pub record Answered (p : Standing) (bytes : List ℕ) (t : Stepping) (out out' : Option (List ℕ)) : Type 0 where
+pub record Answered (p : Standing) (bytes : List ℕ) (t : Stepping) (out : Stream) : Type 0 where
   pub text : List ℕ
   pub at : Standing
   pub talked : Talked p bytes text at
   pub same : t ≡ at.session
-  pub printed : Appends out out' text
+  pub printed : IsWritten out text
 
 -- the same, and the line that is begun ends the session, without a reply
-pub record Quit (p : Standing) (bytes : List ℕ) (t : Stepping) (out out' : Option (List ℕ)) : Type 0 where
-  pub before : Answered p bytes t out out'
+pub record Quit (p : Standing) (bytes : List ℕ) (t : Stepping) (out : Stream) : Type 0 where
+  pub before : Answered p bytes t out
   pub quits : Quits before.at.line
 
 -- the line that is begun gets its reply too, of which a prefix is written
-pub record CutShort (p : Standing) (bytes : List ℕ) (t : Stepping) (out out' : Option (List ℕ)) : Type 0 where
+pub record CutShort (p : Standing) (bytes : List ℕ) (t : Stepping) (out : Stream) : Type 0 where
   pub text : List ℕ
   pub at : Standing
   pub talked : Talked p bytes text at
@@ -78,50 +80,57 @@ pub record CutShort (p : Standing) (bytes : List ℕ) (t : Stepping) (out out' :
   pub front : List ℕ
   pub rest : List ℕ
   pub split : said ≡ front ++ rest
-  pub printed : Appends out out' (text ++ front)
+  pub printed : IsWritten out (text ++ front)
 
 -- bytes are heard up to a line end, and so it is before that
 abbrev pub AtLineEnd : List ℕ → (List ℕ → Type 0) → Type 0
 AtLineEnd heard P = (before : List ℕ) × (heard ≡ before ++ 10 ∷ []) × P before
 
 -- all lines of an input get their replies, a last one without its end too
-pub record Concluded (s : Stepping) (input : List ℕ) (t : Stepping) (out out' : Option (List ℕ)) : Type 0 where
+pub record Concluded (s : Stepping) (input : List ℕ) (t : Stepping) (out : Stream) : Type 0 where
   pub lines : List (List ℕ)
   pub rest : List ℕ
   pub spelled : Spelled lines rest input
   pub text : List ℕ
   pub talks : Talks s 1 (lines ++ last_line rest) text t
-  pub printed : Appends out out' text
+  pub printed : IsWritten out text
 
 -- ---- how it ends
 
+-- a conversation: the most bytes that are heard, the most reads that are made, the stepper before and after it, and its streams
+pub record Conversation : Type 0 where
+  pub limit : ℕ
+  pub reads : ℕ
+  pub before : Stepping
+  pub after : Stepping
+  pub commands : Stream
+  pub replies : Stream
+
 -- the input has ended, and all of it was heard
-abbrev pub AllHeard : Option (List ℕ) → List ℕ → Type 0
-AllHeard left' unheard = (unheard ≡ []) × IsAtEnd left'
+abbrev pub AllHeard : Stream → List ℕ → Type 0
+AllHeard commands unheard = (unheard ≡ []) × IsAtEnd commands.after
 
 -- How a conversation ends, by what was heard of the bytes that were taken, and what was not. A last line without its end is one where it is not empty. Where
 -- the bound on reads was met, each read returned a byte or was interrupted.
-abbrev pub EndsSo : ℕ → ℕ → Stepping → List ℕ → List ℕ → Stepping → Option (List ℕ) → Option (List ℕ) → Option (List ℕ)
-    → Result (Unit {0}) SessionFault → Type 0
-EndsSo limit reads s heard unheard t left' out out' (Ok u) =
-    (AllHeard left' unheard × Concluded s heard t out out')
-    ⊎ ((AllHeard left' unheard × ((q : Quit (opening s) heard t out out') × (0 < length q.before.at.line)))
-    ⊎ AtLineEnd heard (λ bytes. Quit (opening s) bytes t out out'))
-EndsSo limit reads s heard unheard t left' out out' (Err Write) =
-    (AllHeard left' unheard × ((c : CutShort (opening s) heard t out out') × (0 < length c.at.line)))
-    ⊎ AtLineEnd heard (λ bytes. CutShort (opening s) bytes t out out')
-EndsSo limit reads s heard unheard t left' out out' (Err (Failed kind)) = (kind ≢ Interrupted) × (unheard ≡ []) × Answered (opening s) heard t out out'
-EndsSo limit reads s heard unheard t left' out out' (Err (Unending interrupted)) =
-    (reads ≤ length heard + interrupted) × (interrupted ≤ reads) × (unheard ≡ []) × Answered (opening s) heard t out out'
-EndsSo limit reads s heard unheard t left' out out' (Err Memory) = Answered (opening s) heard t out out'
-EndsSo limit reads s heard unheard t left' out out' (Err TooLong) = (length heard ≡ limit) × (0 < length unheard) × Answered (opening s) heard t out out'
+abbrev pub EndsSo : Conversation → List ℕ → List ℕ → Result (Unit {0}) SessionFault → Type 0
+EndsSo c heard unheard (Ok u) =
+    (AllHeard c.commands unheard × Concluded c.before heard c.after c.replies)
+    ⊎ ((AllHeard c.commands unheard × ((q : Quit (opening c.before) heard c.after c.replies) × (0 < length q.before.at.line)))
+    ⊎ AtLineEnd heard (λ bytes. Quit (opening c.before) bytes c.after c.replies))
+EndsSo c heard unheard (Err Write) =
+    (AllHeard c.commands unheard × ((cut : CutShort (opening c.before) heard c.after c.replies) × (0 < length cut.at.line)))
+    ⊎ AtLineEnd heard (λ bytes. CutShort (opening c.before) bytes c.after c.replies)
+EndsSo c heard unheard (Err (Failed kind)) = (kind ≢ Interrupted) × (unheard ≡ []) × Answered (opening c.before) heard c.after c.replies
+EndsSo c heard unheard (Err (Unending interrupted)) =
+    (c.reads ≤ length heard + interrupted) × (interrupted ≤ c.reads) × (unheard ≡ []) × Answered (opening c.before) heard c.after c.replies
+EndsSo c heard unheard (Err Memory) = Answered (opening c.before) heard c.after c.replies
+EndsSo c heard unheard (Err TooLong) = (length heard ≡ c.limit) × (0 < length unheard) × Answered (opening c.before) heard c.after c.replies
 
 -- A conversation takes bytes from its reader, in no more reads than are given, and hears them from the start, no more than the limit. Without a fault it
 -- ends where the input ends or a line ends the session.
-pub record Converses (limit reads : ℕ) (s t : Stepping) (left left' out out' : Option (List ℕ))
-    (result : Result (Unit {0}) SessionFault) : Type 0 where
+pub record Converses (c : Conversation) (result : Result (Unit {0}) SessionFault) : Type 0 where
   pub heard : List ℕ
   pub unheard : List ℕ
-  pub taken : Consumes left left' (heard ++ unheard)
-  pub few : length heard ≤ limit
-  pub ends : EndsSo limit reads s heard unheard t left' out out' result
+  pub taken : Consumes c.commands.before c.commands.after (heard ++ unheard)
+  pub few : length heard ≤ c.limit
+  pub ends : EndsSo c heard unheard result

@@ -1,12 +1,11 @@
 -- How a conversation hears bytes, from one standing to the next.
-use Rattle.std.specs.Prelude.{◌≡◌, ◌+◌, ◌<◌, length, ◌⊎◌, ℕ, Bool, true, false, List, [], ◌++◌, Option, Result, Ok, Err}
-use Rattle.std.specs.Io.KnownBytes.{Appends, Keeps}
-use Rattle.llb_wire.specs.Sink.{PartOut}
+use Rattle.std.specs.Prelude.{◌≡◌, ◌+◌, ◌<◌, length, ◌⊎◌, ℕ, Bool, true, false, List, [], ◌++◌, Result, Ok, Err}
 use Rattle.llb_stepper.specs.Stepping.{Stepping}
 use Rattle.llb_session.specs.declared.conversation.Pending.{Pending}
 use Rattle.llb_session.specs.declared.fault.SessionFault.{SessionFault}
 use Rattle.llb_session.specs.declared.fault.SessionFault.TheVariants.{Failed, Unending, Write, Memory, TooLong}
 use Rattle.llb_session.specs.Answers.{Answers, Quits}
+use Rattle.llb_session.specs.Streams.{Stream, IsKept, IsWritten, IsPartWritten}
 use Rattle.llb_session.specs.Conversation.{Talks, Talked, Standing, Answered, Quit, CutShort, AtLineEnd, last_line}
 
 -- the state of a conversation
@@ -14,45 +13,45 @@ abbrev pub standing : Stepping → Pending → Standing
 standing s p = record { session = s; number = p.answered + 1; line = p.line.items }
 
 -- the reply to the line that is begun, once it has ended
-abbrev pub IsSaid : Standing → Stepping → Option (List ℕ) → Option (List ℕ) → Result Bool SessionFault → Type 0
-IsSaid p t out out' (Ok true) = (text : List ℕ) × Answers p.session p.number p.line text t × Appends out out' text
-IsSaid p t out out' (Ok false) = Quits p.line × (t ≡ p.session) × Keeps out out'
-IsSaid p t out out' (Err Write) = (text : List ℕ) × Answers p.session p.number p.line text t × PartOut out out' text
-IsSaid p t out out' (Err (Failed kind)) = ⊥
-IsSaid p t out out' (Err (Unending interrupted)) = ⊥
-IsSaid p t out out' (Err Memory) = ⊥
-IsSaid p t out out' (Err TooLong) = ⊥
+abbrev pub IsSaid : Standing → Stepping → Stream → Result Bool SessionFault → Type 0
+IsSaid p t out (Ok true) = (text : List ℕ) × Answers p.session p.number p.line text t × IsWritten out text
+IsSaid p t out (Ok false) = Quits p.line × (t ≡ p.session) × IsKept out
+IsSaid p t out (Err Write) = (text : List ℕ) × Answers p.session p.number p.line text t × IsPartWritten out text
+IsSaid p t out (Err (Failed kind)) = ⊥
+IsSaid p t out (Err (Unending interrupted)) = ⊥
+IsSaid p t out (Err Memory) = ⊥
+IsSaid p t out (Err TooLong) = ⊥
 
 -- the reply to it at the end of the input
-abbrev pub IsLast : Standing → Stepping → Option (List ℕ) → Option (List ℕ) → Result (Unit {0}) SessionFault → Type 0
-IsLast p t out out' (Ok u) =
-    ((text : List ℕ) × Talks p.session p.number (last_line p.line) text t × Appends out out' text)
-    ⊎ ((0 < length p.line) × Quits p.line × (t ≡ p.session) × Keeps out out')
-IsLast p t out out' (Err Write) = (0 < length p.line) × ((text : List ℕ) × Answers p.session p.number p.line text t × PartOut out out' text)
-IsLast p t out out' (Err (Failed kind)) = ⊥
-IsLast p t out out' (Err (Unending interrupted)) = ⊥
-IsLast p t out out' (Err Memory) = ⊥
-IsLast p t out out' (Err TooLong) = ⊥
+abbrev pub IsLast : Standing → Stepping → Stream → Result (Unit {0}) SessionFault → Type 0
+IsLast p t out (Ok u) =
+    ((text : List ℕ) × Talks p.session p.number (last_line p.line) text t × IsWritten out text)
+    ⊎ ((0 < length p.line) × Quits p.line × (t ≡ p.session) × IsKept out)
+IsLast p t out (Err Write) = (0 < length p.line) × ((text : List ℕ) × Answers p.session p.number p.line text t × IsPartWritten out text)
+IsLast p t out (Err (Failed kind)) = ⊥
+IsLast p t out (Err (Unending interrupted)) = ⊥
+IsLast p t out (Err Memory) = ⊥
+IsLast p t out (Err TooLong) = ⊥
 
 -- bytes were heard, and the text of the lines that ended in them is written
-pub record Went (p : Standing) (bytes : List ℕ) (q : Standing) (out out' : Option (List ℕ)) : Type 0 where
+pub record Went (p : Standing) (bytes : List ℕ) (q : Standing) (out : Stream) : Type 0 where
   pub text : List ℕ
   pub talked : Talked p bytes text q
-  pub printed : Appends out out' text
+  pub printed : IsWritten out text
 
 -- the result of bytes that were heard, where some after them were not
-abbrev pub Comes : Standing → List ℕ → List ℕ → Standing → Option (List ℕ) → Option (List ℕ) → Result Bool SessionFault → Type 0
-Comes p heard unheard q out out' (Ok true) = (unheard ≡ []) × Went p heard q out out'
-Comes p heard unheard q out out' (Ok false) = AtLineEnd heard (λ bytes. Quit p bytes q.session out out')
-Comes p heard unheard q out out' (Err Write) = AtLineEnd heard (λ bytes. CutShort p bytes q.session out out')
-Comes p heard unheard q out out' (Err Memory) = Answered p heard q.session out out'
-Comes p heard unheard q out out' (Err (Failed kind)) = ⊥
-Comes p heard unheard q out out' (Err (Unending interrupted)) = ⊥
-Comes p heard unheard q out out' (Err TooLong) = ⊥
+abbrev pub IsHeard : Standing → List ℕ → List ℕ → Standing → Stream → Result Bool SessionFault → Type 0
+IsHeard p heard unheard q out (Ok true) = (unheard ≡ []) × Went p heard q out
+IsHeard p heard unheard q out (Ok false) = AtLineEnd heard (λ bytes. Quit p bytes q.session out)
+IsHeard p heard unheard q out (Err Write) = AtLineEnd heard (λ bytes. CutShort p bytes q.session out)
+IsHeard p heard unheard q out (Err Memory) = Answered p heard q.session out
+IsHeard p heard unheard q out (Err (Failed kind)) = ⊥
+IsHeard p heard unheard q out (Err (Unending interrupted)) = ⊥
+IsHeard p heard unheard q out (Err TooLong) = ⊥
 
 -- bytes are heard, from the start
-pub record Hears (p : Standing) (bytes : List ℕ) (q : Standing) (out out' : Option (List ℕ)) (result : Result Bool SessionFault) : Type 0 where
+pub record Hears (p : Standing) (bytes : List ℕ) (q : Standing) (out : Stream) (result : Result Bool SessionFault) : Type 0 where
   pub heard : List ℕ
   pub unheard : List ℕ
   pub split : bytes ≡ heard ++ unheard
-  pub comes : Comes p heard unheard q out out' result
+  pub comes : IsHeard p heard unheard q out result

@@ -2,6 +2,7 @@
 -- (which lines bytes spell, and how a conversation goes over them); Told is what a `go` prints by the run of the record, and Hearing how bytes are heard
 -- one by one.
 pub mod Request
+pub mod Streams
 pub mod Texts
 pub mod Answers
 pub mod Conversation

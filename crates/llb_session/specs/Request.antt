@@ -8,6 +8,7 @@ use Rattle.llb_stepper.specs.declared.stop.Break.TheVariants.{Claims, Settles, F
 use Rattle.llb_session.specs.declared.request.Request.{Request}
 use Rattle.llb_session.specs.declared.request.Request.TheVariants as ask
 
+-- whether a byte is a space
 abbrev pub is_space : ℕ → Bool
 is_space b = b == 32
 
@@ -46,8 +47,8 @@ abbrev pub break_in : List ℕ → Option Request
 break_in rest = if is_text rest (codes "fail") then Some (ask.Break Fails) else then_in (parted rest) (λ p. break_at p.0 p.1)
 
 -- a line of a word and the rest after it
-abbrev pub behind : List ℕ → List ℕ → Option Request
-behind word rest =
+abbrev pub word_with_rest : List ℕ → List ℕ → Option Request
+word_with_rest word rest =
     if is_text word (codes "break") then break_in rest
     else if is_text word (codes "claim") then option_map (λ (p : ℕ × ℕ). ask.Event (Claim p.0 p.1)) (pair_in rest)
     else if is_text word (codes "step") then option_map (λ w. ask.Event (Step w)) (number_in rest)
@@ -56,9 +57,10 @@ behind word rest =
     else if is_text word (codes "tree") then option_map (λ (p : ℕ × ℕ). ask.Tree p.0 p.1) (pair_in rest)
     else None
 
+-- a line by its first word and the rest after it, if it has more words than one
 abbrev pub by_words : List ℕ → Option (List ℕ × List ℕ) → Option Request
 by_words line None = alone line
-by_words line (Some p) = behind p.0 p.1
+by_words line (Some p) = word_with_rest p.0 p.1
 
 -- the request that a line spells, if any; a line that is not UTF-8 spells none
 abbrev pub request_in : List ℕ → Option Request

@@ -5,7 +5,7 @@ use Rattle.llb_tree.specs.Tree.{TreeMap}
 use Rattle.llb_treetext.specs.TreeText.{tree_text}
 use Rattle.llb_model.specs.Failure.{failure_text}
 use Rattle.llb_state.specs.Board.{Seen}
-use Rattle.llb_state.specs.Views.{look_at}
+use Rattle.llb_events.specs.Views.{look_at}
 use Rattle.llb_events.specs.declared.event.Status.{Status}
 use Rattle.llb_events.specs.declared.event.Status.TheVariants.{Waiting, Ready, Blocked, Running, Done, Failed}
 use Rattle.llb_stepper.specs.declared.fault.StepperFault.{StepperFault}
@@ -22,9 +22,11 @@ look_text (Running w) = codes "running " ++ decimal w
 look_text Done = codes "done"
 look_text (Failed f) = codes "failed " ++ failure_text f
 
+-- the line of a vertex
 abbrev pub status_line : ℕ → Status → List ℕ
 status_line v look = decimal v ++ (codes " " ++ (look_text look ++ codes "\n"))
 
+-- the same; empty if there is no such vertex
 abbrev pub status_line_of : ℕ → Option Status → List ℕ
 status_line_of v None = []
 status_line_of v (Some look) = status_line v look
@@ -35,13 +37,13 @@ status_lines b zero = []
 status_lines b (suc v) = status_lines b v ++ status_line_of v (look_at b.build b.state v)
 
 -- a text with a line end after it; empty if there is no text
-abbrev pub ended : Option (List ℕ) → List ℕ
-ended None = []
-ended (Some text) = text ++ codes "\n"
+abbrev pub with_line_end : Option (List ℕ) → List ℕ
+with_line_end None = []
+with_line_end (Some text) = text ++ codes "\n"
 
 -- the line of event i of the record, counted from 1; empty if `record_at` has no such event
 abbrev pub record_line : Stepping → ℕ → List ℕ
-record_line s i = ended (option_map (record_text s.board.build.graph.vertices i) (record_at s i))
+record_line s i = with_line_end (option_map (record_text s.board.build.graph.vertices i) (record_at s i))
 
 -- the lines of the k events that follow the first `from` events of the record
 unfoldable pub record_lines : Stepping → ℕ → ℕ → List ℕ
@@ -53,6 +55,7 @@ abbrev pub tree_lines : Option TreeMap → List ℕ
 tree_lines None = codes "none\n"
 tree_lines (Some t) = tree_text t
 
+-- the line of a refusal
 abbrev pub fault_line : StepperFault → List ℕ
 fault_line e = codes "fault " ++ (stepper_text e ++ codes "\n")
 

@@ -17,5 +17,5 @@ pub record LinesOfTheRun (s t : Stepping) : Type 0 where
       → record_line t i ≡ record_text t.board.build.graph.vertices i (e, r) ++ codes "\n"
 
 -- Whenever a `go` is granted on stepper s, the lines that it prints are those of the run.
-abbrev pub GoTellsTheRun : Stepping → Type 0
-GoTellsTheRun s = (text : List ℕ) (t : Stepping) → GrantsGo s text t → LinesOfTheRun s t
+abbrev pub GoPrintsTheRun : Stepping → Type 0
+GoPrintsTheRun s = (text : List ℕ) (t : Stepping) → GrantsGo s text t → LinesOfTheRun s t

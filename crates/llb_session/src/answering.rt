@@ -2,7 +2,7 @@
 
 ghost use Rattle.std.specs.Prelude.{◌≡◌, ◌++◌, ◌-◌, length, true, IfOk, IfErr, OnErr, string_bytes};
 ghost use Rattle.llb_session.specs.declared.request.Request.TheVariants as ask;
-ghost use Rattle.llb_session.specs.Answers.{Comes, AnswersAs, Puts, Says, stop_line};
+ghost use Rattle.llb_session.specs.Answers.{IsPerformed, AnswersAs, IsReplyWritten, Says, stop_line};
 ghost use Rattle.llb_session.specs.Texts.{record_lines};
 ghost use Rattle.llb_stepper.specs.Rules.{stepper_memory};
 
@@ -15,24 +15,24 @@ use std::alloc::{AllocError, Global};
 use std::io::Write;
 
 // Adds a breakpoint.
-fn breaks(alloc: Global, stepper: &mut Stepper, stop: Break) -> Result<Vec<u8>, StepperFault>
-    ensures { Comes (ask.Break stop) stepper.old stepper.new result }
+fn break_at(alloc: Global, stepper: &mut Stepper, stop: Break) -> Result<Vec<u8>, StepperFault>
+    ensures { IsPerformed (ask.Break stop) stepper.old stepper.new result }
 {
     stepper.break_at(stop)?;
     Ok(Vec::new(alloc))
 }
 
 // Removes all breakpoints.
-fn clears(alloc: Global, stepper: &mut Stepper) -> Result<Vec<u8>, StepperFault>
-    ensures { Comes ask.Clear stepper.old stepper.new result }
+fn clear(alloc: Global, stepper: &mut Stepper) -> Result<Vec<u8>, StepperFault>
+    ensures { IsPerformed ask.Clear stepper.old stepper.new result }
 {
     stepper.clear();
     Ok(Vec::new(alloc))
 }
 
 // One event, and its line; where memory for the line is refused, the event is taken back.
-fn does(alloc: Global, stepper: &mut Stepper, event: Event) -> Result<Vec<u8>, StepperFault>
-    ensures { Comes (ask.Event event) stepper.old stepper.new result }
+fn do_event(alloc: Global, stepper: &mut Stepper, event: Event) -> Result<Vec<u8>, StepperFault>
+    ensures { IsPerformed (ask.Event event) stepper.old stepper.new result }
 {
     stepper.do_event(event)?;
     let number = stepper.board().events().len() as u64;
@@ -46,14 +46,14 @@ fn does(alloc: Global, stepper: &mut Stepper, event: Event) -> Result<Vec<u8>, S
 }
 
 // The chosen event, where there is one.
-fn does_next(alloc: Global, stepper: &mut Stepper) -> Result<Vec<u8>, StepperFault>
-    ensures { Comes ask.Next stepper.old stepper.new result }
+fn do_next(alloc: Global, stepper: &mut Stepper) -> Result<Vec<u8>, StepperFault>
+    ensures { IsPerformed ask.Next stepper.old stepper.new result }
 {
     let Some(event) = stepper.next() else {
         return Ok(bytes_of(alloc, "end\n")?);
     };
     chosen_is_done(stepper);
-    does(alloc, stepper, event)
+    do_event(alloc, stepper, event)
 }
 
 fn bytes_of(alloc: Global, text: &str) -> Result<Vec<u8>, AllocError>
@@ -64,8 +64,8 @@ fn bytes_of(alloc: Global, text: &str) -> Result<Vec<u8>, AllocError>
     Ok(bytes)
 }
 
-// The lines of a walk, and how it ends.
-fn walk_text(
+// The lines of a `go`, and how it ended.
+fn go_text(
     alloc: Global,
     stepper: &Stepper,
     from: u64,
@@ -81,12 +81,12 @@ fn walk_text(
 }
 
 // The chosen events up to a stop, with their lines; where memory for the lines is refused, they are taken back.
-fn goes(alloc: Global, stepper: &mut Stepper) -> Result<Vec<u8>, StepperFault>
-    ensures { Comes ask.Go stepper.old stepper.new result }
+fn go(alloc: Global, stepper: &mut Stepper) -> Result<Vec<u8>, StepperFault>
+    ensures { IsPerformed ask.Go stepper.old stepper.new result }
 {
     let from = stepper.board().events().len() as u64;
     let stop = stepper.go()?;
-    match walk_text(alloc, stepper, from, stop.at_break) {
+    match go_text(alloc, stepper, from, stop.at_break) {
         Ok(text) => Ok(text.into_bytes()),
         Err(fault) => {
             stepper.back_many(stop.events as usize);
@@ -96,8 +96,8 @@ fn goes(alloc: Global, stepper: &mut Stepper) -> Result<Vec<u8>, StepperFault>
 }
 
 // The last event is taken back. Its line is made first, since an event that was taken back is not done again.
-fn goes_back(alloc: Global, stepper: &mut Stepper) -> Result<Vec<u8>, StepperFault>
-    ensures { Comes ask.Back stepper.old stepper.new result }
+fn back(alloc: Global, stepper: &mut Stepper) -> Result<Vec<u8>, StepperFault>
+    ensures { IsPerformed ask.Back stepper.old stepper.new result }
 {
     let left = stepper.board().events().len().saturating_sub(1);
     let text = back_line(alloc, left)?;
@@ -106,42 +106,38 @@ fn goes_back(alloc: Global, stepper: &mut Stepper) -> Result<Vec<u8>, StepperFau
 }
 
 // How the vertices look.
-fn tells_status(alloc: Global, stepper: &mut Stepper) -> Result<Vec<u8>, StepperFault>
-    ensures { Comes ask.Status stepper.old stepper.new result }
+fn status(alloc: Global, stepper: &mut Stepper) -> Result<Vec<u8>, StepperFault>
+    ensures { IsPerformed ask.Status stepper.old stepper.new result }
 {
     Ok(status_text(alloc, stepper.board())?.into_bytes())
 }
 
 // An output as text.
-fn tells_tree(alloc: Global, stepper: &mut Stepper, v: u32, i: u32) -> Result<Vec<u8>, StepperFault>
-    ensures { Comes (ask.Tree v i) stepper.old stepper.new result }
+fn tree(alloc: Global, stepper: &mut Stepper, v: u32, i: u32) -> Result<Vec<u8>, StepperFault>
+    ensures { IsPerformed (ask.Tree v i) stepper.old stepper.new result }
 {
     tree_text(alloc, stepper.board().output(v, i))
 }
 
 // What is asked for, and what it prints.
-fn performed(
-    alloc: Global,
-    stepper: &mut Stepper,
-    request: Request,
-) -> Result<Vec<u8>, StepperFault>
-    ensures { Comes request stepper.old stepper.new result }
+fn perform(alloc: Global, stepper: &mut Stepper, request: Request) -> Result<Vec<u8>, StepperFault>
+    ensures { IsPerformed request stepper.old stepper.new result }
 {
     match request {
-        Request::Break(stop) => breaks(alloc, stepper, stop),
-        Request::Clear => clears(alloc, stepper),
-        Request::Event(event) => does(alloc, stepper, event),
-        Request::Next => does_next(alloc, stepper),
-        Request::Go => goes(alloc, stepper),
-        Request::Back => goes_back(alloc, stepper),
-        Request::Status => tells_status(alloc, stepper),
-        Request::Tree(v, i) => tells_tree(alloc, stepper, v, i),
+        Request::Break(stop) => break_at(alloc, stepper, stop),
+        Request::Clear => clear(alloc, stepper),
+        Request::Event(event) => do_event(alloc, stepper, event),
+        Request::Next => do_next(alloc, stepper),
+        Request::Go => go(alloc, stepper),
+        Request::Back => back(alloc, stepper),
+        Request::Status => status(alloc, stepper),
+        Request::Tree(v, i) => tree(alloc, stepper, v, i),
         Request::Quit => Ok(Vec::new(alloc)),
     }
 }
 
 // What a line prints: 173 and its number where it asks for nothing. Where memory for the line of a refusal is refused, nothing is changed.
-fn told(
+fn respond(
     alloc: Global,
     stepper: &mut Stepper,
     number: u64,
@@ -152,7 +148,7 @@ fn told(
 {
     let fault = match request {
         None => StepperFault::BadCommand(number),
-        Some(request) => match performed(alloc, stepper, request) {
+        Some(request) => match perform(alloc, stepper, request) {
             Ok(text) => return Ok(text),
             Err(fault) => fault,
         },
@@ -161,8 +157,8 @@ fn told(
 }
 
 // Writes a reply, and the session goes on.
-fn put<W: Write>(bytes: &[u8], out: &mut W) -> Result<bool, Failed>
-    ensures { Puts bytes.now (W.contents out.old) (W.contents out.new) result }
+fn write_reply<W: Write>(bytes: &[u8], out: &mut W) -> Result<bool, Failed>
+    ensures { IsReplyWritten bytes.now (record { before = W.contents out.old; after = W.contents out.new }) result }
 {
     write_all(&mut Over::new(out), bytes)?;
     Ok(true)
@@ -179,14 +175,14 @@ pub fn answer<W: Write>(
     line: &[u8],
     out: &mut W,
 ) -> Result<bool, Failed>
-    ensures { Says stepper.old number line.now stepper.new (W.contents out.old) (W.contents out.new) result }
+    ensures { Says stepper.old number line.now stepper.new (record { before = W.contents out.old; after = W.contents out.new }) result }
 {
     let request = request_in(line);
     if request == Some(Request::Quit) {
         return Ok(false);
     }
-    match told(alloc, stepper, number, request) {
-        Ok(text) => put(text.as_slice(), out),
-        Err(_) => put(b"fault 174\n", out),
+    match respond(alloc, stepper, number, request) {
+        Ok(text) => write_reply(text.as_slice(), out),
+        Err(_) => write_reply(b"fault 174\n", out),
     }
 }

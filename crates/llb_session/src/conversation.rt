@@ -29,7 +29,7 @@ fn say<W: Write>(
     out: &mut W,
 ) -> Result<bool, SessionFault>
     requires { pending.now.answered + 1 < 2 ^ 64 }
-    ensures { IsSaid (standing session.old pending.now) session.new (W.contents out.old) (W.contents out.new) result }
+    ensures { IsSaid (standing session.old pending.now) session.new (record { before = W.contents out.old; after = W.contents out.new }) result }
 {
     let number = pending.answered + 1;
     match answer(alloc, session, number, pending.line.as_slice(), out) {
@@ -52,7 +52,8 @@ fn hear<W: Write>(
 ) -> Result<bool, SessionFault>
     requires line { IsLine pending.old.line.items }
     requires counts { pending.old.answered + 1 < 2 ^ 64 }
-    ensures { Hears (standing session.old pending.old) (byte ∷ []) (standing session.new pending.new) (W.contents out.old) (W.contents out.new) result }
+    ensures { Hears (standing session.old pending.old) (byte ∷ []) (standing session.new pending.new)
+        (record { before = W.contents out.old; after = W.contents out.new }) result }
 {
     if byte != LINE_END {
         return match pending.line.push(byte) {
@@ -76,7 +77,8 @@ fn hear_all<W: Write>(
 ) -> Result<bool, SessionFault>
     requires line { IsLine pending.old.line.items }
     requires counts { pending.old.answered + (length pending.old.line.items + length bytes.now) < 2 ^ 64 }
-    ensures { Hears (standing session.old pending.old) bytes.now (standing session.new pending.new) (W.contents out.old) (W.contents out.new) result }
+    ensures { Hears (standing session.old pending.old) bytes.now (standing session.new pending.new)
+        (record { before = W.contents out.old; after = W.contents out.new }) result }
 {
     for byte in bytes {
         if !hear(alloc, session, pending, *byte, out)? {
@@ -94,7 +96,7 @@ fn conclude<W: Write>(
     out: &mut W,
 ) -> Result<(), SessionFault>
     requires { pending.now.answered + length pending.now.line.items < 2 ^ 64 }
-    ensures { IsLast (standing session.old pending.now) session.new (W.contents out.old) (W.contents out.new) result }
+    ensures { IsLast (standing session.old pending.now) session.new (record { before = W.contents out.old; after = W.contents out.new }) result }
 {
     if pending.line.as_slice().is_empty() {
         return Ok(());
@@ -114,8 +116,14 @@ pub fn converse<R: Read, W: Write>(
     limit: usize,
     reads: u64,
 ) -> Result<(), SessionFault>
-    ensures { Converses limit reads session.old session.new (R.remaining commands.old) (R.remaining commands.new)
-        (W.contents out.old) (W.contents out.new) result }
+    ensures { Converses (record {
+      limit = limit;
+      reads = reads;
+      before = session.old;
+      after = session.new;
+      commands = record { before = R.remaining commands.old; after = R.remaining commands.new };
+      replies = record { before = W.contents out.old; after = W.contents out.new };
+    }) result }
 {
     let mut pending = Pending {
         answered: 0,

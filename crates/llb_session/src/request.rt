@@ -1,33 +1,33 @@
 //! What a line of a session asks for.
 
 ghost use Rattle.std.specs.Prelude.{◌≡◌, option_map};
-ghost use Rattle.llb_session.specs.Request.{parted, number_in, pair_in, request_in, alone, break_in, break_at, behind, by_words};
+ghost use Rattle.llb_session.specs.Request.{parted, number_in, pair_in, request_in, alone, break_in, break_at, word_with_rest, by_words};
 
 use llb_asm::magnitude;
 use llb_board::Event;
 use llb_stepper::Break;
 use std::str::from_utf8;
 
-/// What is asked for.
+/// What a line of a session asks for.
 #[derive(Clone, Copy, Debug, PartialEq, Eq)]
 pub enum Request {
-    /// One breakpoint more.
+    /// Adds that breakpoint.
     Break(Break),
-    /// No breakpoint is left.
+    /// Removes all breakpoints.
     Clear,
-    /// That event.
+    /// Does that event.
     Event(Event),
-    /// The chosen event.
+    /// Does the chosen event.
     Next,
-    /// The chosen events, up to a breakpoint.
+    /// Does the chosen events, up to one that meets a breakpoint.
     Go,
-    /// The last event taken back.
+    /// Takes the last event back.
     Back,
-    /// How the vertices look.
+    /// Prints how the vertices look.
     Status,
-    /// Output I of vertex V, as text.
+    /// Prints an output of a vertex as text: the number of the vertex and that of the output.
     Tree(u32, u32),
-    /// The end of the session.
+    /// Ends the session.
     Quit,
 }
 
@@ -100,8 +100,8 @@ fn break_in(rest: &str) -> Option<Request>
 }
 
 // A line of a word and the rest after it.
-fn behind(word: &str, rest: &str) -> Option<Request>
-    ensures { result ≡ behind word.now rest.now }
+fn word_with_rest(word: &str, rest: &str) -> Option<Request>
+    ensures { result ≡ word_with_rest word.now rest.now }
 {
     if word == "break" {
         break_in(rest)
@@ -131,7 +131,7 @@ fn by_words(line: &str) -> Option<Request>
 {
     match line.split_once(' ') {
         None => alone(line),
-        Some((word, rest)) => behind(word, rest),
+        Some((word, rest)) => word_with_rest(word, rest),
     }
 }
 

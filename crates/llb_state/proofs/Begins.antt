@@ -13,7 +13,7 @@ use Rattle.llb_model.specs.Program.{Build, View, Need, mount_of, needs_of, progr
 use Rattle.llb_model.specs.Table.{Claimed}
 use Rattle.llb_model.proofs.Claims.{first_length}
 use Rattle.llb_needs.specs.Needs.{Taking, taken_with, places_taken}
-use Rattle.llb_state.specs.Jobs.{IsWorkable}
+use Rattle.llb_execution.specs.Jobs.{IsWorkable}
 use Rattle.llb_execution.specs.Parts.{work_with, mounts_in, shown_in}
 use Rattle.llb_state.specs.Room.{Supplies, supplies_for}
 use Rattle.llb_state.specs.Rules.{or_not_ready, Begun, begun}

@@ -31,7 +31,8 @@ use Rattle.llb_execution.specs.Parts.{work_with}
 use Rattle.llb_state.specs.Caches.{some_lease, lease_if, written}
 use Rattle.llb_needs.specs.Needs.{shut_key, unless_shut, places_taken}
 use Rattle.llb_state.specs.Board.{Seen, recorded}
-use Rattle.llb_state.specs.Rules.{faulted, claim_fault, claim_of, step_fault, Begun, begun_at, begun, Written, written_by}
+use Rattle.llb_events.specs.Causes.{faulted, claim_fault, step_fault}
+use Rattle.llb_state.specs.Rules.{claim_of, Begun, begun_at, begun, Written, written_by}
 use Rattle.llb_events.specs.Faults.{claim_may_want}
 use Rattle.llb_state.specs.Rules.{worked_in, worked_by, left_at, given_up_at}
 use Rattle.llb_state.specs.Views.{at_of, state_of}

@@ -28,7 +28,8 @@ use Rattle.llb_state.specs.Caches.{written, places_at, rows_after}
 use Rattle.llb_state.specs.Events.{Space}
 use Rattle.llb_state.specs.Views.{status_of, at_of, leased_by, execution_of, state_of}
 use Rattle.llb_state.specs.Board.{Seen, Replays, opening_with, kept_next, kept_along, recorded}
-use Rattle.llb_state.specs.Rules.{faulted, step_fault, left_at}
+use Rattle.llb_events.specs.Causes.{faulted, step_fault}
+use Rattle.llb_state.specs.Rules.{left_at}
 use Rattle.llb_state.specs.Room.{IsKept, AreOver, Supplies, supplies_of, supplies_for, seen, ready_made, needed}
 use Rattle.llb_state.specs.declared.stand.Stand.{Stand}
 use Rattle.llb_state.specs.declared.stand.Stand.TheVariants as stand

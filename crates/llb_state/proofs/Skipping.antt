@@ -24,7 +24,7 @@ use Rattle.llb_execution.specs.Parts.{left_with, is_skipped}
 use Rattle.llb_execution.proofs.Stepping.{skip_leaves}
 use Rattle.llb_events.specs.declared.event.Stepped.{Stepped}
 use Rattle.llb_state.specs.Rules.{Worked, worked, worked_to}
-use Rattle.llb_state.specs.Views.{fault_or, step_reply}
+use Rattle.llb_events.specs.Views.{fault_or, step_reply}
 use Rattle.llb_state.proofs.Lists.{set_same}
 use Rattle.llb_state.proofs.Steps.{goes_to}
 

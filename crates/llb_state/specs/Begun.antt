@@ -5,7 +5,8 @@ use Rattle.llb_loader.specs.declared.graph.Vertex.{Vertex}
 use Rattle.llb_tree.specs.Tree.{TreeMap, empty_tree}
 use Rattle.llb_model.specs.Program as model
 use Rattle.llb_execution.specs.Parts.{kind_setting}
-use Rattle.llb_state.specs.Views.{execution_of, claim_reply}
+use Rattle.llb_state.specs.Views.{execution_of}
+use Rattle.llb_events.specs.Views.{claim_reply}
 use Rattle.llb_state.specs.Rules as rules
 use Rattle.llb_state.specs.declared.step.Begun.{Begun}
 use Rattle.llb_state.specs.declared.step.Outfit.{Outfit}

@@ -1,45 +1,16 @@
--- Jobs and their outcomes: what a worker takes away from a board, and what it brings back.
-use Rattle.std.specs.Prelude.{◌≡◌, ℕ, ◌+◌, ◌<◌, ◌^◌, Bool, true, false, map, length, Option, Some, None}
-use Rattle.std.specs.List.{All, list_any}
+-- What a worker has left to do, as a job, and its desk after the job's micro-steps.
+use Rattle.std.specs.Prelude.{◌≡◌, ℕ, ◌+◌, Bool, true, false, map, Option, Some, None}
+use Rattle.std.specs.List.{list_any}
 use Rattle.llb_cache.specs.declared.key.Mode.{Mode}
 use Rattle.llb_cache.specs.declared.key.Mode.TheVariants.{Shared, Private, Locked}
-use Rattle.llb_model.specs.Caches.{Place, Store, Distinct, trees_at}
+use Rattle.llb_model.specs.Caches.{Place, Store, trees_at}
 use Rattle.llb_model.specs.declared.fault.VertexFault.{VertexFault}
-use Rattle.llb_model.specs.Program.{Build, Program, View, Work, Left}
+use Rattle.llb_model.specs.Program.{Build, View}
 use Rattle.llb_model.specs.State.{Execution, program_in}
 use Rattle.llb_model.specs.Table.{Job}
-use Rattle.llb_model.specs.Landing.{AreLeft, further}
-use Rattle.llb_execution.specs.Parts.{mounts_in, shown_in, work_with}
+use Rattle.llb_execution.specs.Parts.{work_with}
 use Rattle.llb_state.specs.declared.stand.Desk.{Desk}
 use Rattle.llb_state.specs.declared.stand.Desk.TheVariants as desk
-
--- the micro-steps of a program can be done on a work: its caches are shown by mounts that differ, each has a tree, and the micro-steps
--- can be counted
-pub record IsWorkable (p : Program) (work : Work) : Type 0 where
-  pub apart : Distinct (shown_in work.own)
-  pub within : All (λ n. n < mounts_in work.own) (shown_in work.own)
-  pub count : length work.trees ≡ length (shown_in work.own)
-  pub few : length p.steps < 2 ^ 32
-
--- a job, how many micro-steps were left to it, and what they left
-pub record OutcomeValue : Type 0 where
-  pub job : Job
-  pub count : ℕ
-  pub left : Left
-
--- no micro-step of a job has faulted
-abbrev pub begun_on : Job → Left
-begun_on j = record { work = j.work; fault = None }
-
--- n micro-steps and no more are left to a job, and they leave this; it shows what the job shows
-pub record IsOutcome (j : Job) (count : ℕ) (left : Left) : Type 0 where
-  pub few : j.done + count < 2 ^ 32
-  pub all : AreLeft j.program.steps j.done (begun_on j) count
-  pub leaves : left ≡ further j.program.steps j.done (begun_on j) count
-  pub mounts : mounts_in left.work.own ≡ mounts_in j.work.own
-  pub shown : shown_in left.work.own ≡ shown_in j.work.own
-
--- ---- what a worker has left to do
 
 abbrev pub is_shared : Mode → Bool
 is_shared Shared = true

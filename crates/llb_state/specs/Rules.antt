@@ -1,6 +1,5 @@
 -- What each call returns: the table's result, or the first cause of its refusal as a fault.
-use Rattle.std.specs.Prelude.{ℕ, Bool, true, false, List, Option, Some, None, Result, Ok, Err, if◌then◌else◌}
-use Rattle.llb_wire.specs.Answer as answer
+use Rattle.std.specs.Prelude.{ℕ, List, Option, Some, None, Result, Ok, Err, if◌then◌else◌}
 use Rattle.llb_loader.specs.declared.graph.Vertex.{Vertex}
 use Rattle.llb_tree.specs.Tree.{TreeMap}
 use Rattle.llb_cache.specs.declared.need.Need as cache_need
@@ -10,19 +9,12 @@ use Rattle.llb_model.specs.Kept.{store_of}
 use Rattle.llb_model.specs.Leases.{asked, put_each}
 use Rattle.llb_model.specs.Program.{Build, MicroStep, Left, needs_of, start_with, step_on}
 use Rattle.llb_model.specs.State.{Status, Settled, At, Idle, Runs, Execution, program_in, is_finished, next_step, ending_from, begin_at}
-use Rattle.llb_model.specs.ClaimCause as no_claim
-use Rattle.llb_model.specs.ClaimCause.{ClaimCause}
-use Rattle.llb_model.specs.StepCause as no_step
-use Rattle.llb_model.specs.StepCause.{StepCause}
-use Rattle.llb_model.specs.SettleCause as no_settle
-use Rattle.llb_model.specs.SettleCause.{SettleCause}
-use Rattle.llb_model.specs.CancelCause as no_cancel
-use Rattle.llb_model.specs.CancelCause.{CancelCause}
 use Rattle.llb_model.specs.Table.{Claim, Step, Settle, Cancel, Reply, Claimed, claim_grant, step_grant, settle_grant, cancel_grant, execution_on, job_on}
 use Rattle.llb_model.specs.Table.{with_step, step_reply}
 use Rattle.llb_state.specs.Board.{Seen, recorded}
 use Rattle.llb_execution.specs.Parts.{work_with}
 use Rattle.llb_needs.specs.Needs.{places_taken}
+use Rattle.llb_events.specs.Causes.{claim_fault, step_fault, settle_fault, cancel_fault}
 use Rattle.llb_events.specs.declared.fault.ClaimFault.{ClaimFault}
 use Rattle.llb_events.specs.declared.fault.ClaimFault.TheVariants as claim
 use Rattle.llb_events.specs.declared.fault.StepFault.{StepFault}
@@ -32,21 +24,7 @@ use Rattle.llb_events.specs.declared.fault.SettleFault.TheVariants as settle
 use Rattle.llb_events.specs.declared.fault.CancelFault.{CancelFault}
 use Rattle.llb_events.specs.declared.fault.CancelFault.TheVariants as cancel
 
--- ---- the result of an event: the table's, with its cause as a fault
-
--- a cause as a fault
-abbrev pub faulted : {A C F : Type 0} → (C → F) → Result A C → Result A F
-faulted fault (Ok x) = Ok x
-faulted fault (Err cause) = Err (fault cause)
-
 -- ---- the result of a claim, and what it begins
-
-abbrev pub claim_fault : ClaimCause → ClaimFault
-claim_fault no_claim.NoWorker = claim.NoWorker
-claim_fault no_claim.Busy = claim.Busy
-claim_fault no_claim.NoVertex = claim.NoVertex
-claim_fault no_claim.NotReady = claim.NotReady
-claim_fault (no_claim.Held key) = claim.Held key
 
 abbrev pub claim_of : Seen → ℕ → ℕ → Result (Seen × Reply) ClaimFault
 claim_of b w v = recorded b (Claim w v) claim_fault (claim_grant b.build b.state w v)
@@ -76,22 +54,8 @@ begun b c w v vertex None = Err claim.NotReady
 
 -- ---- the result of a step, and what its micro-step leaves
 
-abbrev pub step_fault : StepCause → StepFault
-step_fault no_step.NoWorker = step.NoWorker
-step_fault no_step.NotRunning = step.NotRunning
-step_fault no_step.NothingLeft = step.NothingLeft
-
 abbrev pub step_of : Seen → ℕ → Result (Seen × Reply) StepFault
 step_of b w = recorded b (Step w) step_fault (step_grant b.build b.state w)
-
-abbrev pub step_memory : StepFault → Bool
-step_memory step.Memory = true
-step_memory step.NoWorker = false
-step_memory step.NotRunning = false
-step_memory step.NothingLeft = false
-
-abbrev pub GivesStep : {X Y : Type 0} → (X → Y) → Result X StepFault → Result Y StepFault → Type 0
-GivesStep = answer.Gives step_memory
 
 -- what a micro-step leaves: the execution, the trees of its instances, and the reply
 pub record Worked : Type 0 where
@@ -123,19 +87,8 @@ worked_in b rows x = written_by rows x.places (worked (program_in b x).steps x (
 
 -- ---- the result of a settle, and what it leaves
 
-abbrev pub settle_fault : SettleCause → SettleFault
-settle_fault no_settle.NoWorker = settle.NoWorker
-settle_fault no_settle.NotRunning = settle.NotRunning
-settle_fault no_settle.NotFinished = settle.NotFinished
-
 abbrev pub settle_of : Seen → ℕ → Result (Seen × Reply) SettleFault
 settle_of b w = recorded b (Settle w) settle_fault (settle_grant b.build b.state w)
-
-abbrev pub settle_memory : SettleFault → Bool
-settle_memory e = false
-
-abbrev pub GivesSettle : {X Y : Type 0} → (X → Y) → Result X SettleFault → Result Y SettleFault → Type 0
-GivesSettle = answer.Gives settle_memory
 
 -- the vertex that a worker leaves, and its status then
 abbrev pub left_at : Build → Option At → Result (ℕ × Status) SettleFault
@@ -145,18 +98,8 @@ left_at b (Some (Runs x)) = if is_finished (program_in b x).steps x then Ok (x.v
 
 -- ---- the result of a cancel, and what it leaves
 
-abbrev pub cancel_fault : CancelCause → CancelFault
-cancel_fault no_cancel.NoWorker = cancel.NoWorker
-cancel_fault no_cancel.NotRunning = cancel.NotRunning
-
 abbrev pub cancel_of : Seen → ℕ → Result (Seen × Reply) CancelFault
 cancel_of b w = recorded b (Cancel w) cancel_fault (cancel_grant b.state w)
-
-abbrev pub cancel_memory : CancelFault → Bool
-cancel_memory e = false
-
-abbrev pub GivesCancel : {X Y : Type 0} → (X → Y) → Result X CancelFault → Result Y CancelFault → Type 0
-GivesCancel = answer.Gives cancel_memory
 
 -- the vertex that a worker gives up, and how many of its micro-steps were done
 abbrev pub given_up_at : Option At → Result (ℕ × ℕ) CancelFault

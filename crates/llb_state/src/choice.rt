@@ -6,7 +6,8 @@ ghost use Rattle.llb_model.specs.State.{stopped, is_waiting, is_blocked, is_read
 ghost use Rattle.llb_model.specs.Run.{next_of, next_claim, is_settled, is_complete};
 ghost use Rattle.llb_state.specs.OpenInputs.{TellsInputs};
 ghost use Rattle.llb_state.specs.Room.{AreOver};
-ghost use Rattle.llb_state.specs.Views.{at_of, event_of, state_of, status_of};
+ghost use Rattle.llb_state.specs.Views.{at_of, state_of, status_of};
+ghost use Rattle.llb_events.specs.Views.{event_of};
 
 use crate::build::Build;
 use crate::ready::{is_marked, is_ready, stand_at};

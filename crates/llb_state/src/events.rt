@@ -2,7 +2,7 @@
 
 ghost use Rattle.std.specs.Prelude.{◌≡◌, ◌==◌, ◌≤◌, ◌<◌, ◌∷◌, ◌++◌, [], length, map, IfOk, OnOk, OnErr, ◌+◌};
 ghost use Rattle.llb_state.specs.Undoing.{front};
-ghost use Rattle.llb_state.specs.Views.{event_of};
+ghost use Rattle.llb_events.specs.Views.{event_of};
 
 use llb_events::{Event, Memory};
 use std::alloc::{AllocError, Global};
@@ -25,7 +25,7 @@ impl Drop for Events {
 impl Model for Events {
     ghost use Rattle.std.specs.Prelude.{◌≤◌, map, vec_capacity};
     ghost use Rattle.llb_state.specs.Events.{Recorded};
-    ghost use Rattle.llb_state.specs.Views.{event_of};
+    ghost use Rattle.llb_events.specs.Views.{event_of};
 
     ghost Value = { Recorded };
 

@@ -5,7 +5,7 @@ ghost use Rattle.llb_model.specs.Landing.{steps_by};
 ghost use Rattle.llb_model.specs.Table as table;
 ghost use Rattle.llb_state.specs.Events.{claimed, unclaimed, cancelled, uncancelled, taken_by};
 ghost use Rattle.llb_state.specs.Undoing.{front};
-ghost use Rattle.llb_state.specs.Views.{event_of};
+ghost use Rattle.llb_events.specs.Views.{event_of};
 
 use crate::events::Events;
 use llb_events::{Event, Memory};

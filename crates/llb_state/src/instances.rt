@@ -11,7 +11,7 @@ ghost use Rattle.llb_model.specs.Kept.{store_of};
 ghost use Rattle.llb_model.specs.Leases.{AreLeased, put_each};
 ghost use Rattle.llb_state.specs.Caches.{tree_of, leased_places, IsOutIf, given_back, lease_if};
 ghost use Rattle.llb_state.specs.Views.{at_of, leased_by};
-ghost use Rattle.llb_state.specs.Rules.{step_memory};
+ghost use Rattle.llb_events.specs.Causes.{step_memory};
 
 use crate::history::History;
 use crate::stand::Desk;

@@ -16,10 +16,9 @@ ghost use Rattle.llb_state.specs.Views.{leased_by, execution_of};
 
 use crate::build::Build;
 use crate::copying::lease_of;
-use crate::job::Job;
 use crate::stand::{Desk, Execution};
 use llb_cache::{Caches, Lease, Mode, Place};
-use llb_execution::{Program, View};
+use llb_execution::{Job, Program, View};
 use llb_model::VertexFault;
 use llb_tree::Tree;
 use llb_wire::Same;
@@ -43,19 +42,19 @@ pub fn is_run_of(build: &Build, caches: &Caches, w: u32, execution: &Execution, 
     ensures { IsTrue result ↔ IsRunOf build.now (store_of caches.now.rows) w (execution_of execution.now) job.now }
 {
     is_begun(w, execution, job)
-        && has_program(build, execution.vertex, &job.program)
-        && job.view.same(&execution.view)
-        && has_trees(caches, &execution.places, job.trees.as_slice())
-        && has_numbers(&execution.places, job.instances.as_slice())
+        && has_program(build, execution.vertex, job.program())
+        && job.view().same(&execution.view)
+        && has_trees(caches, &execution.places, job.trees())
+        && has_numbers(&execution.places, job.instances())
 }
 
 // Returns whether a job has this worker and the execution's vertex, as many micro-steps are done, and none of them has faulted.
 fn is_begun(w: u32, execution: &Execution, job: &Job) -> bool
     ensures { IsTrue result ↔ IsBegun w (execution_of execution.now) job.now }
 {
-    job.worker == w
-        && job.vertex == execution.vertex
-        && job.done == execution.done
+    job.worker() == w
+        && job.vertex() == execution.vertex
+        && job.done() == execution.done
         && execution.fault.is_none()
 }
 

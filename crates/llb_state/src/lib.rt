@@ -1,6 +1,6 @@
-//! The parts of a board's state and what changes one of them: the state of each vertex, what each worker runs, its cache instances,
-//! the record, jobs and the outcomes of their work. It is built on `llb_links` and `llb_needs`. `llb_board` keeps these parts together; the
-//! definitions of a whole board are in `specs/` here.
+//! The parts of a board's state and what changes one of them: the state of each vertex, what each worker runs, its cache instances, and
+//! the record. It is built on `llb_links` and `llb_needs`. `llb_board` keeps these parts together; the definitions of a whole board are in
+//! `specs/` here.
 #![tactic(auto)]
 
 mod build;
@@ -11,10 +11,8 @@ mod events;
 mod fresh;
 mod history;
 mod instances;
-mod job;
 mod landing;
 mod micro_step;
-mod outcome;
 mod ready;
 mod same;
 mod stand;
@@ -28,9 +26,7 @@ pub use events::Events;
 pub use fresh::{Fresh, opening};
 pub use history::History;
 pub use instances::{give_all_back, give_back, lease_with_room, write_back};
-pub use job::Job;
 pub use landing::{has_shared, is_run_of, put_left};
-pub use outcome::{Outcome, work};
 pub use ready::{is_marked, is_ready, output_at, stand_at};
 pub use same::{same_desks, same_events, same_stands};
 pub use stand::{Desk, Execution, Stand};

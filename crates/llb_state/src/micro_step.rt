@@ -7,9 +7,11 @@ ghost use Rattle.llb_model.specs.Program as model;
 ghost use Rattle.llb_model.specs.Program.{Left, program_at, program_of, last_of};
 ghost use Rattle.llb_model.specs.Table as table;
 ghost use Rattle.llb_state.specs.Room.{supplies_of, supplies_for};
-ghost use Rattle.llb_state.specs.Rules.{step_memory, GivesStep, worked};
+ghost use Rattle.llb_events.specs.Causes.{step_memory, GivesStep};
+ghost use Rattle.llb_state.specs.Rules.{worked};
 ghost use Rattle.llb_tree.specs.Tree.{TreeMap};
-ghost use Rattle.llb_state.specs.Views.{execution_of, fault_or, step_reply};
+ghost use Rattle.llb_state.specs.Views.{execution_of};
+ghost use Rattle.llb_events.specs.Views.{fault_or, step_reply};
 
 use crate::stand::Execution;
 use llb_events::{StepFault, Stepped};

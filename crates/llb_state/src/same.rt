@@ -1,7 +1,8 @@
 //! Whether the parts of two states are the same by value. The numbers of leases are not compared. Nothing here allocates.
 
 ghost use Rattle.std.specs.Prelude.{◌≡◌, ◌↔◌, IsTrue, map};
-ghost use Rattle.llb_state.specs.Views.{status_of, execution_of, at_of, event_of};
+ghost use Rattle.llb_state.specs.Views.{status_of, execution_of, at_of};
+ghost use Rattle.llb_events.specs.Views.{event_of};
 
 use crate::stand::{Desk, Execution, Stand};
 use llb_events::Event;

@@ -11,26 +11,28 @@ ghost use Rattle.llb_state.specs.Caches.{rows_after};
 ghost use Rattle.llb_needs.specs.Needs.{need_of};
 ghost use Rattle.llb_state.specs.OpenInputs.{TellsInputs};
 ghost use Rattle.llb_state.specs.Begun.{begun_as, outfit_as, outfit_of};
-ghost use Rattle.llb_state.specs.Views.{execution_of, at_of, leased_by, status_of, state_of, step_reply};
+ghost use Rattle.llb_state.specs.Views.{execution_of, at_of, leased_by, status_of, state_of};
+ghost use Rattle.llb_events.specs.Views.{step_reply};
 ghost use Rattle.llb_loader.specs.Graph.{IsGraph, IsVertexOf};
 ghost use Rattle.llb_state.specs.Room.{ready_made, needed, supplies_of, supplies_for};
 ghost use Rattle.llb_state.specs.declared.stand.Desk.TheVariants as desk;
 ghost use Rattle.llb_wire.specs.Answer.{MemoryLast};
-ghost use Rattle.llb_state.specs.Rules.{faulted, claim_fault, step_fault, step_memory, begun, GivesStep, worked_in, GivesSettle, left_at};
-ghost use Rattle.llb_state.specs.Rules.{GivesCancel, given_up_at};
+ghost use Rattle.llb_events.specs.Causes.{faulted, claim_fault, step_fault, step_memory, GivesStep, GivesSettle};
+ghost use Rattle.llb_state.specs.Rules.{begun, worked_in, left_at};
+ghost use Rattle.llb_events.specs.Causes.{GivesCancel};
+ghost use Rattle.llb_state.specs.Rules.{given_up_at};
 ghost use Rattle.llb_events.specs.Faults.{GivesClaim};
 
 use crate::build::Build;
 use crate::ending::end;
 use crate::instances::{contents, write_back};
-use crate::job::Job;
 use crate::micro_step::{skip, step};
 use crate::ready::{gathered, is_ready};
 use crate::stand::{Desk, Execution, Stand};
 use llb_applet::Setting;
 use llb_cache::{Caches, Lease, Need};
 use llb_events::{CancelFault, Cancelled, ClaimFault, SettleFault, StepFault, Stepped};
-use llb_execution::{Program, View, empty_trees, setting_of};
+use llb_execution::{Job, Program, View, empty_trees, setting_of};
 use llb_links::Links;
 use llb_loader::Vertex;
 use llb_needs::{Wanted, mount_numbers, taking_for};
@@ -135,15 +137,9 @@ pub fn begin(
     let outfit = outfit_for(alloc, vertex)?;
     let view = View::on(alloc, build.locals(), vertex, inputs, numbers)?;
     let own = view.copy()?;
-    let job = Job {
-        worker: w,
-        vertex: v,
-        program: outfit.program,
-        done: 0,
-        view,
-        trees: Many::new(taking.trees),
-        instances: Many::new(taking.instances),
-    };
+    let trees = Many::new(taking.trees);
+    let instances = Many::new(taking.instances);
+    let job = Job::new(w, v, outfit.program, view, trees, instances);
     let execution = Execution {
         vertex: v,
         done: 0,

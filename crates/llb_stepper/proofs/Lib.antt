@@ -1,3 +1,4 @@
+pub mod ByKind
 pub mod Grown
 pub mod Recorded
 pub mod Lines

@@ -14,7 +14,7 @@ use Rattle.llb_model.proofs.Lists.{inside}
 use Rattle.llb_model.proofs.Runs.{run_one, run_first, run_none}
 use Rattle.llb_model.proofs.Runs as runs
 use Rattle.llb_state.specs.Board.{Seen, after_event}
-use Rattle.llb_stepper.specs.Records.{record_at, replied, TellsTheRun}
+use Rattle.llb_stepper.specs.Records.{record_at, replied, RecordIsTheRun}
 use Rattle.llb_stepper.specs.Stepping.{Stepping, PastIsTheRecords, answered, at_first, run_on}
 use Rattle.llb_stepper.proofs.Recorded.{done_here}
 use Rattle.llb_stepper.proofs.Grown.{grew, shifted, went}
@@ -144,9 +144,9 @@ module _ (s : Stepping) (records : PastIsTheRecords s) where
       (after_event c e a.0, a.1)) o)) granted in
       (q.0.1, given, q.2)
 
-  tells_one : (i : ℕ) (e : Event) (r : Reply) (t : State) (replies : List Reply) → from_opening s.board s.board.events ≡ Some (t, replies)
+  sound_at : (i : ℕ) (e : Event) (r : Reply) (t : State) (replies : List Reply) → from_opening s.board s.board.events ≡ Some (t, replies)
       → record_at s i ≡ Some (e, r) → (slice_get s.board.events (i - 1) ≡ Some e) × (slice_get replies (i - 1) ≡ Some r)
-  tells_one i e r t replies whole told = by_test (nat_le 1 i && nat_le i (length s.board.events)) refl told
+  sound_at i e r t replies whole told = by_test (nat_le 1 i && nat_le i (length s.board.events)) refl told
     where
       there : (nat_le 1 i && nat_le i (length s.board.events)) ≡ true
           → replied (slice_get s.past (after_it i)) (slice_get s.board.events (i - 1)) ≡ Some (e, r)
@@ -165,10 +165,10 @@ module _ (s : Stepping) (records : PastIsTheRecords s) where
       by_test true is given = there is given
       by_test false is given = absurd cc
 
-  tells_all : (i : ℕ) (e : Event) (r : Reply) (t : State) (replies : List Reply) → from_opening s.board s.board.events ≡ Some (t, replies) → 1 ≤ i
+  complete_at : (i : ℕ) (e : Event) (r : Reply) (t : State) (replies : List Reply) → from_opening s.board s.board.events ≡ Some (t, replies) → 1 ≤ i
       → length s.board.events < i + length s.past → slice_get s.board.events (i - 1) ≡ Some e → slice_get replies (i - 1) ≡ Some r
       → record_at s i ≡ Some (e, r)
-  tells_all i e r t replies whole low here at there =
+  complete_at i e r t replies whole low here at there =
       let within = slice_get_within s.board.events (i - 1) e at in
       let high : i ≤ length s.board.events = omega (arith, low, within) in
       let inside : after_it i < length s.past = omega (arith, low, high, here) in
@@ -177,5 +177,5 @@ module _ (s : Stepping) (records : PastIsTheRecords s) where
       let reply : q.0 ≡ r = cc in
       done_here s i e r low high at (q.1 ∙ ap (λ x. Some (e, x)) reply)
 
-  pub tells : TellsTheRun s
-  tells = record { tells = tells_one; all = tells_all }
+  pub is_the_run : RecordIsTheRun s
+  is_the_run = record { sound = sound_at; complete = complete_at }

@@ -13,6 +13,7 @@ abbrev pub past_of : Seen → List Walked → List Seen
 past_of b [] = []
 past_of b (w ∷ ws) = undone w.undo b ∷ past_of (undone w.undo b) ws
 
+-- a stepper as it is seen, by its board, what undoes each event that it did, and its breakpoints
 abbrev pub stepping : Seen → List Walked → List Break → Stepping
 stepping b walked breaks = record { board = b; past = past_of b (reverse walked); breaks = breaks }
 
@@ -23,6 +24,7 @@ pub record Follows (before b : Seen) (r : short.Reply) : Type 0 where
   pub given : answered before event ≡ Some (b, reply)
   pub same : r ≡ told reply
 
+-- each event that was done, the last first, can be taken back from the board that it left, and has that reply
 abbrev pub AreWalked : Seen → List Walked → Type 0
 AreWalked b [] = Unit {0}
 AreWalked b (w ∷ ws) = CanUndo w.undo b × Follows (undone w.undo b) b w.reply × AreWalked (undone w.undo b) ws

@@ -87,12 +87,12 @@ abbrev pub record_at : Stepping → ℕ → Option (Event × Reply)
 record_at s i =
     if nat_le 1 i && nat_le i (length s.board.events) then replied (slice_get s.past (length s.board.events - i)) (slice_get s.board.events (i - 1)) else None
 
--- What `record_at` returns agrees with the run of the whole record from the board's opening: event i and its reply there; and it returns each event that
--- was done here.
-pub record TellsTheRun (s : Stepping) : Type 0 where
-  pub tells : (i : ℕ) (e : Event) (r : Reply) (t : State) (replies : List Reply)
+-- The events and replies that `record_at` returns are those of the run of the whole record from the board's opening, and it returns each event that was
+-- done here.
+pub record RecordIsTheRun (s : Stepping) : Type 0 where
+  pub sound : (i : ℕ) (e : Event) (r : Reply) (t : State) (replies : List Reply)
       → run s.board.build (opening s.board.build s.board.opening) s.board.events ≡ Some (t, replies) → record_at s i ≡ Some (e, r)
       → (slice_get s.board.events (i - 1) ≡ Some e) × (slice_get replies (i - 1) ≡ Some r)
-  pub all : (i : ℕ) (e : Event) (r : Reply) (t : State) (replies : List Reply)
+  pub complete : (i : ℕ) (e : Event) (r : Reply) (t : State) (replies : List Reply)
       → run s.board.build (opening s.board.build s.board.opening) s.board.events ≡ Some (t, replies) → 1 ≤ i → length s.board.events < i + length s.past
       → slice_get s.board.events (i - 1) ≡ Some e → slice_get replies (i - 1) ≡ Some r → record_at s i ≡ Some (e, r)

@@ -19,6 +19,7 @@ stepper_memory fault.NothingBefore = false
 stepper_memory (fault.BadCommand n) = false
 stepper_memory fault.Memory = true
 
+-- a call returns what the rule says; but memory may be refused in place of it
 abbrev pub GivesEvent : {X Y : Type 0} → (X → Y) → Result X StepperFault → Result Y StepperFault → Type 0
 GivesEvent = answer.Gives stepper_memory
 
@@ -27,6 +28,7 @@ abbrev pub done_by : Stepping → Result (Seen × short.Reply) WalkFault → Res
 done_by s (Ok p) = Ok (onward s p.0)
 done_by s (Err e) = Err (fault.Board e)
 
+-- the stepper after one event, or why the event is refused
 abbrev pub done_of : Stepping → Event → Result Stepping StepperFault
 done_of s e = done_by s (walk_of s.board e)
 

@@ -27,6 +27,7 @@ answered b e = option_map (λ (a : State × Reply). (after_event b e a.0, a.1)) 
 abbrev pub onward : Stepping → Seen → Stepping
 onward s b = record s { board = b; past = s.board ∷ s.past }
 
+-- the lesser of two numbers
 abbrev pub lesser : ℕ → ℕ → ℕ
 lesser a b = if nat_lt a b then a else b
 

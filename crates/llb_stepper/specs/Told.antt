@@ -5,7 +5,7 @@ use Rattle.llb_loader.specs.declared.graph.Vertex.{Vertex}
 use Rattle.llb_model.specs.Table.{Event}
 use Rattle.llb_model.specs.Table as table
 use Rattle.llb_board.specs.Undo.{told}
-use Rattle.llb_state.specs.Views.{event_of}
+use Rattle.llb_events.specs.Views.{event_of}
 use Rattle.llb_events.specs.declared.event.Event as own
 use Rattle.llb_events.specs.declared.event.Stepped.{Stepped}
 use Rattle.llb_events.specs.declared.event.Stepped.TheVariants.{Read, Acted, Merged, Ran, Skipped, Fault}
@@ -18,6 +18,7 @@ use Rattle.llb_stepper.specs.declared.stop.Break.TheVariants as stop
 use Rattle.llb_stepper.specs.Stepping.{claims}
 use Rattle.llb_stepper.specs.Records.{event_text, claimed_text, vertex_of, pair_text, fault_text, done_text, failed_text}
 
+-- whether a reply is that to a settle of vertex v
 abbrev pub settles_told : ℕ → Reply → Bool
 settles_told v (reply.Settled (settled.Done u)) = u == v
 settles_told v (reply.Settled (settled.Failed u)) = u == v
@@ -25,6 +26,7 @@ settles_told v reply.Claimed = false
 settles_told v (reply.Stepped s) = false
 settles_told v (reply.Cancelled c) = false
 
+-- whether a reply is that to a settle of a vertex that failed
 abbrev pub failed_told : Reply → Bool
 failed_told (reply.Settled (settled.Failed u)) = true
 failed_told (reply.Settled (settled.Done u)) = false
@@ -38,7 +40,7 @@ meets_told e r (stop.Claims v) = claims v e
 meets_told e r (stop.Settles v) = settles_told v r
 meets_told e r stop.Fails = failed_told r
 
--- the reply of a micro-step, and of a settle, as text
+-- the reply to a micro-step as it is printed
 abbrev pub step_text : Stepped → List ℕ
 step_text Read = codes "read"
 step_text (Acted a) = codes "acted " ++ decimal a
@@ -47,10 +49,12 @@ step_text (Ran c status) = codes "ran " ++ pair_text c status
 step_text (Skipped c) = codes "skipped " ++ decimal c
 step_text (Fault f) = fault_text f
 
+-- the reply to a settle as it is printed
 abbrev pub settle_text : Settled → List ℕ
 settle_text (settled.Done v) = done_text v
 settle_text (settled.Failed v) = failed_text v
 
+-- the reply to an event as it is printed; that to a claim names what was claimed
 abbrev pub told_text : List Vertex → Event → Reply → List ℕ
 told_text vertices e reply.Claimed = claimed_text (slice_get vertices (vertex_of e))
 told_text vertices e (reply.Stepped s) = step_text s
@@ -65,5 +69,6 @@ line_text vertices number e r = decimal number ++ (codes " " ++ (event_text e ++
 abbrev pub seen_pair : own.Event × Reply → Event × Reply
 seen_pair p = (event_of p.0, p.1)
 
+-- an event with the table's reply, in the board's own type of replies
 abbrev pub told_pair : Event × table.Reply → Event × Reply
 told_pair p = (p.0, told p.1)

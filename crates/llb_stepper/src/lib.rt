@@ -2,6 +2,7 @@
 //! taken back without memory. It is built on `llb_board`, which it changes by the board's calls only.
 #![tactic(auto)]
 
+mod breakpoints;
 mod fault;
 mod record_text;
 mod stepper;
@@ -10,6 +11,7 @@ mod stop;
 pub use fault::StepperFault;
 pub use record_text::kind_name;
 pub use stepper::{
-    Stepper, chosen_is_done, past_is_the_records, replay_is_the_run, tells_the_run, there_and_back,
+    Stepper, chosen_is_done, past_is_the_records, record_is_the_run, replay_is_the_run,
+    there_and_back,
 };
 pub use stop::{Break, Stop};

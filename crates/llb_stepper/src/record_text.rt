@@ -1,7 +1,7 @@
 //! The lines of a record as text: an event by its number, and the reply to it.
 
 ghost use Rattle.std.specs.Prelude.{◌≡◌, IfOk, option_map, string_bytes};
-ghost use Rattle.llb_state.specs.Views.{event_of};
+ghost use Rattle.llb_events.specs.Views.{event_of};
 ghost use Rattle.llb_stepper.specs.Records.{kind_text, event_text, claimed_text, pair_text, fault_text, vertex_of};
 ghost use Rattle.llb_stepper.specs.Told.{step_text, settle_text, told_text, line_text};
 

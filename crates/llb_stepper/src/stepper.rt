@@ -3,16 +3,17 @@
 ghost use Rattle.std.specs.Prelude.{◌≡◌, ◌≤◌, ◌+◌, ◌++◌, ◌∷◌, [], length, drop, Bool, true, map, option_map, false, IfOk, IfErr};
 ghost use Rattle.std.specs.Prelude.{OnOk, OnErr, Some, string_bytes};
 ghost use Rattle.llb_model.specs.Run.{chosen};
-ghost use Rattle.llb_state.specs.Views.{event_of};
+ghost use Rattle.llb_events.specs.Views.{event_of};
 ghost use Rattle.llb_stepper.specs.Rules.{GivesEvent, done_of, stepper_memory, IsRefusedAt, MeetsOn, ChosenIsDone, ThereAndBack};
 ghost use Rattle.llb_stepper.specs.Stepping.{GoesBack, IsStop, IsGo, IsReplayed, PastIsTheRecords, line, lesser};
-ghost use Rattle.llb_stepper.specs.Records.{record_at, record_text, TellsTheRun};
+ghost use Rattle.llb_stepper.specs.Records.{record_at, record_text, RecordIsTheRun};
 ghost use Rattle.llb_stepper.specs.Told.{seen_pair, told_pair};
 ghost use Rattle.llb_stepper.specs.declared.fault.StepperFault.TheVariants as fault;
 
+use crate::breakpoints::Breakpoints;
 use crate::fault::StepperFault;
 use crate::record_text::line_text;
-use crate::stop::{Break, Stop, meets_any};
+use crate::stop::{Break, Stop};
 use llb_board::laws::chosen_is_granted;
 use llb_board::{Board, Event, Reply, Walked};
 use llb_wire::Text;
@@ -25,7 +26,7 @@ pub struct Stepper {
     alloc: Global,
     board: Board,
     walked: Vec<Walked>,
-    breaks: Vec<Break>,
+    breaks: Breakpoints,
 }
 
 // Written out, so that the crates above drop one by this one function.
@@ -52,7 +53,7 @@ impl Model for Stepper {
 
     ghost coded = { Prim.hlevel (codes, coded_tree, coded_store) };
 
-    ghost view = { λ s. stepping s.board s.walked.items s.breaks.items };
+    ghost view = { λ s. stepping s.board s.walked.items s.breaks };
 
     ghost invariant = { λ s. AreWalked s.board (reverse s.walked.items) };
 }
@@ -66,7 +67,7 @@ impl Stepper {
             alloc,
             board,
             walked: Vec::new(alloc),
-            breaks: Vec::new(alloc),
+            breaks: Breakpoints::new(alloc),
         }
     }
 
@@ -174,7 +175,7 @@ impl Stepper {
         self.walked.reserve(1)?;
         match self.board.walk(event) {
             Ok(walked) => {
-                let met = meets_any(&self.breaks, event, walked.reply);
+                let met = self.breaks.is_met_by(event, walked.reply);
                 self.walked.push_reserved(walked);
                 Ok(met)
             }
@@ -289,8 +290,8 @@ pub fn past_is_the_records(stepper: &Stepper)
 }
 
 /// A law: the events and replies in the lines of a record are those of the run of the whole record from the board's opening.
-pub fn tells_the_run(stepper: &Stepper)
-    ensures { TellsTheRun stepper.now }
+pub fn record_is_the_run(stepper: &Stepper)
+    ensures { RecordIsTheRun stepper.now }
 {
     let _ = &stepper.board;
 }

@@ -1,9 +1,10 @@
 -- What is under the lock may go to another thread, and so may what a worker has of its own.
 use denote.Builtin.{u32}
 use denote.Hole.{as_row}
-use denote.Param.Send.{IsSend, IsSync, sendable}
+use denote.Param.Send.{IsSend, IsSync, sendable, shr_send}
 use denote.Param.SendFields.{as_row_send, declared_send}
 use denote.RattleType.{RattleType}
+use denote.Ref.{NamedLft}
 use denote.Struct.Field.{row_field}
 use denote.Struct.Tuple.{TupleAt, type_at}
 use mathlib.Core.List.{[], ◌∷◌}
@@ -23,12 +24,13 @@ use Rattle.llb_ready.specs.contracts.queue.ReadyQueue as queue
 use Rattle.llb_board.specs.contracts.board.Board as board
 use Rattle.llb_work.specs.declared.noted.Gated as gated
 use Rattle.llb_work.specs.contracts.noted.Tally as tally
-use Rattle.llb_work.specs.contracts.desk.Desk as desk
+use Rattle.llb_work.specs.contracts.shared_board.SharedBoard as shared
 use Rattle.llb_work.specs.contracts.held.Held as held
 use Rattle.llb_work.specs.contracts.idle.Idle as idle
 use Rattle.llb_work.proofs.held.Held.TheSendSync as held_crosses
 use Rattle.llb_work.proofs.idle.Idle.TheSendSync as idle_crosses
-use Rattle.llb_work.specs.contracts.worker.Kit as kit
+use Rattle.llb_work.specs.contracts.crew.Crew as crew
+use Rattle.llb_work.specs.contracts.worker.WorkerKit as kit
 
 -- several threads may have the queue of the run at once
 pub queue_shared : IsSync queue.the_row
@@ -60,8 +62,8 @@ module _ (T : RattleType) (g' : ledger.Ghosts T.Denot) where
   )
 
 module _ (T : RattleType) (g : gated.Ghosts T.Denot) (g' : ledger.Ghosts T.Denot) where
-  desk_crosses : IsSend (desk.the_row T g g')
-  desk_crosses = declared_send (desk.the_type T g g') (
+  shared_board_crosses : IsSend (shared.the_row T g g')
+  shared_board_crosses = declared_send (shared.the_type T g g') (
     board_send,
     (
       board_send,
@@ -78,33 +80,28 @@ module _ (T : RattleType) (g : gated.Ghosts T.Denot) (g' : ledger.Ghosts T.Denot
     ),
   )
 
-  -- the desk in its lock may be used by several threads at once
-  pub lock_crosses : IsSync (mutex.the_row (desk.the_row T g g'))
-  lock_crosses = search (desk_crosses, crosses, sendable) depth 20
+  -- several threads may use the shared board in its lock
+  pub lock_crosses : IsSync (mutex.the_row (shared.the_row T g g'))
+  lock_crosses = search (shared_board_crosses, crosses, sendable) depth 20
 
--- eight values, which a closure takes with it, may go to another thread together if each may
-pub eight_cross : (ν : Sym) (A B C D E F G H : RattleType) → IsSend A → IsSend B → IsSend C → IsSend D → IsSend E → IsSend F → IsSend G → IsSend H
-    → IsSend (TupleAt ν (A ∷ B ∷ C ∷ D ∷ E ∷ F ∷ G ∷ H ∷ []))
-eight_cross ν A B C D E F G H a b c d e f g h =
-    declared_send (type_at ν (A ∷ B ∷ C ∷ D ∷ E ∷ F ∷ G ∷ H ∷ [])) (
-      as_row_send (row_field A) a,
-      (
-        as_row_send (row_field B) b,
+  -- what all workers use may go to another thread
+  pub crew_crosses : (κ : NamedLft) (G R : RattleType) → IsSync G → IsSync R → IsSend (crew.the_row κ T G R g g')
+  crew_crosses κ G R gate rt =
+      declared_send (crew.the_type κ T G R g g') (
+        shr_send _ _ R rt,
         (
-          as_row_send (row_field C) c,
+          search (crosses, sendable) depth 20,
           (
-            as_row_send (row_field D) d,
+            shr_send _ _ (mutex.the_row (shared.the_row T g g')) lock_crosses,
             (
-              as_row_send (row_field E) e,
-              (
-                as_row_send (row_field F) f,
-                (
-                  as_row_send (row_field G) g,
-                  (as_row_send (row_field H) h, tt),
-                ),
-              ),
+              shr_send _ _ queue.the_row queue_shared,
+              (shr_send _ _ idle.the_row idle_shared, (shr_send _ _ G gate, tt)),
             ),
           ),
         ),
-      ),
-    )
+      )
+
+-- three values, which a closure takes with it, may go to another thread together if each may
+pub three_cross : (ν : Sym) (A B C : RattleType) → IsSend A → IsSend B → IsSend C → IsSend (TupleAt ν (A ∷ B ∷ C ∷ []))
+three_cross ν A B C a b c =
+    declared_send (type_at ν (A ∷ B ∷ C ∷ [])) (as_row_send (row_field A) a, (as_row_send (row_field B) b, (as_row_send (row_field C) c, tt)))

@@ -24,10 +24,11 @@ use Rattle.llb_model.proofs.Runs.{run_none, run_first, run_more}
 use Rattle.llb_model.specs.Room.{still_to_come}
 use Rattle.llb_model.proofs.Alone.{Ascends, alone_step, chosen_comes_nearer}
 use Rattle.llb_state.specs.Board.{Seen, ChosenIsGranted, after_event, recorded}
-use Rattle.llb_state.specs.Rules.{claim_of, claim_fault, GivesStep, step_of, step_fault, GivesSettle, settle_of, settle_fault, GivesCancel, cancel_of}
-use Rattle.llb_state.specs.Rules.{cancel_fault}
+use Rattle.llb_state.specs.Rules.{claim_of, step_of, settle_of, cancel_of}
+use Rattle.llb_events.specs.Causes.{claim_fault, GivesStep, step_fault, GivesSettle, settle_fault, GivesCancel}
+use Rattle.llb_events.specs.Causes.{cancel_fault}
 use Rattle.llb_events.specs.Faults.{GivesClaim}
-use Rattle.llb_state.specs.Views.{event_of, step_reply, settle_reply, cancel_reply}
+use Rattle.llb_events.specs.Views.{event_of, step_reply, settle_reply, cancel_reply}
 use Rattle.llb_events.specs.declared.event.Event as event
 use Rattle.llb_events.specs.declared.event.Stepped.{Stepped}
 use Rattle.llb_events.specs.declared.event.Settled.{Settled}

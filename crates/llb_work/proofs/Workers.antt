@@ -9,12 +9,13 @@ use Rattle.llb_model.proofs.Events.{claim_is}
 use Rattle.llb_model.specs.Table.{Reply, Claim, Step, Settle, Cancel}
 use Rattle.llb_model.specs.Landing.{landing}
 use Rattle.llb_state.specs.Board.{Seen, after_event, recorded}
-use Rattle.llb_state.specs.Jobs.{OutcomeValue}
+use Rattle.llb_execution.specs.Jobs.{OutcomeValue}
 use Rattle.llb_board.specs.Begun.{ClaimsArePlain}
 use Rattle.llb_board.specs.Landing.{Lands}
-use Rattle.llb_state.specs.Rules.{claim_of, claim_fault, GivesStep, step_of, GivesSettle, settle_of, GivesCancel, cancel_of}
+use Rattle.llb_state.specs.Rules.{claim_of, step_of, settle_of, cancel_of}
+use Rattle.llb_events.specs.Causes.{claim_fault, GivesStep, GivesSettle, GivesCancel}
 use Rattle.llb_events.specs.Faults.{GivesClaim}
-use Rattle.llb_state.specs.Views.{claim_reply, step_reply, settle_reply, cancel_reply}
+use Rattle.llb_events.specs.Views.{claim_reply, step_reply, settle_reply, cancel_reply}
 use Rattle.llb_events.specs.declared.event.Stepped.{Stepped}
 use Rattle.llb_events.specs.declared.event.Settled.{Settled}
 use Rattle.llb_events.specs.declared.fault.ClaimFault.{ClaimFault}

@@ -10,10 +10,10 @@ abbrev pub ArePlain : Build → List Bool → Type 0
 ArePlain b marks = (v : ℕ) → unwrap_or (slice_get marks v) false ≡ is_plain b v
 
 module _ {L : Type 0} where
-  -- the whole pass of the queue, for each of n workers a list and a place, and the marks of the vertices
+  -- the whole pass of the queue, for each of n workers a list and room for a thread, and the marks of the vertices
   pub record IsSupplyFor (b : Build) (n : ℕ) (s : Supply L) : Type 0 where
     pub pass : IsUncut s.queue s.pass
     pub lists : vec_len s.lists ≡ n
-    pub no_posts : vec_len s.posts ≡ 0
-    pub posts : n ≤ vec_capacity s.posts
+    pub no_threads : vec_len s.threads ≡ 0
+    pub threads : n ≤ vec_capacity s.threads
     pub plain : ArePlain b s.plain.items

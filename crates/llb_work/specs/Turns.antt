@@ -5,10 +5,10 @@ use Rattle.llb_model.specs.Outcome.{is_plain}
 use Rattle.llb_state.specs.Board.{Seen}
 use Rattle.llb_board.specs.Begun.{plain_job}
 use Rattle.llb_work.specs.RunEnds.{is_of}
-use Rattle.llb_work.specs.declared.desk.Turn.{Turn}
-use Rattle.llb_work.specs.declared.desk.Turn.TheVariants.{Work, Pass, Again, Next, End}
-use Rattle.llb_work.specs.declared.desk.Brought.{Brought}
-use Rattle.llb_work.specs.declared.desk.Brought.TheVariants.{Nothing, Number, Outcome}
+use Rattle.llb_work.specs.declared.shared_board.Turn.{Turn}
+use Rattle.llb_work.specs.declared.shared_board.Turn.TheVariants.{Work, Pass, Again, Next, End}
+use Rattle.llb_work.specs.declared.shared_board.Brought.{Brought}
+use Rattle.llb_work.specs.declared.shared_board.Brought.TheVariants.{Nothing, Number, Outcome}
 
 -- the job of a worker of the board on a vertex of the board; it is the plain job if no cache mount is at or before the vertex
 pub record IsClaimed (b : Seen) (w v : ℕ) (job : Job) : Type 0 where

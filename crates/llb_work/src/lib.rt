@@ -4,7 +4,6 @@
 
 mod alone;
 mod crew;
-mod desk;
 mod end;
 mod granted;
 mod hand_out;
@@ -12,11 +11,12 @@ mod held;
 mod idle;
 mod noted;
 mod plain;
-mod post;
 mod rest;
 mod run;
+mod shared_board;
 mod supply;
 mod worker;
+mod worker_thread;
 
 pub use alone::run_alone;
 pub use end::{RunEnd, RunFault};

@@ -3,7 +3,7 @@
 ghost use Rattle.std.specs.Prelude.{◌≡◌, ◌≤◌, ◌<◌, ◌+◌, ◌^◌, sum, length, true, Some};
 ghost use Rattle.std.specs.Bool.{OnTrue};
 ghost use Rattle.llb_model.specs.Run.{chosen, is_complete};
-ghost use Rattle.llb_state.specs.Views.{event_of};
+ghost use Rattle.llb_events.specs.Views.{event_of};
 ghost use Rattle.llb_work.specs.Crew.{GoesOn};
 
 use crate::alone::{do_event, worker_of};

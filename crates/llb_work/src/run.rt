@@ -6,7 +6,7 @@ ghost use Rattle.llb_state.specs.Board.{Seen};
 ghost use Rattle.llb_work.specs.Crew.{GoesOn, Counts};
 ghost use Rattle.llb_work.specs.RunEnds.{is_foreign, may_be, StopsSomewhere, Leads};
 
-use crate::crew::{Left, run_crew};
+use crate::crew::{CrewEnd, CrewStart, run_crew};
 use crate::end::{RunEnd, RunFault};
 use crate::noted::Noted;
 use crate::rest::go_to_end;
@@ -48,9 +48,14 @@ pub fn run_workers<G: Gate + Sync, R: Threads + Wait + Sync>(
         return refused(board);
     };
     let n = workers(&board);
-    let blank = Blank::new(u64::from(n));
-    let left = run_crew::<Brand, G, R>(rt, alloc, board, start, gate, blank, n);
-    let Left {
+    let begin = CrewStart {
+        board,
+        start,
+        blank: Blank::new(u64::from(n)),
+        workers: n,
+    };
+    let left = run_crew::<Brand, G, R>(rt, alloc, begin, gate);
+    let CrewEnd {
         board,
         start,
         made,

@@ -1,12 +1,12 @@
 //! What the workers are supplied with before any thread starts: the queue with every ready vertex in it, a list for each worker, room for
-//! their places, and which vertices have no cache mount at or before them.
+//! their threads, and which vertices have no cache mount at or before them.
 
 ghost use Rattle.std.specs.Prelude.{◌≡◌, ◌≤◌, ℕ, vec_len, vec_capacity, IfOk, IfSome};
 ghost use Rattle.llb_work.specs.Passes.{IsUncut};
 ghost use Rattle.llb_work.specs.Supplies.{IsSupplyFor};
 
 use crate::plain::plain_marks;
-use crate::post::Post;
+use crate::worker_thread::WorkerThread;
 use llb_board::{Board, Status};
 use llb_ready::{ReadyPass, ReadyQueue};
 use std::alloc::{AllocError, Global};
@@ -14,13 +14,13 @@ use std::sync::Wait;
 use std::sync::ledger::Ledger;
 
 /// A queue with room for as many numbers as there are vertices, its whole pass, a list with as much room for each worker, and room for
-/// the workers' places; and for each vertex whether no cache mount is at or before it.
+/// the workers' threads; and for each vertex whether no cache mount is at or before it.
 #[derive(Drop)]
 pub(crate) struct Supply<S: Ledger> {
     pub queue: ReadyQueue,
     pub pass: ReadyPass,
     pub lists: Vec<Vec<u32>>,
-    pub posts: Vec<Post<S>>,
+    pub threads: Vec<WorkerThread<S>>,
     pub plain: Vec<bool>,
 }
 
@@ -31,13 +31,13 @@ pub(crate) fn make_supply<S: Ledger>(alloc: Global, board: &Board, n: u32) -> Op
     let room = vertices(board);
     let (queue, pass) = ReadyQueue::new(alloc, room).ok()?;
     let lists = make_lists(alloc, n, room).ok()?;
-    let posts = Vec::with_capacity(alloc, n as usize).ok()?;
+    let threads = Vec::with_capacity(alloc, n as usize).ok()?;
     let plain = plain_marks(alloc, board)?;
     Some(Supply {
         queue,
         pass,
         lists,
-        posts,
+        threads,
         plain,
     })
 }

@@ -7,188 +7,161 @@ ghost use Rattle.llb_work.specs.Passes.{IsPassFor};
 ghost use Rattle.llb_work.specs.RunEnds.{is_of};
 ghost use Rattle.llb_work.specs.Turns.{IsBrought, IsClaimed, IsHere};
 
-use crate::desk::{Brought, Desk, Turn};
-use crate::idle::Idle;
+use crate::crew::Crew;
 use crate::noted::{Gated, Noted, Tally};
+use crate::shared_board::{Brought, Turn};
 use crossbeam_utils::Backoff;
 use llb_board::{Gate, Job, WorkFault, work};
-use llb_ready::{ReadyPass, ReadyQueue};
+use llb_ready::ReadyPass;
+use llb_tree::Tree;
 use std::alloc::Global;
+use std::sync::Wait;
 use std::sync::ledger::Ledger;
-use std::sync::{Mutex, Wait};
 
 /// What a worker has of its own and gives back: what it made, its pass, and the numbers that it still has to put, of which the last one is
 /// put first.
 #[derive(Drop)]
-pub(crate) struct Kit<S: Ledger> {
+pub(crate) struct WorkerKit<S: Ledger> {
     pub tally: Tally<S>,
     pub pass: ReadyPass,
     pub news: Vec<u32>,
 }
 
-/// Ends what its worker runs, then takes one number after another from the queue and works on the vertex, until the board is complete or a
-/// fault is noted. A worker that meets a fault itself cancels what it runs, notes the fault and ends at once.
-pub(crate) fn serve<S: Gated, G: Gate, R: Wait>(
-    rt: &R,
-    alloc: Global,
-    desk: &Mutex<Desk<S>>,
-    queue: &ReadyQueue,
-    idle: &Idle,
-    gate: &G,
-    w: u32,
-    kit: Kit<S>,
-) -> Kit<S>
-    requires stop { (w v : ℕ) → IsTrue (G.may_stop w v) → S.may_stop w v ≡ true }
-    requires pass { IsPassFor queue.now w kit.pass }
-    ensures { IsPassFor queue.now w result.pass }
-{
-    let Kit { tally, pass, news } = kit;
-    let mut tally = tally;
-    let mut pass = pass;
-    let mut news = news;
-    let mut brought = Brought::Nothing;
-    for _i in rt.forever() {
-        let turn = desk.lock(rt).turn(w, brought, &mut tally, &mut news);
-        let put = put_all(rt, queue, &mut pass, w, &mut news);
-        let own = usize::from(matches!(turn, Turn::Next));
-        idle.wake(put.saturating_sub(own));
-        match away(
-            rt, alloc, desk, queue, idle, gate, w, &mut tally, &mut pass, &mut news, turn,
-        ) {
-            Some(more) => brought = more,
-            None => break,
+impl<'x, S: Gated, G: Gate, R: Wait> Crew<'x, S, G, R> {
+    /// Ends what its worker runs, then takes one number after another from the queue and works on the vertex, until the board is complete or
+    /// a fault is noted. A worker that meets a fault itself cancels what it runs, notes the fault and ends at once.
+    pub(crate) fn serve(self, w: u32, kit: WorkerKit<S>) -> WorkerKit<S>
+        requires stop { (w v : ℕ) → IsTrue (G.may_stop w v) → S.may_stop w v ≡ true }
+        requires pass { IsPassFor self.queue.now w kit.pass }
+        ensures { IsPassFor self.entry.queue.now w result.pass }
+    {
+        let mut kit = kit;
+        let mut brought = Brought::Nothing;
+        for _i in self.rt.forever() {
+            let replaced = replaced_by(self.alloc, &brought);
+            let turn = self
+                .board
+                .lock(self.rt)
+                .turn(w, brought, &mut kit.tally, &mut kit.news);
+            let put = self.put_all(w, &mut kit);
+            let own = usize::from(matches!(turn, Turn::Next));
+            self.idle.wake(put.saturating_sub(own));
+            drop(replaced);
+            match self.away(w, turn, &mut kit) {
+                Some(more) => brought = more,
+                None => break,
+            }
+        }
+        self.idle.end();
+        kit
+    }
+
+    // Does what a worker has to do away from the lock. Returns what it brings back; `None` if it ends.
+    fn away(self, w: u32, turn: Turn, kit: &mut WorkerKit<S>) -> Option<Brought>
+        requires stop { (w v : ℕ) → IsTrue (G.may_stop w v) → S.may_stop w v ≡ true }
+        requires here { IsHere S.given w turn }
+        requires pass { IsPassFor self.queue.now w kit.old.pass }
+        ensures pass { IsPassFor self.entry.queue.now w kit.new.pass }
+        ensures brought { IfSome result (IsBrought S.given w) }
+    {
+        match turn {
+            Turn::End => None,
+            Turn::Again => Some(Brought::Nothing),
+            Turn::Next => self.taken(w, kit),
+            Turn::Pass(v) => self.passed(w, v, &mut kit.tally),
+            Turn::Work(job) => self.worked(w, job, &mut kit.tally),
         }
     }
-    idle.end();
-    Kit { tally, pass, news }
-}
 
-// Does what a worker has to do away from the lock. Returns what it brings back; `None` if it ends.
-fn away<S: Gated, G: Gate, R: Wait>(
-    rt: &R,
-    alloc: Global,
-    desk: &Mutex<Desk<S>>,
-    queue: &ReadyQueue,
-    idle: &Idle,
-    gate: &G,
-    w: u32,
-    tally: &mut Tally<S>,
-    pass: &mut ReadyPass,
-    news: &mut Vec<u32>,
-    turn: Turn,
-) -> Option<Brought>
-    requires stop { (w v : ℕ) → IsTrue (G.may_stop w v) → S.may_stop w v ≡ true }
-    requires here { IsHere S.given w turn }
-    requires pass { IsPassFor queue.now w pass.old }
-    ensures pass { IsPassFor queue.now w pass.new }
-    ensures brought { IfSome result (IsBrought S.given w) }
-{
-    match turn {
-        Turn::End => None,
-        Turn::Again => Some(Brought::Nothing),
-        Turn::Next => taken(rt, queue, idle, pass, w, news),
-        Turn::Pass(v) => passed(rt, desk, gate, w, v, tally),
-        Turn::Work(job) => worked(rt, alloc, desk, gate, w, job, tally),
-    }
-}
-
-// Takes a number as soon as there is one; returns `None` if the run is over. After each try, puts the numbers that have met a full queue
-// again.
-fn taken<R: Wait>(
-    rt: &R,
-    queue: &ReadyQueue,
-    idle: &Idle,
-    pass: &mut ReadyPass,
-    w: u32,
-    news: &mut Vec<u32>,
-) -> Option<Brought>
-    requires { IsPassFor queue.now w pass.old }
-    ensures pass { IsPassFor queue.now w pass.new }
-    ensures brought { (b : Seen) → IfSome result (IsBrought b w) }
-{
-    let backoff = Backoff::new();
-    for _i in rt.forever() {
-        let seen = idle.wakes();
-        if idle.is_over() {
-            return None;
+    // Takes a number as soon as there is one; returns `None` if the run is over. After each try, puts the numbers that have met a full queue
+    // again.
+    fn taken(self, w: u32, kit: &mut WorkerKit<S>) -> Option<Brought>
+        requires { IsPassFor self.queue.now w kit.old.pass }
+        ensures pass { IsPassFor self.entry.queue.now w kit.new.pass }
+        ensures brought { (b : Seen) → IfSome result (IsBrought b w) }
+    {
+        let backoff = Backoff::new();
+        for _i in self.rt.forever() {
+            let seen = self.idle.wakes();
+            if self.idle.is_over() {
+                return None;
+            }
+            let next = self.queue.take(self.rt, &mut kit.pass);
+            self.idle.wake(self.put_all(w, kit));
+            if let Some(v) = next {
+                return Some(Brought::Number(v));
+            }
+            self.idle.wait(self.rt, seen, &backoff);
         }
-        let next = queue.take(rt, pass);
-        idle.wake(put_all(rt, queue, pass, w, news));
-        if let Some(v) = next {
-            return Some(Brought::Number(v));
-        }
-        idle.wait(rt, seen, &backoff);
+        unreachable!()
     }
-    unreachable!()
-}
 
-// Puts numbers into the queue, the last one first, until one meets a full queue. Those that are not put are kept. Returns how many were
-// put.
-fn put_all<R: Wait>(
-    rt: &R,
-    queue: &ReadyQueue,
-    pass: &mut ReadyPass,
-    w: u32,
-    news: &mut Vec<u32>,
-) -> usize
-    requires { IsPassFor queue.now w pass.old }
-    ensures { IsPassFor queue.now w pass.new }
-{
-    let before = news.len();
-    for _i in 0..before {
-        let Some(v) = news.last() else {
-            break;
+    // Puts numbers into the queue, the last one first, until one meets a full queue. Those that are not put are kept. Returns how many were
+    // put.
+    fn put_all(self, w: u32, kit: &mut WorkerKit<S>) -> usize
+        requires { IsPassFor self.queue.now w kit.old.pass }
+        ensures { IsPassFor self.entry.queue.now w kit.new.pass }
+    {
+        let before = kit.news.len();
+        for _i in 0..before {
+            let Some(v) = kit.news.last() else {
+                break;
+            };
+            if self.queue.put(self.rt, &mut kit.pass, *v).is_err() {
+                break;
+            }
+            let _ = kit.news.pop();
+        }
+        before.saturating_sub(kit.news.len())
+    }
+
+    // Passes the gate. If the gate stops the worker there, gives the vertex up and notes the stop.
+    fn passed(self, w: u32, v: u32, tally: &mut Tally<S>) -> Option<Brought>
+        requires stop { (w v : ℕ) → IsTrue (G.may_stop w v) → S.may_stop w v ≡ true }
+        requires here { is_of S.given w v ≡ true }
+        ensures { IfSome result (IsBrought S.given w) }
+    {
+        match self.gate.pass(w, v) {
+            Ok(()) => Some(Brought::Nothing),
+            Err(_) => {
+                self.board
+                    .lock(self.rt)
+                    .give_up(w, Noted::Stopped(w, v), tally);
+                None
+            }
+        }
+    }
+
+    // Works on a job and returns its outcome. If that fails, gives its vertex up and notes why.
+    fn worked(self, w: u32, job: Job, tally: &mut Tally<S>) -> Option<Brought>
+        requires stop { (w v : ℕ) → IsTrue (G.may_stop w v) → S.may_stop w v ≡ true }
+        requires here { IsClaimed S.given w job.vertex job }
+        ensures { IfSome result (IsBrought S.given w) }
+    {
+        let (worker, vertex) = (job.worker(), job.vertex());
+        let noted = match work(self.alloc, job, self.gate) {
+            Ok(outcome) => return Some(Brought::Outcome(outcome)),
+            Err(WorkFault::Stopped) => Noted::Stopped(worker, vertex),
+            Err(WorkFault::Memory) => Noted::Memory,
         };
-        if queue.put(rt, pass, *v).is_err() {
-            break;
-        }
-        let _ = news.pop();
-    }
-    before.saturating_sub(news.len())
-}
-
-// Passes the gate. If the gate stops the worker there, gives the vertex up and notes the stop.
-fn passed<S: Gated, G: Gate, R: Wait>(
-    rt: &R,
-    desk: &Mutex<Desk<S>>,
-    gate: &G,
-    w: u32,
-    v: u32,
-    tally: &mut Tally<S>,
-) -> Option<Brought>
-    requires stop { (w v : ℕ) → IsTrue (G.may_stop w v) → S.may_stop w v ≡ true }
-    requires here { is_of S.given w v ≡ true }
-    ensures { IfSome result (IsBrought S.given w) }
-{
-    match gate.pass(w, v) {
-        Ok(()) => Some(Brought::Nothing),
-        Err(_) => {
-            desk.lock(rt).give_up(w, Noted::Stopped(w, v), tally);
-            None
-        }
+        self.board.lock(self.rt).give_up(w, noted, tally);
+        None
     }
 }
 
-// Works on a job and returns its outcome. If that fails, gives its vertex up and notes why.
-fn worked<S: Gated, G: Gate, R: Wait>(
-    rt: &R,
-    alloc: Global,
-    desk: &Mutex<Desk<S>>,
-    gate: &G,
-    w: u32,
-    job: Job,
-    tally: &mut Tally<S>,
-) -> Option<Brought>
-    requires stop { (w v : ℕ) → IsTrue (G.may_stop w v) → S.may_stop w v ≡ true }
-    requires here { IsClaimed S.given w job.vertex job }
-    ensures { IfSome result (IsBrought S.given w) }
-{
-    let (worker, vertex) = (job.worker(), job.vertex());
-    let noted = match work(alloc, job, gate) {
-        Ok(outcome) => return Some(Brought::Outcome(outcome)),
-        Err(WorkFault::Stopped) => Noted::Stopped(worker, vertex),
-        Err(WorkFault::Memory) => Noted::Memory,
-    };
-    desk.lock(rt).give_up(w, noted, tally);
-    None
+// Returns second owners of the trees that a landing replaces in the caches, so that none of these trees loses its last owner, and is freed,
+// while the lock is held; `None` if there is nothing to land or memory is refused.
+fn replaced_by(alloc: Global, brought: &Brought) -> Option<Vec<Tree>> {
+    match brought {
+        Brought::Outcome(outcome) => second_owners(alloc, outcome.job().trees()),
+        _ => None,
+    }
+}
+
+fn second_owners(alloc: Global, trees: &[Tree]) -> Option<Vec<Tree>> {
+    let mut owners = Vec::with_capacity(alloc, trees.len()).ok()?;
+    for tree in trees {
+        owners.push(tree.copy().ok()?).ok()?;
+    }
+    Some(owners)
 }

@@ -4,9 +4,9 @@
 #[cfg(test)]
 mod tests;
 
-use llb_commands::{ProgramFault, Sources, WordsFault, program, refusal, words_refusal};
+use llb_commands::{ProgramFault, Sources, Streams, WordsFault, program, refusal, words_refusal};
 use std::fs::File;
-use std::io::{BufWriter, ErrorKind};
+use std::io::{BufWriter, ErrorKind, LineWriter, Stderr};
 use std::process::ExitCode;
 use std::{env, io};
 
@@ -38,18 +38,29 @@ impl Sources for Files<'_> {
     }
 }
 
+// Standard error, with a buffer in which each line is put together: it goes out in one write. Without memory for it a line goes out in its parts.
+fn errors(rt: &HostRuntime) -> io::Result<LineWriter<Stderr>> {
+    match LineWriter::new(rt.alloc(), rt.stderr()) {
+        Ok(err) => Ok(err),
+        Err(_) => LineWriter::with_capacity(rt.alloc(), 0, rt.stderr()),
+    }
+}
+
 fn main(rt: HostRuntime) -> ExitCode {
     let alloc = rt.alloc();
-    let mut err = rt.stderr();
+    let Ok(mut err) = errors(&rt) else {
+        // Cannot be met: a buffer for no bytes takes no memory.
+        return ExitCode::from(3);
+    };
     let words = match words_given(&rt) {
         Ok(words) => words,
         Err(fault) => return ExitCode::from(words_refusal(&fault, &mut err)),
     };
-    let Ok(mut out) = BufWriter::new(alloc, io::writer(&rt)) else {
+    let Ok(out) = BufWriter::new(alloc, io::writer(&rt)) else {
         return ExitCode::from(refusal(&ProgramFault::Memory, &mut err));
     };
     let files = Files { rt: &rt };
-    let mut input = rt.reader();
-    let words = words.as_slice();
-    ExitCode::from(program(&rt, alloc, words, &files, &mut input, &mut out, &mut err))
+    let input = rt.reader();
+    let mut streams = Streams { input, out, err };
+    ExitCode::from(program(&rt, alloc, words.as_slice(), &files, &mut streams))
 }

@@ -9,7 +9,7 @@ use super::devices::{AMPLE, Narrow, Ran, Rooms, Slow};
 use super::local_trees::FILES;
 use super::written::{block, push_entries};
 use llb_asm::assemble;
-use llb_commands::{Sources, program};
+use llb_commands::{Sources, Streams, program};
 use llb_ops::write_definition;
 use llb_wire::{Bytes, push_hex, read_hex};
 use std::alloc::Global;
@@ -109,15 +109,24 @@ fn lines_of(rt: &impl Abort, alloc: Global, commands: &str) -> String {
     text
 }
 
-// The status of a call.
-fn ended<R: Abort + Threads + Wait + Sync>(
+// Devices with these rooms, which begin with these bytes to be read.
+fn streams_of(alloc: Global, bytes: &[u8], rooms: Rooms) -> Streams<Slow<'_>, Narrow, Narrow> {
+    let room = rooms.input;
+    let mut out = Narrow::new(alloc, rooms.out);
+    out.flushes = rooms.flushes;
+    Streams {
+        input: Slow { bytes, room },
+        out,
+        err: Narrow::new(alloc, rooms.err),
+    }
+}
+
+fn ran<R: Abort + Threads + Wait + Sync>(
     rt: &R,
     alloc: Global,
     call: &Call<'_>,
     rooms: Rooms,
-    out: &mut Narrow,
-    err: &mut Narrow,
-) -> u8 {
+) -> Ran {
     let words: Vec<&str> = call.words.split(' ').collect(alloc).expect(rt, "memory");
     let definition = definition_of(rt, alloc, call.entries);
     let shelf = Shelf {
@@ -130,21 +139,9 @@ fn ended<R: Abort + Threads + Wait + Sync>(
     } else {
         commands.as_bytes()
     };
-    let room = rooms.input;
-    let mut input = Slow { bytes, room };
-    program(rt, alloc, words.as_slice(), &shelf, &mut input, out, err)
-}
-
-fn ran<R: Abort + Threads + Wait + Sync>(
-    rt: &R,
-    alloc: Global,
-    call: &Call<'_>,
-    rooms: Rooms,
-) -> Ran {
-    let mut out = Narrow::new(alloc, rooms.out);
-    out.flushes = rooms.flushes;
-    let mut err = Narrow::new(alloc, rooms.err);
-    let status = ended(rt, alloc, call, rooms, &mut out, &mut err);
+    let mut streams = streams_of(alloc, bytes, rooms);
+    let status = program(rt, alloc, words.as_slice(), &shelf, &mut streams);
+    let Streams { out, err, .. } = streams;
     Ran {
         status,
         out: out.into_held(),

@@ -1,5 +1,6 @@
 use Rattle.std.proofs.Common.{sym}
-use Rattle.llb_state.specs.Views.{look, status_of}
+use Rattle.llb_events.specs.Views.{look}
+use Rattle.llb_state.specs.Views.{status_of}
 use Rattle.llb_board.proofs.board.look.Goals as goal
 
 pub returns-then-ready : goal.returns-then-ready

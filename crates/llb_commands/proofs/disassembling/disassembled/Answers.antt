@@ -1,6 +1,7 @@
 use Rattle.std.proofs.Common.{inl, inr}
 use Rattle.std.proofs.KnownBytes.{Keeps-refl}
 use Rattle.std.proofs.lemmas.Result.{err_from_is_err_and}
+use Rattle.llb_commands.proofs.Answering.{stream}
 use Rattle.llb_commands.proofs.Texts.{part, whole, unflushed}
 use Rattle.llb_commands.proofs.disassembling.disassembled.Goals as goal
 
@@ -10,8 +11,8 @@ returns-in-Err g c =
     let left = g.R.Read.remaining c.args.input.now in
     inr (
       λ h. h,
-      part left c.in_ok-entries.entries c.in_ok-entries.ensures text.0 text.1 (g.W.Write.contents c.args.out.now) (g.W.Write.contents
-          c.text_over.new.out) text.2,
+      part left c.in_ok-entries.entries c.in_ok-entries.ensures text.0 text.1
+          (stream (g.W.Write.contents c.args.out.now) (g.W.Write.contents c.text_over.new.out)) text.2,
     )
 
 pub returns-in-Ok-flush : goal.returns-in-Ok-flush

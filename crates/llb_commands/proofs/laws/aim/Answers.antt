@@ -16,7 +16,7 @@ returns c accepted = record {
       (subst HasOneAnswerIn c.as_slice.ensures c.one_answer_in.ensures) c.definition_is_read_again.ensures c.is_bytes.ensures accepted.loaded;
   stepper_state = subst Replays c.board-stepped.ensures c.replays-2.ensures.run;
   stepper_past = c.past_is_the_records.ensures;
-  stepper_lines = c.tells_the_run.ensures;
-  session_lines = c.go_tells_the_run.ensures;
+  stepper_lines = c.record_is_the_run.ensures;
+  session_lines = c.go_prints_the_run.ensures;
   stepper_replays = c.replay_is_the_run.ensures;
 }

@@ -26,58 +26,58 @@ links_len rows p e =
 
 pub ranks_of-requires-clause-range : goal.ranks_of-requires-clause-range
 ranks_of-requires-clause-range c k d h =
-    let p = plan c.args.rows.now c.args.ops.items c.args.terminal c.args.start in
+    let p = plan c.args.linked.rows.now c.args.ops.items c.args.linked.terminal c.args.linked.start in
     let l = whole.in_ops p c.args.order.now c.requires.whole c.requires.ops c.requires.within (get_or c.args.order.now k 0)
     (whole.row_reached p c.args.order.now c.requires.whole c.requires.ops c.requires.within k h) in
     let e = get_or_default c.args.order.now k d 0 h in
-    let n = links_len c.args.links.now p c.requires.links in
+    let n = links_len c.args.linked.links.now p c.requires.links in
     omega (arith, l, e, n)
 
 pub first_edge-result-requires-clause-some : goal.first_edge-result-requires-clause-some
 first_edge-result-requires-clause-some c =
-    let h : c.args.terminal < length c.args.ops.items =
+    let h : c.args.linked.terminal < length c.args.ops.items =
     (let t = c.requires.whole.valid.taken.ordered.named.started.result.terminal.holds.0 in let l = c.requires.ops in omega (arith, t, l)) in
-    let e = ap (λ (o : Op). length o.inputs) (op_read c.args.ops.items c.args.terminal c.index-2.result.now h c.index-2.ensures) in
+    let e = ap (λ (o : Op). length o.inputs) (op_read c.args.ops.items c.args.linked.terminal c.index-2.result.now h c.index-2.ensures) in
     let s = c.requires.whole.valid.taken.ordered.named.started.result.input in
     omega (arith, e, s)
 
 pub first_edge-result-requires-clause-index : goal.first_edge-result-requires-clause-index
 first_edge-result-requires-clause-index c =
-    let p = plan c.args.rows.now c.args.ops.items c.args.terminal c.args.start in
-    let h : c.args.terminal < length c.args.ops.items =
+    let p = plan c.args.linked.rows.now c.args.ops.items c.args.linked.terminal c.args.linked.start in
+    let h : c.args.linked.terminal < length c.args.ops.items =
     (let t = c.requires.whole.valid.taken.ordered.named.started.result.terminal.holds.0 in let l = c.requires.ops in omega (arith, t, l)) in
-    let read = op_read c.args.ops.items c.args.terminal c.index-2.result.now h c.index-2.ensures in
+    let read = op_read c.args.ops.items c.args.linked.terminal c.index-2.result.now h c.index-2.ensures in
     subst (λ (o : Op). IsBelow 1_025 (input_at o 0).index) read
-    (whole.index_small p c.args.order.now c.requires.whole c.requires.ops c.requires.within c.args.terminal 0 (inr (refl, refl)))
+    (whole.index_small p c.args.order.now c.requires.whole c.requires.ops c.requires.within c.args.linked.terminal 0 (inr (refl, refl)))
 
 pub first_edge-result-requires-clause-vertex : goal.first_edge-result-requires-clause-vertex
 first_edge-result-requires-clause-vertex c =
-    let p = plan c.args.rows.now c.args.ops.items c.args.terminal c.args.start in
-    let s : c.args.start < length c.in_ok-ranks.ranks.items =
+    let p = plan c.args.linked.rows.now c.args.ops.items c.args.linked.terminal c.args.linked.start in
+    let s : c.args.linked.start < length c.in_ok-ranks.ranks.items =
     (let b = started_below p c.requires.whole.valid.taken.ordered.named.started in let a =
-    links_len c.args.links.now p c.requires.links in let n = c.in_ok-ranks.ensures.len in let l = c.requires.ops in omega (arith, a, b, n, l)) in
+    links_len c.args.linked.links.now p c.requires.links in let n = c.in_ok-ranks.ensures.len in let l = c.requires.ops in omega (arith, a, b, n, l)) in
     let small : All (λ r. r < 65_536) c.in_ok-ranks.ranks.items = c.in_ok-ranks.ensures.small 65_536 (omega arith)
     (let s = c.requires.short in let f = c.requires.few in omega (arith, s, f)) in
-    subst (λ (n : ℕ). n < 65_536) (sym c.index.ensures) (small c.args.start c.index.result.now s)
+    subst (λ (n : ℕ). n < 65_536) (sym c.index.ensures) (small c.args.linked.start c.index.result.now s)
 
 pub vertices_of-requires-clause-links : goal.vertices_of-requires-clause-links
 vertices_of-requires-clause-links c =
-    let a = links_len c.args.links.now (plan c.args.rows.now c.args.ops.items c.args.terminal c.args.start) c.requires.links in
+    let a = links_len c.args.linked.links.now (plan c.args.linked.rows.now c.args.ops.items c.args.linked.terminal c.args.linked.start) c.requires.links in
     let l = c.requires.ops in
     omega (arith, a, l)
 
 pub vertices_of-requires-clause-range : goal.vertices_of-requires-clause-range
 vertices_of-requires-clause-range c =
-    let p = plan c.args.rows.now c.args.ops.items c.args.terminal c.args.start in
-    let n : length c.args.rows.now ≡ length c.deref.result.now =
-    (let a = links_len c.args.links.now p c.requires.links in let b = c.in_ok-ranks.ensures.len in let d =
+    let p = plan c.args.linked.rows.now c.args.ops.items c.args.linked.terminal c.args.linked.start in
+    let n : length c.args.linked.rows.now ≡ length c.deref.result.now =
+    (let a = links_len c.args.linked.links.now p c.requires.links in let b = c.in_ok-ranks.ensures.len in let d =
     ap (λ (xs : List ℕ). length xs) c.deref.ensures.value in let l = c.requires.ops in omega (arith, a, b, d, l)) in
     subst (λ (g : List (List ℕ)). InRange g (length c.deref.result.now)) (sym c.requires.links)
-    (subst (λ (m : ℕ). InRange (links_in p) m) n (in_range c.args.rows.now c.args.terminal c.args.ops.items))
+    (subst (λ (m : ℕ). InRange (links_in p) m) n (in_range c.args.linked.rows.now c.args.linked.terminal c.args.ops.items))
 
 pub vertices_of-requires-clause-below : goal.vertices_of-requires-clause-below
 vertices_of-requires-clause-below c k d h =
-    let p = plan c.args.rows.now c.args.ops.items c.args.terminal c.args.start in
+    let p = plan c.args.linked.rows.now c.args.ops.items c.args.linked.terminal c.args.linked.start in
     let l = whole.in_ops p c.args.order.now c.requires.whole c.requires.ops c.requires.within (get_or c.args.order.now k 0)
     (whole.row_reached p c.args.order.now c.requires.whole c.requires.ops c.requires.within k h) in
     let e = get_or_default c.args.order.now k d 0 h in
@@ -91,7 +91,7 @@ vertices_of-requires-clause-small c =
 
 pub vertices_of-requires-clause-buildable : goal.vertices_of-requires-clause-buildable
 vertices_of-requires-clause-buildable c i h =
-    let p = plan c.args.rows.now c.args.ops.items c.args.terminal c.args.start in
+    let p = plan c.args.linked.rows.now c.args.ops.items c.args.linked.terminal c.args.linked.start in
     subst (λ (g : List (List ℕ)). IsBuildable (op_at c.args.ops.items (get_or c.args.order.now i 0))
     (inputs g (get_or c.args.order.now i 0))) (sym c.requires.links)
     (whole.buildable p c.args.order.now c.requires.whole c.requires.ops c.requires.within i h)
@@ -112,31 +112,31 @@ result_is p ranks x n op h read same e = e ∙ ap (λ (m : ℕ). edge_to m (inpu
 
 pub of_parts-requires : goal.of_parts-requires
 of_parts-requires c =
-    let p = plan c.args.rows.now c.args.ops.items c.args.terminal c.args.start in
-    let h : c.args.terminal < length c.args.ops.items =
+    let p = plan c.args.linked.rows.now c.args.ops.items c.args.linked.terminal c.args.linked.start in
+    let h : c.args.linked.terminal < length c.args.ops.items =
     (let t = c.requires.whole.valid.taken.ordered.named.started.result.terminal.holds.0 in let l = c.requires.ops in omega (arith, t, l)) in
-    let s : c.args.start < length c.in_ok-ranks.ranks.items =
+    let s : c.args.linked.start < length c.in_ok-ranks.ranks.items =
     (let b = started_below p c.requires.whole.valid.taken.ordered.named.started in let a =
-    links_len c.args.links.now p c.requires.links in let n = c.in_ok-ranks.ensures.len in let l = c.requires.ops in omega (arith, a, b, n, l)) in
+    links_len c.args.linked.links.now p c.requires.links in let n = c.in_ok-ranks.ensures.len in let l = c.requires.ops in omega (arith, a, b, n, l)) in
     let result = result_is p c.in_ok-ranks.ranks.items c.first_edge-result.result c.index.result.now c.index-2.result.now s c.index.ensures
-    (op_read c.args.ops.items c.args.terminal c.index-2.result.now h c.index-2.ensures) c.first_edge-result.ensures in
+    (op_read c.args.ops.items c.args.linked.terminal c.index-2.result.now h c.index-2.ensures) c.first_edge-result.ensures in
     whole.is_graph p c.args.order.now c.requires.whole c.requires.ops c.requires.within c.in_ok-ranks.ranks.items
     c.in_ok-ranks.ensures.inverse c.in_ok-vertices.vertices.items c.in_ok-vertices.ensures.len
-    (built_in p c.args.order.now c.in_ok-ranks.ranks.items c.deref.result.now c.args.links.now c.in_ok-vertices.vertices.items
+    (built_in p c.args.order.now c.in_ok-ranks.ranks.items c.deref.result.now c.args.linked.links.now c.in_ok-vertices.vertices.items
     c.requires.links c.deref.ensures.value c.in_ok-vertices.ensures.built)
     c.first_edge-result.result result c.requires.few c.requires.short
 
 pub returns-clause-graph : goal.returns-clause-graph
 returns-clause-graph c =
-    let p = plan c.args.rows.now c.args.ops.items c.args.terminal c.args.start in
-    let h : c.args.terminal < length c.args.ops.items =
+    let p = plan c.args.linked.rows.now c.args.ops.items c.args.linked.terminal c.args.linked.start in
+    let h : c.args.linked.terminal < length c.args.ops.items =
     (let t = c.requires.whole.valid.taken.ordered.named.started.result.terminal.holds.0 in let l = c.requires.ops in omega (arith, t, l)) in
-    let s : c.args.start < length c.in_ok-ranks.ranks.items =
+    let s : c.args.linked.start < length c.in_ok-ranks.ranks.items =
     (let b = started_below p c.requires.whole.valid.taken.ordered.named.started in let a =
-    links_len c.args.links.now p c.requires.links in let n = c.in_ok-ranks.ensures.len in let l = c.requires.ops in omega (arith, a, b, n, l)) in
+    links_len c.args.linked.links.now p c.requires.links in let n = c.in_ok-ranks.ensures.len in let l = c.requires.ops in omega (arith, a, b, n, l)) in
     let result = result_is p c.in_ok-ranks.ranks.items c.first_edge-result.result c.index.result.now c.index-2.result.now s c.index.ensures
-    (op_read c.args.ops.items c.args.terminal c.index-2.result.now h c.index-2.ensures) c.first_edge-result.ensures in
-    let built = built_in p c.args.order.now c.in_ok-ranks.ranks.items c.deref.result.now c.args.links.now c.in_ok-vertices.vertices.items
+    (op_read c.args.ops.items c.args.linked.terminal c.index-2.result.now h c.index-2.ensures) c.first_edge-result.ensures in
+    let built = built_in p c.args.order.now c.in_ok-ranks.ranks.items c.deref.result.now c.args.linked.links.now c.in_ok-vertices.vertices.items
     c.requires.links c.deref.ensures.value c.in_ok-vertices.ensures.built in
     let vertices = whole.vertices_same p c.args.order.now c.requires.whole c.requires.ops c.requires.within c.in_ok-ranks.ranks.items
     c.in_ok-ranks.ensures.inverse c.in_ok-vertices.vertices.items c.in_ok-vertices.ensures.len built in

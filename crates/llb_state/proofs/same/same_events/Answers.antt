@@ -1,5 +1,5 @@
 use Rattle.std.proofs.Common.{true≢false, sym, ◌∙◌}
-use Rattle.llb_state.specs.Views.{event_of}
+use Rattle.llb_events.specs.Views.{event_of}
 use Rattle.llb_state.proofs.Alike.{alike_read, differ}
 use Rattle.llb_state.proofs.same.same_events.Goals as goal
 

@@ -1,5 +1,5 @@
 use Rattle.std.proofs.Common.{◌≡◌, map, take}
-use Rattle.llb_state.specs.Views.{event_of}
+use Rattle.llb_events.specs.Views.{event_of}
 use Rattle.llb_state.proofs.same.same_events.Given as goal
 
 abbrev pub invariant-loop-i : goal.invariant-loop-i

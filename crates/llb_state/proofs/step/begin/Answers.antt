@@ -4,12 +4,13 @@ use Rattle.llb_loader.specs.declared.graph.Edge.{Edge}
 use Rattle.llb_model.specs.Outcome.{inputs_from}
 use Rattle.llb_model.specs.Program.{view_on}
 use Rattle.llb_model.specs.State.{ending_at}
+use Rattle.llb_model.specs.Table.{Job, Claimed}
 use Rattle.llb_needs.specs.Needs.{taken_with}
 use Rattle.llb_state.specs.Begun.{outfit_as}
 use Rattle.llb_state.specs.Rules.{or_not_ready}
 use Rattle.llb_state.specs.Views.{status_of}
 use Rattle.llb_events.specs.declared.fault.ClaimFault.{ClaimFault}
-use Rattle.llb_state.proofs.Begins.{Parts, AreParts, begun_of, supplied, workable}
+use Rattle.llb_state.proofs.Begins.{Parts, AreParts, put_together, begun_of, supplied, workable}
 use Rattle.llb_state.proofs.step.begin.Goals as goal
 use Rattle.llb_state.proofs.step.begin.Goals.{After-new-2}
 
@@ -50,13 +51,13 @@ returns-clause-gives c =
     = ap (λ (es : List Edge). or_not_ready (inputs_from (ending_at (map status_of c.args.stands.now)) es)) (sym c.as_slice.ensures) ∙ c.in_ok-inputs.ensures in
     begun_of c.args.build.now c.args.caches.now c.args.at.0 c.args.at.1 c.args.vertex.now
     (inputs_from (ending_at (map status_of c.args.stands.now)) c.args.vertex.now.inputs) c.in_ok-inputs.inputs.items (parts c) there (are_parts c)
+    ∙ ap (λ (j : Job). Ok (record (put_together c.args.at.0 c.args.at.1 (parts c)) { reply = Claimed j })) (sym c.new-3.ensures)
 
 pub returns-clause-supplies : goal.returns-clause-supplies
 unfolding parts
 returns-clause-supplies c = supplied c.args.build.now c.args.caches.now c.args.vertex.now c.in_ok-inputs.inputs.items (parts c) (are_parts c)
 
-pub invariant_of-job : goal.invariant_of-job
+pub new-3-requires : goal.new-3-requires
 unfolding parts
-invariant_of-job c =
-    let p = (goal.at.invariant_of-job c).After-new-2 in
-    workable c.args.build.now c.args.caches.now c.args.vertex.now c.in_ok-inputs.inputs.items (parts p) (are_parts p) c.requires.few
+new-3-requires c =
+    workable c.args.build.now c.args.caches.now c.args.vertex.now c.in_ok-inputs.inputs.items (parts c) (are_parts c) c.requires.few

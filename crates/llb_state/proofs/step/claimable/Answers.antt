@@ -5,7 +5,7 @@ use Rattle.llb_model.specs.State.{At, Idle}
 use Rattle.llb_model.specs.Table.{claim_start}
 use Rattle.llb_model.specs.Table as table
 use Rattle.llb_state.specs.Views.{status_of, at_of}
-use Rattle.llb_state.specs.Rules.{faulted, claim_fault}
+use Rattle.llb_events.specs.Causes.{faulted, claim_fault}
 use Rattle.llb_events.specs.declared.fault.ClaimFault.TheVariants.{NotReady}
 use Rattle.llb_model.proofs.Vertices.{kind_at}
 use Rattle.llb_state.proofs.Behind.{ready_so}

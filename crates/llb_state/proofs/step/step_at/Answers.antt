@@ -6,8 +6,10 @@ use Rattle.llb_model.specs.State.{At}
 use Rattle.llb_model.specs.Table.{stepped, step_grant}
 use Rattle.llb_state.specs.Caches.{written}
 use Rattle.llb_state.specs.Room.{ready_made, supplies_of}
-use Rattle.llb_state.specs.Rules.{faulted, step_fault, GivesStep, worked_in}
-use Rattle.llb_state.specs.Views.{at_of, execution_of, state_of, step_reply}
+use Rattle.llb_events.specs.Causes.{faulted, step_fault, GivesStep}
+use Rattle.llb_state.specs.Rules.{worked_in}
+use Rattle.llb_state.specs.Views.{at_of, execution_of, state_of}
+use Rattle.llb_events.specs.Views.{step_reply}
 use Rattle.llb_state.specs.declared.stand.Desk.TheVariants as desk
 use Rattle.llb_state.proofs.Lists.{get_map, map_set, set_same}
 use Rattle.llb_state.proofs.Calls.{stepped_as}

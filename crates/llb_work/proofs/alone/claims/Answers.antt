@@ -1,6 +1,6 @@
 use Rattle.std.proofs.Common.{sym, ◌∙◌}
 use Rattle.llb_work.proofs.Driving.{on_true, claim_takes}
-use Rattle.llb_state.specs.Views.{claim_reply}
+use Rattle.llb_events.specs.Views.{claim_reply}
 use Rattle.llb_work.proofs.alone.claims.Goals as goal
 
 pub returns-clause-taken : goal.returns-clause-taken

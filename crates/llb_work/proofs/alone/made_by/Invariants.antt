@@ -2,7 +2,7 @@
 use Rattle.std.proofs.Common.{◌≡◌, ◌<◌, ◌==◌, ℕ, length, take}
 use Rattle.std.specs.Prelude.{slice_index}
 use Rattle.std.specs.List.{count_by}
-use Rattle.llb_state.specs.Views.{event_of}
+use Rattle.llb_events.specs.Views.{event_of}
 use Rattle.llb_model.specs.Table.{worker_of}
 use Rattle.llb_work.proofs.alone.made_by.Given as goal
 

@@ -3,7 +3,7 @@ use Rattle.std.specs.List.{count_by}
 use Rattle.std.proofs.lemmas.List.{drop-map}
 use Rattle.llb_model.specs.Run.{events_by, chosen, is_complete}
 use Rattle.llb_model.proofs.Complete.{complete_rests}
-use Rattle.llb_state.specs.Views.{event_of}
+use Rattle.llb_events.specs.Views.{event_of}
 use Rattle.llb_work.proofs.Driving.{of_worker, count_seen, when_true}
 use Rattle.llb_work.proofs.Ending.{ends_in_order}
 use Rattle.llb_work.proofs.alone.run_alone.Goals.{then-whole, else-whole}

@@ -1,4 +1,4 @@
-use Rattle.llb_state.specs.Views.{claim_reply}
+use Rattle.llb_events.specs.Views.{claim_reply}
 use Rattle.llb_work.proofs.Afters.{no_shorter}
 use Rattle.llb_work.proofs.Workers.{claim_goes, claim_here}
 use Rattle.llb_work.proofs.granted.claim.Goals as goal

@@ -1,5 +1,5 @@
 use Rattle.std.proofs.Common.{arith, sym}
-use Rattle.llb_state.specs.Views.{event_of}
+use Rattle.llb_events.specs.Views.{event_of}
 use Rattle.llb_work.proofs.Ends.{chosen_is_workers}
 use Rattle.llb_work.proofs.rest.chosen_worker.Goals as goal
 

@@ -1,5 +1,5 @@
 use Rattle.std.proofs.Common.{ap, arith, length, refl, sym, ◌∙◌}
-use Rattle.llb_state.specs.Views.{event_of}
+use Rattle.llb_events.specs.Views.{event_of}
 use Rattle.llb_work.proofs.Driving.{longer, nearer}
 use Rattle.llb_work.proofs.Afters.{goes_nowhere, goes_further, takes_one}
 use Rattle.llb_work.proofs.rest.go_to_end.Goals as goal

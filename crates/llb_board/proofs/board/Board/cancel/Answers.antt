@@ -4,7 +4,8 @@ use Rattle.llb_model.specs.State.{Running}
 use Rattle.llb_model.specs.Table.{Cancel, Cancelled}
 use Rattle.llb_model.proofs.Lists.{length_set}
 use Rattle.llb_state.specs.Board.{Seen}
-use Rattle.llb_state.specs.Rules.{cancel_fault, cancel_of, given_up_at}
+use Rattle.llb_events.specs.Causes.{cancel_fault}
+use Rattle.llb_state.specs.Rules.{cancel_of, given_up_at}
 use Rattle.llb_state.specs.Room.{seen}
 use Rattle.llb_state.specs.Views.{at_of, leased_by}
 use Rattle.llb_state.specs.declared.stand.Desk.TheVariants as desk

@@ -11,9 +11,11 @@ use Rattle.llb_model.specs.Table.{Claim}
 use Rattle.llb_model.proofs.Lists.{length_set}
 use Rattle.llb_state.specs.Begun.{begun_as}
 use Rattle.llb_needs.specs.Needs.{shut_key, unless_shut}
-use Rattle.llb_state.specs.Views.{status_of, state_of, claim_reply}
+use Rattle.llb_state.specs.Views.{status_of, state_of}
+use Rattle.llb_events.specs.Views.{claim_reply}
 use Rattle.llb_state.specs.Board.{Seen}
-use Rattle.llb_state.specs.Rules.{begun, claim_fault, claim_of}
+use Rattle.llb_state.specs.Rules.{begun, claim_of}
+use Rattle.llb_events.specs.Causes.{claim_fault}
 use Rattle.llb_events.specs.Faults.{claim_memory, claim_may_want}
 use Rattle.llb_state.specs.Room.{seen}
 use Rattle.llb_state.specs.declared.stand.Desk.TheVariants as desk

@@ -2,7 +2,7 @@ use Rattle.std.proofs.Common.{◌≡◌, ◌++◌, sym, subst, arith}
 use Rattle.llb_execution.specs.Parts.{left_with}
 use Rattle.llb_model.specs.Landing.{steps_by}
 use Rattle.llb_state.specs.Board.{Seen}
-use Rattle.llb_state.specs.Jobs.{OutcomeValue, IsOutcome}
+use Rattle.llb_execution.specs.Jobs.{OutcomeValue, IsOutcome}
 use Rattle.llb_board.specs.Landing.{CanLand, IsThrough}
 use Rattle.llb_state.specs.Room.{seen}
 use Rattle.llb_board.proofs.Claiming.{data_of}

@@ -1,6 +1,6 @@
 use Rattle.std.proofs.Common.{sym, subst}
 use Rattle.llb_board.specs.Landing.{Lands}
-use Rattle.llb_state.specs.Views.{settle_reply}
+use Rattle.llb_events.specs.Views.{settle_reply}
 use Rattle.llb_events.specs.declared.event.Settled.{Settled}
 use Rattle.llb_board.proofs.Landed.{lands}
 use Rattle.llb_board.proofs.board.Board.land_known.Goals as goal

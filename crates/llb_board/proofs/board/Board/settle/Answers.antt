@@ -8,7 +8,8 @@ use Rattle.llb_model.proofs.Lists.{length_set}
 use Rattle.llb_model.proofs.Stopped.{stopped_length}
 use Rattle.llb_state.specs.Views.{status_of, at_of, leased_by, state_of}
 use Rattle.llb_state.specs.Board.{Seen}
-use Rattle.llb_state.specs.Rules.{settle_fault, settle_of, left_at}
+use Rattle.llb_events.specs.Causes.{settle_fault}
+use Rattle.llb_state.specs.Rules.{settle_of, left_at}
 use Rattle.llb_state.specs.Room.{AreOver, seen}
 use Rattle.llb_state.specs.declared.stand.Desk.TheVariants as desk
 use Rattle.llb_links.specs.Links.{IsLinked}

@@ -7,7 +7,8 @@ use Rattle.llb_model.proofs.Lists.{get_within}
 use Rattle.llb_state.specs.Board.{Seen}
 use Rattle.llb_links.specs.Links.{has_inputs}
 use Rattle.llb_state.specs.Room.{seen}
-use Rattle.llb_state.specs.Views.{status_of, look, look_at}
+use Rattle.llb_state.specs.Views.{status_of}
+use Rattle.llb_events.specs.Views.{look, look_at}
 use Rattle.llb_state.proofs.Behind.{tells, ready_so}
 use Rattle.llb_state.proofs.Sound.{consistent}
 use Rattle.llb_board.proofs.board.Board.status.Goals as goal

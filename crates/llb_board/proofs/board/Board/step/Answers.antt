@@ -1,6 +1,7 @@
 use Rattle.std.proofs.Common.{◌≡◌, ◌++◌, ◌∷◌, [], length, refl, sym, subst, take, drop, List, arith, rules}
 use Rattle.llb_model.specs.Table.{Step}
-use Rattle.llb_state.specs.Views.{state_of, step_reply}
+use Rattle.llb_state.specs.Views.{state_of}
+use Rattle.llb_events.specs.Views.{step_reply}
 use Rattle.llb_state.specs.Room.{IsKept, seen}
 use Rattle.llb_state.specs.declared.stand.Desk.{Desk}
 use Rattle.llb_state.proofs.Calls.{step_done}

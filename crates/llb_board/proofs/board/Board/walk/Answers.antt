@@ -1,4 +1,4 @@
-use Rattle.llb_state.specs.Views.{event_of}
+use Rattle.llb_events.specs.Views.{event_of}
 use Rattle.llb_board.proofs.Walks.{walk_back, walk_can}
 use Rattle.llb_board.proofs.board.Board.walk.Goals as goal
 

@@ -1,6 +1,6 @@
 use Rattle.std.proofs.Common.{◌-◌, map, get_or, subst, arith}
 use Rattle.std.proofs.lemmas.List.{length-map}
-use Rattle.llb_state.specs.Views.{event_of}
+use Rattle.llb_events.specs.Views.{event_of}
 use Rattle.llb_events.specs.declared.event.Event.TheVariants as event
 use Rattle.llb_stepper.specs.Rules.{MeetsOn}
 use Rattle.llb_stepper.proofs.Stops.{begun, one_more, stops, ends_all, done_since, since, refused_at, event_at}

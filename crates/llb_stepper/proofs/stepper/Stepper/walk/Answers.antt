@@ -1,8 +1,6 @@
 use Rattle.std.proofs.Common.{[], ◌∷◌, ◌++◌, reverse, ap, sym, subst, ◌∙◌}
-use Rattle.std.specs.List.{list_any}
-use Rattle.llb_state.specs.Views.{event_of}
+use Rattle.llb_events.specs.Views.{event_of}
 use Rattle.llb_stepper.specs.Kept.{AreWalked}
-use Rattle.llb_stepper.specs.Told.{meets_told}
 use Rattle.llb_stepper.proofs.Walked.{walked_more, meets_more}
 use Rattle.llb_stepper.proofs.stepper.Stepper.walk.Goals as goal
 
@@ -20,5 +18,4 @@ returns-in-Ok-clause-met c =
     let w = c.in-Ok.walked in
     let more = c.push_reserved.ensures.items ∙ ap (λ l. l ++ w ∷ []) c.reserve.ensures.items in
     meets_more c.self.inside.board c.walk.new.self (event_of c.args.event) c.self.inside.walked.items w c.in-Ok.ensures.undo c.in-Ok.ensures.gives
-    c.args.self.now c.self.inside.breaks.items c.push_reserved.new.self.items c.meets_any-met.result more c.self.view_is
-    (c.meets_any-met.ensures ∙ ap (list_any (meets_told (event_of c.args.event) w.reply)) c.deref.ensures.value)
+    c.args.self.now c.self.inside.breaks c.push_reserved.new.self.items c.is_met_by-met.result more c.self.view_is c.is_met_by-met.ensures

@@ -1,0 +1,143 @@
+//! A job is what a worker has to do: a vertex's program, and what it works on. All parts own their data. By the type's invariant its
+//! micro-steps can be done.
+
+ghost use Rattle.std.specs.Prelude.{◌≡◌};
+ghost use Rattle.llb_execution.specs.Jobs.{IsWorkable};
+ghost use Rattle.llb_execution.specs.Parts.{work_with};
+
+use crate::program::Program;
+use crate::view::View;
+use llb_tree::Tree;
+use llb_wire::Many;
+use std::marker::Model;
+
+/// A job: who does it, and everything that it needs. Contracts see it as the model's `Job`.
+pub struct Job {
+    pub(crate) worker: u32,
+    pub(crate) vertex: u32,
+    pub(crate) program: Program,
+    pub(crate) done: u32,
+    pub(crate) view: View,
+    pub(crate) trees: Many<Tree>,
+    instances: Many<u32>,
+}
+
+// It is written out so that the crates above drop one by this one function.
+impl Drop for Job {
+    fn drop(self) {
+        let Job {
+            worker: _,
+            vertex: _,
+            program: _,
+            done: _,
+            view: _,
+            trees: _,
+            instances: _,
+        } = self;
+    }
+}
+
+impl Model for Job {
+    ghost use Rattle.std.specs.Coded.{codes};
+    ghost use Rattle.llb_tree.specs.Tree.{coded_tree};
+    ghost use Rattle.llb_execution.specs.Parts.{work_with};
+    ghost use Rattle.llb_model.specs.Table as table;
+    ghost use Rattle.llb_execution.specs.Jobs.{IsWorkable};
+
+    ghost Value = { table.Job };
+
+    ghost coded = { Prim.hlevel (codes, coded_tree) };
+
+    ghost view = { λ j. record {
+      worker = j.worker;
+      vertex = j.vertex;
+      program = j.program;
+      done = j.done;
+      work = work_with j.view j.trees;
+      instances = j.instances;
+    } };
+
+    ghost invariant = { λ j. IsWorkable j.program (work_with j.view j.trees) };
+}
+
+impl Job {
+    /// Makes a job of which no micro-step is done. The trees and the numbers are those of the cache instances, in the order of the mounts that
+    /// show them. Does not allocate.
+    pub fn new(
+        worker: u32,
+        vertex: u32,
+        program: Program,
+        view: View,
+        trees: Many<Tree>,
+        instances: Many<u32>,
+    ) -> Job
+        requires { IsWorkable program (work_with view trees) }
+        ensures { result ≡ record {
+          worker = worker;
+          vertex = vertex;
+          program = program;
+          done = 0;
+          work = work_with view trees;
+          instances = instances;
+        } }
+    {
+        Job {
+            worker,
+            vertex,
+            program,
+            done: 0,
+            view,
+            trees,
+            instances,
+        }
+    }
+
+    /// Returns the number of the worker that does it.
+    pub fn worker(&self) -> u32
+        ensures { result ≡ self.now.worker }
+    {
+        self.worker
+    }
+
+    /// Returns the number of the vertex.
+    pub fn vertex(&self) -> u32
+        ensures { result ≡ self.now.vertex }
+    {
+        self.vertex
+    }
+
+    /// Returns the vertex's program: its micro-steps and outputs.
+    pub fn program(&self) -> &Program
+        ensures { result.now ≡ self.now.program }
+    {
+        &self.program
+    }
+
+    /// Returns how many micro-steps are done.
+    pub fn done(&self) -> u32
+        ensures { result ≡ self.now.done }
+    {
+        self.done
+    }
+
+    /// Returns the view that it works on, in which the mounts of caches are empty.
+    pub fn view(&self) -> &View
+        ensures { result.now ≡ self.now.work.own }
+    {
+        &self.view
+    }
+
+    /// Returns the trees of the cache instances as they are at the claim, in the order of the mounts that show them.
+    pub fn trees(&self) -> &[Tree]
+        ensures { result.now ≡ self.now.work.trees }
+    {
+        self.trees.as_slice()
+    }
+
+    /// Returns the numbers of these instances.
+    pub fn instances(&self) -> &[u32]
+        ensures { result.now ≡ self.now.instances }
+    {
+        self.instances.as_slice()
+    }
+}

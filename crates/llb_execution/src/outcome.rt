@@ -1,0 +1,115 @@
+//! The work of a job, away from every board: all micro-steps that it has left are done. It depends on the job alone.
+
+ghost use Rattle.std.specs.Prelude.{◌≡◌, IfOk, IsTrue, Err};
+ghost use Rattle.llb_execution.specs.Parts.{left_with};
+ghost use Rattle.llb_execution.specs.Jobs.{IsOutcome};
+ghost use Rattle.llb_execution.specs.declared.fault.WorkFault.TheVariants as work;
+
+use crate::fault::WorkFault;
+use crate::further::{Further, do_further};
+use crate::gate::Gate;
+use crate::job::Job;
+use crate::view::{View, tree_copies};
+use llb_model::VertexFault;
+use llb_tree::Tree;
+use llb_wire::Memory;
+use std::alloc::Global;
+use std::marker::Model;
+
+/// The outcome of a job: how many micro-steps it had left, and the view, the trees of the cache instances and the fault that they
+/// leave. By the type's invariant they are what the job's program leaves, so no board has to check it.
+#[derive(Drop)]
+pub struct Outcome {
+    job: Job,
+    count: u32,
+    view: View,
+    trees: Vec<Tree>,
+    fault: Option<VertexFault>,
+}
+
+impl Model for Outcome {
+    ghost use Rattle.std.specs.Coded.{codes};
+    ghost use Rattle.llb_tree.specs.Tree.{coded_tree};
+    ghost use Rattle.llb_execution.specs.Parts.{left_with};
+    ghost use Rattle.llb_execution.specs.Jobs.{OutcomeValue, IsOutcome};
+
+    ghost Value = { OutcomeValue };
+
+    ghost coded = { Prim.hlevel (codes, coded_tree) };
+
+    ghost view = { λ o. record { job = o.job; count = o.count; left = left_with o.view o.trees.items o.fault } };
+
+    ghost invariant = { λ o. IsOutcome o.job o.count (left_with o.view o.trees.items o.fault) };
+}
+
+impl Outcome {
+    /// Returns the job as it was handed out.
+    pub fn job(&self) -> &Job
+        ensures { result.now ≡ self.now.job }
+    {
+        &self.job
+    }
+
+    /// Recalls the type's invariant: the outcome is what all micro-steps that its job has left leave.
+    pub fn is_whole(&self)
+        ensures { IsOutcome self.now.job self.now.count self.now.left }
+    {
+        let _ = &self.fault;
+    }
+
+    /// Returns how many micro-steps the job had left.
+    pub fn count(&self) -> u32
+        ensures { result ≡ self.now.count }
+    {
+        self.count
+    }
+
+    /// Returns the fault of the last of them, if it had one.
+    pub fn fault(&self) -> Option<VertexFault>
+        ensures { result ≡ self.now.left.fault }
+    {
+        self.fault
+    }
+
+    /// Returns how many micro-steps the job had left, and what they leave: the view, the trees of the cache instances, and the fault of the last.
+    pub fn into_left(self) -> (u32, View, Vec<Tree>, Option<VertexFault>)
+        ensures count { result.0 ≡ self.count }
+        ensures left { left_with result.1 result.2.items result.3 ≡ self.left }
+    {
+        let Outcome {
+            job: _job,
+            count,
+            view,
+            trees,
+            fault,
+        } = self;
+        (count, view, trees, fault)
+    }
+}
+
+/// Does all micro-steps that a job has left, behind a gate. Fails with 143 `Stopped` where the gate stops the worker, which it does only
+/// where it may, and with 142 `Memory`; then the job is gone. It works on second owners of the job's view and trees.
+pub fn work<G: Gate>(alloc: Global, job: Job, gate: &G) -> Result<Outcome, WorkFault>
+    ensures job { IfOk result (λ o. o.job ≡ job) }
+    ensures stopped { result ≡ Err work.Stopped → IsTrue (G.may_stop job.worker job.vertex) }
+{
+    gate.pass(job.worker, job.vertex)?;
+    Ok(worked(alloc, job)?)
+}
+
+// Does all micro-steps that a job has left.
+fn worked(alloc: Global, job: Job) -> Result<Outcome, Memory>
+    ensures { IfOk result (λ o. o.job ≡ job) }
+{
+    let mut view = job.view.copy()?;
+    let mut trees = tree_copies(alloc, job.trees.as_slice())?;
+    let further = do_further(alloc, &job.program, job.done, &mut view, &mut trees)?;
+    let Further { count, fault } = further;
+    Ok(Outcome {
+        job,
+        count,
+        view,
+        trees,
+        fault,
+    })
+}

@@ -1,9 +1,0 @@
-use Rattle.std.proofs.Common.{sym, ap, option_map, ◌∙◌}
-use Rattle.llb_state.specs.Views.{event_of}
-use Rattle.llb_session.proofs.Granting.{chosen_comes}
-use Rattle.llb_session.proofs.answering.does_next.Goals as goal
-
-pub returns : goal.returns
-returns c =
-    chosen_comes c.args.stepper.now c.does.new.stepper c.in-Some.event c.does.result c.chosen_is_done.ensures
-    (sym (ap (option_map event_of) c.in-Some.is) ∙ c.next.ensures) c.does.ensures

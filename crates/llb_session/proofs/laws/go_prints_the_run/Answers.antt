@@ -1,0 +1,7 @@
+use Rattle.std.proofs.Common.{subst}
+use Rattle.llb_state.specs.Board.{Replays}
+use Rattle.llb_session.proofs.Told.{go_prints}
+use Rattle.llb_session.proofs.laws.go_prints_the_run.Goals as goal
+
+pub returns : goal.returns
+returns c = go_prints c.args.stepper.now (subst Replays c.board.ensures c.replays.ensures.run)

@@ -1,0 +1,63 @@
+-- What is kept of breakpoints by their kinds, so that none of them is tried at an event.
+use Rattle.std.specs.Prelude.{◌≡◌, ℕ, ◌==◌, ◌||◌, Bool, true, false, List}
+use Rattle.std.specs.List.{list_any}
+use Rattle.std.specs.Ordering.{nat_cmp}
+use Rattle.std.specs.BTreeSet.{contains}
+use Rattle.llb_model.specs.Table.{Event, Claim, Step, Settle, Cancel}
+use Rattle.llb_events.specs.declared.event.Settled.TheVariants as settled
+use Rattle.llb_board.specs.declared.walk.Reply.{Reply}
+use Rattle.llb_board.specs.declared.walk.Reply.TheVariants as reply
+use Rattle.llb_stepper.specs.declared.breakpoints.Kinds.{Kinds}
+use Rattle.llb_stepper.specs.declared.stop.Break.{Break}
+use Rattle.llb_stepper.specs.declared.stop.Break.TheVariants as stop
+
+-- whether a breakpoint is one at the claims of vertex v
+abbrev pub is_at_claims : ℕ → Break → Bool
+is_at_claims v (stop.Claims u) = v == u
+is_at_claims v (stop.Settles u) = false
+is_at_claims v stop.Fails = false
+
+-- whether a breakpoint is one at the settles of vertex v
+abbrev pub is_at_settles : ℕ → Break → Bool
+is_at_settles v (stop.Claims u) = false
+is_at_settles v (stop.Settles u) = v == u
+is_at_settles v stop.Fails = false
+
+-- whether a breakpoint is one at failures
+abbrev pub is_at_failures : Break → Bool
+is_at_failures (stop.Claims u) = false
+is_at_failures (stop.Settles u) = false
+is_at_failures stop.Fails = true
+
+-- the kinds are those of the breakpoints of a list
+pub record AreKinds (breaks : List Break) (kinds : Kinds) : Type 0 where
+  pub claims : (v : ℕ) → contains nat_cmp kinds.claims v ≡ list_any (is_at_claims v) breaks
+  pub settles : (v : ℕ) → contains nat_cmp kinds.settles v ≡ list_any (is_at_settles v) breaks
+  pub failures : kinds.failures ≡ list_any is_at_failures breaks
+
+-- the new kinds are the old ones and that of one breakpoint more
+pub record AreKindsOfOneMore (old : Kinds) (b : Break) (new : Kinds) : Type 0 where
+  pub claims : (v : ℕ) → contains nat_cmp new.claims v ≡ (contains nat_cmp old.claims v || is_at_claims v b)
+  pub settles : (v : ℕ) → contains nat_cmp new.settles v ≡ (contains nat_cmp old.settles v || is_at_settles v b)
+  pub failures : new.failures ≡ (old.failures || is_at_failures b)
+
+-- the new kinds are the old ones
+pub record AreUnchanged (old new : Kinds) : Type 0 where
+  pub claims : (v : ℕ) → contains nat_cmp new.claims v ≡ contains nat_cmp old.claims v
+  pub settles : (v : ℕ) → contains nat_cmp new.settles v ≡ contains nat_cmp old.settles v
+  pub failures : new.failures ≡ old.failures
+
+-- whether one of the kinds is met by an event, whatever its reply
+abbrev pub is_met_by_event : Kinds → Event → Bool
+is_met_by_event kinds (Claim w v) = contains nat_cmp kinds.claims v
+is_met_by_event kinds (Step w) = false
+is_met_by_event kinds (Settle w) = false
+is_met_by_event kinds (Cancel w) = false
+
+-- whether one of the kinds is met by a reply
+abbrev pub is_met_by_reply : Kinds → Reply → Bool
+is_met_by_reply kinds (reply.Settled (settled.Done v)) = contains nat_cmp kinds.settles v
+is_met_by_reply kinds (reply.Settled (settled.Failed v)) = kinds.failures || contains nat_cmp kinds.settles v
+is_met_by_reply kinds reply.Claimed = false
+is_met_by_reply kinds (reply.Stepped s) = false
+is_met_by_reply kinds (reply.Cancelled c) = false

@@ -1,9 +1,0 @@
-use Rattle.llb_work.specs.Passes.{IsPassFor}
-use Rattle.llb_work.specs.Turns.{IsBrought}
-use Rattle.llb_work.proofs.worker.serve.Given as goal
-
-abbrev pub invariant-loop-i : goal.invariant-loop-i
-invariant-loop-i g l = record {
-  pass : IsPassFor l.queue l.w l.pass;
-  brought : IsBrought g.S.Gated.given l.w l.brought;
-}

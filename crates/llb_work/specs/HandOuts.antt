@@ -1,0 +1,25 @@
+-- What is handed out to the workers, and what they give back.
+use Rattle.std.specs.Prelude.{◌≡◌, ℕ, ◌≤◌, sum, vec_len, vec_capacity}
+use Rattle.llb_ready.specs.declared.queue.ReadyQueue.{ReadyQueue}
+use Rattle.llb_ready.specs.Passes.{IsReadyPassOf, IsWhole}
+use Rattle.llb_work.specs.declared.hand_out.HandOut.{HandOut}
+use Rattle.llb_work.specs.declared.hand_out.GivenBack.{GivenBack}
+use Rattle.llb_work.specs.Passes.{IsUncut}
+
+module _ {L : Type 0} where
+  -- for each of at most 64 workers one share of the ledger, a list and room for a thread; and the whole pass of the queue
+  pub record IsHandedOut (q : ReadyQueue) (out : HandOut L) : Type 0 where
+    pub parts : out.share.parts ≡ out.workers
+    pub amount : out.share.amount ≡ 0
+    pub few : out.workers ≤ 64
+    pub pass : IsUncut q out.pass
+    pub lists : vec_len out.lists ≡ out.workers
+    pub no_threads : vec_len out.threads ≡ 0
+    pub threads : out.workers ≤ vec_capacity out.threads
+
+  -- the shares of n workers, which amount to what they made, and the whole pass of the queue
+  pub record IsGivenBack (q : ReadyQueue) (n : ℕ) (back : GivenBack L) : Type 0 where
+    pub parts : back.share.parts ≡ n
+    pub amount : back.share.amount ≡ sum back.made
+    pub of : IsReadyPassOf q back.pass
+    pub whole : IsWhole back.pass

@@ -1,0 +1,313 @@
+//! What is under the lock: the board, the board that the run began from, the book of the events that were made, and the fault that was
+//! noted first; which vertices have no cache mount at or before them; and the vertex numbers that wait for a key. An invariant of its type
+//! says that the record goes on from the given board by granted events, each of which is counted.
+
+ghost use Rattle.std.specs.Prelude.{◌≡◌, ◌+◌, ℕ, length, true, Some, IfOk};
+ghost use Rattle.std.specs.Bool.{OnTrue};
+ghost use Rattle.std.specs.Coded.{codes};
+ghost use Rattle.llb_tree.specs.Tree.{coded_tree};
+ghost use Rattle.llb_board.specs.Begun.{IsKnown};
+ghost use Rattle.llb_board.specs.Store.{coded_store};
+ghost use Rattle.llb_work.specs.Crew.{IsAfter};
+ghost use Rattle.llb_work.specs.RunEnds.{may_be};
+ghost use Rattle.llb_work.specs.Supplies.{ArePlain};
+ghost use Rattle.llb_work.specs.Turns.{IsBrought, IsClaimed, IsHere};
+
+use crate::granted;
+use crate::held::Held;
+use crate::noted::{Gated, Noted, Tally, count};
+use llb_board::{
+    At, Board, ClaimFault, Job, LandFault, Outcome, SettleFault, Settled, Status, StepFault,
+    Stepped,
+};
+use llb_cache::Key;
+use llb_state::is_marked;
+use std::sync::ledger::Book;
+
+/// The board under the lock.
+#[derive(Drop)]
+pub(crate) struct SharedBoard<S: Gated> {
+    pub board: Board,
+    pub start: Board,
+    pub plain: Vec<bool>,
+    pub held: Held,
+    pub calls: Book<S>,
+    pub noted: Option<Noted>,
+    pub ghost kept: { start ≡ S.given } by { Prim.hlevel (codes, coded_tree, coded_store) },
+    pub ghost after: { IsAfter S.given board } by { Prim.hlevel (codes, coded_tree, coded_store) },
+    pub ghost marks: { ArePlain S.given.build plain.items },
+    pub ghost counted: { calls.total + length S.given.events ≡ length board.events },
+    pub ghost stops: { may_be S.may_stop S.given noted ≡ true },
+}
+
+/// What a worker brings to the lock.
+#[derive(Drop)]
+pub(crate) enum Brought {
+    Nothing,
+    /// The number of a vertex, from the queue.
+    Number(u32),
+    /// The outcome of a job.
+    Outcome(Outcome),
+}
+
+/// What a worker is to do next.
+#[derive(Drop)]
+pub(crate) enum Turn {
+    /// Work on this job away from the board.
+    Work(Job),
+    /// Pass the gate for this vertex, which is then worked on under the lock.
+    Pass(u32),
+    /// Come back to the lock.
+    Again,
+    /// Come back with a number as soon as the queue has one: the worker runs nothing.
+    Next,
+    /// End, as all others do: nothing is claimed any more.
+    End,
+}
+
+/// Makes a shared board on which nothing was done yet.
+pub(crate) fn make_shared_board<S: Gated>(
+    board: Board,
+    start: Board,
+    plain: Vec<bool>,
+    held: Held,
+    calls: Book<S>,
+) -> SharedBoard<S>
+    requires plain { ArePlain board.build plain.items }
+    requires kept { start ≡ S.given }
+    requires given { board ≡ S.given }
+    requires empty { calls.total ≡ 0 }
+{
+    SharedBoard {
+        board,
+        start,
+        plain,
+        held,
+        calls,
+        noted: None,
+    }
+}
+
+impl<S: Gated> SharedBoard<S> {
+    /// Notes why the run ends, unless something is noted already.
+    pub(crate) fn note(&mut self, noted: Noted)
+        requires { may_be S.may_stop S.given (Some noted) ≡ true }
+    {
+        if self.noted.is_none() {
+            self.noted = Some(noted);
+        }
+    }
+
+    // Claims a vertex for a worker, and counts the event for the worker.
+    fn claim(&mut self, w: u32, v: u32, mine: &mut Tally<S>) -> Result<Job, ClaimFault>
+        ensures { IfOk result (IsClaimed S.given w v) }
+    {
+        let before = self.board.events().len();
+        let claimed = granted::claim(&mut self.board, w, v);
+        count(&mut self.calls, mine, before, self.board.events().len());
+        claimed
+    }
+
+    // Lands on the board what a worker has worked out, and counts the events for the worker.
+    fn land(&mut self, w: u32, outcome: Outcome, mine: &mut Tally<S>) -> Result<Settled, LandFault>
+        requires { IsClaimed S.given w outcome.job.vertex outcome.job }
+    {
+        let known = self.is_known(w, outcome.job());
+        let before = self.board.events().len();
+        let landed = granted::land(&mut self.board, w, outcome, known);
+        count(&mut self.calls, mine, before, self.board.events().len());
+        landed
+    }
+
+    // Returns whether a job is known to be what its worker runs: no cache mount is at or before its vertex, and the worker has done no
+    // micro-step of it.
+    fn is_known(&self, w: u32, job: &Job) -> bool
+        requires { IsClaimed S.given w job.now.vertex job.now }
+        ensures { OnTrue result (IsKnown self.now.board w job.now) }
+    {
+        match self.board.worker(w) {
+            Some(At::Runs(v, 0, _)) => v == job.vertex() && is_marked(&self.plain, v),
+            _ => false,
+        }
+    }
+
+    // Does the next micro-step of what a worker runs, and counts the event for the worker.
+    fn step(&mut self, w: u32, mine: &mut Tally<S>) -> Result<Stepped, StepFault> {
+        let before = self.board.events().len();
+        let stepped = granted::step(&mut self.board, w);
+        count(&mut self.calls, mine, before, self.board.events().len());
+        stepped
+    }
+
+    // Settles what a worker runs, and counts the event for the worker.
+    fn settle(&mut self, w: u32, mine: &mut Tally<S>) -> Result<Settled, SettleFault> {
+        let before = self.board.events().len();
+        let settled = granted::settle(&mut self.board, w);
+        count(&mut self.calls, mine, before, self.board.events().len());
+        settled
+    }
+
+    // Cancels what a worker runs, and counts the event for the worker.
+    fn cancel(&mut self, w: u32, mine: &mut Tally<S>) {
+        let before = self.board.events().len();
+        let _ = granted::cancel(&mut self.board, w);
+        count(&mut self.calls, mine, before, self.board.events().len());
+    }
+
+    /// Cancels what a worker runs and notes why the run ends, both in one hold of the lock: another worker never sees a ready vertex that
+    /// is in no queue while nothing is noted.
+    pub(crate) fn give_up(&mut self, w: u32, noted: Noted, mine: &mut Tally<S>)
+        requires { may_be S.may_stop S.given (Some noted) ≡ true }
+    {
+        self.cancel(w, mine);
+        self.note(noted);
+    }
+
+    /// Does what a worker has to do in one hold of the lock, by what it brings, and returns what it is to do next. Adds to `news` the
+    /// numbers that the worker then has to put into the queue: those of the vertices that became ready when it left a vertex, the greatest
+    /// first, and those of the vertices that waited for its keys.
+    pub(crate) fn turn(
+        &mut self,
+        w: u32,
+        brought: Brought,
+        mine: &mut Tally<S>,
+        news: &mut Vec<u32>,
+    ) -> Turn
+        requires { IsBrought S.given w brought }
+        ensures { IsHere S.given w result }
+    {
+        match brought {
+            Brought::Nothing => self.go_on(w, mine, news),
+            Brought::Number(v) => self.take(w, v, mine, news),
+            Brought::Outcome(outcome) => {
+                self.release(w, news);
+                let landed = self.land(w, outcome, mine);
+                self.left(landed.ok(), news)
+            }
+        }
+    }
+
+    // Does one event of what a worker runs. A worker that runs nothing ends if the run is over.
+    fn go_on(&mut self, w: u32, mine: &mut Tally<S>, news: &mut Vec<u32>) -> Turn
+        ensures { IsHere S.given w result }
+    {
+        match self.board.worker(w) {
+            None => Turn::End,
+            Some(At::Runs(_, _, true)) => {
+                self.release(w, news);
+                let settled = self.settle(w, mine);
+                self.left(settled.ok(), news)
+            }
+            Some(At::Runs(_, _, false)) => match self.step(w, mine) {
+                Err(StepFault::Memory) => {
+                    self.give_up(w, Noted::Memory, mine);
+                    Turn::End
+                }
+                _ => Turn::Again,
+            },
+            Some(At::Idle) if self.is_over() => Turn::End,
+            Some(At::Idle) => Turn::Next,
+        }
+    }
+
+    // Claims a vertex, unless the run is over. If the vertex is not ready, its number is dropped: another worker has it.
+    fn take(&mut self, w: u32, v: u32, mine: &mut Tally<S>, news: &mut Vec<u32>) -> Turn
+        ensures { IsHere S.given w result }
+    {
+        if self.is_over() {
+            return Turn::End;
+        }
+        match self.claim(w, v, mine) {
+            Ok(job) => {
+                let _ = self.held.answered(v, None);
+                self.begun(w, job)
+            }
+            Err(ClaimFault::Held(key)) => self.wait_for(key, v, news),
+            Err(ClaimFault::NotReady | ClaimFault::NoVertex) => Turn::Next,
+            Err(ClaimFault::Memory) => self.stop(),
+            Err(_) => Turn::Again,
+        }
+    }
+
+    // Returns what a worker is to do after it has left a vertex, or after its landing or settle was refused.
+    fn left(&mut self, settled: Option<Settled>, news: &mut Vec<u32>) -> Turn
+        ensures { (w : ℕ) → IsHere S.given w result }
+    {
+        match settled {
+            None => Turn::Again,
+            Some(Settled::Done(v) | Settled::Failed(v)) => {
+                if !note_ready(&self.board, v, news) {
+                    return self.stop();
+                }
+                if self.is_over() {
+                    return Turn::End;
+                }
+                Turn::Next
+            }
+        }
+    }
+
+    // Adds to `news`, for each key of a worker that is about to leave what it runs, one of the numbers that wait for the key.
+    fn release(&mut self, w: u32, news: &mut Vec<u32>) {
+        let SharedBoard { board, held, .. } = self;
+        let mut whole = true;
+        for place in board.places(w) {
+            if let Some(v) = held.next_of(&place.key) {
+                whole = whole && news.push(v).is_ok();
+            }
+        }
+        if !whole {
+            self.note(Noted::Memory);
+        }
+    }
+
+    // Lets a number wait for a key that another worker has. If it had waited for another key, adds the next number of that key to `news`.
+    fn wait_for(&mut self, key: Key, v: u32, news: &mut Vec<u32>) -> Turn
+        ensures { (w : ℕ) → IsHere S.given w result }
+    {
+        let next = self.held.answered(v, Some(&key));
+        if self.held.push(key, v).is_err() {
+            return self.stop();
+        }
+        if let Some(u) = next {
+            if news.push(u).is_err() {
+                return self.stop();
+            }
+        }
+        Turn::Next
+    }
+
+    // Returns whether no vertex is claimed any more.
+    fn is_over(&self) -> bool {
+        self.noted.is_some() || self.board.is_complete()
+    }
+
+    // Notes `Memory`, which was refused to a worker that runs nothing, and ends the worker.
+    fn stop(&mut self) -> Turn
+        ensures { (w : ℕ) → IsHere S.given w result }
+    {
+        self.note(Noted::Memory);
+        Turn::End
+    }
+
+    // Returns how a claimed vertex is worked on: under the lock if it shows a shared cache, otherwise away from it.
+    fn begun(&self, w: u32, job: Job) -> Turn
+        requires { IsClaimed S.given w job.vertex job }
+        ensures { IsHere S.given w result }
+    {
+        if self.board.has_shared(w) {
+            return Turn::Pass(job.vertex());
+        }
+        Turn::Work(job)
+    }
+}
+
+// Adds to `news` the ready vertices that have an edge to a vertex, the greatest first. Returns false if memory is refused.
+fn note_ready(board: &Board, v: u32, news: &mut Vec<u32>) -> bool {
+    for u in board.users(v).iter().rev() {
+        if matches!(board.status(*u), Some(Status::Ready)) && news.push(*u).is_err() {
+            return false;
+        }
+    }
+    true
+}

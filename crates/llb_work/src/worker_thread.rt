@@ -1,0 +1,43 @@
+//! A worker's place: a thread of its own, or the caller's thread.
+
+use crate::worker::WorkerKit;
+use llb_ready::ReadyQueue;
+use std::snapshot::Snapshot;
+use std::sync::ledger::Ledger;
+use std::thread::{Promise, PromisedHandle, Threads};
+
+/// What a worker owes: it has to give back the part of the passes that it was given. Only clauses read it.
+#[derive(Drop)]
+pub(crate) struct Owed {
+    pub queue: Snapshot<ReadyQueue>,
+    pub worker: u32,
+}
+
+impl<S: Ledger> Promise<WorkerKit<S>> for Owed {
+    ghost use Rattle.llb_work.specs.Passes.{IsPassFor};
+
+    ghost kept_by = { λ p r. IsPassFor p.queue.value p.worker r.pass };
+}
+
+/// A worker at work in its own thread, or what it has given back if no thread could be started.
+#[derive(Drop)]
+pub(crate) enum WorkerThread<S: Ledger> {
+    Thread(PromisedHandle<WorkerKit<S>, Owed>),
+    Here(WorkerKit<S>),
+}
+
+impl<S: Ledger> WorkerThread<S> {
+    ghost use Rattle.llb_work.specs.Passes.{IsPassFor};
+    ghost use Rattle.llb_work.specs.Threads.{ThreadKeeps};
+
+    /// Waits until the worker has ended, and returns what it gives back.
+    pub(crate) fn join<R: Threads>(self, rt: &R, queue: &ReadyQueue, w: u32) -> WorkerKit<S>
+        requires { ThreadKeeps queue.now w self }
+        ensures { IsPassFor queue.now w result.pass }
+    {
+        match self {
+            WorkerThread::Thread(handle) => handle.join(rt),
+            WorkerThread::Here(kit) => kit,
+        }
+    }
+}
