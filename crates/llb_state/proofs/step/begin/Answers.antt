@@ -30,10 +30,10 @@ parts c =
       outfit = outfit_as c.in_ok-outfit.outfit;
     }
 
-are_parts : (c : goal.After-new-2) → AreParts c.args.build.now c.args.caches.now c.args.vertex.now c.in_ok-inputs.inputs.items (parts c)
+are_parts : (c : goal.After-new-2) → AreParts c.args.build.now c.args.caches.now c.args.claim.vertex.now c.in_ok-inputs.inputs.items (parts c)
 unfolding parts
 are_parts c =
-    let x = c.args.vertex.now in
+    let x = c.args.claim.vertex.now in
     let view : view_on c.args.build.now.locals x x.op.kind c.in_ok-inputs.inputs.items ≡ c.in_ok-view.view
     = ap (λ locals. view_on locals x x.op.kind c.in_ok-inputs.inputs.items) (sym c.locals.ensures) ∙ sym c.in_ok-view.ensures in
     record {
@@ -47,17 +47,17 @@ are_parts c =
 pub returns-clause-gives : goal.returns-clause-gives
 unfolding parts
 returns-clause-gives c =
-    let there : or_not_ready (inputs_from (ending_at (map status_of c.args.stands.now)) c.args.vertex.now.inputs) ≡ Ok c.in_ok-inputs.inputs.items
+    let there : or_not_ready (inputs_from (ending_at (map status_of c.args.stands.now)) c.args.claim.vertex.now.inputs) ≡ Ok c.in_ok-inputs.inputs.items
     = ap (λ (es : List Edge). or_not_ready (inputs_from (ending_at (map status_of c.args.stands.now)) es)) (sym c.as_slice.ensures) ∙ c.in_ok-inputs.ensures in
-    begun_of c.args.build.now c.args.caches.now c.args.at.0 c.args.at.1 c.args.vertex.now
-    (inputs_from (ending_at (map status_of c.args.stands.now)) c.args.vertex.now.inputs) c.in_ok-inputs.inputs.items (parts c) there (are_parts c)
-    ∙ ap (λ (j : Job). Ok (record (put_together c.args.at.0 c.args.at.1 (parts c)) { reply = Claimed j })) (sym c.new-3.ensures)
+    begun_of c.args.build.now c.args.caches.now c.args.claim.worker c.args.claim.number c.args.claim.vertex.now
+    (inputs_from (ending_at (map status_of c.args.stands.now)) c.args.claim.vertex.now.inputs) c.in_ok-inputs.inputs.items (parts c) there (are_parts c)
+    ∙ ap (λ (j : Job). Ok (record (put_together c.args.claim.worker c.args.claim.number (parts c)) { reply = Claimed j })) (sym c.new-3.ensures)
 
 pub returns-clause-supplies : goal.returns-clause-supplies
 unfolding parts
-returns-clause-supplies c = supplied c.args.build.now c.args.caches.now c.args.vertex.now c.in_ok-inputs.inputs.items (parts c) (are_parts c)
+returns-clause-supplies c = supplied c.args.build.now c.args.caches.now c.args.claim.vertex.now c.in_ok-inputs.inputs.items (parts c) (are_parts c)
 
 pub new-3-requires : goal.new-3-requires
 unfolding parts
 new-3-requires c =
-    workable c.args.build.now c.args.caches.now c.args.vertex.now c.in_ok-inputs.inputs.items (parts c) (are_parts c) c.requires.few
+    workable c.args.build.now c.args.caches.now c.args.claim.vertex.now c.in_ok-inputs.inputs.items (parts c) (are_parts c) c.requires.few
