@@ -5,3 +5,5 @@ pub mod Copies
 pub mod Differing
 pub mod Marked
 pub mod Holding
+pub mod Placed
+pub mod Searched
