@@ -7,3 +7,4 @@ pub mod Marked
 pub mod Holding
 pub mod Placed
 pub mod Searched
+pub mod Written
