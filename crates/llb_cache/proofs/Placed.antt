@@ -15,7 +15,7 @@ use Rattle.llb_cache.specs.declared.key.Key.{Key}
 use Rattle.llb_cache.specs.Key.{same_key, same_keys, key_equiv}
 use Rattle.llb_cache.specs.Order.{key_cmp, key_cmp-IsTotalOrder, tie_is_same}
 use Rattle.llb_cache.specs.Caches.{Row}
-use Rattle.llb_cache.specs.Firsts.{IsAbsent, IsFirst, keys_long, first_within, first_or_none, place_first, place_absent, first_trees, first_found, absent_trees}
+use Rattle.llb_cache.specs.Firsts.{IsAbsent, IsFirst, keys_long, place_first, place_absent, first_trees, first_found, absent_trees}
 use Rattle.llb_cache.specs.Ordered.{no_key, key_at, row_at, is_before, IsOrdered, IsPlace}
 
 -- ---- two keys
