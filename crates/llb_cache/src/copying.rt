@@ -7,7 +7,7 @@ ghost use Rattle.llb_cache.specs.Key.{same_key};
 use crate::any_key::Rows;
 use crate::fault::Memory;
 use crate::marks::Marks;
-use crate::need::Place;
+use crate::need::Instance;
 use indexmap::IndexMap;
 use llb_wire::{Many, Same};
 use std::alloc::Global;
@@ -35,7 +35,7 @@ pub(crate) fn copied_rows(rows: &Rows) -> Result<Rows, Memory>
     Ok(copies)
 }
 
-fn copied_places(alloc: Global, places: &[Place]) -> Result<Many<Place>, Memory>
+fn copied_places(alloc: Global, places: &[Instance]) -> Result<Many<Instance>, Memory>
     ensures { IfOk result (λ ps. ps ≡ places.now) }
 {
     let mut copies = Vec::new(alloc);
@@ -45,7 +45,10 @@ fn copied_places(alloc: Global, places: &[Place]) -> Result<Many<Place>, Memory>
     Ok(Many::new(copies))
 }
 
-fn copied_lease(alloc: Global, lease: &Option<Many<Place>>) -> Result<Option<Many<Place>>, Memory>
+fn copied_lease(
+    alloc: Global,
+    lease: &Option<Many<Instance>>,
+) -> Result<Option<Many<Instance>>, Memory>
     ensures { IfOk result (λ l. l ≡ lease.now) }
 {
     match lease {
@@ -55,8 +58,8 @@ fn copied_lease(alloc: Global, lease: &Option<Many<Place>>) -> Result<Option<Man
 }
 
 pub(crate) fn copied_leases(
-    out: &Vec<Option<Many<Place>>>,
-) -> Result<Vec<Option<Many<Place>>>, Memory>
+    out: &Vec<Option<Many<Instance>>>,
+) -> Result<Vec<Option<Many<Instance>>>, Memory>
     ensures { IfOk result (λ o. o.items ≡ out.now.items) }
 {
     let alloc = *out.allocator();
@@ -104,8 +107,8 @@ pub(crate) fn same_rows(rows: &Rows, others: &Rows) -> bool
     true
 }
 
-impl Same for Place {
-    fn same(&self, other: &Place) -> bool {
+impl Same for Instance {
+    fn same(&self, other: &Instance) -> bool {
         self.number == other.number && self.key.same(&other.key)
     }
 }

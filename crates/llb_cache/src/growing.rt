@@ -11,7 +11,7 @@ ghost use Rattle.llb_cache.specs.Marks.{Remarks, is_one_of};
 use crate::any_key::{AnyKey, Rows, row_of};
 use crate::fault::Memory;
 use crate::marks::Marks;
-use crate::need::Place;
+use crate::need::Instance;
 use crate::search::free_lease;
 use crate::trees::{Room, Trees};
 use llb_tree::Tree;
@@ -21,14 +21,14 @@ use std::alloc::Global;
 // What a need takes: an instance, the tree that it holds where it is new, and room for it and for its mark.
 #[derive(Drop)]
 pub(crate) struct Ready {
-    pub(crate) place: Place,
+    pub(crate) place: Instance,
     pub(crate) tree: Tree,
     pub(crate) room: Room,
     pub(crate) marks: Marks,
 }
 
 // The instances of a lease, as copies.
-pub(crate) fn places_for(alloc: Global, readies: &[Ready]) -> Result<Many<Place>, Memory>
+pub(crate) fn places_for(alloc: Global, readies: &[Ready]) -> Result<Many<Instance>, Memory>
     ensures { IfOk result (λ ps. ps ≡ map (λ r. r.place) readies.now) }
 {
     let mut places = Vec::new(alloc);
@@ -56,7 +56,7 @@ fn make(rows: &mut Rows, marks: &mut Vec<Marks>, ready: Ready)
         room,
         marks: free,
     } = ready;
-    let Place { key, number } = place;
+    let Instance { key, number } = place;
     match row_of(rows, &key.by_ref()) {
         Some(i) => {
             marks[i].set(number, free);
@@ -93,7 +93,7 @@ pub(crate) fn make_all(rows: &mut Rows, marks: &mut Vec<Marks>, readies: Vec<Rea
 }
 
 // Takes the marks of instances away.
-pub(crate) fn unmark_all(rows: &Rows, marks: &mut Vec<Marks>, places: &[Place])
+pub(crate) fn unmark_all(rows: &Rows, marks: &mut Vec<Marks>, places: &[Instance])
     requires each { length marks.old.items ≡ length rows.now.entries }
     ensures marks { Remarks (keys_of rows.now.entries) marks.old.items (keys_of rows.now.entries) marks.new.items (is_one_of places.now) false }
     ensures each { length marks.new.items ≡ length marks.old.items }
@@ -104,7 +104,7 @@ pub(crate) fn unmark_all(rows: &Rows, marks: &mut Vec<Marks>, places: &[Place])
 }
 
 // Takes the mark of an instance away.
-fn unmark(rows: &Rows, marks: &mut Vec<Marks>, place: &Place)
+fn unmark(rows: &Rows, marks: &mut Vec<Marks>, place: &Instance)
     requires each { length marks.old.items ≡ length rows.now.entries }
     ensures marks { Remarks (keys_of rows.now.entries) marks.old.items (keys_of rows.now.entries) marks.new.items (λ q. same_place q place.now) false }
     ensures each { length marks.new.items ≡ length marks.old.items }
@@ -115,7 +115,7 @@ fn unmark(rows: &Rows, marks: &mut Vec<Marks>, place: &Place)
 }
 
 // Puts a lease out, under the least number that is free. There is room for one more.
-pub(crate) fn take_lease(out: &mut Vec<Option<Many<Place>>>, places: Many<Place>) -> u32
+pub(crate) fn take_lease(out: &mut Vec<Option<Many<Instance>>>, places: Many<Instance>) -> u32
     requires room { vec_len out.old < vec_capacity out.old }
     requires short { length out.old.items ≤ 65536 }
     ensures number { result ≡ free_lease out.old.items }
@@ -131,7 +131,7 @@ pub(crate) fn take_lease(out: &mut Vec<Option<Many<Place>>>, places: Many<Place>
 }
 
 // The instances of a lease that is out.
-pub(crate) fn places_at(out: &[Option<Many<Place>>], lease: u32) -> &[Place]
+pub(crate) fn places_at(out: &[Option<Many<Instance>>], lease: u32) -> &[Instance]
     ensures { result.now ≡ places_of out.now lease }
 {
     match out.get(lease as usize) {
@@ -141,7 +141,7 @@ pub(crate) fn places_at(out: &[Option<Many<Place>>], lease: u32) -> &[Place]
 }
 
 // Puts a tree in the place of an instance's.
-pub(crate) fn set_at(rows: &mut Rows, place: &Place, tree: Tree)
+pub(crate) fn set_at(rows: &mut Rows, place: &Instance, tree: Tree)
     requires { place.now.number < length (trees_of rows.old.entries place.now.key) }
     ensures rows { rows.new.entries ≡ put rows.old.entries place.now tree }
     ensures keys { keys_of rows.new.entries ≡ keys_of rows.old.entries }
@@ -156,7 +156,7 @@ pub(crate) fn set_at(rows: &mut Rows, place: &Place, tree: Tree)
 }
 
 // Drops what is after the last lease that is out.
-fn trim(out: &mut Vec<Option<Many<Place>>>)
+fn trim(out: &mut Vec<Option<Many<Instance>>>)
     ensures { out.new.items ≡ trimmed out.old.items }
 {
     let mut kept = 0;
@@ -169,7 +169,7 @@ fn trim(out: &mut Vec<Option<Many<Place>>>)
 }
 
 // A lease is out no more.
-pub(crate) fn take_back(out: &mut Vec<Option<Many<Place>>>, lease: u32)
+pub(crate) fn take_back(out: &mut Vec<Option<Many<Instance>>>, lease: u32)
     requires { lease < length out.old.items }
     ensures { out.new.items ≡ trimmed (slice_set out.old.items lease None) }
 {

@@ -17,7 +17,7 @@ mod outputs;
 mod program;
 mod refusal;
 mod same;
-mod view;
+mod workspace;
 
 pub use fault::WorkFault;
 pub use filling::empty_trees;
@@ -31,4 +31,4 @@ pub use missing::missing_local;
 pub use mounting::{input_tree, mounts_of, setting_of};
 pub use outcome::{Outcome, work};
 pub use program::Program;
-pub use view::View;
+pub use workspace::Workspace;

@@ -10,7 +10,7 @@ ghost use Rattle.llb_execution.specs.Parts.{own_of};
 ghost use Rattle.llb_execution.specs.Outputs.{actions_in, numbers_of, tree_by, first_placed, placed, placed_by};
 
 use crate::mounting::mounts_of;
-use crate::view::Own;
+use crate::workspace::Own;
 use llb_loader::Vertex;
 use llb_mount::Shown;
 use llb_ops::{Action, Kind, Mount};

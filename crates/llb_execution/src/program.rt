@@ -22,7 +22,7 @@ use std::marker::Model;
 pub struct Program {
     pub(crate) steps: Steps,
     pub(crate) outputs: u32,
-    pub(crate) given: Vec<i64>,
+    pub(crate) output_numbers: Vec<i64>,
 }
 
 // Written out, so that the crates above drop one by this one function.
@@ -31,7 +31,7 @@ impl Drop for Program {
         let Program {
             steps: _,
             outputs: _,
-            given: _,
+            output_numbers: _,
         } = self;
     }
 }
@@ -51,7 +51,7 @@ impl Model for Program {
 
     ghost Value = { model.Program };
 
-    ghost view = { λ p. record { steps = steps_in p.steps; outputs = p.outputs; given = p.given.items } };
+    ghost view = { λ p. record { steps = steps_in p.steps; outputs = p.outputs; output_numbers = p.output_numbers.items } };
 }
 
 impl Program {
@@ -60,11 +60,11 @@ impl Program {
         ensures { IfOk result (λ p. p ≡ program_of vertex.now) }
     {
         let steps = steps_of(alloc, &vertex.op.kind, &vertex.script)?;
-        let given = given_by(alloc, mounts_of(&vertex.op.kind))?;
+        let output_numbers = output_numbers_of(alloc, mounts_of(&vertex.op.kind))?;
         Ok(Program {
             steps,
             outputs: vertex.outputs,
-            given,
+            output_numbers,
         })
     }
 
@@ -133,7 +133,7 @@ fn numbers_of(alloc: Global, inputs: &[MergeInput]) -> Result<Vec<i64>, NoMemory
 }
 
 // The output numbers of mounts.
-fn given_by(alloc: Global, mounts: &[Mount]) -> Result<Vec<i64>, NoMemory>
+fn output_numbers_of(alloc: Global, mounts: &[Mount]) -> Result<Vec<i64>, NoMemory>
     ensures { IfOk result (λ v. v.items ≡ mount_outputs mounts.now) }
 {
     let mut numbers = Vec::new(alloc);

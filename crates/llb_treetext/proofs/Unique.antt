@@ -66,7 +66,7 @@ module _ (t : TreeMap) (tree : IsTree t) where
   -- it is allowed at its path, and at the root it is a directory, so it is a row
   pub entry_is_row : (k : ℕ) (x : Pair) → slice_get (finite.entries t) k ≡ Some x → IsRow x
   entry_is_row k x is = record {
-    stands = tree.stands x.0 x.1 (there k x is);
+    allowed = tree.allowed x.0 x.1 (there k x is);
     root = λ at. (tree.root.0, let e : Some x.1 ≡ Some (Dir tree.root.0) = sym (there k x is) ∙ ap (finite.get t) at ∙ tree.root.1 in cc);
   }
 

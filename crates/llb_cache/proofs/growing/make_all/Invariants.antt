@@ -3,7 +3,7 @@ use Rattle.std.specs.List.{All}
 use Rattle.std.specs.Map.{keys_of}
 use Rattle.std.specs.Prelude.{if◌then◌else◌}
 use Rattle.indexmap.specs.IndexMap.{spare}
-use Rattle.llb_cache.specs.declared.need.Place.{Place}
+use Rattle.llb_cache.specs.declared.need.Instance.{Instance}
 use Rattle.llb_cache.specs.Caches.{made_all}
 use Rattle.llb_cache.specs.Growing.{shown, FitsIn}
 use Rattle.llb_cache.specs.Marks.{marked, is_one_of}
@@ -16,7 +16,7 @@ invariant-loop-ready l = record {
   each : length l.marks.items ≡ length l.rows.entries;
   room : All FitsIn l.ready-iterator.rest.items;
   made : made_all l.rows.entries (map shown l.ready-iterator.rest.items) ≡ made_all l.fn.rows.entries (map shown l.fn.readies.items);
-  marks : (q : Place)
+  marks : (q : Instance)
       → (if is_one_of (map (λ r. r.place) l.ready-iterator.rest.items) q then true else marked (keys_of l.rows.entries) l.marks.items q)
       ≡ (if is_one_of (map (λ r. r.place) l.fn.readies.items) q then true else marked (keys_of l.fn.rows.entries) l.fn.marks.items q);
 }
