@@ -25,7 +25,8 @@ use Rattle.llb_ops.specs.Fields.{Fields, extra, number, bytes, message, bytes_of
 use Rattle.llb_asm.specs.Lines.{kept}
 use Rattle.llb_asm.specs.Plain.{PlainLine, label_for, labelled_text, string_for, held_text, opening, closing_line, extra_lines, field_lines}
 use Rattle.llb_asm.specs.Plain.{HasForm, Form, structured, raw, entry_lines, Formed, HaveForms, AreFormed, plain_lines, plain_text}
-use Rattle.llb_asm.specs.Values.{IsSolid, is_text, number_text}
+use Rattle.llb_asm.specs.Values.{IsSolid, number_text}
+use Rattle.llb_wire.specs.Texts.{is_text}
 use Rattle.llb_asm.proofs.Solid.{number_solid, string_solid, bytes_solid, label_solid}
 use Rattle.llb_asm.proofs.Cut.{IsContent, AreContents, kept_lines}
 

@@ -12,7 +12,7 @@ use Rattle.llb_asm.specs.declared.line.Refusal.TheVariants.{Breaks}
 use Rattle.llb_asm.specs.declared.line.Here.{Here}
 use Rattle.llb_asm.specs.declared.line.Item.{Item}
 use Rattle.llb_asm.specs.declared.open.Frame.{Frame}
-use Rattle.llb_asm.specs.Values.{is_text}
+use Rattle.llb_wire.specs.Texts.{is_text}
 use Rattle.llb_asm.specs.Line.{parted, parted_at, inside, line_in}
 use Rattle.llb_asm.specs.Reading.{Hand, Items, done, single, nested, unclosed, records_of, IsWhole, AreItems, at_hand, item_at, is_within, labels_of, closing}
 use Rattle.llb_asm.specs.Reading.{Entries, none, raw, op, open_op, entries_of, AreClosed}

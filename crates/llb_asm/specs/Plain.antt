@@ -12,7 +12,8 @@ use Rattle.llb_ops.specs.Fields.{Fields, extra, number, bytes, message, without_
 use Rattle.llb_ops.specs.Definition.{definition_of, definition_bytes}
 use Rattle.llb_asm.specs.Lines.{kept}
 use Rattle.llb_asm.specs.Reading.{SpellsEntries}
-use Rattle.llb_asm.specs.Values.{is_text, number_text, string_text, label_text}
+use Rattle.llb_asm.specs.Values.{number_text, string_text, label_text}
+use Rattle.llb_wire.specs.Texts.{is_text}
 
 -- ---- values
 

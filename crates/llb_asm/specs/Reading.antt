@@ -25,7 +25,8 @@ use Rattle.llb_asm.specs.declared.line.Held.TheVariants.{Record, Opens}
 use Rattle.llb_asm.specs.declared.line.Item.{Item}
 use Rattle.llb_asm.specs.declared.entry.Begun.{Begun}
 use Rattle.llb_asm.specs.declared.entry.Begun.TheVariants.{Raw, Structured}
-use Rattle.llb_asm.specs.Values.{is_text, bytes_spelled}
+use Rattle.llb_asm.specs.Values.{bytes_spelled}
+use Rattle.llb_wire.specs.Texts.{is_text}
 use Rattle.llb_asm.specs.Lines.{Line, kept}
 use Rattle.llb_asm.specs.Line.{or_else, guard, parted, inside, line_in}
 

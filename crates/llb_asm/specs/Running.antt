@@ -18,7 +18,7 @@ use Rattle.llb_asm.specs.declared.open.Frame.{Frame}
 use Rattle.llb_asm.specs.declared.open.Open.{Open}
 use Rattle.llb_asm.specs.declared.open.Closed.{Closed}
 use Rattle.llb_asm.specs.declared.open.Closed.TheVariants.{Whole, Still}
-use Rattle.llb_asm.specs.Values.{is_text}
+use Rattle.llb_wire.specs.Texts.{is_text}
 use Rattle.llb_asm.specs.Lines.{Line}
 use Rattle.llb_asm.specs.Line.{inside}
 use Rattle.llb_asm.specs.Reading.{Hand, closing, record_length, is_within, item_at, begun_in, entry_in, labels_of}

@@ -3,7 +3,7 @@ use Rattle.std.specs.Prelude.{ℕ, nat_le, Bool, true, false, ◌&&◌, List, Op
 use Rattle.llb_wire.specs.Answer as answer
 use Rattle.llb_cache.specs.Caches.{CachesValue}
 use Rattle.llb_model.specs.Program.{Build}
-use Rattle.llb_model.specs.State.{missing_local}
+use Rattle.llb_loader.specs.Missing.{missing_local}
 use Rattle.llb_state.specs.Board.{BoardValue, opened}
 use Rattle.llb_board.specs.declared.fault.OpenFault.{OpenFault}
 use Rattle.llb_board.specs.declared.fault.OpenFault.TheVariants as opening

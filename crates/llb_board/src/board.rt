@@ -4,7 +4,8 @@
 
 ghost use Rattle.std.specs.Prelude.{◌≡◌, ◌<◌, ◌≤◌, ◌+◌, [], length, true, is_some, option_map, OnErr, IfErr, IfOk};
 ghost use Rattle.llb_model.specs.Outcome.{output_in};
-ghost use Rattle.llb_model.specs.State.{ending_at, missing_local};
+ghost use Rattle.llb_model.specs.State.{ending_at};
+ghost use Rattle.llb_loader.specs.Missing.{missing_local};
 ghost use Rattle.llb_model.specs.Room.{most_events, owed, still_to_come};
 ghost use Rattle.llb_model.specs.Run.{chosen, is_complete};
 ghost use Rattle.llb_model.specs.Laws.{IsReached};

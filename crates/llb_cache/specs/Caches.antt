@@ -171,7 +171,7 @@ given_back c lease = record c { out = trimmed (slice_set c.out lease None) }
 
 -- ---- what holds of caches
 
--- a way of sharing in which one lease at a time has an instance
+-- a way of sharing in which one lease at a time, or one execution, has an instance
 abbrev pub IsExclusive : Mode → Type 0
 IsExclusive Shared = ⊥
 IsExclusive Private = Unit {0}

@@ -44,6 +44,7 @@ impl<'a> Model for AnyKey<'a> {
 }
 
 impl<'a> AnyKey<'a> {
+    // A key that owns its texts.
     pub(crate) fn own(key: Key) -> AnyKey<'a>
         ensures { result ≡ key }
     {
@@ -52,6 +53,7 @@ impl<'a> AnyKey<'a> {
         }
     }
 
+    // A key that borrows its texts.
     fn lent(key: KeyRef<'a>) -> AnyKey<'a>
         ensures { result ≡ key.entry }
     {
@@ -60,6 +62,7 @@ impl<'a> AnyKey<'a> {
         }
     }
 
+    // The key, which borrows its texts.
     pub(crate) fn by_ref(&self) -> KeyRef<'_>
         ensures { result ≡ self.now }
     {
@@ -78,6 +81,7 @@ impl<'a> AnyKey<'a> {
         Ok(AnyKey::own(self.by_ref().to_key(alloc)?))
     }
 
+    // Whether keys are equal.
     pub(crate) fn same(&self, other: &AnyKey<'_>) -> bool
         ensures { IsTrue result ↔ (self.now ≡ other.now) }
     {

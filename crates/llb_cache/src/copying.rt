@@ -25,6 +25,7 @@ fn copy_row(copies: &mut Rows, rows: &Rows, i: usize) -> Result<(), Memory>
     }
 }
 
+// Equal second owners of all trees, under their keys.
 pub(crate) fn copied_rows(rows: &Rows) -> Result<Rows, Memory>
     ensures { IfOk result (λ r. r.entries ≡ rows.now.entries) }
 {
@@ -35,6 +36,7 @@ pub(crate) fn copied_rows(rows: &Rows) -> Result<Rows, Memory>
     Ok(copies)
 }
 
+// An equal second owner of a list of instances.
 fn copied_places(alloc: Global, places: &[Instance]) -> Result<Many<Instance>, Memory>
     ensures { IfOk result (λ ps. ps ≡ places.now) }
 {
@@ -45,6 +47,7 @@ fn copied_places(alloc: Global, places: &[Instance]) -> Result<Many<Instance>, M
     Ok(Many::new(copies))
 }
 
+// An equal second owner of a lease's instances.
 fn copied_lease(
     alloc: Global,
     lease: &Option<Many<Instance>>,
@@ -57,6 +60,7 @@ fn copied_lease(
     }
 }
 
+// Equal second owners of the instances of all leases.
 pub(crate) fn copied_leases(
     out: &Vec<Option<Many<Instance>>>,
 ) -> Result<Vec<Option<Many<Instance>>>, Memory>
@@ -70,6 +74,7 @@ pub(crate) fn copied_leases(
     Ok(copies)
 }
 
+// An equal second owner of the marks.
 pub(crate) fn copied_marks(marks: &Vec<Marks>) -> Result<Vec<Marks>, Memory>
     ensures { IfOk result (λ m. m.items ≡ marks.now.items) }
 {
@@ -93,6 +98,7 @@ fn same_row(rows: &Rows, others: &Rows, i: usize) -> bool
     }
 }
 
+// Whether both have the same keys with the same trees, in the same order.
 pub(crate) fn same_rows(rows: &Rows, others: &Rows) -> bool
     ensures { IsTrue result ↔ (rows.now.entries ≡ others.now.entries) }
 {

@@ -18,6 +18,7 @@ pub struct Mark {
     was: Was,
 }
 
+// What there was before a micro-step, by the kind of workspace.
 #[derive(Drop)]
 pub(crate) enum Was {
     Nothing,

@@ -8,10 +8,10 @@ ghost use Rattle.llb_ops.specs.declared.merge.MergeInput as merge_input;
 ghost use Rattle.llb_execution.specs.Parts.{step_in, steps_in};
 
 use crate::micro_step::{MicroStep, act_at, read_at, run_at};
-use crate::mounting::{mounts_of, setting_with};
+use crate::mounting::setting_with;
 use crate::refusal::NoMemory;
 use llb_applet::{Script, Setting};
-use llb_loader::Vertex;
+use llb_loader::{Vertex, mounts_of};
 use llb_ops::{Actions, Kind, MergeInput, Mount};
 use llb_wire::Memory;
 use std::alloc::Global;
@@ -36,6 +36,7 @@ impl Drop for Program {
     }
 }
 
+// The micro-steps of a program: none, the read of a source, actions, the numbers of a merge's inputs, or commands in their setting.
 #[derive(Drop)]
 pub(crate) enum Steps {
     Nothing,

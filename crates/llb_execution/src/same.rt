@@ -8,11 +8,10 @@ ghost use Rattle.llb_ops.specs.declared.merge.MergeInput as merge_input;
 ghost use Rattle.llb_execution.specs.Parts.{steps_in, own_of};
 
 use crate::micro_step::commands_of;
-use crate::mounting::mounts_of;
 use crate::program::{Program, Steps};
 use crate::workspace::{Own, Workspace};
 use llb_applet::{Joined, Script, Setting};
-use llb_loader::Vertex;
+use llb_loader::{Vertex, mounts_of};
 use llb_ops::{Action, Kind, MergeInput, Meta, Mount};
 use llb_tree::Path;
 use llb_wire::{Same, Text, all_same};

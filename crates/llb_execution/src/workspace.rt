@@ -46,6 +46,8 @@ impl Drop for Workspace {
     }
 }
 
+// What a workspace owns: a local tree; the trees of inputs and the results so far; the trees of inputs and what is laid; or mounts, the numbers of
+// those that show caches, and the last status.
 #[derive(Drop)]
 pub(crate) enum Own {
     Local(Tree),
@@ -215,6 +217,7 @@ impl Workspace {
                 results.push(tree)?;
                 Ok(())
             }
+            // Unreachable.
             _ => Ok(()),
         }
     }
@@ -226,6 +229,7 @@ impl Workspace {
     {
         match &mut self.own {
             Own::Layers(inputs, laid) => lay_input(alloc, laid, inputs, input),
+            // Unreachable.
             _ => Ok(()),
         }
     }
@@ -290,6 +294,7 @@ impl Workspace {
                 *last = status;
                 Ok(exit_of(k, status, later))
             }
+            // Unreachable.
             _ => Ok(None),
         }
     }

@@ -66,6 +66,7 @@ pub(crate) fn terminal_of(rows: &[Row], index: &BTreeMap<&str, usize>) -> usize
 {
     match index.get(rows[rows.len() - 1].digest.as_str()) {
         Some(row) => *row,
+        // Unreachable.
         None => 0,
     }
 }

@@ -11,7 +11,7 @@ use Rattle.llb_cache.specs.declared.key.Seed.{Seed}
 use Rattle.llb_cache.specs.declared.key.Mode.{Mode}
 use Rattle.llb_cache.specs.declared.key.Mode.TheVariants.{Shared, Private, Locked}
 pub use Rattle.llb_cache.specs.declared.need.Instance.{Instance}
-pub use Rattle.llb_cache.specs.Caches.{place}
+pub use Rattle.llb_cache.specs.Caches.{place, IsExclusive}
 use Rattle.llb_tree.specs.Tree.{TreeMap, empty_tree}
 
 -- ---- places
@@ -42,12 +42,6 @@ place_cmp = on name_of (slice_cmp (slice_cmp nat_cmp))
 -- whether an instance is in a list
 abbrev pub is_in : List Instance → Instance → Bool
 is_in ps p = list_any (λ q. eq_by_cmp place_cmp p q) ps
-
--- a way of sharing in which an execution holds its instance exclusively
-abbrev pub IsExclusive : Mode → Type 0
-IsExclusive Shared = ⊥
-IsExclusive Private = Unit {0}
-IsExclusive Locked = Unit {0}
 
 -- ---- contents
 

@@ -7,7 +7,6 @@ use Rattle.llb_cache.specs.declared.key.Mode.{Mode}
 use Rattle.llb_cache.specs.declared.key.Mode.TheVariants.{Shared, Private, Locked}
 use Rattle.llb_loader.specs.declared.graph.Edge.{Edge}
 use Rattle.llb_loader.specs.declared.graph.Vertex.{Vertex}
-use Rattle.llb_loader.specs.Locals.{Local, local_name, tree_of_local}
 use Rattle.llb_tree.specs.Tree.{TreeMap}
 use Rattle.llb_model.specs.declared.fault.VertexFault.{VertexFault}
 use Rattle.llb_model.specs.ByNumber.{by_number}
@@ -45,20 +44,6 @@ pub record State : Type 0 where
 pub record Opening : Type 0 where
   pub workers : ℕ
   pub store : Store
-
--- the name of a source, where it has no local tree
-abbrev pub lacks : List Local → Option (List ℕ) → Option (List ℕ)
-lacks locals None = None
-lacks locals (Some name) = if is_some (tree_of_local locals name) then None else Some name
-
-abbrev pub first_of : {A : Type 0} → Option A → Option A → Option A
-first_of (Some x) later = Some x
-first_of None later = later
-
--- the first name of a local source, by vertex, that has no tree
-abbrev pub missing_local : List Local → List Vertex → Option (List ℕ)
-missing_local locals [] = None
-missing_local locals (v ∷ vs) = first_of (lacks locals (local_name v.op)) (missing_local locals vs)
 
 -- the state at the opening: every vertex waits, every worker is idle, and the caches are as they were handed in
 abbrev pub opening : Build → Opening → State

@@ -15,8 +15,8 @@ ghost use Rattle.llb_events.specs.Faults.{GivesClaim, claim_memory, claim_may_wa
 
 use llb_cache::{Caches, Instance, Key, KeyRef, Mode, Need};
 use llb_events::ClaimFault;
-use llb_execution::{input_tree, mounts_of};
-use llb_loader::{Vertex, cache_in};
+use llb_execution::input_tree;
+use llb_loader::{Vertex, cache_in, mounts_of};
 use llb_ops::Mount;
 use llb_tree::Tree;
 use std::alloc::Global;

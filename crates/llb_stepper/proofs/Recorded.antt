@@ -16,6 +16,7 @@ use Rattle.llb_stepper.specs.Records.{record_at, replied}
 use Rattle.llb_stepper.specs.Stepping.{Stepping, answered}
 use Rattle.llb_stepper.specs.Told.{told_pair}
 
+-- what is added at the end is the last item
 pub at_end : {A : Type 0} (xs : List A) (y : A) → slice_get (xs ++ y ∷ []) (length xs) ≡ Some y
 at_end [] y = refl
 at_end (x ∷ xs) y = at_end xs y

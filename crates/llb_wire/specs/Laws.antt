@@ -3,3 +3,4 @@ pub mod Varints
 pub mod Own
 pub mod Payloads
 pub mod Records
+pub mod Decimal

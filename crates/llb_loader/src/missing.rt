@@ -1,9 +1,10 @@
 //! The local trees that a graph names and that are not given.
 
 ghost use Rattle.std.specs.Prelude.{◌≡◌, option_map};
-ghost use Rattle.llb_model.specs.State.{missing_local};
+ghost use Rattle.llb_loader.specs.Missing.{missing_local};
 
-use llb_loader::{Graph, Locals};
+use crate::graph::Graph;
+use crate::locals::Locals;
 
 /// Returns the name of the first local source, by vertex, that has no tree. Does not allocate.
 pub fn missing_local<'a>(graph: &'a Graph, locals: &Locals) -> Option<&'a str>

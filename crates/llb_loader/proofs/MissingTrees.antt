@@ -1,11 +1,15 @@
 -- The vertices of a graph one after another, up to the first whose local tree is missing.
-use Rattle.std.proofs.Common.{◌≡◌, ℕ, ◌+◌, ◌≤◌, List, drop, length, sym, ap, ◌∙◌}
+use Rattle.std.proofs.Common.{◌≡◌, ℕ, ◌+◌, ◌≤◌, List, ◌∷◌, drop, length, sym, ap, ◌∙◌, drop-cons, add-one}
 use Rattle.std.specs.Prelude.{Some, None, is_some, true, false, slice_get, if◌then◌else◌}
 use Rattle.std.proofs.lemmas.List.{drop_all}
+use Rattle.std.proofs.lemmas.Option.{slice_get_within, get_or_from_slice_get}
 use Rattle.llb_loader.specs.declared.graph.Vertex.{Vertex}
 use Rattle.llb_loader.specs.Locals.{Local, local_name, tree_of_local}
-use Rattle.llb_model.specs.State.{lacks, missing_local, first_of}
-use Rattle.llb_execution.proofs.Lists.{drop_at}
+use Rattle.llb_loader.specs.Missing.{lacks, missing_local, first_of}
+
+-- the item at a place, before those after it
+drop_at : {A : Type 0} (xs : List A) (i : ℕ) (x : A) → slice_get xs i ≡ Some x → drop i xs ≡ x ∷ drop (i + 1) xs
+drop_at xs i x at = drop-cons xs i x (slice_get_within xs i x at) ∙ (λ j. get_or_from_slice_get xs i x x at j ∷ drop (sym (add-one i) j) xs)
 
 -- none of the vertices so far lacks one
 abbrev pub AsMissing : List Local → List Vertex → ℕ → Type 0
