@@ -1,7 +1,6 @@
 -- When two keys of caches are one: their IDs, their seeds and their modes are the same.
-use Rattle.std.specs.Prelude.{ℕ, Bool, true, false, not, ◌&&◌, ◌||◌, ◌==◌, List, [], ◌++◌, length, Option, Some, None, nat_eq}
+use Rattle.std.specs.Prelude.{ℕ, Bool, true, false, not, ◌&&◌, ◌||◌, ◌==◌, List, length, Option, Some, None, nat_eq}
 use Rattle.std.specs.Cmp.Lexicographic.{pointwise}
-use Rattle.std.specs.Hash as fed
 use Rattle.llb_cache.specs.declared.key.Key.{Key}
 use Rattle.llb_cache.specs.declared.key.Seed.{Seed}
 use Rattle.llb_cache.specs.declared.key.Mode.{Mode}
@@ -45,11 +44,3 @@ has_text k = not (length k.id == 0) || has_digest k.seed
 -- whether two keys are equal in mode, seed and ID
 unfoldable pub same_key : Key → Key → Bool
 same_key k l = same_mode k.mode l.mode && same_seeds k.seed l.seed && pointwise nat_eq k.id l.id
-
--- what a hasher takes of a key: its ID, and the digest text and the index of its seed
-abbrev pub seed_fed : Option Seed → fed.HashWrites
-seed_fed None = []
-seed_fed (Some s) = fed.str s.digest ++ fed.u32 s.index
-
-abbrev pub key_fed : Key → fed.HashWrites
-key_fed k = fed.str k.id ++ seed_fed k.seed

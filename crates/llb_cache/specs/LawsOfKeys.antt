@@ -1,8 +1,7 @@
--- The test of two keys decides whether they are equal, and equal keys are hashed alike.
+-- The test of two keys decides whether they are equal.
 use Rattle.std.specs.Prelude.{◌≡◌, ◌↔◌, ℕ, Bool, true, false, ◌&&◌, ◌==◌, List, Option, Some, None, nat_eq}
 use Rattle.std.specs.Cmp.{IsEquivalence}
 use Rattle.std.specs.Cmp.Lexicographic.{pointwise, bytes_decides}
-use Rattle.std.specs.Hash as fed
 use Rattle.std.proofs.Common.{refl, sym, ap, ◌∙◌, eq-eqb}
 use Rattle.std.proofs.lemmas.Bool.{eqb-true}
 use Rattle.llb_wire.specs.Hashing.{same_text}
@@ -10,7 +9,7 @@ use Rattle.llb_cache.specs.declared.key.Key.{Key}
 use Rattle.llb_cache.specs.declared.key.Seed.{Seed}
 use Rattle.llb_cache.specs.declared.key.Mode.{Mode}
 use Rattle.llb_cache.specs.declared.key.Mode.TheVariants.{Shared, Private, Locked}
-use Rattle.llb_cache.specs.Key.{same_mode, same_seeds, same_key, key_fed}
+use Rattle.llb_cache.specs.Key.{same_mode, same_seeds, same_key}
 
 same_modes : (m n : Mode) → same_mode m n ≡ true → m ≡ n
 same_modes Shared Shared e = refl
@@ -82,6 +81,3 @@ key_equiv = record {
   symm = λ k l. either_way (same_key k l) (same_key l k) (λ e. (key_test l k).1 (sym (same_keys k l e))) (λ e. (key_test k l).1 (sym (same_keys l k e)));
   congr = λ k l m e. ap (λ n. same_key n m) (same_keys k l e);
 }
-
-pub keys_alike : (k l : Key) → same_key k l ≡ true → key_fed k ≡ key_fed l
-keys_alike k l e = ap key_fed (same_keys k l e)

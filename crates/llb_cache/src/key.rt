@@ -55,8 +55,7 @@ impl Drop for Key {
     }
 }
 
-// Whether both are one way of sharing.
-pub(crate) fn same_mode(mode: Mode, other: Mode) -> bool
+fn same_mode(mode: Mode, other: Mode) -> bool
     ensures { result ≡ same_mode mode other }
 {
     match mode {
