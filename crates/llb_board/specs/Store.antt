@@ -5,7 +5,7 @@ use Rattle.std.specs.Coded.{Coded, code_by, coded×, coded_ℕ, coded_list, code
 use Rattle.llb_cache.specs.declared.key.Seed.{Seed}
 use Rattle.llb_cache.specs.declared.key.Mode.{Mode}
 use Rattle.llb_cache.specs.declared.key.Mode.TheVariants.{Shared, Private, Locked}
-use Rattle.llb_tree.specs.Tree.{coded_tree}
+use Rattle.llb_tree.specs.Coded.{coded_tree}
 use Rattle.llb_model.specs.Caches.{Instance, Store, mode_number}
 
 -- a cache's sharing mode, by its number

@@ -80,7 +80,7 @@ impl Drop for Board {
 
 impl Model for Board {
     ghost use Rattle.std.specs.Coded.{codes};
-    ghost use Rattle.llb_tree.specs.Tree.{coded_tree};
+    ghost use Rattle.llb_tree.specs.Coded.{coded_tree};
     ghost use Rattle.llb_board.specs.Store.{coded_store};
     ghost use Rattle.llb_state.specs.Board.{BoardValue};
     ghost use Rattle.llb_state.specs.Room.{seen, IsTracked};

@@ -5,7 +5,8 @@ use Rattle.std.specs.List.{IsDistinct}
 use Rattle.std.specs.Map.{keys_of}
 use Rattle.indexmap.specs.IndexMap.{insert_entry}
 use Rattle.indexmap.proofs.MapLemmas.{absent_before, absent_from_lookup, insert_entry-absent}
-use Rattle.llb_cache.specs.Key.{same_key, key_equiv}
+use Rattle.llb_cache.specs.Key.{same_key}
+use Rattle.llb_cache.specs.LawsOfKeys.{key_equiv}
 use Rattle.llb_cache.specs.Caches.{Row}
 
 -- a row, and those before and after it

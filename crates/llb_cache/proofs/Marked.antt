@@ -9,7 +9,8 @@ use Rattle.indexmap.proofs.MapLemmas.{Found-position, index-first, absent_from_l
 use Rattle.llb_tree.specs.Tree.{TreeMap}
 use Rattle.llb_cache.specs.declared.key.Key.{Key}
 use Rattle.llb_cache.specs.declared.need.Instance.{Instance}
-use Rattle.llb_cache.specs.Key.{same_key, same_keys, key_equiv}
+use Rattle.llb_cache.specs.Key.{same_key}
+use Rattle.llb_cache.specs.LawsOfKeys.{same_keys, key_equiv}
 use Rattle.llb_cache.specs.Caches.{Row, same_place}
 use Rattle.llb_cache.specs.Leased.{same_places}
 use Rattle.llb_cache.specs.Marks.{marked, Remarks}

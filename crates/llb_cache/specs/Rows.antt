@@ -12,7 +12,8 @@ use Rattle.indexmap.proofs.MapLemmas.{Found-position, insert_entry-first}
 use Rattle.llb_tree.specs.Tree.{TreeMap}
 use Rattle.llb_cache.specs.declared.key.Key.{Key}
 use Rattle.llb_cache.specs.declared.need.Instance.{Instance}
-use Rattle.llb_cache.specs.Key.{same_key, same_keys, key_itself}
+use Rattle.llb_cache.specs.Key.{same_key}
+use Rattle.llb_cache.specs.LawsOfKeys.{same_keys, key_itself}
 use Rattle.llb_cache.specs.Caches.{Row, Taken, trees_of, with_trees, put, made, made_all, AreFew}
 
 -- ---- a write at the place of a key

@@ -91,7 +91,8 @@ impl<'a> AnyKey<'a> {
 
 impl<'a> PartialEq for AnyKey<'a> {
     ghost use Rattle.std.specs.Cmp.{partial_equiv_from_equiv};
-    ghost use Rattle.llb_cache.specs.Key.{same_key, key_equiv};
+    ghost use Rattle.llb_cache.specs.Key.{same_key};
+    ghost use Rattle.llb_cache.specs.LawsOfKeys.{key_equiv};
 
     ghost eq = { same_key };
 
@@ -103,13 +104,14 @@ impl<'a> PartialEq for AnyKey<'a> {
 }
 
 impl<'a> Eq for AnyKey<'a> {
-    ghost use Rattle.llb_cache.specs.Key.{key_equiv};
+    ghost use Rattle.llb_cache.specs.LawsOfKeys.{key_equiv};
 
     ghost laws = { key_equiv };
 }
 
 impl<'a> Hash for AnyKey<'a> {
-    ghost use Rattle.llb_cache.specs.Key.{key_fed, keys_alike};
+    ghost use Rattle.llb_cache.specs.Key.{key_fed};
+    ghost use Rattle.llb_cache.specs.LawsOfKeys.{keys_alike};
 
     ghost hash_input = { key_fed };
 

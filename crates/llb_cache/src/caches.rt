@@ -68,7 +68,7 @@ impl Drop for Caches {
 
 impl Model for Caches {
     ghost use Rattle.std.specs.Coded.{codes};
-    ghost use Rattle.llb_tree.specs.Tree.{coded_tree};
+    ghost use Rattle.llb_tree.specs.Coded.{coded_tree};
     ghost use Rattle.llb_cache.specs.Caches.{CachesValue};
     ghost use Rattle.llb_cache.specs.Marks.{IsMarked};
 

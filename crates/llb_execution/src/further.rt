@@ -1,4 +1,4 @@
-//! All micro-steps that are left of a program, one after another, on a workspace of its own. Stands on single micro-steps.
+//! All micro-steps that are left of a program, one after another, on a workspace of its own. It is built on single micro-steps.
 
 ghost use Rattle.std.specs.Prelude.{◌≡◌, ◌+◌, ◌<◌, ◌^◌, length, IfOk, None};
 ghost use Rattle.std.specs.List.{All};

@@ -39,7 +39,7 @@ impl Drop for Job {
 
 impl Model for Job {
     ghost use Rattle.std.specs.Coded.{codes};
-    ghost use Rattle.llb_tree.specs.Tree.{coded_tree};
+    ghost use Rattle.llb_tree.specs.Coded.{coded_tree};
     ghost use Rattle.llb_execution.specs.Parts.{work_with};
     ghost use Rattle.llb_model.specs.Table as table;
     ghost use Rattle.llb_execution.specs.Jobs.{IsWorkable};

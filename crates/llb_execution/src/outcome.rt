@@ -29,7 +29,7 @@ pub struct Outcome {
 
 impl Model for Outcome {
     ghost use Rattle.std.specs.Coded.{codes};
-    ghost use Rattle.llb_tree.specs.Tree.{coded_tree};
+    ghost use Rattle.llb_tree.specs.Coded.{coded_tree};
     ghost use Rattle.llb_execution.specs.Parts.{left_with};
     ghost use Rattle.llb_execution.specs.Jobs.{OutcomeValue, IsOutcome};
 

@@ -58,7 +58,7 @@ pub(crate) enum Own {
 
 impl Model for Workspace {
     ghost use Rattle.std.specs.Coded.{codes};
-    ghost use Rattle.llb_tree.specs.Tree.{coded_tree};
+    ghost use Rattle.llb_tree.specs.Coded.{coded_tree};
     ghost use Rattle.llb_model.specs.Program as model;
     ghost use Rattle.llb_execution.specs.Parts.{own_of};
 

@@ -151,7 +151,7 @@ abbrev pub above : List Instance → ℕ
 above [] = 0
 above (p ∷ ps) = p.number + 1 + above ps
 
--- the least number at or after n that is not among the places of a key, found in at most this number of tries
+-- the least number at or after n that is not among the instances of a key, found in at most this number of tries
 abbrev pub first_free : List Instance → Key → ℕ → ℕ → ℕ
 first_free ps k n zero = n
 first_free ps k n (suc tries) = if is_in ps (place k n) then first_free ps k (n + 1) tries else n
@@ -162,7 +162,7 @@ number_for ps k Shared = 0
 number_for ps k Locked = 0
 number_for ps k Private = first_free ps k 0 (above ps)
 
--- the instance that a claim takes for a need while these places are held
+-- the instance that a claim takes for a need while these are held
 abbrev pub place_for : List Instance → Need → Instance
 place_for ps n = place n.key (number_for ps n.key n.key.mode)
 
@@ -191,7 +191,7 @@ first_trees s inputs (p ∷ ps) (n ∷ needs) = unwrap_or (content s p) (base_in
 abbrev pub begin_at : Build → Store → Start → List Instance → Work
 begin_at b s start ps = begin b start (first_trees s start.inputs ps (needs_of start.vertex))
 
--- the places of needs, by the numbers of the instances
+-- the instances of needs, by their numbers
 abbrev pub places_by : List Need → List ℕ → List Instance
 places_by [] numbers = []
 places_by (n ∷ needs) [] = []

@@ -73,14 +73,8 @@ execution_on v work ps = record { vertex = v; done = 0; fault = None; own = work
 
 -- the job of a claim: nothing of it is done yet
 abbrev pub job_on : ℕ → ℕ → Vertex → Work → List Instance → Job
-job_on w v vertex work ps = record {
-  worker = w;
-  vertex = v;
-  program = program_of vertex;
-  done = 0;
-  work = work;
-  instances = map (λ (p : Instance). p.number) ps;
-}
+job_on w v vertex work ps =
+    record { worker = w; vertex = v; program = program_of vertex; done = 0; work = work; instances = map (λ (p : Instance). p.number) ps }
 
 -- the state after a claim: the vertex and the worker are running, and a new instance is now in the caches
 abbrev pub after_claim : State → ℕ → ℕ → Work → List Instance → State

@@ -4,3 +4,5 @@ pub mod Own
 pub mod Payloads
 pub mod Records
 pub mod Decimal
+pub mod Answers
+pub mod Sinks

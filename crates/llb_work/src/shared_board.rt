@@ -5,7 +5,7 @@
 ghost use Rattle.std.specs.Prelude.{◌≡◌, ◌+◌, ℕ, length, true, Some, IfOk};
 ghost use Rattle.std.specs.Bool.{OnTrue};
 ghost use Rattle.std.specs.Coded.{codes};
-ghost use Rattle.llb_tree.specs.Tree.{coded_tree};
+ghost use Rattle.llb_tree.specs.Coded.{coded_tree};
 ghost use Rattle.llb_board.specs.Begun.{IsKnown};
 ghost use Rattle.llb_board.specs.Store.{coded_store};
 ghost use Rattle.llb_work.specs.Crew.{IsAfter};

@@ -1,5 +1,6 @@
 use Rattle.std.proofs.Common.{◌≡◌, ◌∙◌, sym}
-use Rattle.llb_cache.specs.Key.{same_key, key_test}
+use Rattle.llb_cache.specs.Key.{same_key}
+use Rattle.llb_cache.specs.LawsOfKeys.{key_test}
 use Rattle.llb_cache.proofs.any_key.AnyKey.same.Goals as goal
 
 pub returns : goal.returns
