@@ -13,7 +13,7 @@ use crate::growing::{make_all, places_at, places_for, set_at, take_back, take_le
 use crate::key::Key;
 use crate::key_ref::KeyRef;
 use crate::marks::Marks;
-use crate::need::{Need, Instance};
+use crate::need::{Instance, Need};
 use crate::rows::{Rows, no_rows, reserve, trees_at, trees_with};
 use crate::search::{count, keys_differ};
 use llb_tree::Tree;

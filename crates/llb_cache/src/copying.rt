@@ -45,7 +45,10 @@ fn copied_places(alloc: Global, places: &[Instance]) -> Result<Many<Instance>, M
 }
 
 // An equal second owner of a lease's instances.
-fn copied_lease(alloc: Global, lease: &Option<Many<Instance>>) -> Result<Option<Many<Instance>>, Memory>
+fn copied_lease(
+    alloc: Global,
+    lease: &Option<Many<Instance>>,
+) -> Result<Option<Many<Instance>>, Memory>
     ensures { IfOk result (λ l. l ≡ lease.now) }
 {
     match lease {

@@ -16,7 +16,7 @@ use crate::growing::Ready;
 use crate::key::Mode;
 use crate::key_ref::KeyRef;
 use crate::marks::Marks;
-use crate::need::{Need, Instance};
+use crate::need::{Instance, Need};
 use crate::rows::{Rows, row_of};
 use crate::trees::Room;
 use llb_wire::Many;
