@@ -10,3 +10,4 @@ pub mod Undos
 pub mod Copies
 pub mod Landed
 pub mod Begun
+pub mod Backed

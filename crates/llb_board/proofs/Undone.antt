@@ -3,11 +3,14 @@ use Rattle.std.proofs.Common.{◌≡◌, ℕ, zero, suc, ◌-◌, ◌<◌, ◌�
 use Rattle.std.proofs.Common.{Some, None, unwrap_or, inr, refl, sym, ap, subst, ◌∙◌, arith, length-append}
 use Rattle.std.specs.Prelude.{slice_get, slice_set, nat_lt}
 use Rattle.std.specs.Bool.{OnTrue, OnFalse}
-use Rattle.std.specs.Option.{ForSome}
 use Rattle.std.specs.List.{list_any}
 use Rattle.std.proofs.lemmas.Bool.{ltb-true, ltb-false}
 use Rattle.std.proofs.lemmas.Option.{slice_get_within}
 use Rattle.llb_cache.specs.Caches.{CachesValue, Row, Leases}
+use Rattle.llb_cache.specs.declared.growth.Growth.{Growth}
+use Rattle.llb_cache.specs.Growth.{LentValue}
+use Rattle.llb_tree.specs.Tree.{TreeMap}
+use Rattle.llb_model.specs.Caches.{Place}
 use Rattle.llb_execution.specs.Marks.{Mark, put_back}
 use Rattle.llb_execution.specs.Parts.{mounts_in}
 use Rattle.llb_execution.proofs.Marks.{shown_back}
@@ -32,21 +35,22 @@ use Rattle.llb_state.specs.Events.{Space}
 use Rattle.llb_state.specs.Board.{Seen, Replays, opening_with, kept_along}
 use Rattle.llb_state.specs.Room.{AreOver, IsKept, Supplies, supplies_for, ready_made, needed}
 use Rattle.llb_board.specs.Undo.{Back, Unclaim, Unstep, Resume, Displaced}
-use Rattle.llb_state.specs.Undoing.{Before, Left, left_in, caches_in}
-use Rattle.llb_board.specs.Undo.{statuses_before, workers_before, step_before, rows_before, store_before, undone}
+use Rattle.llb_state.specs.Undoing.{Left, left_in}
+use Rattle.llb_board.specs.Undo.{statuses_before, workers_before, step_before, rows_before, undone}
 use Rattle.llb_state.specs.Undoing.{front}
-use Rattle.llb_board.specs.Undo.{IsBegun, HasNoPlaces, FitsLeases, CanUndo, event_before}
+use Rattle.llb_board.specs.Undo.{IsBegun, CanUndo, event_before}
 use Rattle.llb_board.specs.declared.undo.End.{End}
-use Rattle.llb_state.specs.Undoing.{desk_before, leases_before, caches_before, HasPlaceFor}
+use Rattle.llb_state.specs.Caches.{lent_of, lent_if}
+use Rattle.llb_state.specs.Undoing.{desk_before}
 use Rattle.llb_state.specs.Views.{status_of, at_of, leased_by, execution_of}
 use Rattle.llb_state.specs.declared.stand.Stand.{Stand}
 use Rattle.llb_state.specs.declared.stand.Stand.TheVariants as stand
 use Rattle.llb_state.specs.declared.stand.Desk.{Desk}
 use Rattle.llb_state.specs.declared.stand.Desk.TheVariants as desk
 use Rattle.llb_state.specs.declared.stand.Execution as own
-use Rattle.llb_state.specs.declared.undoing.Before as before
 use Rattle.llb_state.proofs.Spaces.{SpaceBefore}
 use Rattle.llb_state.proofs.Kept.{Data, Keeps, state_as, seen_as, made_enough, supplies_claimed, leased_claimed}
+use Rattle.llb_state.proofs.Calls.{LeasedNew}
 use Rattle.llb_state.proofs.Lists.{map_set, get_map, length_map}
 use Rattle.llb_state.proofs.Sound.{consistent}
 use Rattle.llb_state.proofs.Stepping.{leased_stepped}
@@ -103,30 +107,26 @@ over_below b S v new n r fits below over k low =
 pub record Leaves (b : Build) (d d' : Data) (u : Displaced) : Type 0 where
   pub statuses : map status_of d'.stands ≡ statuses_before u.back (map status_of d.stands)
   pub workers : map at_of d'.desks ≡ workers_before u.back (map at_of d.desks)
-  pub rows : d'.rows ≡ rows_before u.caches d.rows
+  pub rows : d'.rows ≡ rows_before u.back (map at_of d.desks) d.rows
   pub leased : AreLeased d'.out (map at_of d'.desks) (map leased_by d'.desks)
   pub supplies : map ready_made d'.desks ≡ map (needed b) (map at_of d'.desks)
   pub marks : d'.stop_marks ≡ stopped b (map status_of d'.stands)
 
 as_many : (k : Back) (workers : List At) → length (workers_before k workers) ≡ length workers
-as_many (Unclaim w v) workers = length_set workers w Idle
-as_many (Unstep w mark) workers = length_set workers w (step_before mark (slice_get workers w))
-as_many (Resume e w left) workers = length_set workers w (Runs left.execution)
+as_many (Unclaim w v gs) workers = length_set workers w Idle
+as_many (Unstep w mark ts) workers = length_set workers w (step_before mark (slice_get workers w))
+as_many (Resume e w left l) workers = length_set workers w (Runs left.execution)
 
 same_desks : (b : Build) (d d' : Data) (u : Displaced) → Leaves b d d' u → length d'.desks ≡ length d.desks
 same_desks b d d' u leaves =
     sym (length_map at_of d'.desks) ∙ ap length leaves.workers ∙ as_many u.back (map at_of d.desks) ∙ length_map at_of d.desks
-
-store_by : (o : Option Before) (rows : List Row) → store_of (rows_before o rows) ≡ store_before o (store_of rows)
-store_by (Some c) rows = refl
-store_by None rows = refl
 
 -- data that is what an undo leaves is seen as the board that `undone` gives
 pub undone_is : (b : Build) (first : List Row) (d d' : Data) (es : List Event) (u : Displaced) → Leaves b d d' u → seen_as b first d' (front es)
     ≡ undone u (seen_as b first d es)
 undone_is b first d d' es u leaves =
     let many = same_desks b d d' u leaves in
-    let store = ap store_of leaves.rows ∙ store_by u.caches d.rows in
+    let store = ap store_of leaves.rows in
     λ i. record {
       build = b;
       opening = opening_with (many i) first;
@@ -204,59 +204,6 @@ room_returns b first d es space u ends =
     let replays : Replays n = record { replies = ends.replies; leads = ends.leads; keeps = ends.keeps } in
     (event_returns b n.state ends.replies space.room (event_before u.back) (state_as d, ends.reply) (consistent n replays) ends.gives ends.roomy).0
 
--- ---- caches that are put back
-
--- each lease has a worker that runs
-pub place_for : (out : Leases) (workers : List At) (ls : List (Option ℕ)) → AreLeased out workers ls → HasPlaceFor ls workers
-place_for out workers ls leased = record { count = leased.count; idle = λ w at. by_lease w at (slice_get ls w) refl }
-  where
-    apart : (x : Execution) → ◌≡◌ {A = Option At} (Some (Runs x)) (Some Idle) → ⊥
-    apart x e = cc
-
-    by_lease : (w : ℕ) → slice_get workers w ≡ Some Idle → (o : Option (Option ℕ)) → slice_get ls w ≡ o → slice_get ls w ≡ Some None
-    by_lease w at None is =
-        let low = slice_get_within workers w Idle at in
-        let count = leased.count in
-        let there = get_within ls w (omega (arith, low, count)) in
-        absurd (let same : ◌≡◌ {A = Option (Option ℕ)} None (Some there.0) = sym is ∙ there.1 in cc)
-    by_lease w at (Some None) is = is
-    by_lease w at (Some (Some l)) is = let r = leased.runs w l is in absurd (apart r.0 (sym r.1 ∙ at))
-
--- if caches are put back, their leases fit; otherwise those that are there do
-abbrev pub LeasedSo : Option Before → List At → Leases → List (Option ℕ) → Type 0
-LeasedSo (Some c) workers out ls = AreLeased c.caches.out workers c.leases
-LeasedSo None workers out ls = AreLeased out workers ls
-
--- after an undo the leases fit: those of the caches that are put back, or else those that are there
-pub leased_so : (u : Displaced) (n : Seen) (o : Option Before) (workers : List At) (out : Leases) (ls : List (Option ℕ)) → FitsLeases u n o → workers
-    ≡ (undone u n).state.workers
-    → (HasNoPlaces u.back → AreLeased out workers ls) → LeasedSo o workers out ls
-leased_so u n (Some c) workers out ls fits same else = subst (λ ws. AreLeased c.caches.out ws c.leases) (sym same) fits
-leased_so u n None workers out ls fits same else = else fits
-
--- with the caches and their leases put back, or as they are, each running worker has its own lease
-pub leased_put : (o : Option Before) (ds ds' : List Desk) (c c' : CachesValue) → LeasedSo o (map at_of ds) c.out (map leased_by ds)
-    → map at_of ds' ≡ map at_of ds → map leased_by ds' ≡ leases_before o (map leased_by ds) → c' ≡ caches_before o c
-    → AreLeased c'.out (map at_of ds') (map leased_by ds')
-leased_put (Some k) ds ds' c c' leased workers leases caches =
-    subst (λ ws. AreLeased c'.out ws (map leased_by ds')) (sym workers)
-    (subst (AreLeased c'.out (map at_of ds)) (sym leases) (subst (λ (x : CachesValue). AreLeased x.out (map at_of ds) k.leases) (sym caches) leased))
-leased_put None ds ds' c c' leased workers leases caches =
-    subst (λ ws. AreLeased c'.out ws (map leased_by ds')) (sym workers)
-    (subst (AreLeased c'.out (map at_of ds)) (sym leases) (subst (λ (x : CachesValue). AreLeased x.out (map at_of ds) (map leased_by ds)) (sym caches) leased))
-
--- the lists of instances come from the caches that are put back, or stay
-pub rows_put : (o : Option Before) (c c' : CachesValue) (rows : List Row) → c.rows ≡ rows → c' ≡ caches_before o c → c'.rows ≡ rows_before o rows
-rows_put (Some k) c c' rows same caches = ap (λ (x : CachesValue). x.rows) caches
-rows_put None c c' rows same caches = ap (λ (x : CachesValue). x.rows) caches ∙ same
-
--- the caches that are to be put back have a lease for each worker that runs
-pub places_put : (u : Displaced) (n : Seen) (o : Option before.Before) (workers : List At) → FitsLeases u n (caches_in o) → workers ≡ (undone u n).state.workers
-    → ForSome o (λ c. HasPlaceFor c.leases.items workers)
-places_put u n o workers fits same c is =
-    place_for c.caches.out workers c.leases.items
-    (subst (λ ws. AreLeased c.caches.out ws c.leases.items) (sym same) (subst (λ (x : Option before.Before). FitsLeases u n (caches_in x)) is fits))
-
 -- ---- by the event
 
 -- a worker's desk, by what the worker does
@@ -275,8 +222,9 @@ pub runs_there : (n : Seen) (w v : ℕ) → Replays n → IsBegun n w v → (x :
 runs_there n w v here begun = let r = (consistent n here).running v w begun.runs in (r.0, r.1)
 
 -- a worker whose claim is taken back is idle
-pub unclaimed_workers : (ds : List Desk) (w v : ℕ) → map at_of (slice_set ds w desk.Idle) ≡ workers_before (Unclaim w v) (map at_of ds)
-unclaimed_workers ds w v = map_set at_of ds w desk.Idle
+pub unclaimed_workers : (ds : List Desk) (w v : ℕ) (gs : List Growth) → map at_of (slice_set ds w desk.Idle)
+    ≡ workers_before (Unclaim w v gs) (map at_of ds)
+unclaimed_workers ds w v gs = map_set at_of ds w desk.Idle
 
 -- a running vertex that waits again had not failed, so the marks stay
 pub unclaimed_marks : (b : Build) (ss : List Stand) (w v : ℕ) (marks : List Bool) → marks ≡ stopped b (map status_of ss) → slice_get (map status_of ss) v
@@ -290,9 +238,9 @@ unstepped_at : (mark : Mark) (d : Desk) → at_of (desk_before mark (Some d)) �
 unstepped_at mark desk.Idle = refl
 unstepped_at mark (desk.Runs l x) = refl
 
-pub unstepped_workers : (ds : List Desk) (w : ℕ) (mark : Mark) (d : Desk) → slice_get ds w ≡ Some d
-    → map at_of (slice_set ds w (desk_before mark (slice_get ds w))) ≡ workers_before (Unstep w mark) (map at_of ds)
-unstepped_workers ds w mark d at =
+pub unstepped_workers : (ds : List Desk) (w : ℕ) (mark : Mark) (ts : List TreeMap) (d : Desk) → slice_get ds w ≡ Some d
+    → map at_of (slice_set ds w (desk_before mark (slice_get ds w))) ≡ workers_before (Unstep w mark ts) (map at_of ds)
+unstepped_workers ds w mark ts d at =
     map_set at_of ds w (desk_before mark (slice_get ds w))
     ∙ ap (λ o. slice_set (map at_of ds) w (at_of (desk_before mark o))) at
     ∙ ap (slice_set (map at_of ds) w) (unstepped_at mark d)
@@ -314,14 +262,14 @@ unstepped_supplies b ds w mark l x kept at mounts =
 
 -- a worker whose micro-step is taken back keeps its lease and has what its vertex needs
 pub unstep_leaves : (b : Build) (first : List Row) (ss : List Stand) (ds : List Desk) (c : CachesValue) (es : List Event) (space : Space) (w : ℕ) (mark : Mark)
-    (marks : List Bool)
+    (ts : List TreeMap) (marks : List Bool)
     → Keeps b first (record { stands = ss; desks = ds; rows = c.rows; out = c.out; stop_marks = marks }) es space
     → (x : Execution) → slice_get (map at_of ds) w ≡ Some (Runs x) → mounts_in (put_back mark x.own)
     ≡ (supplies_for (slice_get b.graph.vertices x.vertex)).mounts
     → (let new = slice_set ds w (desk_before mark (slice_get ds w)) in
     AreLeased c.out (map at_of new) (map leased_by new) × (map ready_made new ≡ map (needed b) (map at_of new)) × (map at_of new
-    ≡ workers_before (Unstep w mark) (map at_of ds)))
-unstep_leaves b first ss ds c es space w mark marks kept x at mounts =
+    ≡ workers_before (Unstep w mark ts) (map at_of ds)))
+unstep_leaves b first ss ds c es space w mark ts marks kept x at mounts =
     let d = desk_at ds w x at in
     let l = d.0 in
     let y = d.1 in
@@ -334,19 +282,20 @@ unstep_leaves b first ss ds c es space w mark marks kept x at mounts =
       subst (λ e. AreLeased c.out (map at_of (slice_set ds w e)) (map leased_by (slice_set ds w e))) (sym again) leased,
       subst (λ e. map ready_made (slice_set ds w e) ≡ map (needed b) (map at_of (slice_set ds w e))) (sym again) (unstepped_supplies b ds w mark l y
           kept.supplies there fits),
-      unstepped_workers ds w mark (desk.Runs l y) there,
+      unstepped_workers ds w mark ts (desk.Runs l y) there,
     )
 
 -- the workers after a settle or a cancel is taken back
-pub resumed_workers : (ds : List Desk) (e : End) (w : ℕ) (l : Option ℕ) (x : own.Execution) → map at_of (slice_set ds w (desk.Runs l x))
-    ≡ workers_before (Resume e w (left_in x)) (map at_of ds)
-resumed_workers ds e w l x = map_set at_of ds w (desk.Runs l x)
+pub resumed_workers : (ds : List Desk) (e : End) (w : ℕ) (l : Option ℕ) (x : own.Execution) (lent : Option LentValue)
+    → map at_of (slice_set ds w (desk.Runs l x)) ≡ workers_before (Resume e w (left_in x) lent) (map at_of ds)
+resumed_workers ds e w l x lent = map_set at_of ds w (desk.Runs l x)
 
 -- the vertex that a worker runs again is one of the graph's
-pub resumed_there : (u : Displaced) (n : Seen) (e : End) (w : ℕ) (left : Left) → u.back ≡ Resume e w left → Replays (undone u n)
+pub resumed_there : (u : Displaced) (n : Seen) (e : End) (w : ℕ) (left : Left) (lent : Option LentValue) → u.back ≡ Resume e w left lent
+    → Replays (undone u n)
     → slice_get n.state.workers w ≡ Some Idle
     → left.execution.vertex < length n.state.statuses
-resumed_there u n e w left is here idle =
+resumed_there u n e w left lent is here idle =
     let runs : slice_get (undone u n).state.workers w ≡ Some (Runs left.execution)
     = ap (λ k. slice_get (workers_before k n.state.workers) w) is ∙ get_set_same n.state.workers w (Runs left.execution) Idle idle in
     let ran = (consistent (undone u n) here).working w left.execution runs in
@@ -356,11 +305,24 @@ resumed_there u n e w left is here idle =
     let same = length_set n.state.statuses left.execution.vertex (Running w) in
     omega (arith, low, same)
 
--- a worker that runs again without instances needs no lease
-pub resumed_leased : (b : Build) (first : List Row) (d : Data) (es : List Event) (space : Space) (w : ℕ) (x : own.Execution) → Keeps b first d es space
-    → slice_get (map at_of d.desks) w ≡ Some Idle → x.places.items ≡ []
-    → AreLeased d.out (map at_of (slice_set d.desks w (desk.Runs None x))) (map leased_by (slice_set d.desks w (desk.Runs None x)))
-resumed_leased b first d es space w x kept idle none = leased_claimed d w None x [] d.out kept.leased idle none (inr (refl, refl, refl))
+-- what a lease that was made ready is put out as
+lent_new : (c d : CachesValue) (ps : List Place) (room : ℕ) (l : Option ℕ) → (l, d) ≡ lent_if c (lent_of ps room) → LeasedNew c.out l ps d.out
+lent_new c d [] room l is = inr (ap (λ (p : Option ℕ × CachesValue). p.0) is, refl, ap (λ (p : Option ℕ × CachesValue). p.1.out) is)
+lent_new c d (p ∷ ps) room l is = inl (ap (λ (p : Option ℕ × CachesValue). p.0) is, ap (λ (p : Option ℕ × CachesValue). p.1.out) is)
+
+-- it changes no row
+pub lent_rows : (c d : CachesValue) (lent : Option LentValue) (l : Option ℕ) → (l, d) ≡ lent_if c lent → d.rows ≡ c.rows
+lent_rows c d None l is = ap (λ (p : Option ℕ × CachesValue). p.1.rows) is
+lent_rows c d (Some k) l is = ap (λ (p : Option ℕ × CachesValue). p.1.rows) is
+
+-- a worker that runs again has a lease of its instances again
+pub resumed_leased : (d : Data) (w : ℕ) (x : own.Execution) (c new : CachesValue) (room : ℕ) (l : Option ℕ)
+    → AreLeased d.out (map at_of d.desks) (map leased_by d.desks) → slice_get (map at_of d.desks) w ≡ Some Idle → c.out ≡ d.out
+    → (l, new) ≡ lent_if c (lent_of x.places.items room)
+    → AreLeased new.out (map at_of (slice_set d.desks w (desk.Runs l x))) (map leased_by (slice_set d.desks w (desk.Runs l x)))
+resumed_leased d w x c new room l leased idle same is =
+    leased_claimed d w l x x.places.items new.out leased idle refl
+    (subst (λ (o : Leases). LeasedNew o l x.places.items new.out) same (lent_new c new x.places.items room l is))
 
 -- the marks are made anew where the vertex that runs again had failed, and else stay
 pub resumed_marks : (b : Build) (ss : List Stand) (w v : ℕ) (had : Stand) (failed : Bool) (old new : List Bool) → old ≡ stopped b (map status_of ss)

@@ -1,57 +1,71 @@
 -- A claim, a micro-step, a settle and a cancel are taken back: the board does what the definitions say, and keeps its invariant.
-use Rattle.std.proofs.Common.{◌≡◌, ℕ, ◌+◌, ◌<◌, ◌≤◌, List, [], ◌∷◌, ◌++◌, map, length, Option, Some, None, refl, sym, ap, subst, ◌∙◌, arith}
+use Rattle.std.proofs.Common.{◌≡◌, ℕ, ◌+◌, ◌^◌, ◌<◌, ◌≤◌, List, [], ◌∷◌, ◌++◌, map, length, Option, Some, None, unwrap_or, refl, sym, ap, subst, ◌∙◌}
+use Rattle.std.proofs.Common.{arith}
 use Rattle.std.specs.Prelude.{Bool, true, false, slice_get, slice_set}
 use Rattle.std.specs.Option.{ForSome}
 use Rattle.std.proofs.lemmas.Option.{slice_get_within}
-use Rattle.llb_cache.specs.Caches.{CachesValue, Row}
+use Rattle.llb_cache.specs.Caches.{CachesValue, Row, Leases, AreThere}
+use Rattle.llb_cache.specs.declared.growth.Growth.{Growth}
+use Rattle.llb_cache.specs.declared.key.Key.{Key}
+use Rattle.llb_cache.specs.Growth.{LentValue, CanLend, unmade}
+use Rattle.llb_tree.specs.Tree.{TreeMap}
+use Rattle.llb_loader.specs.Graph.{IsGraph}
+use Rattle.llb_model.specs.Caches.{Place, Distinct}
+use Rattle.llb_model.specs.Laws.{HasDistinctNeeds}
 use Rattle.llb_execution.specs.Marks.{Mark}
-use Rattle.llb_model.specs.Leases.{AreLeased}
+use Rattle.llb_model.specs.Leases.{AreLeased, HasLease, put_each}
 use Rattle.llb_loader.specs.declared.graph.Vertex.{Vertex}
-use Rattle.llb_model.specs.Program.{Build, program_at}
+use Rattle.llb_model.specs.Program.{Build, program_at, key_of}
 use Rattle.llb_model.specs.Room.{events_of, cancel_counts}
 use Rattle.llb_model.specs.State.{State, Running, Execution, At, Idle, Runs, is_failed, ending_of, stopped}
 use Rattle.llb_model.specs.Table.{Event, Claim, Step, Settle, Reply, Cancelled, table}
 use Rattle.llb_model.proofs.Cancels.{counts_length}
 use Rattle.llb_model.proofs.Events.{Answer, cancel_is}
 use Rattle.llb_model.proofs.Lists.{get_within, get_set_same}
+use Rattle.llb_model.proofs.Needs.{graph_distinct}
 use Rattle.llb_state.specs.Events.{Space, taken_by, unclaimed}
 use Rattle.llb_state.specs.Board.{Seen}
-use Rattle.llb_state.specs.Caches.{IsOutIf, given_back}
+use Rattle.llb_state.specs.Caches.{IsOutIf, given_back, taken_back, leased_places, places_at, lent_of, lent_if}
 use Rattle.llb_links.specs.Links.{Linked, IsLinked}
 use Rattle.llb_state.specs.OpenInputs.{done_in}
-use Rattle.llb_state.specs.Room.{AreOver, IsTracked, ready_made, needed}
-use Rattle.llb_board.specs.Undo.{Back, Unclaim, Unstep, Resume, Displaced, statuses_before, workers_before, HasNoPlaces, CanUndo}
+use Rattle.llb_state.specs.Room.{AreOver, IsTracked, Supplies, ready_made, needed, needs_at}
+use Rattle.llb_board.specs.Undo.{Back, Unclaim, Unstep, Resume, Displaced, workers_before, CanUndo}
 use Rattle.llb_board.specs.Undo.{undone, end_of, space_before, event_before}
 use Rattle.llb_board.specs.declared.undo.End.{End}
 use Rattle.llb_board.specs.declared.undo.End.TheVariants as end
-use Rattle.llb_state.specs.Undoing.{left_in, caches_in, front}
-use Rattle.llb_state.specs.Undoing.{desk_before, leases_before, caches_before, HasPlaceFor}
+use Rattle.llb_state.specs.Undoing.{left_in, front, desk_before}
 use Rattle.llb_state.specs.Views.{status_of, at_of, leased_by, execution_of}
 use Rattle.llb_state.specs.declared.stand.Stand.{Stand}
 use Rattle.llb_state.specs.declared.stand.Stand.TheVariants as stand
 use Rattle.llb_state.specs.declared.stand.Desk.{Desk}
 use Rattle.llb_state.specs.declared.stand.Desk.TheVariants as desk
 use Rattle.llb_state.specs.declared.stand.Execution as own
-use Rattle.llb_state.specs.declared.undoing.Before as before
 use Rattle.llb_board.proofs.Claiming.{data_of}
-use Rattle.llb_state.proofs.Kept.{Data, Keeps, seen_as, supplies_claimed, supplies_settled}
+use Rattle.llb_state.proofs.Kept.{Data, Keeps, seen_as, made_enough, supplies_claimed, supplies_settled}
 use Rattle.llb_state.proofs.Lent.{leased_settled, lease_out}
 use Rattle.llb_state.proofs.Lists.{map_set, length_map}
-use Rattle.llb_state.proofs.Sound.{consistent}
+use Rattle.llb_state.proofs.Needed.{few_needs}
+use Rattle.llb_state.proofs.Rewritten.{AreKeysApart}
+use Rattle.llb_state.proofs.Sound.{consistent, reached}
+use Rattle.llb_state.proofs.Stepping.{places_are}
+use Rattle.llb_state.proofs.Unmade.{keys_apart}
 use Rattle.llb_state.proofs.Spaces.{SpaceBefore, claim_takes, space_stayed, space_unclaimed, space_uncancelled}
-use Rattle.llb_board.proofs.Undone.{EndsWith, ends_with, room_returns, Leaves, undo_keeps, over_below, leased_so, leased_put, rows_put, places_put}
-use Rattle.llb_board.proofs.Undone.{runs_there, unclaimed_workers}
+use Rattle.llb_board.proofs.Undone.{EndsWith, ends_with, room_returns, Leaves, undo_keeps, over_below, desk_at}
+use Rattle.llb_board.proofs.Undone.{runs_there, unclaimed_workers, lent_rows}
+use Rattle.llb_board.proofs.Backed.{leased_there, can_lend}
 use Rattle.llb_board.proofs.Undone.{unclaimed_marks, unstep_leaves, resumed_workers, resumed_there, resumed_leased, resumed_marks}
-
--- what put_caches does to the desks and the caches
-pub record PutsCaches (o : Option before.Before) (ds ds' : List Desk) (c c' : CachesValue) : Type 0 where
-  pub workers : map at_of ds' ≡ map at_of ds
-  pub made : map ready_made ds' ≡ map ready_made ds
-  pub leases : map leased_by ds' ≡ leases_before (caches_in o) (map leased_by ds)
-  pub caches : c' ≡ caches_before (caches_in o) c
 
 runs_inside : {x y : Execution} → ◌≡◌ {A = Option At} (Some (Runs x)) (Some (Runs y)) → x ≡ y
 runs_inside e = cc
+
+-- the keys of a vertex's needs differ
+pub distinct_needs : (b : Build) → HasDistinctNeeds b → (v : ℕ) (o : Option Vertex) → slice_get b.graph.vertices v ≡ o → Distinct (map key_of (needs_at o))
+distinct_needs b differ v None at = tt
+distinct_needs b differ v (Some y) at = differ v y at
+
+lent_is : (ps : List Place) (room : ℕ) (k : LentValue) → lent_of ps room ≡ Some k → record { places = ps; room = room } ≡ k
+lent_is [] room k is = absurd cc
+lent_is (p ∷ ps) room k is = ap (λ o. unwrap_or o k) is
 
 -- before a worker left a vertex, by the event
 ended_space : (b : Build) (s : State) (e : End) (w : ℕ) (x : Execution) (y : Vertex) (a : Answer) (rs : List Reply) (space : Space)
@@ -90,28 +104,18 @@ module _ (b : Build) (first : List Row) (ss : List Stand) (ds : List Desk) (c : 
   over_written v s n r fits below over =
       subst (λ S. AreOver b S r) (sym (map_set status_of ss v s)) (over_below b (map status_of ss) v (status_of s) n r fits below over)
 
-  -- what is left, by the desks before the caches are put back
-  leaves_by : (k : Back) (o : Option before.Before) (ds1 ds2 : List Desk) (c1 c2 : CachesValue) (ss' : List Stand) (marks : List Bool)
-      → CanUndo (record { back = k; caches = caches_in o }) board → PutsCaches o ds1 ds2 c1 c2 → c1.rows ≡ c.rows
-      → map status_of ss' ≡ statuses_before k (map status_of ss) → map at_of ds1 ≡ workers_before k (map at_of ds)
-      → (HasNoPlaces k → AreLeased c1.out (map at_of ds1) (map leased_by ds1)) → map ready_made ds1 ≡ map (needed b) (map at_of ds1)
-      → marks ≡ stopped b (map status_of ss')
-      → Leaves b (data_of ss ds c stop_marks) (data_of ss' ds2 c2 marks) (record { back = k; caches = caches_in o })
-  leaves_by k o ds1 ds2 c1 c2 ss' marks can puts same statuses workers leased supplies marked =
-      let u : Displaced = record { back = k; caches = caches_in o } in
-      record {
-        statuses = statuses;
-        workers = puts.workers ∙ workers;
-        rows = rows_put (caches_in o) c1 c2 c.rows same puts.caches;
-        leased = leased_put (caches_in o) ds1 ds2 c1 c2 (leased_so u board (caches_in o) (map at_of ds1) c1.out (map leased_by ds1) can.leased workers leased)
-            puts.workers puts.leases puts.caches;
-        supplies = puts.made ∙ supplies ∙ ap (map (needed b)) (sym puts.workers);
-        marks = marked;
-      }
+  -- a worker's lease has its instances
+  places_so : (w : ℕ) (x : Execution) (l : Option ℕ) → slice_get (map at_of ds) w ≡ Some (Runs x) → slice_get (map leased_by ds) w ≡ Some l
+      → leased_places c.out l ≡ x.places
+  places_so w x l runs at =
+      places_are c.out l x.places (subst (λ (o : Option (Option ℕ)). HasLease c.out o x.places) at (kept.leased.has w x runs))
 
   -- ---- a claim
 
-  module _ (w v : ℕ) (o : Option before.Before) (can : CanUndo (record { back = Unclaim w v; caches = caches_in o }) board) where
+  module _ (w v : ℕ) (gs : List Growth) (can : CanUndo (record { back = Unclaim w v gs }) board) where
+    abbrev undo_claim : Displaced
+    undo_claim = record { back = Unclaim w v gs }
+
     -- the worker whose claim is taken back has a desk
     pub low_w : w < length ds
     low_w =
@@ -128,27 +132,35 @@ module _ (b : Build) (first : List Row) (ss : List Stand) (ds : List Desk) (c : 
     pub lease_is_out : (l : Option ℕ) → slice_get (map leased_by ds) w ≡ Some l → IsOutIf c.out l
     lease_is_out l at = lease_out c.out (map at_of ds) (map leased_by ds) w l kept.leased at
 
-    -- with the worker idle again, the leases of before match the workers
-    pub places_unclaimed : (ds1 : List Desk) → ds1 ≡ slice_set ds w desk.Idle → ForSome o (λ x. HasPlaceFor x.leases.items (map at_of ds1))
-    places_unclaimed ds1 is =
-        places_put (record { back = Unclaim w v; caches = caches_in o }) board o (map at_of ds1) can.leased (ap (map at_of) is ∙ unclaimed_workers ds w v)
+    -- what the lease added is removed: the lists of instances are those that `undone` gives
+    taken_rows : (l : Option ℕ) → slice_get (map leased_by ds) w ≡ Some l → (taken_back c l gs).rows ≡ (undone undo_claim board).rows
+    taken_rows l at =
+        let r = runs_there board w v kept.replays can.stands in
+        ap (λ (ps : List Place). unmade c.rows ps gs) (places_so w r.0 l r.1 at ∙ sym (ap places_at r.1))
 
-    -- the vertex waits, the worker is idle, and the lease and the caches are put back: that leaves the claim undone
-    pub unclaim_leaves : (l : Option ℕ) (ds1 ds2 : List Desk) (c1 c2 : CachesValue) → slice_get (map leased_by ds) w ≡ Some l → ds1
-        ≡ slice_set ds w desk.Idle → c1 ≡ given_back c l
-        → PutsCaches o ds1 ds2 c1 c2
-        → Leaves b (data_of ss ds c stop_marks) (data_of (slice_set ss v stand.Waiting) ds2 c2 stop_marks) (record { back = Unclaim w v; caches = caches_in o })
-    unclaim_leaves l ds1 ds2 c1 c2 at is back puts =
-        leaves_by (Unclaim w v) o ds1 ds2 c1 c2 (slice_set ss v stand.Waiting) stop_marks can puts (ap (λ (x : CachesValue). x.rows) back)
-        (map_set status_of ss v stand.Waiting)
-        (ap (map at_of) is ∙ unclaimed_workers ds w v)
-        (λ none. subst (λ (x : CachesValue). AreLeased x.out (map at_of ds1) (map leased_by ds1)) (sym back)
-        (subst (λ es. AreLeased (given_back c l).out (map at_of es) (map leased_by es)) (sym is) (leased_settled c ds w l kept.leased at)))
-        (subst (λ es. map ready_made es ≡ map (needed b) (map at_of es)) (sym is) (supplies_settled b ds w kept.supplies))
-        (unclaimed_marks b ss w v stop_marks kept.stop_marks_are can.stands.runs)
+    -- the other leases keep what they have
+    pub still_there : (l : Option ℕ) → IsGraph b.graph → slice_get (map leased_by ds) w ≡ Some l
+        → AreThere (taken_back c l gs).rows (taken_back c l gs).out
+    still_there l graph at =
+        let n = undone undo_claim board in
+        let ls = map leased_by (slice_set ds w desk.Idle) in
+        subst (λ (rows : List Row). AreThere rows (given_back c l).out) (sym (taken_rows l at))
+        (leased_there b n.state n.rows (given_back c l).out ls graph (reached n can.replays) refl
+        (subst (λ (ws : List At). AreLeased (given_back c l).out ws ls) (unclaimed_workers ds w v gs) (leased_settled c ds w l kept.leased at)))
 
-    abbrev undo_claim : Displaced
-    undo_claim = record { back = Unclaim w v; caches = caches_in o }
+    -- the vertex waits, the worker is idle, and the lease is taken back: that leaves the claim undone
+    pub unclaim_leaves : (l : Option ℕ) (ds1 : List Desk) (c1 : CachesValue) → slice_get (map leased_by ds) w ≡ Some l
+        → ds1 ≡ slice_set ds w desk.Idle → c1 ≡ taken_back c l gs
+        → Leaves b (data_of ss ds c stop_marks) (data_of (slice_set ss v stand.Waiting) ds1 c1 stop_marks) undo_claim
+    unclaim_leaves l ds1 c1 at is back = record {
+      statuses = map_set status_of ss v stand.Waiting;
+      workers = ap (map at_of) is ∙ unclaimed_workers ds w v gs;
+      rows = ap (λ (x : CachesValue). x.rows) back ∙ taken_rows l at;
+      leased = subst (λ (x : CachesValue). AreLeased x.out (map at_of ds1) (map leased_by ds1)) (sym back)
+          (subst (λ es. AreLeased (given_back c l).out (map at_of es) (map leased_by es)) (sym is) (leased_settled c ds w l kept.leased at));
+      supplies = subst (λ es. map ready_made es ≡ map (needed b) (map at_of es)) (sym is) (supplies_settled b ds w kept.supplies);
+      marks = unclaimed_marks b ss w v stop_marks kept.stop_marks_are can.stands.runs;
+    }
 
     -- the vertex is one of the graph's
     pub claimed_vertex : (x : Vertex) × (slice_get b.graph.vertices v ≡ Some x)
@@ -180,7 +192,10 @@ module _ (b : Build) (first : List Row) (ss : List Stand) (ds : List Desk) (c : 
 
   -- ---- a micro-step
 
-  module _ (w : ℕ) (mark : Mark) (o : Option before.Before) (can : CanUndo (record { back = Unstep w mark; caches = caches_in o }) board) where
+  module _ (w : ℕ) (mark : Mark) (ts : List TreeMap) (can : CanUndo (record { back = Unstep w mark ts }) board) where
+    abbrev undo_step : Displaced
+    undo_step = record { back = Unstep w mark ts }
+
     pub low_step : w < length ds
     low_step =
         let runs = can.stands.runs in
@@ -190,33 +205,48 @@ module _ (b : Build) (first : List Row) (ss : List Stand) (ds : List Desk) (c : 
         w))))
         × (map ready_made (slice_set ds w (desk_before mark (slice_get ds w))) ≡ map (needed b) (map at_of (slice_set ds w (desk_before mark (slice_get ds
         w)))))
-        × (map at_of (slice_set ds w (desk_before mark (slice_get ds w))) ≡ workers_before (Unstep w mark) (map at_of ds))
-    parts = unstep_leaves b first ss ds c es space w mark stop_marks kept can.stands.x can.stands.runs can.stands.mounts
+        × (map at_of (slice_set ds w (desk_before mark (slice_get ds w))) ≡ workers_before (Unstep w mark ts) (map at_of ds))
+    parts = unstep_leaves b first ss ds c es space w mark ts stop_marks kept can.stands.x can.stands.runs can.stands.mounts
 
-    -- with the desk put back to the mark, the leases of before match the workers
-    pub places_unstepped : (ds1 : List Desk) → ds1 ≡ slice_set ds w (desk_before mark (slice_get ds w))
-        → ForSome o (λ x. HasPlaceFor x.leases.items (map at_of ds1))
-    places_unstepped ds1 is =
-        places_put (record { back = Unstep w mark; caches = caches_in o }) board o (map at_of ds1) can.leased (ap (map at_of) is ∙ parts.2)
+    -- there is a tree for each instance of the worker's lease
+    pub step_count : (l : Option ℕ) → slice_get (map leased_by ds) w ≡ Some l → length ts ≡ length (leased_places c.out l)
+    step_count l at = can.stands.trees ∙ sym (ap length (places_so w can.stands.x l can.stands.runs at))
 
-    -- the desk is at the mark and the caches are put back: that leaves the micro-step undone
-    pub unstep_leaves_so : (ds1 ds2 : List Desk) (c2 : CachesValue) → ds1 ≡ slice_set ds w (desk_before mark (slice_get ds w)) → PutsCaches o ds1 ds2 c c2
-        → Leaves b (data_of ss ds c stop_marks) (data_of ss ds2 c2 stop_marks) (record { back = Unstep w mark; caches = caches_in o })
-    unstep_leaves_so ds1 ds2 c2 is puts =
-        leaves_by (Unstep w mark) o ds1 ds2 c c2 ss stop_marks can puts refl refl (ap (map at_of) is ∙ parts.2)
-        (λ none. subst (λ es. AreLeased c.out (map at_of es) (map leased_by es)) (sym is) parts.0)
-        (subst (λ es. map ready_made es ≡ map (needed b) (map at_of es)) (sym is) parts.1) kept.stop_marks_are
+    pub step_few : IsGraph b.graph → length ts < 2 ^ 32
+    step_few graph =
+        let d = desk_at ds w can.stands.x can.stands.runs in
+        let y = d.1 in
+        let many : length y.places.items ≡ length (needs_at (slice_get b.graph.vertices y.vertex))
+        = sym (length_map (λ (p : Place). p.key) y.places.items) ∙ ap (λ (s : Supplies). length s.keys) (made_enough b ds w d.0 y kept.supplies d.2)
+        ∙ length_map key_of (needs_at (slice_get b.graph.vertices y.vertex)) in
+        let count = can.stands.trees ∙ sym (ap (λ (z : Execution). length z.places) d.3) in
+        omega (arith, many, count, few_needs b.graph y.vertex graph)
 
-    pub step_space : SpaceBefore b (ends (record { back = Unstep w mark; caches = caches_in o }) can).replies (Step w) space space
+    -- the desk is at the mark and the trees are written back: that leaves the micro-step undone
+    pub unstep_leaves_so : (l : Option ℕ) (ds1 : List Desk) (c1 : CachesValue) → slice_get (map leased_by ds) w ≡ Some l
+        → ds1 ≡ slice_set ds w (desk_before mark (slice_get ds w)) → c1.rows ≡ put_each c.rows (leased_places c.out l) ts → c1.out ≡ c.out
+        → Leaves b (data_of ss ds c stop_marks) (data_of ss ds1 c1 stop_marks) undo_step
+    unstep_leaves_so l ds1 c1 at is rows out = record {
+      statuses = refl;
+      workers = ap (map at_of) is ∙ parts.2;
+      rows = rows ∙ ap (λ (ps : List Place). put_each c.rows ps ts) (places_so w can.stands.x l can.stands.runs at ∙ sym (ap places_at can.stands.runs));
+      leased = subst (λ (o : Leases). AreLeased o (map at_of ds1) (map leased_by ds1)) (sym out)
+          (subst (λ es. AreLeased c.out (map at_of es) (map leased_by es)) (sym is) parts.0);
+      supplies = subst (λ es. map ready_made es ≡ map (needed b) (map at_of es)) (sym is) parts.1;
+      marks = kept.stop_marks_are;
+    }
+
+    pub step_space : SpaceBefore b (ends undo_step can).replies (Step w) space space
     step_space =
-        let u : Displaced = record { back = Unstep w mark; caches = caches_in o } in
-        space_stayed b (undone u board).state (Step w) (board.state, (ends u can).reply) (ends u can).replies space (λ k e. cc) refl (ends u can).gives
-        (ends u can).counted
+        space_stayed b (undone undo_step board).state (Step w) (board.state, (ends undo_step can).reply) (ends undo_step can).replies space (λ k e. cc) refl
+        (ends undo_step can).gives (ends undo_step can).counted
 
   -- ---- a settle or a cancel
 
-  module _ (e : End) (w : ℕ) (x : own.Execution) (o : Option before.Before)
-      (can : CanUndo (record { back = Resume e w (left_in x); caches = caches_in o }) board) where
+  module _ (e : End) (w : ℕ) (x : own.Execution) (lent : Option LentValue) (can : CanUndo (record { back = Resume e w (left_in x) lent }) board) where
+    abbrev undo_end : Displaced
+    undo_end = record { back = Resume e w (left_in x) lent }
+
     pub low_resumed : w < length ds
     low_resumed =
         let idle = can.stands.idle in
@@ -225,42 +255,43 @@ module _ (b : Build) (first : List Row) (ss : List Stand) (ds : List Desk) (c : 
     -- the vertex that is resumed has a state
     pub low_vertex : x.vertex < length ss
     low_vertex =
-        let low = resumed_there (record { back = Resume e w (left_in x); caches = caches_in o }) board e w (left_in x) refl can.replays can.stands.idle in
+        let low = resumed_there undo_end board e w (left_in x) lent refl can.replays can.stands.idle in
         omega (arith, low, length_map status_of ss)
 
     -- and it is a vertex of the graph
     pub low_graph : x.vertex < length b.graph.vertices
     low_graph =
         let count = (consistent board kept.replays).count in
-        let low = resumed_there (record { back = Resume e w (left_in x); caches = caches_in o }) board e w (left_in x) refl can.replays can.stands.idle in
+        let low = resumed_there undo_end board e w (left_in x) lent refl can.replays can.stands.idle in
         omega (arith, low, count)
 
-    -- with the worker at its execution again, the leases of before match the workers
-    pub places_resumed : (ds1 : List Desk) → ds1 ≡ slice_set ds w (desk.Runs None x) → ForSome o (λ y. HasPlaceFor y.leases.items (map at_of ds1))
-    places_resumed ds1 is =
-        places_put (record { back = Resume e w (left_in x); caches = caches_in o }) board o (map at_of ds1) can.leased (ap (map at_of) is
-        ∙ resumed_workers ds e w None x)
+    -- the lease that was made ready can be put out
+    pub resume_lends : IsGraph b.graph → ForSome lent (CanLend c)
+    resume_lends graph k is =
+        let n = undone undo_end board in
+        let keys : AreKeysApart x.places.items = keys_apart x.places.items
+        (subst (λ (ks : List Key). Distinct ks) (sym (can.stands.keys ∙ ap (λ (s : Supplies). s.keys) can.stands.supplies))
+        (distinct_needs b (graph_distinct b graph) x.vertex (slice_get b.graph.vertices x.vertex) refl)) in
+        subst (CanLend c) (lent_is x.places.items (length (map at_of ds) + 1) k (sym can.stands.lent ∙ is))
+        (can_lend b n.state c.rows c.out (map at_of ds) (map leased_by ds) w (execution_of x) (length (map at_of ds) + 1) graph (reached n can.replays)
+        refl refl can.stands.idle kept.leased keys kept.few (omega arith))
 
-    -- the vertex runs again, and only where a failure is taken back the marks change: that leaves the settle undone
-    pub resume_leaves : (had : Stand) (failed : Bool) (ds1 ds2 : List Desk) (c2 : CachesValue) (marks : List Bool) → ds1
-        ≡ slice_set ds w (desk.Runs None x) → PutsCaches o ds1 ds2 c c2
+    -- the vertex runs again with its lease, and only where a failure is taken back the marks change: that leaves the settle undone
+    pub resume_leaves : (l : Option ℕ) (c1 : CachesValue) (had : Stand) (failed : Bool) (ds1 : List Desk) (marks : List Bool)
+        → (l, c1) ≡ lent_if c lent → ds1 ≡ slice_set ds w (desk.Runs l x)
         → slice_get ss x.vertex ≡ Some had → failed ≡ is_failed (ending_of (Some (status_of had)))
         → (failed ≡ true → marks ≡ stopped b (map status_of (slice_set ss x.vertex (stand.Running w)))) → (failed ≡ false → marks ≡ stop_marks)
-        → Leaves b (data_of ss ds c stop_marks) (data_of (slice_set ss x.vertex (stand.Running w)) ds2 c2 marks) (record {
-          back = Resume e w (left_in x);
-          caches = caches_in o;
-        })
-    resume_leaves had failed ds1 ds2 c2 marks is puts at fails anew same =
-        leaves_by (Resume e w (left_in x)) o ds1 ds2 c c2 (slice_set ss x.vertex (stand.Running w)) marks can puts refl
-        (map_set status_of ss x.vertex (stand.Running w))
-        (ap (map at_of) is ∙ resumed_workers ds e w None x)
-        (λ none. subst (λ es. AreLeased c.out (map at_of es) (map leased_by es)) (sym is)
-        (resumed_leased b first (data_of ss ds c stop_marks) es space w x kept can.stands.idle none))
-        (subst (λ es. map ready_made es ≡ map (needed b) (map at_of es)) (sym is) (supplies_claimed b ds w None x kept.supplies can.stands.supplies))
-        (resumed_marks b ss w x.vertex had failed stop_marks marks kept.stop_marks_are at fails anew same)
-
-    abbrev undo_end : Displaced
-    undo_end = record { back = Resume e w (left_in x); caches = caches_in o }
+        → Leaves b (data_of ss ds c stop_marks) (data_of (slice_set ss x.vertex (stand.Running w)) ds1 c1 marks) undo_end
+    resume_leaves l c1 had failed ds1 marks lends is at fails anew same = record {
+      statuses = map_set status_of ss x.vertex (stand.Running w);
+      workers = ap (map at_of) is ∙ resumed_workers ds e w l x lent;
+      rows = lent_rows c c1 lent l lends;
+      leased = subst (λ es. AreLeased c1.out (map at_of es) (map leased_by es)) (sym is)
+          (resumed_leased (data_of ss ds c stop_marks) w x c c1 (length (map at_of ds) + 1) l kept.leased can.stands.idle refl
+          (lends ∙ ap (lent_if c) can.stands.lent));
+      supplies = subst (λ es. map ready_made es ≡ map (needed b) (map at_of es)) (sym is) (supplies_claimed b ds w l x kept.supplies can.stands.supplies);
+      marks = resumed_marks b ss w x.vertex had failed stop_marks marks kept.stop_marks_are at fails anew same;
+    }
 
     -- the vertex has a count of cancels
     pub end_count : x.vertex < length space.cancels

@@ -1,37 +1,47 @@
 -- An event that is granted, and the board before it: the event's undo leads back there, and can be done.
 use Rattle.std.proofs.Common.{◌≡◌, ℕ, ◌+◌, ◌-◌, Bool, true, false, ◌||◌, List, [], ◌∷◌, ◌++◌, map, length, Option, Some, None, is_some, refl, sym, ap}
-use Rattle.std.proofs.Common.{subst, ◌∙◌, arith}
-use Rattle.std.specs.Prelude.{Result, Ok, Err, slice_get, slice_set, nat_le, not, ◌==◌, if◌then◌else◌}
-use Rattle.std.proofs.lemmas.Bool.{eqb-true}
-use Rattle.llb_cache.specs.Caches.{Row}
+use Rattle.std.proofs.Common.{subst, unwrap_or, ◌∙◌, arith}
+use Rattle.std.specs.Prelude.{Result, Ok, Err, slice_get, slice_set, nat_le, if◌then◌else◌}
+use Rattle.llb_cache.specs.Caches.{CachesValue, Row, AreApart}
+use Rattle.llb_cache.specs.declared.growth.Growth.{Growth}
+use Rattle.llb_cache.specs.declared.key.Key.{Key}
+use Rattle.llb_cache.specs.Growth.{LentValue, growth_at, unmade}
+use Rattle.llb_loader.specs.Graph.{IsGraph}
+use Rattle.llb_tree.specs.Tree.{TreeMap, empty_tree}
 use Rattle.llb_execution.specs.Marks.{Mark, mark_of}
 use Rattle.llb_execution.specs.Parts.{mounts_in}
 use Rattle.llb_execution.proofs.Marks.{puts_back}
 use Rattle.llb_loader.specs.declared.graph.Vertex.{Vertex}
 use Rattle.llb_model.specs.declared.fault.VertexFault.{VertexFault}
-use Rattle.llb_model.specs.Caches.{Store, put_all, trees_at}
-use Rattle.llb_model.specs.Program.{Build, MicroStep, needs_of, step_on}
+use Rattle.llb_model.specs.Caches.{Place, Hold, Distinct, content, put_all, trees_at}
+use Rattle.llb_model.specs.Kept.{store_of}
+use Rattle.llb_model.specs.Program.{Build, MicroStep, key_of, needs_of, step_on}
 use Rattle.llb_model.specs.State.{Status, Waiting, Running, Settled, Execution, At, Idle, Runs, State, program_in, work_of, next_step, ending_from, held}
-use Rattle.llb_model.specs.State.{places_for, begin_at}
+use Rattle.llb_model.specs.State.{places_for, begin_at, first_trees}
 use Rattle.llb_model.specs.Table.{Event, Claim, Step, Settle, Cancel, worker_of, with_step, step_by, stepped, settled, cancelled, after_end, table}
-use Rattle.llb_model.specs.Leases.{AreLeased}
+use Rattle.llb_model.specs.Leases.{HoldsAs, put_each}
+use Rattle.llb_model.proofs.Claims.{places_distinct, places_length, first_length}
 use Rattle.llb_model.proofs.Events.{Answer, IsStep, claim_places, claim_is, step_is, settle_is, cancel_is}
-use Rattle.llb_model.proofs.Lists.{get_set_same}
+use Rattle.llb_model.proofs.Lists.{get_set_same, length_set}
+use Rattle.llb_model.proofs.Needs.{graph_distinct}
+use Rattle.llb_model.proofs.Parts.{step_keeps}
+use Rattle.llb_model.proofs.Stores.{hold_all}
+use Rattle.llb_model.proofs.There.{held_are_there}
+use Rattle.llb_needs.specs.Needs.{growth_for}
 use Rattle.llb_state.specs.Board.{Seen, Replays, after_event, recorded}
-use Rattle.llb_state.specs.Caches.{written, places_at, rows_after}
+use Rattle.llb_state.specs.Caches.{written, places_at, rows_after, lent_of}
 use Rattle.llb_state.specs.Room.{Supplies, supplies_for, ready_made, needed, mounts_at, needs_at}
 use Rattle.llb_events.specs.Causes.{claim_fault, step_fault, settle_fault, cancel_fault}
 use Rattle.llb_board.specs.Undo.{told_as, walk_of, Back, Unclaim, Unstep, Resume, Displaced}
-use Rattle.llb_state.specs.Undoing.{Before, left_in}
-use Rattle.llb_board.specs.Undo.{statuses_before, with_view_back, step_before, workers_before, rows_before, store_before, undone}
-use Rattle.llb_board.specs.Undo.{StandsBehind, HasNoPlaces, FitsLeases, CanUndo, KeepsWhere, MarksClaim, MarksStep, MarksEnd, Marks}
+use Rattle.llb_state.specs.Undoing.{left_in}
+use Rattle.llb_board.specs.Undo.{statuses_before, with_view_back, step_before, workers_before, rows_before, undone}
+use Rattle.llb_board.specs.Undo.{StandsBehind, CanUndo, taken_at, MarksClaim, MarksStep, MarksEnd, Marks}
 use Rattle.llb_board.specs.Undo.{end_of, no_worker, not_running, event_before, IsLast}
 use Rattle.llb_board.specs.declared.undo.End.{End}
 use Rattle.llb_board.specs.declared.undo.End.TheVariants as end
 use Rattle.llb_events.specs.declared.fault.WalkFault.{WalkFault}
 use Rattle.llb_events.specs.declared.fault.WalkFault.TheVariants as walk
 use Rattle.llb_state.specs.Views.{execution_of, at_of}
-use Rattle.llb_board.specs.Walking.{KeepsIf}
 use Rattle.llb_events.specs.declared.fault.StepFault.TheVariants as no_step
 use Rattle.llb_state.specs.declared.stand.Desk.{Desk}
 use Rattle.llb_state.specs.declared.stand.Desk.TheVariants as desk
@@ -39,8 +49,11 @@ use Rattle.llb_state.specs.declared.stand.Execution as own
 use Rattle.llb_board.specs.declared.walk.Reply as replied
 use Rattle.llb_state.proofs.Calls.{claim_done, step_done, settle_done, cancel_done}
 use Rattle.llb_state.proofs.Kept.{made_enough}
-use Rattle.llb_state.proofs.Lists.{get_map, set_back, front_again}
-use Rattle.llb_state.proofs.Sound.{consistent}
+use Rattle.llb_state.proofs.Lists.{get_map, length_map, set_back, front_again}
+use Rattle.llb_state.proofs.Rewritten.{AreKeysApart}
+use Rattle.llb_state.proofs.Sound.{consistent, reached}
+use Rattle.llb_state.proofs.Unmade.{keys_apart, keys_taken, growths_are, unwritten, unstepped}
+use Rattle.llb_board.proofs.Undos.{distinct_needs}
 
 -- ---- what `walk` returns
 
@@ -71,35 +84,20 @@ granted b n (Cancel w) r is = told_of b n (Cancel w) cancel_fault walk.Cancel _ 
 record LeadsBack (u : Displaced) (b : Seen) (e : Event) (s : State) : Type 0 where
   statuses : statuses_before u.back s.statuses ≡ b.state.statuses
   workers : workers_before u.back s.workers ≡ b.state.workers
-  store : store_before u.caches s.store ≡ b.state.store
-  rows : rows_before u.caches (rows_after b.rows s (worker_of e)) ≡ b.rows
+  store : store_of b.rows ≡ b.state.store
+  rows : rows_before u.back s.workers (rows_after b.rows s (worker_of e)) ≡ b.rows
 
 leads_back : (u : Displaced) (b : Seen) (e : Event) (s : State) → LeadsBack u b e s → undone u (after_event b e s) ≡ b
-leads_back u b e s to = λ i. record {
-  build = b.build;
-  opening = b.opening;
-  first = b.first;
-  state = record { statuses = to.statuses i; workers = to.workers i; store = to.store i };
-  rows = to.rows i;
-  events = front_again b.events e i;
-}
-
--- the caches are those that were kept, or nothing of them has changed
-store_back : {A : Type 0} (shown : List A) (b : Seen) (o : Option Before) (store : Store) → KeepsWhere shown b o → (shown ≡ [] → store ≡ b.state.store)
-    → store_before o store ≡ b.state.store
-store_back shown b (Some c) store keeps stays = keeps.store
-store_back shown b None store keeps stays = stays keeps
-
-rows_back : {A : Type 0} (shown : List A) (b : Seen) (o : Option Before) (rows : List Row) → KeepsWhere shown b o → (shown ≡ [] → rows ≡ b.rows)
-    → rows_before o rows ≡ b.rows
-rows_back shown b (Some c) rows keeps stays = keeps.rows
-rows_back shown b None rows keeps stays = stays keeps
-
-fits_leases : {A : Type 0} (shown : List A) (u : Displaced) (b n : Seen) (o : Option Before) → undone u n ≡ b → KeepsWhere shown b o → (shown ≡ []
-    → HasNoPlaces u.back)
-    → FitsLeases u n o
-fits_leases shown u b n (Some c) is keeps none = subst (λ (m : Seen). AreLeased c.caches.out m.state.workers c.leases) (sym is) keeps.leased
-fits_leases shown u b n None is keeps none = none keeps
+leads_back u b e s to =
+    let store = ap store_of to.rows ∙ to.store in
+    λ i. record {
+      build = b.build;
+      opening = b.opening;
+      first = b.first;
+      state = record { statuses = to.statuses i; workers = to.workers i; store = store i };
+      rows = to.rows i;
+      events = front_again b.events e i;
+    }
 
 -- an event that is granted is the last of the record after it
 last_of : (u : Displaced) (b : Seen) (k : Back) (a : Answer) → table b.build b.state (event_before k) ≡ Some a → u.back ≡ k
@@ -110,17 +108,15 @@ last_of u b k a grants same is = record {
   events = λ i. (sym is i).events ++ event_before (sym same i) ∷ [];
 }
 
-can_undo : {A : Type 0} (shown : List A) (u : Displaced) (b : Seen) (k : Back) (a : Answer) → Replays b → table b.build b.state (event_before k) ≡ Some a
+can_undo : (u : Displaced) (b : Seen) (k : Back) (a : Answer) → Replays b → table b.build b.state (event_before k) ≡ Some a
     → undone u (after_event b (event_before k) a.0) ≡ b → u.back ≡ k → StandsBehind k (after_event b (event_before k) a.0)
-    → KeepsWhere shown b u.caches
-    → (shown ≡ [] → HasNoPlaces k) → CanUndo u (after_event b (event_before k) a.0)
-can_undo shown u b k a here grants is same stands keeps none =
+    → CanUndo u (after_event b (event_before k) a.0)
+can_undo u b k a here grants is same stands =
     let n = after_event b (event_before k) a.0 in
     record {
       replays = subst Replays (sym is) here;
       last = last_of u b k a grants same is;
       stands = subst (λ (x : Back). StandsBehind x n) (sym same) stands;
-      leased = fits_leases shown u b n u.caches is keeps (λ e. subst HasNoPlaces (sym same) (none e));
     }
 
 -- what an undo of an event does
@@ -130,35 +126,42 @@ pub record Undoes (b : Seen) (e : Event) (s : State) (u : Displaced) : Type 0 wh
 
 -- ---- of a claim
 
-needs_are : (vertex : Vertex) (o : Option Vertex) → o ≡ Some vertex → needs_at o ≡ [] → needs_of vertex ≡ []
-needs_are vertex o there none = ap needs_at (sym there) ∙ none
-
-claim_back : (b : Seen) (w v : ℕ) (a : Answer) (u : Displaced) → Replays b → table b.build b.state (Claim w v) ≡ Some a → MarksClaim b w v u
-    → Undoes b (Claim w v) a.0 u
-claim_back b w v a u here grants marks =
+claim_back : (b : Seen) (w v : ℕ) (a : Answer) (u : Displaced) → IsGraph b.build.graph → Replays b → table b.build b.state (Claim w v) ≡ Some a
+    → MarksClaim b w v u → Undoes b (Claim w v) a.0 u
+claim_back b w v a u graph here grants marks =
     let c = claim_is b.build b.state w v a grants in
     let s = b.state in
+    let needs = needs_of c.start.vertex in
     let ps = claim_places s c.start in
     let work = begin_at b.build s.store c.start ps in
     let z : Execution = record { vertex = v; done = 0; fault = None; own = work.own; places = ps } in
-    let none : needs_at (slice_get b.build.graph.vertices v) ≡ [] → ps ≡ []
-    = λ e. ap (places_for (held s.workers)) (needs_are c.start.vertex _ c.begins.there e) in
+    let k = Unclaim w v (map (growth_at b.rows) (taken_at b v)) in
+    let differ = graph_distinct b.build graph v c.start.vertex c.begins.there in
+    let count = places_length (held s.workers) needs in
+    let taken : taken_at b v ≡ ps = ap (λ o. places_for (held s.workers) (needs_at o)) c.begins.there in
     let runs : slice_get a.0.workers w ≡ Some (Runs z) = ap (λ (t : Answer). slice_get t.0.workers w) c.gives ∙ get_set_same s.workers w (Runs z) Idle c.idle in
+    let firsts = first_trees (store_of b.rows) c.start.inputs ps needs in
+    let apart : AreKeysApart ps = keys_apart ps (subst (λ (ks : List Key). Distinct ks) (sym (keys_taken (held s.workers) needs)) differ) in
+    let hold : Hold (put_all (store_of b.rows) ps firsts) ps firsts =
+    hold_all (store_of b.rows) ps firsts (places_distinct (held s.workers) needs differ) (first_length (store_of b.rows) c.start.inputs ps needs count) in
+    let rows : rows_before k a.0.workers (rows_after b.rows a.0 w) ≡ b.rows =
+    ap (λ o. unmade (written a.0.store b.rows (places_at o)) (places_at o) (map (growth_at b.rows) (taken_at b v))) runs
+    ∙ ap (λ (qs : List Place). unmade (written a.0.store b.rows ps) ps (map (growth_at b.rows) qs)) taken
+    ∙ ap (λ (t : Answer). unmade (written t.0.store b.rows ps) ps (map (growth_at b.rows) ps)) c.gives
+    ∙ ap (λ st. unmade (written (put_all st ps (first_trees st c.start.inputs ps needs)) b.rows ps) ps (map (growth_at b.rows) ps)) (sym marks.store)
+    ∙ unwritten (put_all (store_of b.rows) ps firsts) b.rows c.start.inputs ps needs apart count hold in
     let is = leads_back u b (Claim w v) a.0 (record {
       statuses = ap (λ k. statuses_before k a.0.statuses) marks.back
           ∙ ap (λ (t : Answer). slice_set t.0.statuses v Waiting) c.gives ∙ set_back s.statuses v (Running w) Waiting c.begins.waits;
       workers = ap (λ k. workers_before k a.0.workers) marks.back
           ∙ ap (λ (t : Answer). slice_set t.0.workers w Idle) c.gives ∙ set_back s.workers w (Runs z) Idle c.idle;
-      store = store_back (needs_at (slice_get b.build.graph.vertices v)) b u.caches a.0.store marks.caches
-          (λ e. ap (λ (t : Answer). t.0.store) c.gives ∙ ap (λ qs. put_all s.store qs work.trees) (none e));
-      rows = rows_back (needs_at (slice_get b.build.graph.vertices v)) b u.caches (rows_after b.rows a.0 w) marks.caches
-          (λ e. ap (λ o. written a.0.store b.rows (places_at o)) runs ∙ ap (written a.0.store b.rows) (none e));
+      store = marks.store;
+      rows = ap (λ k. rows_before k a.0.workers (rows_after b.rows a.0 w)) marks.back ∙ rows;
     }) in
     record {
       back = is;
-      can = can_undo (needs_at (slice_get b.build.graph.vertices v)) u b (Unclaim w v) a here grants is marks.back
-          (record { runs = ap (λ (t : Answer). slice_get t.0.statuses v) c.gives ∙ get_set_same s.statuses v (Running w) Waiting c.begins.waits })
-          marks.caches (λ e. tt);
+      can = can_undo u b k a here grants is marks.back
+          (record { runs = ap (λ (t : Answer). slice_get t.0.statuses v) c.gives ∙ get_set_same s.statuses v (Running w) Waiting c.begins.waits });
     }
 
 -- ---- of a step
@@ -197,37 +200,50 @@ view_back s x m none =
       places = x.places;
     }
 
-step_back : (b : Seen) (w : ℕ) (a : Answer) (u : Displaced) → Replays b → table b.build b.state (Step w) ≡ Some a → MarksStep b w u → Undoes b (Step w) a.0 u
-step_back b w a u here grants marks =
+step_back : (b : Seen) (w : ℕ) (a : Answer) (u : Displaced) → IsGraph b.build.graph → Replays b → table b.build b.state (Step w) ≡ Some a
+    → MarksStep b w u → Undoes b (Step w) a.0 u
+step_back b w a u graph here grants marks =
     let s = b.state in
     let x = marks.x in
     let c = steps_by b.build s w a x marks.runs (step_is b.build s w a grants) in
     let left = step_on x.done (Some c.step) (work_of s x) in
     let z = with_step x left in
     let mark = mark_of x.own in
+    let was = trees_at (store_of b.rows) x.places in
+    let k = Unstep w mark was in
     let runs : slice_get a.0.workers w ≡ Some (Runs z) = ap (λ (t : Answer). slice_get t.0.workers w) c.gives
     ∙ get_set_same s.workers w (Runs z) (Runs x) marks.runs in
     let again : step_before mark (slice_get a.0.workers w) ≡ Runs x
     = ap (step_before mark) runs ∙ ap (λ y. Runs y) (view_back s x c.step (clean (program_in b.build x).steps x c.step c.next)) in
+    let there = held_are_there b.build (graph_distinct b.build graph) s (reached b here) w x marks.runs in
+    let hold : Hold (store_of b.rows) x.places there.1.0 = subst (λ st. Hold st x.places there.1.0) (sym marks.store) there.1.1 in
+    let apart : AreKeysApart x.places = keys_apart x.places (subst (λ (ks : List Key). Distinct ks) (sym marks.keys)
+    (distinct_needs b.build (graph_distinct b.build graph) x.vertex (slice_get b.build.graph.vertices x.vertex) refl)) in
+    let count : length left.work.trees ≡ length x.places
+    = step_keeps x.done (Some c.step) (work_of s x) ∙ length_map (λ p. unwrap_or (content s.store p) empty_tree) x.places in
+    let rows : rows_before k a.0.workers (rows_after b.rows a.0 w) ≡ b.rows =
+    ap (λ o. put_each (written a.0.store b.rows (places_at o)) (places_at o) was) runs
+    ∙ ap (λ (t : Answer). put_each (written t.0.store b.rows x.places) x.places was) c.gives
+    ∙ ap (λ st. put_each (written (put_all st x.places left.work.trees) b.rows x.places) x.places was) (sym marks.store)
+    ∙ unstepped b.rows x.places left.work.trees there.1.0 there.0 apart count hold in
     let is = leads_back u b (Step w) a.0 (record {
       statuses = ap (λ k. statuses_before k a.0.statuses) marks.back ∙ ap (λ (t : Answer). t.0.statuses) c.gives;
       workers = ap (λ k. workers_before k a.0.workers) marks.back
           ∙ ap (slice_set a.0.workers w) again ∙ ap (λ (t : Answer). slice_set t.0.workers w (Runs x)) c.gives
           ∙ set_back s.workers w (Runs z) (Runs x) marks.runs;
-      store = store_back x.places b u.caches a.0.store marks.caches
-          (λ e. ap (λ (t : Answer). t.0.store) c.gives ∙ ap (λ qs. put_all s.store qs left.work.trees) e);
-      rows = rows_back x.places b u.caches (rows_after b.rows a.0 w) marks.caches
-          (λ e. ap (λ o. written a.0.store b.rows (places_at o)) runs ∙ ap (written a.0.store b.rows) e);
+      store = marks.store;
+      rows = ap (λ k. rows_before k a.0.workers (rows_after b.rows a.0 w)) marks.back ∙ rows;
     }) in
     record {
       back = is;
-      can = can_undo x.places u b (Unstep w mark) a here grants is marks.back
+      can = can_undo u b k a here grants is marks.back
           (record {
             x = z;
             runs = runs;
             mounts = ap mounts_in (puts_back x.own x.done (Some c.step) (trees_at s.store x.places))
                 ∙ marks.mounts;
-          }) marks.caches (λ e. tt);
+            trees = length_map (λ p. unwrap_or (content (store_of b.rows) p) empty_tree) x.places;
+          });
     }
 
 -- ---- of a settle or a cancel
@@ -256,86 +272,106 @@ end_back : (b : Seen) (e : End) (w : ℕ) (a : Answer) (u : Displaced) → Repla
 end_back b e w a u here grants marks =
     let s = b.state in
     let x = marks.left.execution in
+    let lent = lent_of x.places (length s.workers + 1) in
+    let k = Resume e w marks.left lent in
     let c = leaves_by b.build s e w a x marks.runs grants in
     let ran = (consistent b here).working w x marks.runs in
     let idle : slice_get a.0.workers w ≡ Some Idle = ap (λ (t : State). slice_get t.workers w) c.gives ∙ get_set_same s.workers w Idle (Runs x) marks.runs in
+    let many : length a.0.workers ≡ length s.workers = ap (λ (t : State). length t.workers) c.gives ∙ length_set s.workers w Idle in
     let is = leads_back u b (end_of e w) a.0 (record {
       statuses = ap (λ k. statuses_before k a.0.statuses) marks.back
           ∙ ap (λ (t : State). slice_set t.statuses x.vertex (Running w)) c.gives ∙ set_back s.statuses x.vertex c.status (Running w) ran;
       workers = ap (λ k. workers_before k a.0.workers) marks.back
           ∙ ap (λ (t : State). slice_set t.workers w (Runs x)) c.gives ∙ set_back s.workers w Idle (Runs x) marks.runs;
-      store = store_back x.places b u.caches a.0.store marks.caches (λ none. ap (λ (t : State). t.store) c.gives);
-      rows = ap (λ k. rows_before u.caches (rows_after b.rows a.0 k)) (worker_ends e w)
-          ∙ rows_back x.places b u.caches (rows_after b.rows a.0 w) marks.caches (λ none. ap (λ o. written a.0.store b.rows (places_at o)) idle);
+      store = marks.store;
+      rows = ap (λ k. rows_before k a.0.workers (rows_after b.rows a.0 (worker_of (end_of e w)))) marks.back
+          ∙ ap (rows_after b.rows a.0) (worker_ends e w) ∙ ap (λ o. written a.0.store b.rows (places_at o)) idle;
     }) in
     record {
       back = is;
-      can = can_undo x.places u b (Resume e w marks.left) a here grants is marks.back (record {
+      can = can_undo u b k a here grants is marks.back (record {
         idle = idle;
         supplies = marks.supplies;
-      }) marks.caches (λ none. none);
+        keys = marks.keys;
+        lent = ap (λ n. lent_of x.places (n + 1)) (sym many);
+      });
     }
 
 -- ---- of any event
 
-undoes : (b : Seen) (e : Event) (a : Answer) (u : Displaced) → Replays b → table b.build b.state e ≡ Some a → Marks b e u → Undoes b e a.0 u
-undoes b (Claim w v) a u here grants marks = claim_back b w v a u here grants marks
-undoes b (Step w) a u here grants marks = step_back b w a u here grants marks
-undoes b (Settle w) a u here grants marks = end_back b end.Settle w a u here grants marks
-undoes b (Cancel w) a u here grants marks = end_back b end.Cancel w a u here grants marks
+undoes : (b : Seen) (e : Event) (a : Answer) (u : Displaced) → IsGraph b.build.graph → Replays b → table b.build b.state e ≡ Some a → Marks b e u
+    → Undoes b e a.0 u
+undoes b (Claim w v) a u graph here grants marks = claim_back b w v a u graph here grants marks
+undoes b (Step w) a u graph here grants marks = step_back b w a u graph here grants marks
+undoes b (Settle w) a u graph here grants marks = end_back b end.Settle w a u here grants marks
+undoes b (Cancel w) a u graph here grants marks = end_back b end.Cancel w a u here grants marks
 
 -- what was kept before a granted event leads back from the board after it to the one before
-pub walk_back : (b n : Seen) (e : Event) (r : replied.Reply) (u : Displaced) → Replays b → walk_of b e ≡ Ok (n, r) → Marks b e u → undone u n ≡ b
-walk_back b n e r u here is marks =
+pub walk_back : (b n : Seen) (e : Event) (r : replied.Reply) (u : Displaced) → IsGraph b.build.graph → Replays b → walk_of b e ≡ Ok (n, r) → Marks b e u
+    → undone u n ≡ b
+walk_back b n e r u graph here is marks =
     let g = granted b n e r is in
-    ap (undone u) g.is ∙ (undoes b e g.answer u here g.grants marks).back
+    ap (undone u) g.is ∙ (undoes b e g.answer u graph here g.grants marks).back
 
 -- and it can be undone: the board before replays its record, and worker and vertex are as the event left them
-pub walk_can : (b n : Seen) (e : Event) (r : replied.Reply) (u : Displaced) → Replays b → walk_of b e ≡ Ok (n, r) → Marks b e u → CanUndo u n
-walk_can b n e r u here is marks =
+pub walk_can : (b n : Seen) (e : Event) (r : replied.Reply) (u : Displaced) → IsGraph b.build.graph → Replays b → walk_of b e ≡ Ok (n, r) → Marks b e u
+    → CanUndo u n
+walk_can b n e r u graph here is marks =
     let g = granted b n e r is in
-    subst (CanUndo u) (sym g.is) (undoes b e g.answer u here g.grants marks).can
+    subst (CanUndo u) (sym g.is) (undoes b e g.answer u graph here g.grants marks).can
 
 -- ---- what is kept before an event
 
-pub keeps_where : {A : Type 0} (xs : List A) (n : Seen) (asked : Bool) (o : Option Before) → KeepsIf asked n o → (asked ≡ false → xs ≡ []) → KeepsWhere xs n o
-keeps_where xs n asked (Some c) keeps none = keeps
-keeps_where xs n true None keeps none = absurd keeps
-keeps_where xs n false None keeps none = none refl
+-- before a claim, what its lease will add is all that it can displace of the caches
+pub marks_claim : (n : Seen) (w v : ℕ) (c : CachesValue) (gs : List Growth) → n.rows ≡ c.rows → n.state.store ≡ store_of c.rows
+    → HoldsAs c.out n.state.workers → AreApart c.out → gs ≡ map (growth_for c) (needs_at (slice_get n.build.graph.vertices v))
+    → MarksClaim n w v (record { back = Unclaim w v gs })
+marks_claim n w v c gs rows store holds apart is =
+    let needs = needs_at (slice_get n.build.graph.vertices v) in
+    record {
+      back = ap (Unclaim w v) (is ∙ growths_are c n.state.workers needs holds apart
+          ∙ ap (λ (rs : List Row). map (growth_at rs) (taken_at n v)) (sym rows));
+      store = ap store_of rows ∙ sym store;
+    }
 
 -- what a running worker has
-pub record IsAt (n : Seen) (b : Build) (ds : List Desk) (w : ℕ) (l : Option ℕ) (x : own.Execution) : Type 0 where
+pub record IsAt (n : Seen) (b : Build) (ds : List Desk) (rows : List Row) (w : ℕ) (l : Option ℕ) (x : own.Execution) : Type 0 where
   pub build : n.build ≡ b
   pub workers : n.state.workers ≡ map at_of ds
+  pub rows_are : n.rows ≡ rows
+  pub store : n.state.store ≡ store_of rows
   pub supplies : map ready_made ds ≡ map (needed b) (map at_of ds)
   pub there : slice_get ds w ≡ Some (desk.Runs l x)
 
--- before a step, the mark of the worker's view and, where asked for, the caches are all that the step can displace
-pub marks_step : (n : Seen) (b : Build) (ds : List Desk) (w : ℕ) (l : Option ℕ) (x : own.Execution) (m : Mark) (o : Option Before) (asked : Bool)
-    → IsAt n b ds w l x
-    → m ≡ mark_of x.view → KeepsIf asked n o → (asked ≡ false → x.places.items ≡ []) → MarksStep n w (record { back = Unstep w m; caches = o })
-marks_step n b ds w l x m o asked at is keeps none =
+-- before a step, the mark of the worker's view and the trees of its instances are all that the step can displace
+pub marks_step : (n : Seen) (b : Build) (ds : List Desk) (rows : List Row) (w : ℕ) (l : Option ℕ) (x : own.Execution) (m : Mark) (ts : List TreeMap)
+    → IsAt n b ds rows w l x → m ≡ mark_of x.view → ts ≡ trees_at (store_of rows) x.places.items
+    → MarksStep n w (record { back = Unstep w m ts })
+marks_step n b ds rows w l x m ts at is trees =
     let made = made_enough b ds w l x at.supplies at.there in
     record {
       x = execution_of x;
       runs = ap (λ ws. slice_get ws w) at.workers ∙ get_map at_of ds w (desk.Runs l x) at.there;
-      back = ap (Unstep w) is;
+      back = (λ i. Unstep w (is i) (trees i)) ∙ ap (λ (rs : List Row). Unstep w (mark_of x.view) (trees_at (store_of rs) x.places.items)) (sym at.rows_are);
       mounts = ap (λ (s : Supplies). s.mounts) made ∙ ap (λ (c : Build). length (mounts_at (slice_get c.graph.vertices x.vertex))) (sym at.build);
-      caches = keeps_where x.places.items n asked o keeps none;
+      keys = ap (λ (s : Supplies). s.keys) made ∙ ap (λ (c : Build). map key_of (needs_at (slice_get c.graph.vertices x.vertex))) (sym at.build);
+      store = ap store_of at.rows_are ∙ sym at.store;
     }
 
--- before a settle or a cancel, the worker's execution and, where asked for, the caches are all that it can displace
-pub marks_end : (n : Seen) (e : End) (b : Build) (ds : List Desk) (w : ℕ) (l : Option ℕ) (x y : own.Execution) (o : Option Before) (asked : Bool)
-    → IsAt n b ds w l x → left_in y ≡ left_in x → KeepsIf asked n o → (asked ≡ false → x.places.items ≡ [])
-    → MarksEnd n e w (record { back = Resume e w (left_in y); caches = o })
-marks_end n e b ds w l x y o asked at is keeps none =
+-- before a settle or a cancel, the worker's execution and its lease are all that it can displace
+pub marks_end : (n : Seen) (e : End) (b : Build) (ds : List Desk) (rows : List Row) (w : ℕ) (l : Option ℕ) (x y : own.Execution) (lent : Option LentValue)
+    → IsAt n b ds rows w l x → left_in y ≡ left_in x → lent ≡ lent_of x.places.items (length ds + 1)
+    → MarksEnd n e w (record { back = Resume e w (left_in y) lent })
+marks_end n e b ds rows w l x y lent at is lends =
     let made = made_enough b ds w l x at.supplies at.there in
+    let many : length ds ≡ length n.state.workers = sym (ap length at.workers ∙ length_map at_of ds) in
     record {
       left = left_in x;
       runs = ap (λ ws. slice_get ws w) at.workers ∙ get_map at_of ds w (desk.Runs l x) at.there;
-      back = ap (Resume e w) is;
+      back = (λ i. Resume e w (is i) (lends i)) ∙ ap (λ k. Resume e w (left_in x) (lent_of x.places.items (k + 1))) many;
       supplies = made ∙ ap (λ (c : Build). supplies_for (slice_get c.graph.vertices x.vertex)) (sym at.build);
-      caches = keeps_where x.places.items n asked o keeps none;
+      keys = refl;
+      store = ap store_of at.rows_are ∙ sym at.store;
     }
 
 -- ---- a worker that runs nothing
@@ -353,12 +389,3 @@ end_none n end.Cancel w at = ap (λ o. told_as walk.Cancel (recorded n (Cancel w
 pub end_idle : (n : Seen) (e : End) (w : ℕ) → slice_get n.state.workers w ≡ Some Idle → walk_of n (end_of e w) ≡ Err (not_running e)
 end_idle n end.Settle w at = ap (λ o. told_as walk.Settle (recorded n (Settle w) settle_fault (settled n.build n.state w o))) at
 end_idle n end.Cancel w at = ap (λ o. told_as walk.Cancel (recorded n (Cancel w) cancel_fault (cancelled n.state w o))) at
-
-none_of : {A : Type 0} (xs : List A) → length xs ≡ 0 → xs ≡ []
-none_of [] e = refl
-none_of (x ∷ xs) e = absurd (omega (arith, e))
-
--- a list that is not asked about is empty
-pub unasked : {A : Type 0} (xs : List A) (n : ℕ) (empty : Bool) → n ≡ length xs → empty ≡ (n == 0) → not empty ≡ false → xs ≡ []
-unasked xs n true len is asked = let zero_is = eqb-true n 0 (sym is) in none_of xs (omega (arith, len, zero_is))
-unasked xs n false len is asked = absurd cc

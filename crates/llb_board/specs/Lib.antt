@@ -1,5 +1,5 @@
 -- Read Headline first (the promise of the whole machine over a board; llb_state's Board says what a board is seen as, its Rules what each event
--- returns), then Opening, Landing (of work that was done elsewhere), Begun (which outcomes land with no comparison), Walking and Undo (an event is
+-- returns), then Opening, Landing (of work that was done elsewhere), Begun (which outcomes land with no comparison) and Undo (an event is
 -- done and taken back). Store says what a board's data represents.
 pub mod Store
 pub mod Headline
@@ -7,4 +7,3 @@ pub mod Opening
 pub mod Landing
 pub mod Begun
 pub mod Undo
-pub mod Walking

@@ -1,19 +1,24 @@
 -- An event as `walk` does it, what it displaces, and the board after the event is taken back.
-use Rattle.std.specs.Prelude.{◌≡◌, ℕ, ◌-◌, Bool, true, false, List, [], ◌∷◌, ◌++◌, length, Option, Some, None, Result, Ok, Err, slice_get, slice_set}
+use Rattle.std.specs.Prelude.{◌≡◌, ℕ, ◌+◌, ◌-◌, Bool, true, false, List, [], ◌∷◌, ◌++◌, length, map, Option, Some, None, Result, Ok, Err, slice_get, slice_set}
 use Rattle.llb_wire.specs.Answer as answer
 use Rattle.llb_cache.specs.Caches.{Row}
+use Rattle.llb_cache.specs.declared.growth.Growth.{Growth}
+use Rattle.llb_cache.specs.Growth.{LentValue, growth_at, unmade}
+use Rattle.llb_tree.specs.Tree.{TreeMap}
 use Rattle.llb_execution.specs.Marks.{Mark, mark_of, put_back}
 use Rattle.llb_execution.specs.Parts.{mounts_in}
-use Rattle.llb_model.specs.Caches.{Store}
+use Rattle.llb_model.specs.Caches.{Place, trees_at}
 use Rattle.llb_model.specs.Kept.{store_of}
-use Rattle.llb_model.specs.Leases.{AreLeased}
-use Rattle.llb_model.specs.State.{Status, Waiting, Running, Execution, At, Idle, Runs}
+use Rattle.llb_model.specs.Leases.{put_each}
+use Rattle.llb_model.specs.Program.{key_of}
+use Rattle.llb_model.specs.State.{Status, Waiting, Running, Execution, At, Idle, Runs, held, places_for}
 use Rattle.llb_model.specs.Table as table
 use Rattle.llb_state.specs.Board.{Seen, Replays}
 use Rattle.llb_state.specs.Room.{supplies_for, mounts_at, needs_at}
 use Rattle.llb_state.specs.Events.{Space, uncancelled}
 use Rattle.llb_state.specs.Rules.{claim_of, step_of, settle_of, cancel_of}
-use Rattle.llb_state.specs.Undoing.{Left, left_in, Before, front}
+use Rattle.llb_state.specs.Caches.{places_at, lent_of}
+use Rattle.llb_state.specs.Undoing.{Left, left_in, front}
 use Rattle.llb_events.specs.declared.event.Stepped.TheVariants as stepped
 use Rattle.llb_events.specs.declared.event.Settled.TheVariants as settled
 use Rattle.llb_events.specs.declared.fault.SettleFault.TheVariants as no_settle
@@ -78,28 +83,28 @@ not_running end.Cancel = walk.Cancel no_cancel.NotRunning
 
 -- ---- what an event displaces
 
--- a claim displaces the vertex that waited, a step what it can change of a view, a settle and a cancel what the worker ran
+-- a claim displaces the vertex that waited, and what its lease added is known; a step displaces what it can change of a view, and the trees of
+-- instances; a settle and a cancel displace what the worker ran, and the lease of its instances
 pub data Back : Type 0 where
-  Unclaim : ℕ → ℕ → Back
-  Unstep : ℕ → Mark → Back
-  Resume : End → ℕ → Left → Back
+  Unclaim : ℕ → ℕ → List Growth → Back
+  Unstep : ℕ → Mark → List TreeMap → Back
+  Resume : End → ℕ → Left → Option LentValue → Back
 
--- what an event displaced, and the caches as they were if the vertex shows some
+-- what an event displaced
 pub record Displaced : Type 0 where
   pub back : Back
-  pub caches : Option Before
 
 abbrev pub back_in : undo.Back → Back
-back_in (back.Unclaim w v) = Unclaim w v
-back_in (back.Unstep w mark) = Unstep w mark
-back_in (back.Resume e w x) = Resume e w (left_in x)
+back_in (back.Unclaim w v gs) = Unclaim w v gs.items
+back_in (back.Unstep w mark ts) = Unstep w mark ts.items
+back_in (back.Resume e w x l) = Resume e w (left_in x) l
 
 -- ---- the event taken back
 
 abbrev pub statuses_before : Back → List Status → List Status
-statuses_before (Unclaim w v) statuses = slice_set statuses v Waiting
-statuses_before (Unstep w mark) statuses = statuses
-statuses_before (Resume e w left) statuses = slice_set statuses left.execution.vertex (Running w)
+statuses_before (Unclaim w v gs) statuses = slice_set statuses v Waiting
+statuses_before (Unstep w mark ts) statuses = statuses
+statuses_before (Resume e w left l) statuses = slice_set statuses left.execution.vertex (Running w)
 
 -- one micro-step less is done, and none has faulted
 abbrev pub with_view_back : Mark → Execution → Execution
@@ -111,17 +116,15 @@ step_before mark (Some Idle) = Idle
 step_before mark None = Idle
 
 abbrev pub workers_before : Back → List At → List At
-workers_before (Unclaim w v) workers = slice_set workers w Idle
-workers_before (Unstep w mark) workers = slice_set workers w (step_before mark (slice_get workers w))
-workers_before (Resume e w left) workers = slice_set workers w (Runs left.execution)
+workers_before (Unclaim w v gs) workers = slice_set workers w Idle
+workers_before (Unstep w mark ts) workers = slice_set workers w (step_before mark (slice_get workers w))
+workers_before (Resume e w left l) workers = slice_set workers w (Runs left.execution)
 
-abbrev pub rows_before : Option Before → List Row → List Row
-rows_before (Some c) rows = c.caches.rows
-rows_before None rows = rows
-
-abbrev pub store_before : Option Before → Store → Store
-store_before (Some c) store = store_of c.caches.rows
-store_before None store = store
+-- the lists of instances, given what the workers have now
+abbrev pub rows_before : Back → List At → List Row → List Row
+rows_before (Unclaim w v gs) workers rows = unmade rows (places_at (slice_get workers w)) gs
+rows_before (Unstep w mark ts) workers rows = put_each rows (places_at (slice_get workers w)) ts
+rows_before (Resume e w left l) workers rows = rows
 
 -- the board after an undo
 abbrev pub undone : Displaced → Seen → Seen
@@ -129,9 +132,9 @@ undone u b = record b {
   state = record {
     statuses = statuses_before u.back b.state.statuses;
     workers = workers_before u.back b.state.workers;
-    store = store_before u.caches b.state.store;
+    store = store_of (rows_before u.back b.state.workers b.rows);
   };
-  rows = rows_before u.caches b.rows;
+  rows = rows_before u.back b.state.workers b.rows;
   events = front b.events;
 }
 
@@ -144,9 +147,9 @@ space_before end.Cancel v space = uncancelled v space
 
 -- the event that is taken back
 abbrev pub event_before : Back → table.Event
-event_before (Unclaim w v) = table.Claim w v
-event_before (Unstep w mark) = table.Step w
-event_before (Resume e w left) = end_of e w
+event_before (Unclaim w v gs) = table.Claim w v
+event_before (Unstep w mark ts) = table.Step w
+event_before (Resume e w left l) = end_of e w
 
 -- the event that is taken back is the last of the record
 pub record IsLast (u : Displaced) (b : Seen) : Type 0 where
@@ -158,68 +161,54 @@ pub record IsLast (u : Displaced) (b : Seen) : Type 0 where
 pub record IsBegun (b : Seen) (w v : ℕ) : Type 0 where
   pub runs : slice_get b.state.statuses v ≡ Some (Running w)
 
-pub record IsStepped (b : Seen) (w : ℕ) (mark : Mark) : Type 0 where
+pub record IsStepped (b : Seen) (w : ℕ) (mark : Mark) (ts : List TreeMap) : Type 0 where
   pub x : Execution
   pub runs : slice_get b.state.workers w ≡ Some (Runs x)
   pub mounts : mounts_in (put_back mark x.own) ≡ length (mounts_at (slice_get b.build.graph.vertices x.vertex))
+  pub trees : length ts ≡ length x.places
 
-pub record IsLeft (b : Seen) (w : ℕ) (left : Left) : Type 0 where
+pub record IsLeft (b : Seen) (w : ℕ) (left : Left) (l : Option LentValue) : Type 0 where
   pub idle : slice_get b.state.workers w ≡ Some Idle
   pub supplies : left.supplies ≡ supplies_for (slice_get b.build.graph.vertices left.execution.vertex)
+  pub keys : map (λ (p : Place). p.key) left.execution.places ≡ left.supplies.keys
+  pub lent : l ≡ lent_of left.execution.places (length b.state.workers + 1)
 
 abbrev pub StandsBehind : Back → Seen → Type 0
-StandsBehind (Unclaim w v) b = IsBegun b w v
-StandsBehind (Unstep w mark) b = IsStepped b w mark
-StandsBehind (Resume e w left) b = IsLeft b w left
-
--- if a worker left its vertex, what it left has no instances
-abbrev pub HasNoPlaces : Back → Type 0
-HasNoPlaces (Unclaim w v) = Unit {0}
-HasNoPlaces (Unstep w mark) = Unit {0}
-HasNoPlaces (Resume e w left) = left.execution.places ≡ []
-
--- in the caches that are put back, the workers' instances are leased, by these leases
-abbrev pub FitsLeases : Displaced → Seen → Option Before → Type 0
-FitsLeases u b (Some c) = AreLeased c.caches.out (undone u b).state.workers c.leases
-FitsLeases u b None = HasNoPlaces u.back
+StandsBehind (Unclaim w v gs) b = IsBegun b w v
+StandsBehind (Unstep w mark ts) b = IsStepped b w mark ts
+StandsBehind (Resume e w left l) b = IsLeft b w left l
 
 -- the board that an undo leaves is one that events lead to, and whose parts fit
 pub record CanUndo (u : Displaced) (b : Seen) : Type 0 where
   pub replays : Replays (undone u b)
   pub last : IsLast u b
   pub stands : StandsBehind u.back b
-  pub leased : FitsLeases u b u.caches
 
 -- ---- what is kept of a board before an event
 
--- the board's caches, and the leases of its workers
-pub record KeepsCaches (b : Seen) (c : Before) : Type 0 where
-  pub rows : c.caches.rows ≡ b.rows
-  pub store : store_of c.caches.rows ≡ b.state.store
-  pub leased : AreLeased c.caches.out b.state.workers c.leases
-
--- the caches are kept, or nothing is shown or held
-abbrev pub KeepsWhere : {A : Type 0} → List A → Seen → Option Before → Type 0
-KeepsWhere shown b (Some c) = KeepsCaches b c
-KeepsWhere shown b None = shown ≡ []
+-- the instances that the claim of a vertex takes
+abbrev pub taken_at : Seen → ℕ → List Place
+taken_at b v = places_for (held b.state.workers) (needs_at (slice_get b.build.graph.vertices v))
 
 pub record MarksClaim (b : Seen) (w v : ℕ) (u : Displaced) : Type 0 where
-  pub back : u.back ≡ Unclaim w v
-  pub caches : KeepsWhere (needs_at (slice_get b.build.graph.vertices v)) b u.caches
+  pub back : u.back ≡ Unclaim w v (map (growth_at b.rows) (taken_at b v))
+  pub store : store_of b.rows ≡ b.state.store
 
 pub record MarksStep (b : Seen) (w : ℕ) (u : Displaced) : Type 0 where
   pub x : Execution
   pub runs : slice_get b.state.workers w ≡ Some (Runs x)
-  pub back : u.back ≡ Unstep w (mark_of x.own)
+  pub back : u.back ≡ Unstep w (mark_of x.own) (trees_at (store_of b.rows) x.places)
   pub mounts : mounts_in x.own ≡ length (mounts_at (slice_get b.build.graph.vertices x.vertex))
-  pub caches : KeepsWhere x.places b u.caches
+  pub keys : map (λ (p : Place). p.key) x.places ≡ map key_of (needs_at (slice_get b.build.graph.vertices x.vertex))
+  pub store : store_of b.rows ≡ b.state.store
 
 pub record MarksEnd (b : Seen) (e : End) (w : ℕ) (u : Displaced) : Type 0 where
   pub left : Left
   pub runs : slice_get b.state.workers w ≡ Some (Runs left.execution)
-  pub back : u.back ≡ Resume e w left
+  pub back : u.back ≡ Resume e w left (lent_of left.execution.places (length b.state.workers + 1))
   pub supplies : left.supplies ≡ supplies_for (slice_get b.build.graph.vertices left.execution.vertex)
-  pub caches : KeepsWhere left.execution.places b u.caches
+  pub keys : map (λ (p : Place). p.key) left.execution.places ≡ left.supplies.keys
+  pub store : store_of b.rows ≡ b.state.store
 
 -- an undo that is made before an event has what the event can displace
 abbrev pub Marks : Seen → table.Event → Displaced → Type 0

@@ -2,34 +2,35 @@
 
 ghost use Rattle.std.specs.Prelude.{◌≡◌, ◌<◌, length};
 ghost use Rattle.llb_board.specs.Undo.{Unclaim, Unstep, Resume, undone, CanUndo, space_before};
-ghost use Rattle.llb_state.specs.Undoing.{left_in, caches_in, front};
+ghost use Rattle.llb_state.specs.Undoing.{left_in, front};
 
 use crate::board::Board;
+use llb_cache::{Growth, Lent};
 use llb_execution::Mark;
 use llb_state::{
-    Before, Desk, Execution, History, Stand, give_back, make_idle, mark_anew, open_anew,
-    put_caches, step_back,
+    Desk, Execution, History, Stand, lend_again, make_idle, mark_anew, open_anew, step_back,
+    take_back, write_back,
 };
+use llb_tree::Tree;
 use std::marker::Model;
 use std::mem;
 
-/// What is needed to take an event back: what the event displaced and, if its vertex shows caches, the caches as they were, with the
-/// leases of all workers. Contracts see it as `Displaced`.
+/// What is needed to take an event back: what the event displaced. It has a part for each cache that the vertex shows, and none for other
+/// caches. Contracts see it as `Displaced`.
 #[derive(Drop)]
 pub struct Undo {
     pub(crate) back: Back,
-    pub(crate) caches: Option<Before>,
 }
 
 /// What an event displaced, by the kind of the event.
 #[derive(Drop)]
 pub(crate) enum Back {
-    /// For a claim: the worker, and the vertex that waited.
-    Unclaim(u32, u32),
-    /// For a step: the worker, and what the micro-step could change of its view.
-    Unstep(u32, Mark),
-    /// For a settle or a cancel: which of the two it was, the worker, and what it ran.
-    Resume(End, u32, Execution),
+    /// For a claim: the worker, the vertex that waited, and what its lease added to the caches.
+    Unclaim(u32, u32, Vec<Growth>),
+    /// For a step: the worker, what the micro-step could change of its view, and the trees of its cache instances.
+    Unstep(u32, Mark, Vec<Tree>),
+    /// For a settle or a cancel: which of the two it was, the worker, what it ran, and a lease of its cache instances, if it had some.
+    Resume(End, u32, Execution, Option<Lent>),
 }
 
 /// The event by which a worker leaves what it runs.
@@ -43,13 +44,12 @@ impl Model for Undo {
     ghost use Rattle.std.specs.Coded.{codes};
     ghost use Rattle.llb_tree.specs.Tree.{coded_tree};
     ghost use Rattle.llb_board.specs.Undo.{Displaced, back_in};
-    ghost use Rattle.llb_state.specs.Undoing.{caches_in};
 
     ghost Value = { Displaced };
 
     ghost coded = { Prim.hlevel (codes, coded_tree) };
 
-    ghost view = { λ u. record { back = back_in u.back; caches = caches_in u.caches } };
+    ghost view = { λ u. record { back = back_in u.back } };
 }
 
 impl Board {
@@ -58,22 +58,22 @@ impl Board {
         requires { CanUndo undo self.old }
         ensures { self.new ≡ undone undo self.old }
     {
-        let Undo { back, caches } = undo;
+        let Undo { back } = undo;
         match back {
-            Back::Unclaim(w, v) => self.unclaim(w, v, caches),
-            Back::Unstep(w, mark) => self.unstep(w, mark, caches),
-            Back::Resume(end, w, execution) => self.resume(end, w, execution, caches),
+            Back::Unclaim(w, v, growths) => self.unclaim(w, v, growths),
+            Back::Unstep(w, mark, trees) => self.unstep(w, mark, trees),
+            Back::Resume(end, w, execution, lent) => self.resume(end, w, execution, lent),
         }
     }
 
     // Takes a claim back: the worker is idle, the vertex waits, and the room that the claim reserved is given up.
-    fn unclaim(&mut self, w: u32, v: u32, before: Option<Before>)
-        requires { CanUndo (record { back = Unclaim w v; caches = caches_in before }) self.old }
-        ensures { self.new ≡ undone (record { back = Unclaim w v; caches = caches_in before }) self.old }
+    fn unclaim(&mut self, w: u32, v: u32, growths: Vec<Growth>)
+        requires { CanUndo (record { back = Unclaim w v growths.items }) self.old }
+        ensures { self.new ≡ undone (record { back = Unclaim w v growths.items }) self.old }
     {
+        let _ = self.build.vertices();
         let lease = make_idle(&mut self.desks, w);
-        give_back(&mut self.caches, lease);
-        put_caches(&mut self.desks, &mut self.caches, before);
+        take_back(&mut self.caches, lease, &growths);
         self.stands[v as usize] = Stand::Waiting;
         self.first_open = self.first_open.min(v);
         self.history.take_back();
@@ -82,24 +82,25 @@ impl Board {
     }
 
     // Takes a micro-step back.
-    fn unstep(&mut self, w: u32, mark: Mark, before: Option<Before>)
-        requires { CanUndo (record { back = Unstep w mark; caches = caches_in before }) self.old }
-        ensures { self.new ≡ undone (record { back = Unstep w mark; caches = caches_in before }) self.old }
+    fn unstep(&mut self, w: u32, mark: Mark, trees: Vec<Tree>)
+        requires { CanUndo (record { back = Unstep w mark trees.items }) self.old }
+        ensures { self.new ≡ undone (record { back = Unstep w mark trees.items }) self.old }
     {
-        step_back(&mut self.desks, w, mark);
-        put_caches(&mut self.desks, &mut self.caches, before);
+        let _ = self.build.vertices();
+        let lease = step_back(&mut self.desks, w, mark);
+        write_back(&mut self.caches, lease, trees);
         self.history.take_back();
     }
 
     // Takes a settle or a cancel back: the worker runs what it had left. The marks are made anew if the vertex had failed.
-    fn resume(&mut self, end: End, w: u32, execution: Execution, before: Option<Before>)
-        requires { CanUndo (record { back = Resume end w (left_in execution); caches = caches_in before }) self.old }
-        ensures { self.new ≡ undone (record { back = Resume end w (left_in execution); caches = caches_in before }) self.old }
+    fn resume(&mut self, end: End, w: u32, execution: Execution, lent: Option<Lent>)
+        requires { CanUndo (record { back = Resume end w (left_in execution) lent }) self.old }
+        ensures { self.new ≡ undone (record { back = Resume end w (left_in execution) lent }) self.old }
     {
         let v = execution.vertex;
         let vertices = self.build.vertices();
-        self.desks[w as usize] = Desk::Runs(None, execution);
-        put_caches(&mut self.desks, &mut self.caches, before);
+        let lease = lend_again(&mut self.caches, lent);
+        self.desks[w as usize] = Desk::Runs(lease, execution);
         let had = mem::replace(&mut self.stands[v as usize], Stand::Running(w));
         mark_anew(
             &mut self.stop_marks,

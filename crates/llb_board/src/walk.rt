@@ -1,21 +1,22 @@
 //! Does an event and keeps what undoes it, for callers that go through a run forwards and back.
 
-ghost use Rattle.std.specs.Prelude.{◌≡◌, ◌==◌, false, not, length, option_map, slice_get, OnErr, IfOk, IfErr, Err};
+ghost use Rattle.std.specs.Prelude.{◌≡◌, false, map, option_map, slice_get, OnErr, IfOk, IfErr, Err};
+ghost use Rattle.llb_needs.specs.Needs.{growth_for};
 ghost use Rattle.llb_state.specs.Room.{needs_at};
 ghost use Rattle.llb_board.specs.Undo.{GivesWalk, walk_of, walk_memory, undone, CanUndo, Marks, MarksClaim, MarksStep, MarksEnd};
 ghost use Rattle.llb_board.specs.Undo.{end_of, no_worker, not_running};
-ghost use Rattle.llb_state.specs.Undoing.{caches_in};
-ghost use Rattle.llb_board.specs.Walking.{KeepsIf};
 ghost use Rattle.llb_events.specs.Views.{event_of};
 ghost use Rattle.llb_model.specs.Table.{Step};
 
 use crate::board::Board;
 use crate::undo::{Back, End, Undo};
+use llb_cache::{Caches, Growth};
 use llb_events::{
     CancelFault, Cancelled, Event, Memory, SettleFault, Settled, StepFault, Stepped, WalkFault,
 };
-use llb_needs::shows_cache;
-use llb_state::{Before, Build, Desk, copied, copied_leases};
+use llb_needs::growths_of;
+use llb_state::{Build, Desk, contents, copied, lent_for};
+use std::alloc::Global;
 
 /// The reply of an event.
 #[derive(Clone, Copy, Debug, PartialEq, Eq)]
@@ -43,6 +44,7 @@ impl Board {
         ensures err { OnErr result (self.new ≡ self.old) }
     {
         self.replays();
+        self.is_graph();
         let undo = self.before(event)?;
         let reply = self.happen(event)?;
         Ok(Walked { reply, undo })
@@ -89,10 +91,10 @@ impl Board {
     fn before_claim(&self, w: u32, v: u32) -> Result<Undo, Memory>
         ensures { IfOk result (λ u. MarksClaim self.now w v u) }
     {
-        let caches = self.caches_if(shows_cache_at(&self.build, v))?;
+        self.caches.is_exclusive();
+        let growths = growths_at(self.alloc, &self.build, &self.caches, v)?;
         Ok(Undo {
-            back: Back::Unclaim(w, v),
-            caches,
+            back: Back::Unclaim(w, v, growths),
         })
     }
 
@@ -100,15 +102,15 @@ impl Board {
         ensures marks { IfOk result (λ u. MarksStep self.now w u) }
         ensures refused { IfErr result (λ e. walk_memory e ≡ false → walk_of self.now (Step w) ≡ Err e) }
     {
+        self.caches.is_exclusive();
         match desk_of(&self.desks, w) {
             None => Err(WalkFault::Step(StepFault::NoWorker)),
             Some(Desk::Idle) => Err(WalkFault::Step(StepFault::NotRunning)),
             Some(Desk::Runs(_, execution)) => {
                 let mark = execution.view.mark()?;
-                let caches = self.caches_if(!execution.places.is_empty())?;
+                let trees = contents(self.alloc, &self.caches, &execution.places)?;
                 Ok(Undo {
-                    back: Back::Unstep(w, mark),
-                    caches,
+                    back: Back::Unstep(w, mark, trees),
                 })
             }
         }
@@ -123,26 +125,12 @@ impl Board {
             Some(Desk::Idle) => Err(not_running(end)),
             Some(Desk::Runs(_, execution)) => {
                 let left = copied(self.alloc, execution)?;
-                let caches = self.caches_if(!execution.places.is_empty())?;
+                let lent = lent_for(self.alloc, &execution.places, self.desks.len() + 1)?;
                 Ok(Undo {
-                    back: Back::Resume(end, w, left),
-                    caches,
+                    back: Back::Resume(end, w, left, lent),
                 })
             }
         }
-    }
-
-    // Returns a copy of the caches and of the leases of all workers, if it is needed.
-    fn caches_if(&self, needed: bool) -> Result<Option<Before>, Memory>
-        ensures { IfOk result (λ o. KeepsIf needed self.now (caches_in o)) }
-    {
-        if !needed {
-            return Ok(None);
-        }
-        Ok(Some(Before {
-            caches: self.caches.copy()?,
-            leases: copied_leases(self.alloc, &self.desks)?,
-        }))
     }
 }
 
@@ -173,12 +161,12 @@ fn desk_of(desks: &[Desk], w: u32) -> Option<&Desk>
     desks.get(w as usize)
 }
 
-// Returns whether the vertex of a number shows a cache; false past the last vertex.
-fn shows_cache_at(build: &Build, v: u32) -> bool
-    ensures { result ≡ not (length (needs_at (slice_get build.now.graph.vertices v)) == 0) }
+// Returns what a claim of the vertex of a number would add to the caches; nothing past the last vertex.
+fn growths_at(alloc: Global, build: &Build, caches: &Caches, v: u32) -> Result<Vec<Growth>, Memory>
+    ensures { IfOk result (λ gs. gs.items ≡ map (growth_for caches.now) (needs_at (slice_get build.now.graph.vertices v))) }
 {
     match build.vertex(v) {
-        Some(vertex) => shows_cache(vertex),
-        None => false,
+        Some(vertex) => growths_of(alloc, caches, vertex),
+        None => Ok(Vec::new(alloc)),
     }
 }

@@ -7,3 +7,7 @@ pub mod Marked
 pub mod Holding
 pub mod Placed
 pub mod Searched
+pub mod Written
+pub mod Unmade
+pub mod Popped
+pub mod Again

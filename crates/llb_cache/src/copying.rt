@@ -32,7 +32,7 @@ fn copied_entries(entries: &Vec<(Key, Trees)>) -> Result<Vec<(Key, Trees)>, Memo
     Ok(copies)
 }
 
-fn copied_places(alloc: Global, places: &[Place]) -> Result<Many<Place>, Memory>
+pub(crate) fn copied_places(alloc: Global, places: &[Place]) -> Result<Many<Place>, Memory>
     ensures { IfOk result (λ ps. ps ≡ places.now) }
 {
     let mut copies = Vec::new(alloc);

@@ -2,6 +2,7 @@
 //! changes.
 
 ghost use Rattle.std.specs.Prelude.{◌≡◌, ◌↔◌, IsTrue, ◌<◌, ◌++◌, List, [], ◌∷◌, length, slice_get, slice_set, option_map, IfOk, Some};
+ghost use Rattle.llb_cache.specs.Growth.{front};
 
 use crate::fault::Memory;
 use llb_tree::Tree;
@@ -103,6 +104,13 @@ impl Trees {
         items.append(&mut self.items).unwrap();
         items.push_reserved(tree);
         self.items = items;
+    }
+
+    // Drops the last tree, where there is one.
+    pub(crate) fn pop(&mut self)
+        ensures { self.new ≡ front self.old }
+    {
+        self.items.pop();
     }
 
     pub(crate) fn copy(&self) -> Result<Trees, Memory>

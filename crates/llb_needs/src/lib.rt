@@ -5,4 +5,4 @@
 
 mod needs;
 
-pub use needs::{Taking, Wanted, mount_numbers, shows_cache, taking_for, wanted_by};
+pub use needs::{Taking, Wanted, growths_of, mount_numbers, taking_for, wanted_by};

@@ -19,5 +19,5 @@ pub mod Spaces
 pub mod Kept
 pub mod Skipping
 pub mod Stepping
-pub mod PutBack
 pub mod Alike
+pub mod Unmade

@@ -25,7 +25,7 @@ AreKeysApart (p ∷ ps) = ((q : Place) → Has ps q → p.key ≢ q.key) × AreK
 abbrev pub AreWithin : List Row → List Place → Type 0
 AreWithin rows ps = (p : Place) → Has ps p → p.number < length (trees_of rows p.key)
 
-other_key : (k l : Key) → k ≢ l → same_key k l ≡ false
+pub other_key : (k l : Key) → k ≢ l → same_key k l ≡ false
 other_key k l apart = go (same_key k l) refl
   where
     go : (b : Bool) → same_key k l ≡ b → b ≡ false

@@ -21,14 +21,16 @@ mod undoing;
 
 pub use build::Build;
 pub use choice::{all_settled, first_open, next_claim, next_event};
-pub use copying::{copied, copied_desks, copied_leases, copied_stands};
+pub use copying::{copied, copied_desks, copied_stands};
 pub use events::Events;
 pub use fresh::{Fresh, opening};
 pub use history::History;
-pub use instances::{give_all_back, give_back, lease_with_room, write_back};
+pub use instances::{
+    contents, give_all_back, give_back, lease_with_room, lend_again, lent_for, take_back, write_back,
+};
 pub use landing::{has_shared, is_run_of, put_left};
 pub use ready::{is_marked, is_ready, output_at, stand_at};
 pub use same::{same_desks, same_events, same_stands};
 pub use stand::{Desk, Execution, Stand};
 pub use step::{Begun, begin, claimable, desk_at, give_up, is_finished, leave, step_at};
-pub use undoing::{Before, make_idle, mark_anew, open_anew, put_caches, step_back};
+pub use undoing::{make_idle, mark_anew, open_anew, step_back};

@@ -1,0 +1,205 @@
+-- What was added for instances is removed again: the rows are those of before, no key has more instances than before, and marks stay.
+use Rattle.std.proofs.Common.{◌≡◌, ℕ, zero, suc, ◌+◌, ◌-◌, ◌<◌, ◌≤◌, Bool, true, false, cond, List, [], ◌∷◌, ◌++◌, length, take, Option, Some, None, is_some}
+use Rattle.std.proofs.Common.{slice_index_or, unwrap_or, nat_lt, refl, sym, ap, ◌∙◌, subst, arith, inl, inr, ◌⊎◌, length-append, le-ltb}
+use Rattle.std.specs.Map.{keys_of, lookup}
+use Rattle.std.proofs.Math.Seq.{take-append_seam}
+use Rattle.std.proofs.lemmas.List.{length-take}
+use Rattle.llb_tree.specs.Tree.{TreeMap}
+use Rattle.llb_cache.specs.declared.growth.Growth.{Growth}
+use Rattle.llb_cache.specs.declared.growth.Growth.TheVariants.{Nothing, Instance, Row}
+use Rattle.llb_cache.specs.declared.key.Key.{Key}
+use Rattle.llb_cache.specs.declared.need.Place.{Place}
+use Rattle.llb_cache.specs.Key.{same_key, key_itself}
+use Rattle.llb_cache.specs.Caches as cache
+use Rattle.llb_cache.specs.Caches.{trees_of, with_trees, made}
+use Rattle.llb_cache.specs.Firsts.{absent_found, written_absent}
+use Rattle.llb_cache.specs.Growth.{front, growth_by, growth_at, shorter, unmade_one, unmade}
+use Rattle.llb_cache.specs.Marks.{marked, Unmarks}
+use Rattle.llb_cache.specs.Rows.{found_again, found_before, counted}
+
+-- ---- all but the last
+
+front_none : {A : Type 0} → front {A} [] ≡ []
+front_none = let n : length {A} [] - 1 ≡ 0 = omega arith in ap (λ k. take {A} k []) n
+
+front_one : {A : Type 0} (x : A) → front (x ∷ []) ≡ []
+front_one x = let n : length (x ∷ []) - 1 ≡ 0 = omega arith in ap (λ k. take k (x ∷ [])) n
+
+front_more : {A : Type 0} (x y : A) (xs : List A) → front (x ∷ y ∷ xs) ≡ x ∷ front (y ∷ xs)
+front_more x y xs = let n : length (x ∷ y ∷ xs) - 1 ≡ suc (length (y ∷ xs) - 1) = omega arith in ap (λ k. take k (x ∷ y ∷ xs)) n
+
+front_pushed : {A : Type 0} (xs : List A) (x : A) → front (xs ++ x ∷ []) ≡ xs
+front_pushed xs x =
+    let n : length (xs ++ x ∷ []) - 1 ≡ length xs = omega (arith, length-append xs (x ∷ [])) in
+    ap (λ k. take k (xs ++ x ∷ [])) n ∙ take-append_seam xs (x ∷ [])
+
+front_length : {A : Type 0} (xs : List A) → length (front xs) ≤ length xs
+front_length [] = omega (arith, ap length front_none)
+front_length (x ∷ []) = omega (arith, ap length (front_one x))
+front_length (x ∷ y ∷ xs) = let rest = front_length (y ∷ xs) in omega (arith, rest, ap length (front_more x y xs))
+
+-- a front of as many rows has as many marks
+pub front_alike : {A B : Type 0} (xs : List A) (ys : List B) → length xs ≡ length ys → length (front xs) ≡ length (front ys)
+front_alike [] [] same = ap length front_none ∙ sym (ap length front_none)
+front_alike [] (y ∷ ys) same = absurd (omega (arith, same))
+front_alike (x ∷ xs) [] same = absurd (omega (arith, same))
+front_alike (x ∷ []) (y ∷ []) same = ap length (front_one x) ∙ sym (ap length (front_one y))
+front_alike (x ∷ []) (y ∷ z ∷ ys) same = absurd (omega (arith, same))
+front_alike (x ∷ w ∷ xs) (y ∷ []) same = absurd (omega (arith, same))
+front_alike (x ∷ w ∷ xs) (y ∷ z ∷ ys) same =
+    let rest = front_alike (w ∷ xs) (z ∷ ys) (omega (arith, same)) in
+    ap length (front_more x w xs) ∙ ap suc rest ∙ sym (ap length (front_more y z ys))
+
+-- ---- no key has more instances than before
+
+-- a look at all rows but the last: as before, or nothing
+look_front : (es : List cache.Row) (k : Key)
+    → (lookup (same_key k) (front es) ≡ lookup (same_key k) es) ⊎ (lookup (same_key k) (front es) ≡ None)
+look_front [] k = inl (ap (lookup (same_key k)) front_none)
+look_front (e ∷ []) k = inr (ap (lookup (same_key k)) (front_one e))
+look_front (e ∷ f ∷ es) k = elim (look_front (f ∷ es) k) [
+  | inl h ↦ inl (ap (lookup (same_key k)) (front_more e f es) ∙ ap (λ o. cond (same_key k e.0) (Some e.1) o) h)
+  | inr h ↦ go (same_key k e.0) refl h
+]
+  where
+    more : lookup (same_key k) (front (e ∷ f ∷ es)) ≡ cond (same_key k e.0) (Some e.1) (lookup (same_key k) (front (f ∷ es)))
+    more = ap (lookup (same_key k)) (front_more e f es)
+
+    go : (b : Bool) → same_key k e.0 ≡ b → lookup (same_key k) (front (f ∷ es)) ≡ None
+        → (lookup (same_key k) (front (e ∷ f ∷ es)) ≡ lookup (same_key k) (e ∷ f ∷ es)) ⊎ (lookup (same_key k) (front (e ∷ f ∷ es)) ≡ None)
+    go true is h =
+        inl (more ∙ ap (λ b. cond b (Some e.1) (lookup (same_key k) (front (f ∷ es)))) is ∙ sym (ap (λ b. cond b (Some e.1) (lookup (same_key k) (f ∷ es))) is))
+    go false is h = inr (more ∙ ap (λ b. cond b (Some e.1) (lookup (same_key k) (front (f ∷ es)))) is ∙ h)
+
+fewer_front : (es : List cache.Row) (k : Key) → length (trees_of (front es) k) ≤ length (trees_of es k)
+fewer_front es k = elim (look_front es k) [
+  | inl h ↦ omega (arith, ap (λ (o : Option (List TreeMap)). length (unwrap_or o [])) h)
+  | inr h ↦ omega (arith, ap (λ (o : Option (List TreeMap)). length (unwrap_or o [])) h)
+]
+
+fewer_shorter : (rows : List cache.Row) (key : Key) (o : Option (List TreeMap)) (k : Key) → lookup (same_key key) rows ≡ o
+    → length (trees_of (shorter rows key o) k) ≤ length (trees_of rows k)
+fewer_shorter rows key None k at = omega arith
+fewer_shorter rows key (Some ts) k at = elim (counted rows key (front ts) k) [
+  | inl h ↦
+    let own : length (trees_of rows k) ≡ length ts =
+    ap (λ l. length (trees_of rows l)) h.0 ∙ ap (λ (o : Option (List TreeMap)). length (unwrap_or o [])) at in
+    omega (arith, h.1, own, front_length ts)
+  | inr h ↦ omega (arith, h)
+]
+
+pub fewer_one : (rows : List cache.Row) (p : Place) (g : Growth) (k : Key) → length (trees_of (unmade_one rows p g) k) ≤ length (trees_of rows k)
+fewer_one rows p Nothing k = omega arith
+fewer_one rows p Instance k = fewer_shorter rows p.key (lookup (same_key p.key) rows) k refl
+fewer_one rows p Row k = fewer_front rows k
+
+pub fewer_all : (rows : List cache.Row) (ps : List Place) (gs : List Growth) (k : Key) → length (trees_of (unmade rows ps gs) k) ≤ length (trees_of rows k)
+fewer_all rows [] gs k = omega arith
+fewer_all rows (p ∷ ps) [] k = omega arith
+fewer_all rows (p ∷ ps) (g ∷ gs) k =
+    let rest = fewer_all rows ps gs k in
+    let one = fewer_one (unmade rows ps gs) p g k in
+    omega (arith, rest, one)
+
+-- ---- marks
+
+-- the marks of all rows but the last
+pub marks_front : (es : List cache.Row) (marks : List (List Bool)) → length marks ≡ length es → Unmarks es marks (front es) (front marks)
+unfolding marked
+marks_front [] [] count p = inl (λ i. marked (keys_of (front_none {cache.Row} i)) (front_none {List Bool} i) p)
+marks_front [] (m ∷ marks) count p = absurd (omega (arith, count))
+marks_front (e ∷ es) [] count p = absurd (omega (arith, count))
+marks_front (e ∷ []) (m ∷ []) count p =
+    inr ((λ i. marked (keys_of (front_one e i)) (front_one m i) p), ap (λ (rows : List cache.Row). length (trees_of rows p.key)) (front_one e))
+marks_front (e ∷ []) (m ∷ n ∷ marks) count p = absurd (omega (arith, count))
+marks_front (e ∷ f ∷ es) (m ∷ []) count p = absurd (omega (arith, count))
+marks_front (e ∷ f ∷ es) (m ∷ n ∷ marks) count p = elim (marks_front (f ∷ es) (n ∷ marks) (omega (arith, count)) p) [
+  | inl h ↦ inl (more ∙ ap (λ b. cond (same_key p.key e.0) (slice_index_or m p.number false) b) h)
+  | inr h ↦ go (same_key p.key e.0) refl h.0 h.1
+]
+  where
+    rest : Bool
+    rest = marked (keys_of (front (f ∷ es))) (front (n ∷ marks)) p
+
+    more : marked (keys_of (front (e ∷ f ∷ es))) (front (m ∷ n ∷ marks)) p ≡ cond (same_key p.key e.0) (slice_index_or m p.number false) rest
+    more = λ i. marked (keys_of (front_more e f es i)) (front_more m n marks i) p
+
+    go : (b : Bool) → same_key p.key e.0 ≡ b → rest ≡ false → length (trees_of (front (f ∷ es)) p.key) ≡ 0
+        → (marked (keys_of (front (e ∷ f ∷ es))) (front (m ∷ n ∷ marks)) p ≡ marked (keys_of (e ∷ f ∷ es)) (m ∷ n ∷ marks) p)
+        ⊎ ((marked (keys_of (front (e ∷ f ∷ es))) (front (m ∷ n ∷ marks)) p ≡ false) × (length (trees_of (front (e ∷ f ∷ es)) p.key) ≡ 0))
+    go true is none gone =
+        inl (more ∙ ap (λ b. cond b (slice_index_or m p.number false) rest) is
+        ∙ sym (ap (λ b. cond b (slice_index_or m p.number false) (marked (keys_of (f ∷ es)) (n ∷ marks) p)) is))
+    go false is none gone = inr (
+      more ∙ ap (λ b. cond b (slice_index_or m p.number false) rest) is ∙ none,
+      ap (λ (rows : List cache.Row). length (trees_of rows p.key)) (front_more e f es)
+          ∙ ap (λ b. length (unwrap_or (cond b (Some e.1) (lookup (same_key p.key) (front (f ∷ es)))) [])) is ∙ gone,
+    )
+
+-- one removal after another
+pub unmarks_next : (a b c : List cache.Row) (m n o : List (List Bool)) → Unmarks a m b n → Unmarks b n c o
+    → ((k : Key) → length (trees_of c k) ≤ length (trees_of b k)) → Unmarks a m c o
+unmarks_next a b c m n o first second fewer p = elim (second p) [
+  | inl h ↦ elim (first p) [
+    | inl g ↦ inl (h ∙ g)
+    | inr g ↦ let less = fewer p.key in let none = g.1 in inr (h ∙ g.0, omega (arith, less, none))
+  ]
+  | inr h ↦ inr h
+]
+
+-- ---- what is made and removed again
+
+trees_twice : (rows : List cache.Row) (k : Key) (ts us : List TreeMap) → with_trees (with_trees rows k ts) k us ≡ with_trees rows k us
+trees_twice [] k ts us = ap (λ b. cond b ((k, us) ∷ []) ((k, ts) ∷ (k, us) ∷ [])) (key_itself k)
+trees_twice (r ∷ rows) k ts us = go (same_key k r.0) refl (trees_twice rows k ts us)
+  where
+    go : (b : Bool) → same_key k r.0 ≡ b → with_trees (with_trees rows k ts) k us ≡ with_trees rows k us
+        → with_trees (cond b ((r.0, ts) ∷ rows) (r ∷ with_trees rows k ts)) k us ≡ cond b ((r.0, us) ∷ rows) (r ∷ with_trees rows k us)
+    go true is rest = ap (λ b. cond b ((r.0, us) ∷ rows) ((r.0, ts) ∷ with_trees rows k us)) is
+    go false is rest = ap (λ b. cond b ((r.0, us) ∷ with_trees rows k ts) (r ∷ with_trees (with_trees rows k ts) k us)) is ∙ ap (λ rs. r ∷ rs) rest
+
+-- a key keeps its row under the trees that it has
+trees_stay : (rows : List cache.Row) (k : Key) (ts : List TreeMap) → lookup (same_key k) rows ≡ Some ts → with_trees rows k ts ≡ rows
+trees_stay [] k ts at = absurd cc
+trees_stay (r ∷ rows) k ts at = go (same_key k r.0) at (trees_stay rows k ts)
+  where
+    go : (b : Bool) → cond b (Some r.1) (lookup (same_key k) rows) ≡ Some ts → (lookup (same_key k) rows ≡ Some ts → with_trees rows k ts ≡ rows)
+        → cond b ((r.0, ts) ∷ rows) (r ∷ with_trees rows k ts) ≡ r ∷ rows
+    go true at rest = let same : r.1 ≡ ts = ap (λ o. unwrap_or o ts) at in λ i. (r.0, sym same i) ∷ rows
+    go false at rest = ap (λ rs. r ∷ rs) (rest at)
+
+-- an instance that was made is removed again
+pub unmade_made : (rows : List cache.Row) (p : Place) (tree : TreeMap) → unmade_one (made rows p tree) p (growth_at rows p) ≡ rows
+unmade_made rows p tree = by_look (lookup (same_key p.key) rows) refl
+  where
+    made_by : (o : Option (List TreeMap)) → lookup (same_key p.key) rows ≡ o
+        → made rows p tree ≡ cond (nat_lt p.number (length (unwrap_or o []))) rows (with_trees rows p.key (unwrap_or o [] ++ tree ∷ []))
+    made_by o at =
+        ap (λ (o : Option (List TreeMap)). cond (nat_lt p.number (length (unwrap_or o []))) rows (with_trees rows p.key (unwrap_or o [] ++ tree ∷ []))) at
+
+    there : (ts : List TreeMap) (b : Bool) → lookup (same_key p.key) rows ≡ Some ts
+        → unmade_one (cond b rows (with_trees rows p.key (ts ++ tree ∷ []))) p (cond b Nothing Instance) ≡ rows
+    there ts true at = refl
+    there ts false at =
+        let more = ts ++ tree ∷ [] in
+        let new = with_trees rows p.key more in
+        ap (shorter new p.key) (found_again rows p.key more) ∙ ap (with_trees new p.key) (front_pushed ts tree)
+        ∙ trees_twice rows p.key more ts ∙ trees_stay rows p.key ts at
+
+    by_look : (o : Option (List TreeMap)) → lookup (same_key p.key) rows ≡ o → unmade_one (made rows p tree) p (growth_at rows p) ≡ rows
+    by_look None at =
+        let none = absent_found p.key rows (ap is_some at) in
+        (λ i. unmade_one (made_by None at i) p (growth_by (at i) p.number))
+        ∙ ap (λ b. front (cond b rows (with_trees rows p.key (tree ∷ [])))) (le-ltb p.number 0 (omega arith))
+        ∙ ap front (written_absent p.key rows (tree ∷ []) none) ∙ front_pushed rows (p.key, tree ∷ [])
+    by_look (Some ts) at =
+        (λ i. unmade_one (made_by (Some ts) at i) p (growth_by (at i) p.number)) ∙ there ts (nat_lt p.number (length ts)) at
+
+-- the making of an instance of another key is not seen
+pub look_made : (rows : List cache.Row) (p : Place) (tree : TreeMap) (k : Key) → same_key k p.key ≡ false
+    → lookup (same_key k) (made rows p tree) ≡ lookup (same_key k) rows
+look_made rows p tree k apart = go (nat_lt p.number (length (trees_of rows p.key)))
+  where
+    go : (b : Bool) → lookup (same_key k) (cond b rows (with_trees rows p.key (trees_of rows p.key ++ tree ∷ []))) ≡ lookup (same_key k) rows
+    go true = refl
+    go false = found_before rows p.key k (trees_of rows p.key ++ tree ∷ []) apart
