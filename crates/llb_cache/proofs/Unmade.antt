@@ -19,9 +19,6 @@ use Rattle.llb_cache.specs.Rows.{found_again, found_before, counted}
 
 -- ---- all but the last
 
-front_none : {A : Type 0} → front {A} [] ≡ []
-front_none = let n : length {A} [] - 1 ≡ 0 = omega arith in ap (λ k. take {A} k []) n
-
 front_one : {A : Type 0} (x : A) → front (x ∷ []) ≡ []
 front_one x = let n : length (x ∷ []) - 1 ≡ 0 = omega arith in ap (λ k. take k (x ∷ [])) n
 
@@ -34,28 +31,16 @@ front_pushed xs x =
     ap (λ k. take k (xs ++ x ∷ [])) n ∙ take-append_seam xs (x ∷ [])
 
 front_length : {A : Type 0} (xs : List A) → length (front xs) ≤ length xs
-front_length [] = omega (arith, ap length front_none)
+front_length [] = omega arith
 front_length (x ∷ []) = omega (arith, ap length (front_one x))
 front_length (x ∷ y ∷ xs) = let rest = front_length (y ∷ xs) in omega (arith, rest, ap length (front_more x y xs))
-
--- a front of as many rows has as many marks
-pub front_alike : {A B : Type 0} (xs : List A) (ys : List B) → length xs ≡ length ys → length (front xs) ≡ length (front ys)
-front_alike [] [] same = ap length front_none ∙ sym (ap length front_none)
-front_alike [] (y ∷ ys) same = absurd (omega (arith, same))
-front_alike (x ∷ xs) [] same = absurd (omega (arith, same))
-front_alike (x ∷ []) (y ∷ []) same = ap length (front_one x) ∙ sym (ap length (front_one y))
-front_alike (x ∷ []) (y ∷ z ∷ ys) same = absurd (omega (arith, same))
-front_alike (x ∷ w ∷ xs) (y ∷ []) same = absurd (omega (arith, same))
-front_alike (x ∷ w ∷ xs) (y ∷ z ∷ ys) same =
-    let rest = front_alike (w ∷ xs) (z ∷ ys) (omega (arith, same)) in
-    ap length (front_more x w xs) ∙ ap suc rest ∙ sym (ap length (front_more y z ys))
 
 -- ---- no key has more instances than before
 
 -- a look at all rows but the last: as before, or nothing
 look_front : (es : List cache.Row) (k : Key)
     → (lookup (same_key k) (front es) ≡ lookup (same_key k) es) ⊎ (lookup (same_key k) (front es) ≡ None)
-look_front [] k = inl (ap (lookup (same_key k)) front_none)
+look_front [] k = inl refl
 look_front (e ∷ []) k = inr (ap (lookup (same_key k)) (front_one e))
 look_front (e ∷ f ∷ es) k = elim (look_front (f ∷ es) k) [
   | inl h ↦ inl (ap (lookup (same_key k)) (front_more e f es) ∙ ap (λ o. cond (same_key k e.0) (Some e.1) o) h)
@@ -93,7 +78,7 @@ fewer_one rows p Nothing k = omega arith
 fewer_one rows p Instance k = fewer_shorter rows p.key (lookup (same_key p.key) rows) k refl
 fewer_one rows p Row k = fewer_front rows k
 
-pub fewer_all : (rows : List cache.Row) (ps : List Place) (gs : List Growth) (k : Key) → length (trees_of (unmade rows ps gs) k) ≤ length (trees_of rows k)
+fewer_all : (rows : List cache.Row) (ps : List Place) (gs : List Growth) (k : Key) → length (trees_of (unmade rows ps gs) k) ≤ length (trees_of rows k)
 fewer_all rows [] gs k = omega arith
 fewer_all rows (p ∷ ps) [] k = omega arith
 fewer_all rows (p ∷ ps) (g ∷ gs) k =
@@ -101,12 +86,18 @@ fewer_all rows (p ∷ ps) (g ∷ gs) k =
     let one = fewer_one (unmade rows ps gs) p g k in
     omega (arith, rest, one)
 
+pub fewer_rows : (rows new : List cache.Row) (ps : List Place) (gs : List Growth) → new ≡ unmade rows ps gs
+    → (k : Key) → length (trees_of new k) ≤ length (trees_of rows k)
+fewer_rows rows new ps gs is k =
+    let fewer = fewer_all rows ps gs k in
+    omega (arith, fewer, ap (λ (rs : List cache.Row). length (trees_of rs k)) is)
+
 -- ---- marks
 
 -- the marks of all rows but the last
 pub marks_front : (es : List cache.Row) (marks : List (List Bool)) → length marks ≡ length es → Unmarks es marks (front es) (front marks)
 unfolding marked
-marks_front [] [] count p = inl (λ i. marked (keys_of (front_none {cache.Row} i)) (front_none {List Bool} i) p)
+marks_front [] [] count p = inl refl
 marks_front [] (m ∷ marks) count p = absurd (omega (arith, count))
 marks_front (e ∷ es) [] count p = absurd (omega (arith, count))
 marks_front (e ∷ []) (m ∷ []) count p =
