@@ -11,3 +11,4 @@ pub mod Written
 pub mod Unmade
 pub mod Popped
 pub mod Again
+pub mod Reversed

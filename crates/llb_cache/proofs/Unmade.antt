@@ -73,7 +73,7 @@ fewer_shorter rows key (Some ts) k at = elim (counted rows key (front ts) k) [
   | inr h ↦ omega (arith, h)
 ]
 
-pub fewer_one : (rows : List cache.Row) (p : Place) (g : Growth) (k : Key) → length (trees_of (unmade_one rows p g) k) ≤ length (trees_of rows k)
+fewer_one : (rows : List cache.Row) (p : Place) (g : Growth) (k : Key) → length (trees_of (unmade_one rows p g) k) ≤ length (trees_of rows k)
 fewer_one rows p Nothing k = omega arith
 fewer_one rows p Instance k = fewer_shorter rows p.key (lookup (same_key p.key) rows) k refl
 fewer_one rows p Row k = fewer_front rows k
@@ -85,6 +85,12 @@ fewer_all rows (p ∷ ps) (g ∷ gs) k =
     let rest = fewer_all rows ps gs k in
     let one = fewer_one (unmade rows ps gs) p g k in
     omega (arith, rest, one)
+
+pub fewer_after : (rows new : List cache.Row) (p : Place) (g : Growth) → new ≡ unmade_one rows p g
+    → (k : Key) → length (trees_of new k) ≤ length (trees_of rows k)
+fewer_after rows new p g is k =
+    let fewer = fewer_one rows p g k in
+    omega (arith, fewer, ap (λ (rs : List cache.Row). length (trees_of rs k)) is)
 
 pub fewer_rows : (rows new : List cache.Row) (ps : List Place) (gs : List Growth) → new ≡ unmade rows ps gs
     → (k : Key) → length (trees_of new k) ≤ length (trees_of rows k)

@@ -1,15 +1,16 @@
 -- What a lease adds to the rows, the rows after that is removed again, and a lease of instances that are there.
-use Rattle.std.specs.Prelude.{◌≡◌, ◌≢◌, ℕ, ◌-◌, ◌<◌, nat_lt, false, if◌then◌else◌, List, [], ◌∷◌, length, take, Option, Some, None}
+use Rattle.std.specs.Prelude.{◌≡◌, ◌≢◌, ℕ, ◌-◌, ◌<◌, nat_lt, false, if◌then◌else◌, List, [], ◌∷◌, length, map, take, Option, Some, None}
 use Rattle.std.specs.List.{All, AllPairs}
 use Rattle.std.specs.Map.{lookup}
 use Rattle.llb_tree.specs.Tree.{TreeMap}
 use Rattle.llb_cache.specs.declared.growth.Growth.{Growth}
 use Rattle.llb_cache.specs.declared.growth.Growth.TheVariants.{Nothing, Instance, Row}
 use Rattle.llb_cache.specs.declared.key.Key.{Key}
+use Rattle.llb_cache.specs.declared.need.Need.{Need}
 use Rattle.llb_cache.specs.declared.need.Place.{Place}
 use Rattle.llb_cache.specs.Key.{same_key}
 use Rattle.llb_cache.specs.Caches as cache
-use Rattle.llb_cache.specs.Caches.{CachesValue, trees_of, with_trees, is_held, leases, places_of, free_lease, with_lease, given_back, IsExclusive}
+use Rattle.llb_cache.specs.Caches.{CachesValue, trees_of, with_trees, place_for, is_held, leases, places_of, free_lease, with_lease, given_back, IsExclusive}
 
 -- all items of a list but the last
 abbrev pub front : {A : Type 0} → List A → List A
@@ -22,6 +23,10 @@ growth_by (Some ts) n = if nat_lt n (length ts) then Nothing else Instance
 
 abbrev pub growth_at : List cache.Row → Place → Growth
 growth_at rows p = growth_by (lookup (same_key p.key) rows) p.number
+
+-- what a lease of needs adds
+abbrev pub growths : CachesValue → List Need → List Growth
+growths c needs = map (λ (n : Need). growth_at c.rows (place_for c.out n.key)) needs
 
 -- the rows where a key that has these trees has one less
 abbrev pub shorter : List cache.Row → Key → Option (List TreeMap) → List cache.Row

@@ -1,9 +1,10 @@
 //! What a lease adds to the rows, told before it is granted, and the lease taken back with what it added.
 
-ghost use Rattle.std.specs.Prelude.{◌≡◌, length};
+ghost use Rattle.std.specs.Prelude.{◌≡◌, ◌≢◌, List, length, AllPairs};
 ghost use Rattle.std.specs.Map.{keys_of};
-ghost use Rattle.llb_cache.specs.Caches.{IsOut, AreThere, place_for, places_of};
-ghost use Rattle.llb_cache.specs.Growth.{growth_at, unmade_one, unmade, taken_back};
+ghost use Rattle.llb_cache.specs.Caches.{IsOut, AreThere, granted, place_for};
+ghost use Rattle.llb_cache.specs.declared.need.Need as asked;
+ghost use Rattle.llb_cache.specs.Growth.{growth_at, growths, unmade_one, unmade, taken_back};
 ghost use Rattle.llb_cache.specs.Marks.{Unmarks};
 ghost use Rattle.llb_cache.specs.Ordered.{AreOrdered};
 
@@ -60,6 +61,15 @@ impl Caches {
         );
         take_back(&mut self.out, lease.number);
     }
+
+    /// A law: a lease of needs whose keys differ that is taken back right after it was granted, with what `growth` told for each need before,
+    /// leaves the caches exactly as they were.
+    pub fn grants_come_back(&self)
+        ensures { (needs : List asked.Need) → AllPairs (λ n m. n.key ≢ m.key) needs → taken_back (granted self.now needs).1 (granted self.now needs).0
+            (growths self.now needs) ≡ self.now }
+    {
+        let _out = &self.out;
+    }
 }
 
 // Removes what was added for an instance, which is the last of all or of its key.
@@ -93,6 +103,7 @@ fn unmake_all(rows: &mut Rows, marks: &mut Vec<Marks>, places: &[Place], growths
     let mut left = places.len().min(growths.len());
     while left > 0 {
         left -= 1;
-        unmake(rows, marks, &places[left], growths[left]);
+        let growth = growths[left];
+        unmake(rows, marks, &places[left], growth);
     }
 }

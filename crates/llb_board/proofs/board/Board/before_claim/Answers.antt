@@ -9,8 +9,8 @@ use Rattle.llb_state.specs.Views.{at_of, leased_by}
 use Rattle.llb_board.proofs.Walks.{marks_claim}
 use Rattle.llb_board.proofs.board.Board.before_claim.Goals as goal
 
-pub returns-in_ok-growths : goal.returns-in_ok-growths
-returns-in_ok-growths c =
+pub returns : goal.returns
+returns c =
     let b = c.self.inside in
     marks_claim c.args.self.now c.args.w c.args.v b.caches c.in_ok-growths.growths.items
     (ap (λ (s : Seen). s.rows) (sym c.self.view_is)) (ap (λ (s : Seen). s.state.store) (sym c.self.view_is))

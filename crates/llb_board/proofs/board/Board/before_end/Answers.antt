@@ -23,4 +23,6 @@ returns-in_ok-lent-in-Some-Runs-clause-marks c =
     } in
     let len : vec_len b.desks ≡ length b.desks.items = search rules in
     marks_end c.args.self.now c.args.end b.build b.desks.items b.caches.rows c.args.w l x c.in_ok-left-in-Some-Runs.left c.in_ok-lent-in-Some-Runs.lent at
-    c.in_ok-left-in-Some-Runs.ensures ?
+    c.in_ok-left-in-Some-Runs.ensures
+    (c.in_ok-lent-in-Some-Runs.ensures
+    ∙ (λ i. lent_of (c.deref-in-Some-Runs.ensures.value i) ((c.len.ensures ∙ len) i + 1)))

@@ -23,4 +23,4 @@ returns-in_ok-trees-in-Some-Runs-clause-marks c =
     } in
     marks_step c.args.self.now b.build b.desks.items b.caches.rows c.args.w l x c.in_ok-mark-in-Some-Runs.mark c.in_ok-trees-in-Some-Runs.trees.items at
     c.in_ok-mark-in-Some-Runs.ensures.is
-    (c.in_ok-trees-in-Some-Runs.ensures.trees ∙ ap (λ (ps : List Place). trees_at (store_of b.caches.rows) ps) c.deref-2.ensures.value)
+    (c.in_ok-trees-in-Some-Runs.ensures.trees ∙ ap (λ (ps : List Place). trees_at (store_of b.caches.rows) ps) c.deref-in-Some-Runs.ensures.value)

@@ -35,7 +35,7 @@ index_mut-requires-2 c =
     let len : vec_len b.stands ≡ length b.stands.items = search rules in
     let low = low_vertex b.build b.start.rows b.stands.items b.desks.items b.caches b.stop_marks.items b.history.list b.history.space c.self.invariant.kept
     c.args.end c.args.w c.args.execution c.args.lent
-    (subst (CanUndo (record { back = Resume c.args.end c.args.w (left_in c.args.execution);  }))
+    (subst (CanUndo (record { back = Resume c.args.end c.args.w (left_in c.args.execution) c.args.lent }))
     (sym c.self.view_is) c.requires) in
     omega (arith, low, len)
 
@@ -50,7 +50,7 @@ low_in_graph c =
     low_graph b.build b.start.rows b.stands.items b.desks.items b.caches b.stop_marks.items b.history.list b.history.space c.self.invariant.kept c.args.end
     c.args.w
     c.args.execution c.args.lent
-    (subst (CanUndo (record { back = Resume c.args.end c.args.w (left_in c.args.execution);  }))
+    (subst (CanUndo (record { back = Resume c.args.end c.args.w (left_in c.args.execution) c.args.lent }))
     (sym c.self.view_is) c.requires)
 
 pub open_anew-requires-clause-low : goal.open_anew-requires-clause-low
@@ -76,7 +76,7 @@ invariant_of-self c =
     let b = c.self.inside in
     let x = c.args.execution in
     let ss = b.stands.items in
-    let u : Displaced = record { back = Resume c.args.end c.args.w (left_in x);  } in
+    let u : Displaced = record { back = Resume c.args.end c.args.w (left_in x) c.args.lent } in
     let can = subst (CanUndo u) (sym c.self.view_is) c.requires in
     let new = slice_set ss x.vertex (stand.Running c.args.w) in
     let marks = c.mark_anew.new.stop_marks.items in
@@ -121,7 +121,7 @@ returns c =
     let b = c.self.inside in
     let x = c.args.execution in
     let ss = b.stands.items in
-    let u : Displaced = record { back = Resume c.args.end c.args.w (left_in x);  } in
+    let u : Displaced = record { back = Resume c.args.end c.args.w (left_in x) c.args.lent } in
     let can = subst (CanUndo u) (sym c.self.view_is) c.requires in
     let new = slice_set ss x.vertex (stand.Running c.args.w) in
     let marks = c.mark_anew.new.stop_marks.items in
@@ -152,5 +152,5 @@ take_back_end-requires c =
     let b = c.self.inside in
     end_count b.build b.start.rows b.stands.items b.desks.items b.caches b.stop_marks.items b.history.list b.history.space c.self.invariant.kept c.args.end
     c.args.w c.args.execution c.args.lent
-    (subst (CanUndo (record { back = Resume c.args.end c.args.w (left_in c.args.execution);  })) (sym c.self.view_is)
+    (subst (CanUndo (record { back = Resume c.args.end c.args.w (left_in c.args.execution) c.args.lent })) (sym c.self.view_is)
     c.requires)

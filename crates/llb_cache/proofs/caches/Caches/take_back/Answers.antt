@@ -1,4 +1,4 @@
-use Rattle.std.proofs.Common.{◌≡◌, List, false, sym, ap, subst, ◌∙◌}
+use Rattle.std.proofs.Common.{◌≡◌, ℕ, List, false, sym, ap, subst, ◌∙◌}
 use Rattle.std.specs.Map.{keys_of}
 use Rattle.llb_cache.specs.declared.key.Key.{Key}
 use Rattle.llb_cache.specs.declared.need.Place.{Place}
@@ -27,8 +27,9 @@ invariant_of-self c =
     let are : rows ≡ unmade before.rows (places_of before.out lease) c.args.growths.now
     = c.unmake_all.ensures.rows ∙ ap (λ (ps : List Place). unmade before.rows ps c.args.growths.now) again in
     let there : AreThere rows (given_back before lease).out = subst (λ (rs : List Row). AreThere rs (given_back before lease).out) (sym are)
-    (subst (λ (v : CachesValue). AreThere (taken_back v lease c.args.growths.now).rows (taken_back v lease c.args.growths.now).out) (sym c.self.view_is)
-    c.requires.there) in
+    (subst (λ (n : ℕ). AreThere (taken_back before n c.args.growths.now).rows (taken_back before n c.args.growths.now).out) (sym c.lease.view_is)
+    (subst (λ (v : CachesValue). AreThere (taken_back v c.args.lease c.args.growths.now).rows (taken_back v c.args.lease c.args.growths.now).out)
+    (sym c.self.view_is) c.requires.there)) in
     (
     subst (λ (o : Leases). IsMarked (record { rows = rows; out = o }) new) (sym c.take_back.ensures)
     (unmade_marked (given_back before lease) rows freed new given there
