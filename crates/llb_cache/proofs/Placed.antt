@@ -15,7 +15,7 @@ use Rattle.llb_cache.specs.declared.key.Key.{Key}
 use Rattle.llb_cache.specs.Key.{same_key, same_keys, key_equiv}
 use Rattle.llb_cache.specs.Order.{key_cmp, key_cmp-IsTotalOrder, tie_is_same}
 use Rattle.llb_cache.specs.Caches.{Row}
-use Rattle.llb_cache.specs.Firsts.{IsAbsent, IsFirst, keys_long, first_within, first_or_none, place_first, place_absent, first_trees, first_found, absent_trees}
+use Rattle.llb_cache.specs.Firsts.{IsAbsent, IsFirst, keys_long, place_first, place_absent, first_trees, first_found, absent_trees}
 use Rattle.llb_cache.specs.Ordered.{no_key, key_at, row_at, is_before, IsOrdered, IsPlace}
 
 -- ---- two keys
@@ -77,10 +77,10 @@ none_here es order k place is at miss = all_absent k es each
           | inl low ↦ not_before_itself k (ap (λ l. is_lt (key_cmp l k)) key ∙ at.before j low)
           | inr high ↦ elim (cases_lt place j) [
             | inl past ↦ true≢false (sym (is.rising place j past below) ∙ ap (λ l. is_before es (row_at order place) l) (sym key)
-              ∙ at.behind place (omega arith) (omega (arith, past, below)))
+                ∙ at.behind place (omega arith) (omega (arith, past, below)))
             | inr end ↦
-              let here : j ≡ place = omega (arith, high, end) in
-              true≢false (sym same ∙ ap (λ n. same_key k (key_at es n)) (sym row ∙ ap (row_at order) here) ∙ miss (omega (arith, below, here)))
+                let here : j ≡ place = omega (arith, high, end) in
+                true≢false (sym same ∙ ap (λ n. same_key k (key_at es n)) (sym row ∙ ap (row_at order) here) ∙ miss (omega (arith, below, here)))
           ]
         ]
 
@@ -165,8 +165,8 @@ stands order place n x within below = elim (cases_lt x place) [
   | inr high ↦ elim (cases_lt place x) [
     | inl past ↦ behind x past below
     | inr end ↦
-      let here : x ≡ place = omega (arith, high, end) in
-      inr (here, ap (row_at (insert order place n)) here ∙ get_or-insert_at order place n 0 within)
+        let here : x ≡ place = omega (arith, high, end) in
+        inr (here, ap (row_at (insert order place n)) here ∙ get_or-insert_at order place n 0 within)
   ]
 ]
   where
@@ -189,8 +189,8 @@ ordered_pushed es order k ts place is at none = record {
   each = λ i below. elim (cases_lt i n) [
     | inl low ↦ old i (is.each i low)
     | inr high ↦
-      let last : n ≡ i = omega (arith, high, below, long) in
-      (place, (let w = at.within in omega (arith, w, count)), get_or-insert_at order place n 0 at.within ∙ last)
+        let last : n ≡ i = omega (arith, high, below, long) in
+        (place, (let w = at.within in omega (arith, w, count)), get_or-insert_at order place n 0 at.within ∙ last)
   ];
   rising = λ i j low below. pair i j low (stands order place n i at.within (omega (arith, low, below, count)))
       (stands order place n j at.within (omega (arith, below, count)));

@@ -1,6 +1,6 @@
 -- The order of keys, by which their rows are looked up, and its laws.
-use Rattle.std.specs.Prelude.{◌≡◌, ◌↔◌, ℕ, Bool, true, false, Option, Some, None}
-use Rattle.std.proofs.Common.{refl, sym, ap, ◌∙◌, eq-eqb}
+use Rattle.std.specs.Prelude.{◌≡◌, ℕ, Bool, true, false, Option, Some, None}
+use Rattle.std.proofs.Common.{refl, sym, ap, ◌∙◌}
 use Rattle.std.specs.declared.cmp.Ordering.{Ordering}
 use Rattle.std.specs.declared.cmp.Ordering.TheVariants.{Less, Equal, Greater}
 use Rattle.std.specs.Ordering.{ordering_then, nat_cmp, is_eq}
@@ -71,8 +71,10 @@ modes_same Locked Locked e = refl
 keys_tie : IsAntisymmetric key_cmp
 unfolding key_cmp
 keys_tie a b e =
-    let parts = both_equal (ordering_then (slice_cmp nat_cmp a.id b.id) (nat_cmp (mode_place a.mode) (mode_place b.mode))) (option_cmp seed_cmp a.seed b.seed) e in
-    let front = both_equal (slice_cmp nat_cmp a.id b.id) (nat_cmp (mode_place a.mode) (mode_place b.mode)) parts.0 in
+    let ids = slice_cmp nat_cmp a.id b.id in
+    let modes = nat_cmp (mode_place a.mode) (mode_place b.mode) in
+    let parts = both_equal (ordering_then ids modes) (option_cmp seed_cmp a.seed b.seed) e in
+    let front = both_equal ids modes parts.0 in
     let id = slice_cmp-IsAntisymmetric nat_cmp-IsAntisymmetric a.id b.id front.0 in
     let mode = modes_same a.mode b.mode (nat_cmp-IsAntisymmetric (mode_place a.mode) (mode_place b.mode) front.1) in
     let seed = seeds_same a.seed b.seed parts.1 in

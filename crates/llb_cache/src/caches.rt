@@ -238,7 +238,8 @@ impl Caches {
     pub fn same(&self, other: &Caches) -> bool
         ensures { IsTrue result ↔ (self.now ≡ other.now) }
     {
-        same_rows(&self.rows.entries, &other.rows.entries) && all_same(self.out.as_slice(), other.out.as_slice())
+        same_rows(&self.rows.entries, &other.rows.entries)
+            && all_same(self.out.as_slice(), other.out.as_slice())
     }
 
     /// Returns whether both have the same keys in the same order with the same trees, whatever leases are out. Does not allocate.

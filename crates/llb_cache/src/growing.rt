@@ -48,7 +48,8 @@ fn make(rows: &mut Rows, marks: &mut Vec<Marks>, ready: Ready)
     ensures rows { rows.new.entries.items ≡ made rows.old.entries.items ready.place ready.tree }
     ensures order { AreOrdered rows.new }
     ensures spare { (more : ℕ) → HasRoom rows.old (more + 1) → HasRoom rows.new more }
-    ensures marks { Remarks (keys_of rows.old.entries.items) marks.old.items (keys_of rows.new.entries.items) marks.new.items (λ q. same_place q ready.place) true }
+    ensures marks { Remarks (keys_of rows.old.entries.items) marks.old.items (keys_of rows.new.entries.items) marks.new.items
+        (λ q. same_place q ready.place) true }
     ensures free { (vec_capacity marks.new ≡ vec_capacity marks.old) × (vec_len marks.new ≤ vec_len marks.old + 1) }
     ensures each { length marks.new.items ≡ length rows.new.entries.items }
 {
@@ -112,7 +113,8 @@ pub(crate) fn unmark_all(rows: &Rows, marks: &mut Vec<Marks>, places: &[Place])
 fn unmark(rows: &Rows, marks: &mut Vec<Marks>, place: &Place)
     requires order { AreOrdered rows.now }
     requires each { length marks.old.items ≡ length rows.now.entries.items }
-    ensures marks { Remarks (keys_of rows.now.entries.items) marks.old.items (keys_of rows.now.entries.items) marks.new.items (λ q. same_place q place.now) false }
+    ensures marks { Remarks (keys_of rows.now.entries.items) marks.old.items (keys_of rows.now.entries.items) marks.new.items
+        (λ q. same_place q place.now) false }
     ensures each { length marks.new.items ≡ length marks.old.items }
 {
     if let Some(i) = row_of(rows, &place.key.by_ref()) {

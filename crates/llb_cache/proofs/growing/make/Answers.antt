@@ -1,14 +1,15 @@
-use Rattle.std.proofs.Common.{◌≡◌, ◌<◌, List, [], Bool, Some, true, false, cond, length, position, slice_get, slice_index_or, slice_set, sym, ap, ◌∙◌, arith}
+use Rattle.std.proofs.Common.{◌≡◌, ◌<◌, List, [], ◌∷◌, Bool, Some, true, false, cond, length, length-append, position, slice_get, slice_index_or, slice_set}
+use Rattle.std.proofs.Common.{sym, ap, ◌∙◌, arith}
 use Rattle.std.specs.Prelude.{◌==◌, is_some}
 use Rattle.std.specs.Map.{keys_of, values_of, lookup}
-use Rattle.std.proofs.lemmas.List.{get_or_default, length-set}
+use Rattle.std.proofs.lemmas.List.{get_or_default}
 use Rattle.llb_tree.specs.Tree.{TreeMap}
 use Rattle.llb_cache.specs.declared.key.Key.{Key}
 use Rattle.llb_cache.specs.Key.{same_key}
 use Rattle.llb_cache.specs.Rows.{instance_made, instance_there}
 use Rattle.llb_cache.specs.declared.need.Place.{Place}
 use Rattle.llb_cache.specs.Caches.{Row, same_place, with_trees}
-use Rattle.llb_cache.specs.Firsts.{set_trees}
+use Rattle.llb_cache.specs.Firsts.{set_trees, absent_found, written_absent}
 use Rattle.llb_cache.specs.Marks.{marked}
 use Rattle.llb_cache.proofs.Marked.{remarked, marked_new, keys_stay, Sets}
 use Rattle.llb_cache.proofs.Placed.{ordered_again}
@@ -17,10 +18,10 @@ use Rattle.llb_cache.proofs.growing.make.Goals as goal
 use Rattle.llb_cache.proofs.growing.make.Goals.{After-len}
 
 -- the rows and the marks before
-rows : After-len → List Row
+abbrev rows : After-len → List Row
 rows c = c.args.rows.now.entries.items
 
-marks : After-len → List (List Bool)
+abbrev marks : After-len → List (List Bool)
 marks c = c.args.marks.now.items
 
 -- the row of the key
@@ -53,11 +54,6 @@ marked_there c w q =
     ap (λ (ks : List Key). marked ks (slice_set (marks c) c.in-Some.i c.set.new.self) q) (keys c w)
     ∙ remarked (rows c) (marks c) c.args.ready.place c.in-Some.i c.set.new.self true (at c) (below c) (sets c) q
 
-each_there : (c : After-len) (w : List TreeMap) → length (slice_set (marks c) c.in-Some.i c.set.new.self)
-    ≡ length (slice_set (rows c) c.in-Some.i (c.index_mut-in-Some.result.now.0, w))
-each_there c w =
-    length-set (marks c) c.in-Some.i c.set.new.self ∙ c.requires.each ∙ sym (length-set (rows c) c.in-Some.i (c.index_mut-in-Some.result.now.0, w))
-
 pub returns-then-number-len-clause-rows : goal.returns-then-number-len-clause-rows
 returns-then-number-len-clause-rows c =
     let s = (goal.at.returns-then-number-len-clause-rows c).After-len in
@@ -72,9 +68,6 @@ returns-then-number-len-clause-order c =
 pub returns-then-number-len-clause-marks : goal.returns-then-number-len-clause-marks
 returns-then-number-len-clause-marks c q = marked_there (goal.at.returns-then-number-len-clause-marks c).After-len c.push_into.new.self q
 
-pub returns-then-number-len-clause-each : goal.returns-then-number-len-clause-each
-returns-then-number-len-clause-each c = each_there (goal.at.returns-then-number-len-clause-each c).After-len c.push_into.new.self
-
 pub returns-else-number-len-clause-rows : goal.returns-else-number-len-clause-rows
 returns-else-number-len-clause-rows c =
     let s = (goal.at.returns-else-number-len-clause-rows c).After-len in
@@ -82,20 +75,9 @@ returns-else-number-len-clause-rows c =
     ∙ instance_there (rows s) c.args.ready.place c.args.ready.tree c.in-Some.i c.index_mut-in-Some.result.now.1 (at s) (read s)
     (omega (arith, c.len.ensures, c.if-number-len.false))
 
-pub returns-else-number-len-clause-order : goal.returns-else-number-len-clause-order
-returns-else-number-len-clause-order c =
-    ordered_again _ _ _ (keys (goal.at.returns-else-number-len-clause-order c).After-len c.index_mut-in-Some.result.now.1) c.requires.order
-
 pub returns-else-number-len-clause-marks : goal.returns-else-number-len-clause-marks
 returns-else-number-len-clause-marks c q =
     marked_there (goal.at.returns-else-number-len-clause-marks c).After-len c.index_mut-in-Some.result.now.1 q
-
-pub returns-else-number-len-clause-each : goal.returns-else-number-len-clause-each
-returns-else-number-len-clause-each c = each_there (goal.at.returns-else-number-len-clause-each c).After-len c.index_mut-in-Some.result.now.1
-
-pub add_row-requires-in-None-clause-apart : goal.add_row-requires-in-None-clause-apart
-add_row-requires-in-None-clause-apart c =
-    sym (c.in-None.ensures.found ∙ ap (λ (k : Key). is_some (lookup (same_key k) c.args.rows.now.entries.items)) c.by_ref.ensures)
 
 pub returns-in-None-clause-marks : goal.returns-in-None-clause-marks
 returns-in-None-clause-marks c q =
@@ -107,3 +89,16 @@ returns-in-None-clause-marks c q =
     ∙ marked_new es c.args.marks.now.items c.args.ready.place ts c.set-in-None.new.self
     (c.in-None.ensures.found ∙ ap (λ (k : Key). is_some (lookup (same_key k) es)) c.by_ref.ensures) c.requires.each
     (λ k. c.set-in-None.ensures k ∙ ap (λ (m : List Bool). cond (k == c.args.ready.place.number) true (slice_index_or m k false)) c.new-first.ensures) q
+
+pub returns-in-None-clause-each : goal.returns-in-None-clause-each
+returns-in-None-clause-each c =
+    let es = c.args.rows.now.entries.items in
+    let key = c.args.ready.place.key in
+    let ts = c.push_into-in-None.new.self in
+    let none = absent_found key es (sym (c.in-None.ensures.found ∙ ap (λ (k : Key). is_some (lookup (same_key k) es)) c.by_ref.ensures)) in
+    let marks = ap (λ (ms : List (List Bool)). length ms) c.push_reserved.ensures.items in
+    let rows = ap (λ (rows : List Row). length rows) (c.add_row.ensures.rows ∙ written_absent key es ts none) in
+    let more = length-append c.args.marks.now.items (c.set-in-None.new.self ∷ []) in
+    let longer = length-append es ((key, ts) ∷ []) in
+    let each = c.requires.each in
+    omega (arith, marks, rows, more, longer, each)

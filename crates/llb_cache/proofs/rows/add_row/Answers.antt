@@ -1,4 +1,4 @@
-use Rattle.std.proofs.Common.{◌≡◌, List, ℕ, ◌++◌, ◌∷◌, [], insert, length, Result, Ok, Err, IsOk, is_ok, refl, subst, sym, ap, ◌∙◌, arith, true≢false}
+use Rattle.std.proofs.Common.{◌≡◌, List, ℕ, insert, length, Result, Ok, Err, IsOk, is_ok, refl, subst, sym, ap, ◌∙◌, arith, true≢false}
 use Rattle.std.specs.Prelude.{if◌then◌else◌}
 use Rattle.llb_cache.specs.declared.key.Key.{Key}
 use Rattle.llb_cache.specs.Caches.{Row}
@@ -25,7 +25,7 @@ returns-clause-order c =
     let room = c.requires.room.1 in
     let long : c.len.result ≡ length es = omega (arith, c.len.ensures) in
     let items = c.insert.ensures.items
-        ∙ put_there c.insert.result (insert order place c.len.result) order (c.insert.ensures.succeeds (omega (arith, room)))
-        ∙ ap (λ n. insert order place n) long in
+    ∙ put_there c.insert.result (insert order place c.len.result) order (c.insert.ensures.succeeds (omega (arith, room)))
+    ∙ ap (λ n. insert order place n) long in
     subst (λ (s : List Row × List ℕ). IsOrdered s.0 s.1) (λ i. ((sym c.push_reserved.ensures.items) i, (sym items) i))
     (ordered_pushed es order c.args.key c.args.trees place c.requires.order at (absent_found c.args.key es c.requires.apart))

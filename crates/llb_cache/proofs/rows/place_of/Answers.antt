@@ -12,7 +12,8 @@ middle c = c.loop-low.low + (c.loop-low.high - c.loop-low.low) / 2
 within : (c : After-comes_before) → middle c < length c.args.rows.now.order.items
 within c = omega (arith, c.loop-low-test.true, c.loop-low.invariant.high)
 
-looked : (c : After-comes_before) → is_before c.args.rows.now.entries.items (row_at c.args.rows.now.order.items (middle c)) c.args.key.now ≡ c.comes_before.result
+looked : (c : After-comes_before)
+    → is_before c.args.rows.now.entries.items (row_at c.args.rows.now.order.items (middle c)) c.args.key.now ≡ c.comes_before.result
 looked c =
     ap (λ n. is_before c.args.rows.now.entries.items n c.args.key.now)
     (sym (c.index.ensures ∙ get_or_default c.args.rows.now.order.items (middle c) c.index.result.now 0 (within c))) ∙ sym c.comes_before.ensures

@@ -51,13 +51,12 @@ placed c = places_shown c.in_ok-readies.readies.items
 
 pub invariant_of-self-2 : goal.invariant_of-self-2
 invariant_of-self-2 c =
-    let new = c.make_all.new.marks.items in
-    (
-    subst (λ (g : ℕ × CachesValue). IsMarked g.1 new) (all_granted c)
-    (lease_marked (before c) c.args.needs c.self.inside.marks.items new c.self.invariant.0 (few c) c.requires.differ (none_refused c)
-    (λ (q : Place). ap (λ (g : ℕ × CachesValue). marked (keys_of g.1.rows) new q) (all_granted c) ∙ c.make_all.ensures.marks q
-    ∙ (λ i. cond (is_one_of (placed c i) q) true (marked (keys_of (c.reserve.ensures.entries i)) (c.reserve-2.ensures.items i) q)))
-    (c.make_all.ensures.each ∙ ap (λ (g : ℕ × CachesValue). length g.1.rows) (sym (all_granted c)))),
+    let new = c.make_all.new.marks.items in (
+      subst (λ (g : ℕ × CachesValue). IsMarked g.1 new) (all_granted c)
+          (lease_marked (before c) c.args.needs c.self.inside.marks.items new c.self.invariant.0 (few c) c.requires.differ (none_refused c)
+          (λ (q : Place). ap (λ (g : ℕ × CachesValue). marked (keys_of g.1.rows) new q) (all_granted c) ∙ c.make_all.ensures.marks q
+          ∙ (λ i. cond (is_one_of (placed c i) q) true (marked (keys_of (c.reserve.ensures.entries i)) (c.reserve-2.ensures.items i) q)))
+          (c.make_all.ensures.each ∙ ap (λ (g : ℕ × CachesValue). length g.1.rows) (sym (all_granted c)))),
       c.make_all.ensures.order,
     )
 
