@@ -121,7 +121,8 @@ fn mark(rows: &Rows, marks: &mut Vec<Marks>, place: &Place, room: Marks)
     requires each { length marks.old.items ≡ length rows.now.entries.items }
     requires there { place.now.number < length (trees_of rows.now.entries.items place.now.key) }
     requires room { HasRoomFor place.now room }
-    ensures marks { Remarks (keys_of rows.now.entries.items) marks.old.items (keys_of rows.now.entries.items) marks.new.items (λ q. same_place q place.now) true }
+    ensures marks { Remarks (keys_of rows.now.entries.items) marks.old.items (keys_of rows.now.entries.items) marks.new.items
+        (λ q. same_place q place.now) true }
     ensures each { length marks.new.items ≡ length marks.old.items }
 {
     match row_of(rows, &place.key.by_ref()) {

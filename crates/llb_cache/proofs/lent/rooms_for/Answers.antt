@@ -16,7 +16,8 @@ loop-place-preserved c =
     let ps = c.args.places.now in
     let i = c.loop-place.place-index in
     let p = c.place-item.result in
-    let places : take i ps ++ p ∷ [] ≡ take (i + 1) ps = ap (λ (q : Place). take i ps ++ q ∷ []) c.place-item.is ∙ sym (take_more ps i p c.loop-place-test.true) in
+    let places : take i ps ++ p ∷ [] ≡ take (i + 1) ps
+    = ap (λ (q : Place). take i ps ++ q ∷ []) c.place-item.is ∙ sym (take_more ps i p c.loop-place-test.true) in
     subst (λ (s : List Place × List (List Bool)). FitEach s.0 s.1) (λ j. (places j, (sym c.in_ok-push.ensures.items) j))
     (fit_more (take i ps) c.loop-place.rooms.items p _ c.loop-place.invariant
     (record { mark = c.in_ok-up_to.ensures.room; clear = c.in_ok-up_to.ensures.clear }))

@@ -83,6 +83,7 @@ invariant_of-self c =
     let low = low_vertex b.build b.start.rows ss b.desks.items b.caches b.stop_marks.items b.history.list b.history.space c.self.invariant.kept c.args.end
     c.args.w x
     c.args.lent can in
+    let desks = slice_set b.desks.items c.args.w (desk.Runs c.lend_again-lease.result x) in
     let is : slice_set ss x.vertex c.replace-had.new.dest ≡ new = ap (slice_set ss x.vertex) c.replace-had.ensures.after in
     let at : slice_get ss x.vertex ≡ Some c.replace-had.result
     = slice_get-get_or ss x.vertex c.index_mut-2.result.now low ∙ ap (λ s. Some s) (sym (c.replace-had.ensures.value ∙ c.index_mut-2.ensures.value)) in
@@ -95,15 +96,15 @@ invariant_of-self c =
     c.args.end c.args.w
     x c.args.lent can
     c.lend_again-lease.result c.lend_again-lease.new.caches c.replace-had.result c.has_failed.result
-    (slice_set b.desks.items c.args.w (desk.Runs c.lend_again-lease.result x)) marks c.lend_again-lease.ensures refl
+    desks marks c.lend_again-lease.ensures refl
     at c.has_failed.ensures anew same in
     let least = c.min-self-inside.ensures in
     rw (c.take_back_end.ensures.list, c.take_back_end.ensures.space)
-    (subst (λ (l : List Stand). IsTracked (seen b.build b.start.rows l (slice_set b.desks.items c.args.w (desk.Runs c.lend_again-lease.result x)) c.lend_again-lease.new.caches.rows (front b.history.list))
-    (slice_set b.desks.items c.args.w (desk.Runs c.lend_again-lease.result x))
+    (subst (λ (l : List Stand). IsTracked (seen b.build b.start.rows l desks c.lend_again-lease.new.caches.rows (front b.history.list))
+    desks
     c.lend_again-lease.new.caches.out marks c.open_anew.new.links (space_before c.args.end x.vertex b.history.space) c.min-self-inside.result) (sym is)
     (tracked b.build b.start.rows ss b.desks.items b.caches b.stop_marks.items b.history.list b.history.space c.self.invariant.kept
-    (data_of new (slice_set b.desks.items c.args.w (desk.Runs c.lend_again-lease.result x)) c.lend_again-lease.new.caches marks) c.open_anew.new.links u c.min-self-inside.result
+    (data_of new desks c.lend_again-lease.new.caches marks) c.open_anew.new.links u c.min-self-inside.result
     (space_before c.args.end x.vertex b.history.space) can
     (end_space b.build b.start.rows ss b.desks.items b.caches b.stop_marks.items b.history.list b.history.space c.self.invariant.kept c.args.end c.args.w x
     c.args.lent can) leaves
@@ -128,6 +129,7 @@ returns c =
     let low = low_vertex b.build b.start.rows ss b.desks.items b.caches b.stop_marks.items b.history.list b.history.space c.self.invariant.kept c.args.end
     c.args.w x
     c.args.lent can in
+    let desks = slice_set b.desks.items c.args.w (desk.Runs c.lend_again-lease.result x) in
     let is : slice_set ss x.vertex c.replace-had.new.dest ≡ new = ap (slice_set ss x.vertex) c.replace-had.ensures.after in
     let at : slice_get ss x.vertex ≡ Some c.replace-had.result
     = slice_get-get_or ss x.vertex c.index_mut-2.result.now low ∙ ap (λ s. Some s) (sym (c.replace-had.ensures.value ∙ c.index_mut-2.ensures.value)) in
@@ -140,11 +142,11 @@ returns c =
     c.args.end c.args.w
     x c.args.lent can
     c.lend_again-lease.result c.lend_again-lease.new.caches c.replace-had.result c.has_failed.result
-    (slice_set b.desks.items c.args.w (desk.Runs c.lend_again-lease.result x)) marks c.lend_again-lease.ensures refl
+    desks marks c.lend_again-lease.ensures refl
     at c.has_failed.ensures anew same in
-    (λ i. seen b.build b.start.rows (is i) (slice_set b.desks.items c.args.w (desk.Runs c.lend_again-lease.result x)) c.lend_again-lease.new.caches.rows (c.take_back_end.ensures.list i))
+    (λ i. seen b.build b.start.rows (is i) desks c.lend_again-lease.new.caches.rows (c.take_back_end.ensures.list i))
     ∙ undone_is b.build b.start.rows (data_of ss b.desks.items b.caches b.stop_marks.items)
-    (data_of new (slice_set b.desks.items c.args.w (desk.Runs c.lend_again-lease.result x)) c.lend_again-lease.new.caches marks) b.history.list u leaves
+    (data_of new desks c.lend_again-lease.new.caches marks) b.history.list u leaves
     ∙ ap (undone u) c.self.view_is
 
 pub take_back_end-requires : goal.take_back_end-requires

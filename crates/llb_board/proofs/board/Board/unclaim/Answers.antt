@@ -84,7 +84,8 @@ returns c =
     (λ i. seen b.build b.start.rows (slice_set b.stands.items c.args.v stand.Waiting) c.make_idle-lease.new.desks.items c.take_back.new.caches.rows
     ((c.give_room.ensures.list ∙ c.take_back-2.ensures.list) i))
     ∙ undone_is b.build b.start.rows (data_of b.stands.items b.desks.items b.caches b.stop_marks.items)
-    (data_of (slice_set b.stands.items c.args.v stand.Waiting) c.make_idle-lease.new.desks.items c.take_back.new.caches b.stop_marks.items) b.history.list u leaves
+    (data_of (slice_set b.stands.items c.args.v stand.Waiting) c.make_idle-lease.new.desks.items c.take_back.new.caches b.stop_marks.items) b.history.list
+    u leaves
     ∙ ap (undone u) c.self.view_is
 
 pub give_room-requires : goal.give_room-requires

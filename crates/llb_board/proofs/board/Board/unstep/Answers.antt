@@ -33,8 +33,8 @@ invariant_of-self c =
     let b = c.self.inside in
     let u : Displaced = record { back = Unstep c.args.w c.args.mark c.args.trees.items } in
     let can = subst (CanUndo u) (sym c.self.view_is) c.requires in
-    let leaves = unstep_leaves_so b.build b.start.rows b.stands.items b.desks.items b.caches b.stop_marks.items b.history.list b.history.space c.self.invariant.kept
-    c.args.w c.args.mark c.args.trees.items can
+    let leaves = unstep_leaves_so b.build b.start.rows b.stands.items b.desks.items b.caches b.stop_marks.items b.history.list b.history.space
+    c.self.invariant.kept c.args.w c.args.mark c.args.trees.items can
     c.step_back-lease.result c.step_back-lease.new.desks.items c.write_back.new.caches c.step_back-lease.ensures.leased c.step_back-lease.ensures.before
     c.write_back.ensures.rows c.write_back.ensures.out in
     rw (c.take_back.ensures.list, c.take_back.ensures.space)
@@ -49,8 +49,8 @@ returns c =
     let b = c.self.inside in
     let u : Displaced = record { back = Unstep c.args.w c.args.mark c.args.trees.items } in
     let can = subst (CanUndo u) (sym c.self.view_is) c.requires in
-    let leaves = unstep_leaves_so b.build b.start.rows b.stands.items b.desks.items b.caches b.stop_marks.items b.history.list b.history.space c.self.invariant.kept
-    c.args.w c.args.mark c.args.trees.items can
+    let leaves = unstep_leaves_so b.build b.start.rows b.stands.items b.desks.items b.caches b.stop_marks.items b.history.list b.history.space
+    c.self.invariant.kept c.args.w c.args.mark c.args.trees.items can
     c.step_back-lease.result c.step_back-lease.new.desks.items c.write_back.new.caches c.step_back-lease.ensures.leased c.step_back-lease.ensures.before
     c.write_back.ensures.rows c.write_back.ensures.out in
     (λ i. seen b.build b.start.rows b.stands.items c.step_back-lease.new.desks.items c.write_back.new.caches.rows (c.take_back.ensures.list i))
