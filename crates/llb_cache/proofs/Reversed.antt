@@ -14,7 +14,7 @@ use Rattle.llb_cache.specs.Caches.{CachesValue, Leases, Taken, place_for, taken,
 use Rattle.llb_cache.specs.Growth.{growth_by, growth_at, growths, unmade, unmade_one, taken_back}
 use Rattle.llb_cache.specs.Leased.{free_within, lease_has, trimmed_none}
 use Rattle.llb_cache.specs.Members.{In, pairs_head, pairs_tail}
-use Rattle.llb_cache.proofs.Unmade.{unmade_made, look_made}
+use Rattle.llb_cache.specs.Removed.{unmade_made, look_made}
 
 -- ---- the rows
 
