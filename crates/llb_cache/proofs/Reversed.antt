@@ -1,5 +1,5 @@
 -- A lease that is taken back right after it was granted leaves the caches as they were.
-use Rattle.std.proofs.Common.{◌≡◌, ◌≢◌, ℕ, zero, suc, ◌<◌, ◌≤◌, Bool, true, false, cond, List, [], ◌∷◌, ◌++◌, length, map, Option, Some, None, slice_get}
+use Rattle.std.proofs.Common.{◌≡◌, ◌≢◌, ℕ, zero, suc, ◌+◌, ◌<◌, ◌≤◌, Bool, true, false, cond, List, [], ◌∷◌, ◌++◌, length, map, Option, Some, None, slice_get}
 use Rattle.std.proofs.Common.{slice_set}
 use Rattle.std.proofs.Common.{unwrap_or, nat_lt, refl, sym, ap, ◌∙◌, arith, inl, inr}
 use Rattle.std.specs.List.{AllPairs, AllByRecursion}
@@ -74,7 +74,8 @@ free_none : (out : Leases) → slice_set out (free_lease out) None ≡ out
 free_none [] = refl
 free_none (None ∷ out) = refl
 free_none (Some ps ∷ out) =
-    let next : free_lease (Some ps ∷ out) ≡ suc (free_lease out) = omega arith in
+    let first : free_lease (Some ps ∷ out) ≡ 1 + free_lease out = refl in
+    let next : free_lease (Some ps ∷ out) ≡ suc (free_lease out) = omega (arith, first) in
     ap (λ n. slice_set (Some ps ∷ out) n None) next ∙ ap (λ l. Some ps ∷ l) (free_none out)
 
 set_last : (out : Leases) (ps : List Place) → slice_set (out ++ Some ps ∷ []) (length out) None ≡ out ++ None ∷ []
