@@ -54,9 +54,9 @@ leased_there b s rows out ls graph reached store leased a ps at =
     let x = leased.runs w.0 a w.1 in
     elim (leased.has w.0 x.0 x.1) [
       | inl h ↦
-        let same : x.0.places ≡ ps = same_places out a x.0.places ps (subst (λ k. cache.Has out k x.0.places) (lease_inside (sym h.1 ∙ w.1)) h.2) at in
-        subst (λ (qs : List Place). All (λ (p : Place). p.number < length (trees_of rows p.key)) qs) same
-        (all_within rows x.0.places (there_in b s rows graph reached store w.0 x.0 x.1))
+          let same : x.0.places ≡ ps = same_places out a x.0.places ps (subst (λ k. cache.Has out k x.0.places) (lease_inside (sym h.1 ∙ w.1)) h.2) at in
+          subst (λ (qs : List Place). All (λ (p : Place). p.number < length (trees_of rows p.key)) qs) same
+          (all_within rows x.0.places (there_in b s rows graph reached store w.0 x.0 x.1))
       | inr h ↦ absurd (lease_apart (sym h.0 ∙ w.1))
     ]
 

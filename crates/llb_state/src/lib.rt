@@ -26,7 +26,8 @@ pub use events::Events;
 pub use fresh::{Fresh, opening};
 pub use history::History;
 pub use instances::{
-    contents, give_all_back, give_back, lease_with_room, lend_again, lent_for, take_back, write_back,
+    contents, give_all_back, give_back, lease_with_room, lend_again, lent_for, take_back,
+    write_back,
 };
 pub use landing::{has_shared, is_run_of, put_left};
 pub use ready::{is_marked, is_ready, output_at, stand_at};
