@@ -1,6 +1,7 @@
 -- What a landing returns: the block of the worker's remaining micro-steps and its settle, or the first cause of its refusal.
 use Rattle.std.specs.Prelude.{◌≡◌, ℕ, Bool, true, false, List, [], ◌∷◌, ◌++◌, Option, Some, None, slice_get, is_ok}
 use Rattle.llb_model.specs.Caches.{Place}
+use Rattle.llb_model.specs.Program.{View}
 use Rattle.llb_model.specs.State.{Execution, At, Idle, Runs}
 use Rattle.llb_model.specs.Table.{Job, Reply, settle_grant}
 use Rattle.llb_model.specs.Run.{run}
@@ -26,6 +27,12 @@ abbrev pub places_had : Option At → List Place
 places_had (Some (Runs x)) = x.places
 places_had (Some Idle) = []
 places_had None = []
+
+-- the view that what a worker runs works on
+abbrev pub view_had : Option At → Option View
+view_had (Some (Runs x)) = Some x.own
+view_had (Some Idle) = None
+view_had None = None
 
 pub record CanLand (b : Seen) (w : ℕ) (job : Job) : Type 0 where
   pub x : Execution

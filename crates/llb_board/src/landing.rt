@@ -1,9 +1,9 @@
 //! The landing of an outcome: the block of all micro-steps that a worker has left and of its settle, for work that was done away from
 //! the board. It settles and does no micro-step. `land` compares trees, by value alone; `land_known` compares nothing.
 
-ghost use Rattle.std.specs.Prelude.{◌≡◌, slice_get, IfOk, IfErr, OnOk, OnErr};
+ghost use Rattle.std.specs.Prelude.{◌≡◌, option_map, slice_get, IfOk, IfErr, OnOk, OnErr};
 ghost use Rattle.llb_board.specs.Begun.{IsKnown};
-ghost use Rattle.llb_board.specs.Landing.{CanLand, StandsInWay, IsRefused, land_fault, places_had, runs_shared, IsThrough, Lands};
+ghost use Rattle.llb_board.specs.Landing.{CanLand, StandsInWay, IsRefused, land_fault, places_had, view_had, runs_shared, IsThrough, Lands};
 ghost use Rattle.llb_events.specs.Views.{settle_reply};
 
 use crate::board::Board;
@@ -11,7 +11,7 @@ use crate::fault::LandFault;
 use crate::laws::begun_are_plain;
 use llb_cache::Place;
 use llb_events::Settled;
-use llb_execution::{Job, Outcome};
+use llb_execution::{Job, Outcome, View};
 use llb_state::{Desk, desk_at, has_shared, is_run_of, put_left, write_back};
 
 /// Why an outcome does not land.
@@ -71,6 +71,16 @@ impl Board {
         match desk_at(&self.desks, w) {
             Some(Desk::Runs(_, execution)) => &execution.places,
             _ => &[],
+        }
+    }
+
+    /// Returns the view that what a worker runs works on; `None` where it runs nothing, or there is no such worker. Does not allocate.
+    pub fn view(&self, w: u32) -> Option<&View>
+        ensures { option_map (λ v. v.now) result ≡ view_had (slice_get self.now.state.workers w) }
+    {
+        match desk_at(&self.desks, w) {
+            Some(Desk::Runs(_, execution)) => Some(&execution.view),
+            _ => None,
         }
     }
 

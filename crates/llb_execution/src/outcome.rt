@@ -64,6 +64,13 @@ impl Outcome {
         self.count
     }
 
+    /// Returns the view that they leave.
+    pub fn view(&self) -> &View
+        ensures { result.now ≡ self.now.left.work.own }
+    {
+        &self.view
+    }
+
     /// Returns the fault of the last of them, if it had one.
     pub fn fault(&self) -> Option<VertexFault>
         ensures { result ≡ self.now.left.fault }

@@ -9,12 +9,11 @@ ghost use Rattle.llb_work.specs.Turns.{IsBrought, IsClaimed, IsHere};
 
 use crate::crew::Crew;
 use crate::noted::{Gated, Noted, Tally};
+use crate::owners::Owners;
 use crate::shared_board::{Brought, Turn};
 use crossbeam_utils::Backoff;
 use llb_board::{Gate, Job, WorkFault, work};
 use llb_ready::ReadyPass;
-use llb_tree::Tree;
-use std::alloc::Global;
 use std::sync::Wait;
 use std::sync::ledger::Ledger;
 
@@ -38,15 +37,11 @@ impl<'x, S: Gated, G: Gate, R: Wait> Crew<'x, S, G, R> {
         let mut kit = kit;
         let mut brought = Brought::Nothing;
         for _i in self.rt.forever() {
-            let replaced = replaced_by(self.alloc, &brought);
-            let turn = self
-                .board
-                .lock(self.rt)
-                .turn(w, brought, &mut kit.tally, &mut kit.news);
+            let (turn, owners) = self.hold(w, brought, &mut kit);
             let put = self.put_all(w, &mut kit);
             let own = usize::from(matches!(turn, Turn::Next));
             self.idle.wake(put.saturating_sub(own));
-            drop(replaced);
+            drop(owners);
             match self.away(w, turn, &mut kit) {
                 Some(more) => brought = more,
                 None => break,
@@ -54,6 +49,23 @@ impl<'x, S: Gated, G: Gate, R: Wait> Crew<'x, S, G, R> {
         }
         self.idle.end();
         kit
+    }
+
+    // Does what a worker has to do in one hold of the lock. Returns what it is to do next, and second owners of the trees that were dropped
+    // in the hold.
+    fn hold(self, w: u32, brought: Brought, kit: &mut WorkerKit<S>) -> (Turn, Option<Owners>)
+        requires { IsBrought S.given w brought }
+        ensures here { IsHere S.given w result.0 }
+        ensures pass { kit.new.pass ≡ kit.old.pass }
+    {
+        let landing = Owners::of_brought(self.alloc, &brought);
+        let mut shared = self.board.lock(self.rt);
+        let owners = match landing {
+            Some(owners) => Some(owners),
+            None => Owners::of_running(self.alloc, &shared.board, w),
+        };
+        let turn = shared.turn(w, brought, &mut kit.tally, &mut kit.news);
+        (turn, owners)
     }
 
     // Does what a worker has to do away from the lock. Returns what it brings back; `None` if it ends.
@@ -147,21 +159,4 @@ impl<'x, S: Gated, G: Gate, R: Wait> Crew<'x, S, G, R> {
         self.board.lock(self.rt).give_up(w, noted, tally);
         None
     }
-}
-
-// Returns second owners of the trees that a landing replaces in the caches, so that none of these trees loses its last owner, and is freed,
-// while the lock is held; `None` if there is nothing to land or memory is refused.
-fn replaced_by(alloc: Global, brought: &Brought) -> Option<Vec<Tree>> {
-    match brought {
-        Brought::Outcome(outcome) => second_owners(alloc, outcome.job().trees()),
-        _ => None,
-    }
-}
-
-fn second_owners(alloc: Global, trees: &[Tree]) -> Option<Vec<Tree>> {
-    let mut owners = Vec::with_capacity(alloc, trees.len()).ok()?;
-    for tree in trees {
-        owners.push(tree.copy().ok()?).ok()?;
-    }
-    Some(owners)
 }
