@@ -54,9 +54,10 @@ impl<'x, S: Gated, G: Gate, R: Wait> Crew<'x, S, G, R> {
     // Does what a worker has to do in one hold of the lock. Returns what it is to do next, and second owners of the trees that were dropped
     // in the hold.
     fn hold(self, w: u32, brought: Brought, kit: &mut WorkerKit<S>) -> (Turn, Option<Owners>)
-        requires { IsBrought S.given w brought }
+        requires brought { IsBrought S.given w brought }
+        requires pass { IsPassFor self.queue.now w kit.old.pass }
         ensures here { IsHere S.given w result.0 }
-        ensures pass { kit.new.pass ≡ kit.old.pass }
+        ensures pass { IsPassFor self.entry.queue.now w kit.new.pass }
     {
         let landing = Owners::of_brought(self.alloc, &brought);
         let mut shared = self.board.lock(self.rt);
