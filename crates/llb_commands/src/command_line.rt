@@ -2,7 +2,7 @@
 //! which takes a file too, and `show`, `asm` and `dis`. The texts for its pages of help are those of `pages`.
 
 ghost use Rattle.std.specs.Prelude.{◌≡◌, false, map, IfOk, IfErr};
-ghost use Rattle.clap.specs.Words.{app_of, kind_of, fault_of, found_of, new_app, rows_of, rule_of, subcommand_of};
+ghost use Rattle.clap.specs.Words.{app_of, kind_of, fault_of, found_of, new_app, rows_of, rule_of, subcommand_of, with_rule, with_subcommand};
 ghost use Rattle.clap.specs.declared.builder.command.Command.TheViews.{out-Command as fields_of};
 ghost use Rattle.llb_commands.specs.CommandLine.{
   llbm_app,
@@ -72,25 +72,51 @@ fn workers_arg<'a>(alloc: Global, help: &'a str) -> Arg<'a>
         .value_parser(value_parser!(u32))
 }
 
+// Adds words that a command alone takes.
+fn with_words<'a>(
+    command: clap::Command<'a>,
+    words: Arg<'a>,
+) -> Result<clap::Command<'a>, AllocError>
+    requires own { words.global ≡ false }
+    requires plain { (fields_of command).has_globals ≡ false }
+    ensures app { IfOk result (λ c. app_of c ≡ with_rule (app_of command.entry) (rule_of words.entry)) }
+    ensures plain { IfOk result (λ c. (fields_of c).has_globals ≡ false) }
+{
+    command.arg(words)
+}
+
+// Adds a command.
+fn with_command<'a>(
+    app: clap::Command<'a>,
+    command: clap::Command<'a>,
+) -> Result<clap::Command<'a>, AllocError>
+    requires { (fields_of command).has_globals ≡ false }
+    ensures { IfOk result (λ c. app_of c ≡ with_subcommand (app_of app.entry) (app_of command.entry).top) }
+{
+    app.subcommand(command)
+}
+
 fn run_command<'a>(alloc: Global) -> Result<clap::Command<'a>, AllocError>
     ensures app { IfOk result (λ c. app_of c ≡ run_app) }
     ensures plain { IfOk result (λ c. (fields_of c).has_globals ≡ false) }
 {
-    clap::Command::new(alloc, "run")
-        .about("Runs the definition on standard input, and prints the tree of its result")
-        .arg(workers_arg(alloc, "The number of workers, 1 to 64; without it, 1"))?
-        .arg(local_arg(alloc))
+    let workers = workers_arg(alloc, "The number of workers, 1 to 64; without it, 1");
+    let run = clap::Command::new(alloc, "run")
+        .about("Runs the definition on standard input, and prints the tree of its result");
+    let run = with_words(run, workers)?;
+    with_words(run, local_arg(alloc))
 }
 
 fn step_command<'a>(alloc: Global) -> Result<clap::Command<'a>, AllocError>
     ensures app { IfOk result (λ c. app_of c ≡ step_app) }
     ensures plain { IfOk result (λ c. (fields_of c).has_globals ≡ false) }
 {
-    clap::Command::new(alloc, "step")
-        .about("Steps through the run of a definition, by commands on standard input")
-        .arg(workers_arg(alloc, "The number of workers, 1 to 64; without it, 2"))?
-        .arg(file_arg(alloc))?
-        .arg(local_arg(alloc))
+    let workers = workers_arg(alloc, "The number of workers, 1 to 64; without it, 2");
+    let step = clap::Command::new(alloc, "step")
+        .about("Steps through the run of a definition, by commands on standard input");
+    let step = with_words(step, workers)?;
+    let step = with_words(step, file_arg(alloc))?;
+    with_words(step, local_arg(alloc))
 }
 
 // A command that takes no word.
@@ -119,32 +145,36 @@ fn base_command<'a>(alloc: Global) -> Result<clap::Command<'a>, AllocError>
 fn graph_commands<'a>(alloc: Global) -> Result<clap::Command<'a>, AllocError>
     ensures { IfOk result (λ c. app_of c ≡ graph_app) }
 {
+    let base = base_command(alloc)?;
+    let run = run_command(alloc)?;
+    let app = with_command(base, run)?;
     let show = plain_command(
         alloc,
         "show",
         "Prints the graph of the definition on standard input",
     );
-    base_command(alloc)?
-        .subcommand(run_command(alloc)?)?
-        .subcommand(show)?
-        .subcommand(step_command(alloc)?)
+    let app = with_command(app, show)?;
+    let step = step_command(alloc)?;
+    with_command(app, step)
 }
 
 /// Returns the command line as `clap` takes it, with all commands.
 pub fn llbm_command<'a>(alloc: Global) -> Result<clap::Command<'a>, AllocError>
     ensures { IfOk result (λ c. app_of c ≡ llbm_app) }
 {
+    let app = graph_commands(alloc)?;
     let asm = plain_command(
         alloc,
         "asm",
         "Writes the definition of the entries in the text on standard input",
     );
+    let app = with_command(app, asm)?;
     let dis = plain_command(
         alloc,
         "dis",
         "Prints the entries of the definition on standard input, as text",
     );
-    graph_commands(alloc)?.subcommand(asm)?.subcommand(dis)
+    with_command(app, dis)
 }
 
 // The command of that name; that there is none cannot be met.

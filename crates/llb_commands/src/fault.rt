@@ -28,8 +28,8 @@ impl fmt::Display for OutputFault {
 
     fn fmt<W: fmt::Write>(&self, f: &mut fmt::Formatter<W>) -> fmt::Result {
         match self {
-            OutputFault::Write => write!(f, "182"),
-            OutputFault::Memory => write!(f, "184"),
+            OutputFault::Write => f.write_str("182"),
+            OutputFault::Memory => f.write_str("184"),
         }
     }
 }
@@ -89,20 +89,20 @@ impl fmt::Display for ProgramFault {
     fn fmt<W: fmt::Write>(&self, f: &mut fmt::Formatter<W>) -> fmt::Result {
         match self {
             ProgramFault::Refused(fault) => write!(f, "{fault}"),
-            ProgramFault::Loading => write!(f, "91"),
+            ProgramFault::Loading => f.write_str("91"),
             ProgramFault::MissingLocal(name) => write!(f, "121 {name}"),
-            ProgramFault::Workers => write!(f, "122"),
-            ProgramFault::Opening => write!(f, "123"),
+            ProgramFault::Workers => f.write_str("122"),
+            ProgramFault::Opening => f.write_str("123"),
             ProgramFault::Run(fault) => write!(f, "{fault}"),
             ProgramFault::Print(fault) => write!(f, "{fault}"),
             ProgramFault::Output(fault) => write!(f, "{fault}"),
             ProgramFault::Unread(fault) => write!(f, "{fault}"),
-            ProgramFault::Entries => write!(f, "14"),
+            ProgramFault::Entries => f.write_str("14"),
             ProgramFault::Assembling(fault) => write!(f, "{fault}"),
             ProgramFault::Text(fault) => write!(f, "{fault}"),
-            ProgramFault::TooLong => write!(f, "185"),
-            ProgramFault::Read => write!(f, "181"),
-            ProgramFault::Memory => write!(f, "184"),
+            ProgramFault::TooLong => f.write_str("185"),
+            ProgramFault::Read => f.write_str("181"),
+            ProgramFault::Memory => f.write_str("184"),
         }
     }
 }

@@ -37,11 +37,11 @@ impl fmt::Display for SourceFault {
 
     fn fmt<W: fmt::Write>(&self, f: &mut fmt::Formatter<W>) -> fmt::Result {
         match self {
-            SourceFault::Read => write!(f, "181"),
-            SourceFault::TooLong => write!(f, "185"),
+            SourceFault::Read => f.write_str("181"),
+            SourceFault::TooLong => f.write_str("185"),
             SourceFault::Text(fault) => write!(f, "{fault}"),
-            SourceFault::Reading => write!(f, "184"),
-            SourceFault::Adding => write!(f, "92"),
+            SourceFault::Reading => f.write_str("184"),
+            SourceFault::Adding => f.write_str("92"),
         }
     }
 }

@@ -58,8 +58,8 @@ impl fmt::Display for WordsFault<'_> {
     fn fmt<W: fmt::Write>(&self, f: &mut fmt::Formatter<W>) -> fmt::Result {
         match self {
             WordsFault::Words(Some(word)) => write!(f, "183 {word}"),
-            WordsFault::Words(None) => write!(f, "183"),
-            WordsFault::Memory => write!(f, "184"),
+            WordsFault::Words(None) => f.write_str("183"),
+            WordsFault::Memory => f.write_str("184"),
         }
     }
 }
