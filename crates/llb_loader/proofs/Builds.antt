@@ -1,6 +1,6 @@
 -- Vertices that are built one after another, while the ops are moved out of their list.
-use Rattle.std.proofs.Common.{◌≡◌, ◌≢◌, ℕ, ◌+◌, ◌<◌, ◌≤◌, List, [], ◌∷◌, ◌++◌, None, length, get_or, set, sym, ◌∙◌, subst, arith}
-use Rattle.std.proofs.lemmas.List.{get_or_append_left, get_or_push, get_or-set_other}
+use Rattle.std.proofs.Common.{◌≡◌, ◌≢◌, ℕ, ◌+◌, ◌<◌, ◌≤◌, List, [], ◌∷◌, ◌++◌, None, length, get_or, sym, ◌∙◌, subst, arith}
+use Rattle.std.proofs.lemmas.List.{get_or_append_left, get_or_push}
 use Rattle.llb_ops.specs.declared.op.Op.{Op}
 use Rattle.llb_loader.specs.declared.row.Row.{Row}
 use Rattle.llb_loader.specs.declared.graph.Vertex.{Vertex}
@@ -27,11 +27,10 @@ built_push rows ops links ranks order vs v n len old new =
     (subst (λ (x : Vertex). IsBuilt (row_at rows (get_or order n 0)).digest (op_at ops (get_or order n 0)) (inputs links (get_or order n 0)) ranks x)
     (sym (get_or_push vs v no_vertex n len)) new)
 
--- an op is moved out of its list, and the ops of later rows stay, as no row is twice in the order
-pub kept_step : (first ops : List Op) (order : List ℕ) (n : ℕ) (moved : Op) → ((i j : ℕ) → i < length order → j < i → get_or order j 0 ≢ get_or order i 0)
+-- where an op is moved out of its list, the ops of later rows stay, as no row is twice in the order
+pub kept_step : (first ops left : List Op) (order : List ℕ) (n : ℕ) → ((i j : ℕ) → i < length order → j < i → get_or order j 0 ≢ get_or order i 0)
+    → ((k : ℕ) → k ≢ get_or order n 0 → op_at left k ≡ op_at ops k)
     → ((i : ℕ) → n ≤ i → i < length order → op_at ops (get_or order i 0) ≡ op_at first (get_or order i 0))
-    → (i : ℕ) → n + 1 ≤ i → i < length order → op_at (set ops (get_or order n 0) moved) (get_or order i 0) ≡ op_at first (get_or order i 0)
-kept_step first ops order n moved once kept i l h =
-    get_or-set_other ops (get_or order n 0) (get_or order i 0) moved (record { inputs = []; kind = None; extra = [] })
-    (λ e. once i n h (omega (arith, l)) (sym e))
-    ∙ kept i (omega (arith, l)) h
+    → (i : ℕ) → n + 1 ≤ i → i < length order → op_at left (get_or order i 0) ≡ op_at first (get_or order i 0)
+kept_step first ops left order n once others kept i l h =
+    others (get_or order i 0) (λ e. once i n h (omega (arith, l)) (sym e)) ∙ kept i (omega (arith, l)) h

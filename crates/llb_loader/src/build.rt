@@ -39,11 +39,21 @@ pub(crate) fn vertices_of(
 {
     let mut vertices = Vec::with_capacity(alloc, order.len())?;
     for row in order {
-        let op = mem::replace(&mut ops[*row], no_op(alloc));
+        let op = taken(alloc, &mut ops, *row);
         let vertex = vertex_of(alloc, &rows[*row].digest, op, links[*row].as_slice(), ranks)?;
         vertices.push(vertex)?;
     }
     Ok(vertices)
+}
+
+// Takes the op of a row out of the list.
+fn taken(alloc: Global, ops: &mut Vec<Op>, row: usize) -> Op
+    requires { row < length ops.old.items }
+    ensures op { result ≡ op_at ops.old.items row }
+    ensures others { (k : ℕ) → k ≢ row → op_at ops.new.items k ≡ op_at ops.old.items k }
+    ensures len { length ops.new.items ≡ length ops.old.items }
+{
+    mem::replace(&mut ops[row], no_op(alloc))
 }
 
 fn no_op(alloc: Global) -> Op {
