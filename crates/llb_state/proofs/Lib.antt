@@ -21,3 +21,9 @@ pub mod Skipping
 pub mod Stepping
 pub mod PutBack
 pub mod Alike
+pub mod Crews
+pub mod Worked
+pub mod Claims
+pub mod Landings
+pub mod Undoings
+pub mod Befores

@@ -11,3 +11,6 @@ pub mod OpenInputs
 pub mod Room
 pub mod Begun
 pub mod Undoing
+pub mod Vertices
+pub mod Workers
+pub mod Undo

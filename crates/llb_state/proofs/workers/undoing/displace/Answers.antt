@@ -1,0 +1,25 @@
+use Rattle.std.proofs.Common.{◌≡◌, ◌∙◌, ◌<◌, Option, List, Some, None, length, map, sym, ap, subst, arith, rules, vec_len}
+use Rattle.std.specs.Prelude.{slice_get, slice_set}
+use Rattle.std.proofs.lemmas.Option.{slice_get_within}
+use Rattle.llb_cache.specs.Caches.{CachesValue}
+use Rattle.llb_model.specs.Leases.{AreLeased}
+use Rattle.llb_model.specs.State.{Idle}
+use Rattle.llb_state.specs.Room.{ready_made}
+use Rattle.llb_state.specs.Views.{at_of, leased_by}
+use Rattle.llb_state.specs.declared.stand.Desk.{Desk}
+use Rattle.llb_state.specs.declared.stand.Desk.TheVariants as desk
+use Rattle.llb_state.proofs.Lent.{leased_settled, lease_out}
+use Rattle.llb_state.proofs.Lists.{map_set, length_map}
+use Rattle.llb_state.proofs.Undoings.{unstepped, resumed}
+use Rattle.llb_state.proofs.workers.undoing.displace.Goals as goal
+
+pub make_idle-lease-requires : goal.make_idle-lease-requires
+make_idle-lease-requires c =
+    let low : c.in-Unclaim.w < length (map at_of c.args.seats.now.items) = search rules in
+    omega (arith, low, length_map at_of c.args.seats.now.items)
+
+pub give_back-requires : goal.give_back-requires
+give_back-requires c =
+    let ds = c.args.seats.now.items in
+    lease_out c.args.caches.now.out (map at_of ds) (map leased_by ds) c.in-Unclaim.w c.make_idle-lease.result c.requires.leased
+    c.make_idle-lease.ensures.leased
