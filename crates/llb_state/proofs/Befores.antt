@@ -9,7 +9,7 @@ use Rattle.llb_model.specs.Table.{Step, stepped, settled, cancelled}
 use Rattle.llb_events.specs.declared.fault.StepFault.TheVariants as no_step
 use Rattle.llb_events.specs.declared.fault.WalkFault.TheVariants as walk
 use Rattle.llb_state.specs.Room.{Supplies, ready_made}
-use Rattle.llb_state.specs.Rules.{faulted, step_fault, settle_fault, cancel_fault}
+use Rattle.llb_events.specs.Causes.{faulted, step_fault, settle_fault, cancel_fault}
 use Rattle.llb_state.specs.Undo.{Unstep, Resume, KeepsIf, KeepsWhere, MarksStep, MarksEnd, walk_in, end_of, no_worker, not_running}
 use Rattle.llb_state.specs.Undoing.{Before, left_in}
 use Rattle.llb_state.specs.Vertices.{VerticesValue}

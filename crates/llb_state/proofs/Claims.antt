@@ -25,9 +25,11 @@ use Rattle.llb_events.specs.declared.fault.ClaimFault.{ClaimFault}
 use Rattle.llb_needs.specs.Needs.{shut_key, unless_shut, places_taken}
 use Rattle.llb_state.specs.Caches.{lease_if, written, places_at, rows_after}
 use Rattle.llb_state.specs.Room.{supplies_of, supplies_for}
-use Rattle.llb_state.specs.Rules.{faulted, claim_fault, Begun, begun, begun_at}
+use Rattle.llb_events.specs.Causes.{faulted, claim_fault}
+use Rattle.llb_state.specs.Rules.{Begun, begun, begun_at}
 use Rattle.llb_state.specs.Vertices.{VerticesValue, with_status}
-use Rattle.llb_state.specs.Views.{at_of, leased_by, execution_of, claim_reply}
+use Rattle.llb_state.specs.Views.{at_of, leased_by, execution_of}
+use Rattle.llb_events.specs.Views.{claim_reply}
 use Rattle.llb_state.specs.Workers.{WorkersValue, BegunValue, IsBegunAt, IsBegunOn, Fits, state_in, claim_in, reply_of, rule_of}
 use Rattle.llb_state.specs.declared.stand.Desk.{Desk}
 use Rattle.llb_state.specs.declared.stand.Desk.TheVariants as desk

@@ -14,7 +14,8 @@ use Rattle.llb_model.specs.Table.{Job}
 use Rattle.llb_model.proofs.Landing.{further_keeps}
 use Rattle.llb_model.proofs.Lists.{inside}
 use Rattle.llb_state.specs.Caches.{leased_places, places_at}
-use Rattle.llb_state.specs.Jobs.{OutcomeValue, IsOutcome, IsRunOf, begun_on, job_now, desk_left}
+use Rattle.llb_execution.specs.Jobs.{OutcomeValue, IsOutcome, begun_on}
+use Rattle.llb_state.specs.Jobs.{IsRunOf, job_now, desk_left}
 use Rattle.llb_state.specs.Room.{Supplies, supplies_of, supplies_for, needs_at}
 use Rattle.llb_state.specs.Vertices.{VerticesValue}
 use Rattle.llb_state.specs.Views.{at_of, leased_by, execution_of}

@@ -15,7 +15,8 @@ use Rattle.llb_events.specs.declared.event.Stepped.{Stepped}
 use Rattle.llb_events.specs.declared.fault.StepFault.{StepFault}
 use Rattle.llb_state.specs.Caches.{written, rows_after}
 use Rattle.llb_state.specs.Room.{ready_made, needed, supplies_of, supplies_for}
-use Rattle.llb_state.specs.Rules.{faulted, step_fault, step_memory, GivesStep, Written, worked_by, written_by, worked_in}
+use Rattle.llb_events.specs.Causes.{faulted, step_fault, step_memory, GivesStep}
+use Rattle.llb_state.specs.Rules.{Written, worked_by, written_by, worked_in}
 use Rattle.llb_state.specs.Vertices.{VerticesValue}
 use Rattle.llb_state.specs.Views as views
 use Rattle.llb_state.specs.Views.{at_of, leased_by, execution_of}

@@ -11,7 +11,7 @@ use Rattle.llb_events.specs.declared.fault.WalkFault.TheVariants as walk
 use Rattle.llb_events.specs.declared.fault.SettleFault.TheVariants as no_settle
 use Rattle.llb_events.specs.declared.fault.CancelFault.TheVariants as no_cancel
 use Rattle.llb_state.specs.Room.{Supplies, supplies_for, mounts_at, needs_at}
-use Rattle.llb_state.specs.Rules.{faulted, settle_fault, cancel_fault}
+use Rattle.llb_events.specs.Causes.{faulted, settle_fault, cancel_fault}
 use Rattle.llb_state.specs.Undoing.{Left, left_in, Before}
 use Rattle.llb_state.specs.Vertices.{VerticesValue, status_of}
 use Rattle.llb_state.specs.Workers.{WorkersValue, state_in, claim_in, step_in}

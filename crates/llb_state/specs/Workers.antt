@@ -12,9 +12,11 @@ use Rattle.llb_model.specs.State.{State, Status, Running, Execution, At, Idle, R
 use Rattle.llb_model.specs.Table.{Job, Reply, Claimed, claim_start, claim_at, claim_grant, step_grant}
 use Rattle.llb_events.specs.declared.fault.ClaimFault.{ClaimFault}
 use Rattle.llb_events.specs.declared.fault.StepFault.{StepFault}
-use Rattle.llb_state.specs.Jobs.{IsRunOf, OutcomeValue}
+use Rattle.llb_state.specs.Jobs.{IsRunOf}
+use Rattle.llb_execution.specs.Jobs.{OutcomeValue}
 use Rattle.llb_state.specs.Room.{Supplies, supplies_for, needed}
-use Rattle.llb_state.specs.Rules.{faulted, claim_fault, step_fault, Begun}
+use Rattle.llb_events.specs.Causes.{faulted, claim_fault, step_fault}
+use Rattle.llb_state.specs.Rules.{Begun}
 use Rattle.llb_state.specs.Vertices.{VerticesValue, with_status}
 
 -- what contracts see of the workers: what each does, the lists of cache instances, and what each is supplied with

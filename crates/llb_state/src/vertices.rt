@@ -7,7 +7,8 @@ ghost use Rattle.llb_model.specs.Outcome.{inputs_from};
 ghost use Rattle.llb_model.specs.Program.{program_at, program_of};
 ghost use Rattle.llb_model.specs.State.{Idle, ending_at};
 ghost use Rattle.llb_model.specs.Table.{claim_start};
-ghost use Rattle.llb_state.specs.Rules.{faulted, claim_fault, or_not_ready};
+ghost use Rattle.llb_events.specs.Causes.{faulted, claim_fault};
+ghost use Rattle.llb_state.specs.Rules.{or_not_ready};
 
 mod stage;
 

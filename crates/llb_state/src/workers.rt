@@ -7,7 +7,7 @@ ghost use Rattle.llb_model.specs.Leases.{HoldsAs};
 ghost use Rattle.llb_model.specs.State.{Idle};
 ghost use Rattle.llb_state.specs.Caches.{places_at};
 ghost use Rattle.llb_state.specs.Room.{supplies_for};
-ghost use Rattle.llb_state.specs.Views.{look_of};
+ghost use Rattle.llb_events.specs.Views.{look_of};
 
 mod claiming;
 mod landing;

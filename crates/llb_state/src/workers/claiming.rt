@@ -14,7 +14,8 @@ ghost use Rattle.llb_state.specs.Caches.{rows_after};
 ghost use Rattle.llb_state.specs.Room.{supplies_for, supplies_of};
 ghost use Rattle.llb_state.specs.Rules as rules;
 ghost use Rattle.llb_state.specs.Vertices.{with_status};
-ghost use Rattle.llb_state.specs.Views.{claim_reply, execution_of};
+ghost use Rattle.llb_events.specs.Views.{claim_reply};
+ghost use Rattle.llb_state.specs.Views.{execution_of};
 ghost use Rattle.llb_state.specs.Workers.{IsBegunOn, Fits, claim_in, reply_of, state_in, rule_of};
 
 use crate::instances::lease_for;

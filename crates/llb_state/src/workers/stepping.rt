@@ -4,8 +4,10 @@ ghost use Rattle.std.specs.Prelude.{◌≡◌, length, Some, OnErr, OnOk, slice_
 ghost use Rattle.llb_model.specs.Leases.{HasLease};
 ghost use Rattle.llb_state.specs.Caches.{rows_after};
 ghost use Rattle.llb_state.specs.Room.{supplies_of, supplies_for};
-ghost use Rattle.llb_state.specs.Rules.{step_memory, worked_in, GivesStep};
-ghost use Rattle.llb_state.specs.Views.{execution_of, step_reply};
+ghost use Rattle.llb_events.specs.Causes.{step_memory, GivesStep};
+ghost use Rattle.llb_state.specs.Rules.{worked_in};
+ghost use Rattle.llb_state.specs.Views.{execution_of};
+ghost use Rattle.llb_events.specs.Views.{step_reply};
 ghost use Rattle.llb_state.specs.Workers.{Fits, state_in, step_in};
 ghost use Rattle.llb_wire.specs.Answer.{MemoryLast};
 

@@ -8,7 +8,8 @@ ghost use Rattle.llb_state.specs.Undo.{MarksIn, MarksClaim, MarksStep, MarksEnd,
 ghost use Rattle.llb_state.specs.Undo.{walk_in, walk_memory, end_of, no_worker, not_running};
 ghost use Rattle.llb_state.specs.Undo.{back_in, workers_before, rows_before, supplies_before, change_in, change_of};
 ghost use Rattle.llb_state.specs.Undoing.{caches_in};
-ghost use Rattle.llb_state.specs.Views.{at_of, leased_by, event_of};
+ghost use Rattle.llb_state.specs.Views.{at_of, leased_by};
+ghost use Rattle.llb_events.specs.Views.{event_of};
 ghost use Rattle.llb_state.specs.Workers.{Fits};
 
 use crate::copying::{copied, copied_leases};

@@ -7,8 +7,9 @@ use Rattle.llb_model.specs.Table.{claim_start, claimed}
 use Rattle.llb_model.proofs.Leasing.{leased_holds_as}
 use Rattle.llb_events.specs.Faults.{GivesClaim, claim_memory, claim_may_want}
 use Rattle.llb_needs.specs.Needs.{shut_key, unless_shut}
-use Rattle.llb_state.specs.Rules.{faulted, claim_fault}
-use Rattle.llb_state.specs.Views.{at_of, leased_by, claim_reply}
+use Rattle.llb_events.specs.Causes.{faulted, claim_fault}
+use Rattle.llb_state.specs.Views.{at_of, leased_by}
+use Rattle.llb_events.specs.Views.{claim_reply}
 use Rattle.llb_state.specs.Workers.{WorkersValue, IsBegunOn, state_in, claim_in, reply_of}
 use Rattle.llb_state.specs.declared.stand.Desk.{Desk}
 use Rattle.llb_state.proofs.Calls.{CanClaim, Leased, can_claim}

@@ -2,7 +2,7 @@ use Rattle.std.proofs.Common.{◌≡◌, ◌∙◌, ◌+◌, ◌<◌, ◌^◌, l
 use Rattle.llb_cache.specs.Caches.{Leases}
 use Rattle.llb_execution.specs.Parts.{left_with}
 use Rattle.llb_model.specs.Program.{Left}
-use Rattle.llb_state.specs.Jobs.{OutcomeValue, IsOutcome}
+use Rattle.llb_execution.specs.Jobs.{OutcomeValue, IsOutcome}
 use Rattle.llb_state.specs.Workers.{WorkersValue, Fits, RunsJob}
 use Rattle.llb_state.proofs.Crews.{Crew}
 use Rattle.llb_state.proofs.Landings.{HasSeat, has_seat, low_seat, few_steps, leased_count, few_trees, land_crew, land_workers, land_rows, land_fits}

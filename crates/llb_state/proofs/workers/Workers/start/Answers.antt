@@ -7,7 +7,8 @@ use Rattle.llb_model.specs.Table.{claim_grant}
 use Rattle.llb_model.proofs.Lists.{length_set}
 use Rattle.llb_state.specs.Caches.{lease_if, rows_after}
 use Rattle.llb_state.specs.Vertices.{with_status}
-use Rattle.llb_state.specs.Views.{at_of, claim_reply}
+use Rattle.llb_state.specs.Views.{at_of}
+use Rattle.llb_events.specs.Views.{claim_reply}
 use Rattle.llb_state.specs.Workers.{WorkersValue, IsBegunAt, Fits, state_in}
 use Rattle.llb_state.specs.declared.stand.Desk.TheVariants as desk
 use Rattle.llb_state.proofs.Claims.{differ, few, low_seat, start_grants, start_rows, start_crew, start_fits}

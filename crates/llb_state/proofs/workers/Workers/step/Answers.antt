@@ -5,8 +5,9 @@ use Rattle.llb_wire.specs.Answer.{MemoryLast}
 use Rattle.llb_model.specs.State.{At}
 use Rattle.llb_model.specs.Table.{stepped}
 use Rattle.llb_state.specs.Caches.{rows_after}
-use Rattle.llb_state.specs.Rules.{faulted, step_fault, step_memory, GivesStep}
-use Rattle.llb_state.specs.Views.{at_of, step_reply}
+use Rattle.llb_events.specs.Causes.{faulted, step_fault, step_memory, GivesStep}
+use Rattle.llb_state.specs.Views.{at_of}
+use Rattle.llb_events.specs.Views.{step_reply}
 use Rattle.llb_state.specs.Workers.{WorkersValue, Fits, state_in, step_in}
 use Rattle.llb_state.specs.declared.stand.Desk.{Desk}
 use Rattle.llb_state.specs.declared.stand.Desk.TheVariants as desk

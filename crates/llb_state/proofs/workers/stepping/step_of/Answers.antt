@@ -7,7 +7,8 @@ use Rattle.llb_model.specs.Program.{key_of, program_at}
 use Rattle.llb_model.specs.State.{program_in, is_finished}
 use Rattle.llb_state.specs.Room.{Supplies, needs_at}
 use Rattle.llb_state.specs.Rules.{worked, written_by}
-use Rattle.llb_state.specs.Views.{execution_of, step_reply}
+use Rattle.llb_state.specs.Views.{execution_of}
+use Rattle.llb_events.specs.Views.{step_reply}
 use Rattle.llb_state.proofs.Skipping.{put_each_same}
 use Rattle.llb_state.proofs.Lists.{length_map}
 use Rattle.llb_state.proofs.Needed.{few_needs}
