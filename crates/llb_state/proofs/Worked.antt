@@ -18,7 +18,7 @@ use Rattle.llb_state.specs.Room.{ready_made, needed, supplies_of, supplies_for}
 use Rattle.llb_events.specs.Causes.{faulted, step_fault, step_memory, GivesStep}
 use Rattle.llb_state.specs.Rules.{Written, worked_by, written_by, worked_in}
 use Rattle.llb_state.specs.Vertices.{VerticesValue}
-use Rattle.llb_state.specs.Views as views
+use Rattle.llb_events.specs.Views as views
 use Rattle.llb_state.specs.Views.{at_of, leased_by, execution_of}
 use Rattle.llb_state.specs.Workers.{WorkersValue, Fits, state_in, step_in}
 use Rattle.llb_state.specs.declared.stand.Desk.{Desk}

@@ -19,14 +19,13 @@ ghost use Rattle.llb_state.specs.Views.{execution_of};
 ghost use Rattle.llb_state.specs.Workers.{IsBegunOn, Fits, claim_in, reply_of, state_in, rule_of};
 
 use crate::instances::lease_for;
-use crate::job::Job;
 use crate::stand::{Desk, Execution};
 use crate::step::{desk_at, outfit_for};
 use crate::vertices::Vertices;
 use crate::workers::Workers;
 use llb_cache::{Caches, Need};
 use llb_events::ClaimFault;
-use llb_execution::View;
+use llb_execution::{Job, View};
 use llb_loader::Vertex;
 use llb_needs::{Wanted, mount_numbers, taking_for, wanted_by};
 use llb_wire::Many;
@@ -165,15 +164,9 @@ fn begun_with(
     let outfit = outfit_for(alloc, vertex)?;
     let view = View::on(alloc, vertices.locals(), vertex, inputs, numbers)?;
     let own = view.copy()?;
-    let job = Job {
-        worker: w,
-        vertex: v,
-        program: outfit.program,
-        done: 0,
-        view,
-        trees: Many::new(taking.trees),
-        instances: Many::new(taking.instances),
-    };
+    let trees = Many::new(taking.trees);
+    let instances = Many::new(taking.instances);
+    let job = Job::new(w, v, outfit.program, view, trees, instances);
     let execution = Execution {
         vertex: v,
         done: 0,

@@ -15,16 +15,14 @@ ghost use Rattle.llb_state.specs.Views.{execution_of};
 ghost use Rattle.llb_state.specs.Workers.{Fits, RunsJob, steps_left};
 
 use crate::instances::write_back;
-use crate::job::Job;
 use crate::landing::{has_numbers, has_trees, is_begun, put_left};
-use crate::outcome::Outcome;
 use crate::stand::Desk;
 use crate::stand::Execution;
 use crate::step::desk_at;
 use crate::vertices::Vertices;
 use crate::workers::Workers;
 use llb_cache::Caches;
-use llb_execution::Program;
+use llb_execution::{Job, Outcome, Program};
 use llb_wire::Same;
 
 impl Workers {
@@ -73,10 +71,10 @@ fn is_left(
     ensures { IsTrue result ↔ IsRunOf vertices.now.build (store_of caches.now.rows) w (execution_of execution.now) job.now }
 {
     is_begun(w, execution, job)
-        && has_program(vertices, execution.vertex, &job.program)
-        && job.view.same(&execution.view)
-        && has_trees(caches, &execution.places, job.trees.as_slice())
-        && has_numbers(&execution.places, job.instances.as_slice())
+        && has_program(vertices, execution.vertex, job.program())
+        && job.view().same(&execution.view)
+        && has_trees(caches, &execution.places, job.trees())
+        && has_numbers(&execution.places, job.instances())
 }
 
 // Returns whether it is the program of a vertex of the graph.

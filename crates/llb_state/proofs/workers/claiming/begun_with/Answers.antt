@@ -3,30 +3,31 @@ use Rattle.std.specs.Prelude.{Result, Ok}
 use Rattle.llb_model.specs.Outcome.{inputs_from}
 use Rattle.llb_model.specs.Program.{view_on}
 use Rattle.llb_model.specs.State.{ending_at}
+use Rattle.llb_model.specs.Table.{Job, Claimed}
 use Rattle.llb_needs.specs.Needs.{taken_with}
 use Rattle.llb_state.specs.Begun.{outfit_as}
 use Rattle.llb_events.specs.declared.fault.ClaimFault.{ClaimFault}
-use Rattle.llb_state.proofs.Begins.{Parts, AreParts, begun_of, supplied, workable}
+use Rattle.llb_state.proofs.Begins.{Parts, AreParts, put_together, begun_of, supplied, workable}
 use Rattle.llb_state.proofs.workers.claiming.begun_with.Goals as goal
-use Rattle.llb_state.proofs.workers.claiming.begun_with.Goals.{After-new-2}
+use Rattle.llb_state.proofs.workers.claiming.begun_with.Goals.{After-new-instances}
 
 inside_ok : {A : Type 0} {x y : A} → ◌≡◌ {A = Result A ClaimFault} (Ok x) (Ok y) → x ≡ y
 inside_ok e = cc
 
-parts : goal.After-new-2 → Parts
+parts : goal.After-new-instances → Parts
 parts c =
     let t = c.in_ok-taking.taking in
     record {
       view = c.in_ok-view.view;
       own = c.in_ok-own.own;
       places = t.places.items;
-      instances = c.new-2.result;
-      trees = c.new.result;
+      instances = c.new-instances.result;
+      trees = c.new-trees.result;
       needs = t.needs.items;
       outfit = outfit_as c.in_ok-outfit.outfit;
     }
 
-are_parts : (c : goal.After-new-2) → AreParts c.args.vertices.now.build c.args.caches.now c.args.vertex.now c.in_ok-inputs.inputs.items (parts c)
+are_parts : (c : goal.After-new-instances) → AreParts c.args.vertices.now.build c.args.caches.now c.args.vertex.now c.in_ok-inputs.inputs.items (parts c)
 unfolding parts
 are_parts c =
     let x = c.args.vertex.now in
@@ -36,7 +37,7 @@ are_parts c =
       view = view;
       own = view ∙ sym c.in_ok-own.ensures;
       taking = (λ i. taken_with c.args.caches.now (sym c.deref-2.ensures.value i) (sym c.requires.wanted i)) ∙ inside_ok c.in_ok-taking.ensures
-          ∙ (λ i. (c.in_ok-taking.taking.places.items, sym c.new-2.ensures i, sym c.new.ensures i, c.in_ok-taking.taking.needs.items));
+          ∙ (λ i. (c.in_ok-taking.taking.places.items, sym c.new-instances.ensures i, sym c.new-trees.ensures i, c.in_ok-taking.taking.needs.items));
       outfit = inside_ok c.in_ok-outfit.ensures;
     }
 
@@ -45,13 +46,13 @@ unfolding parts
 returns-clause-gives c =
     begun_of c.args.vertices.now.build c.args.caches.now c.args.at.0 c.args.at.1 c.args.vertex.now
     (inputs_from (ending_at c.args.vertices.now.statuses) c.args.vertex.now.inputs) c.in_ok-inputs.inputs.items (parts c) c.in_ok-inputs.ensures (are_parts c)
+    ∙ ap (λ (j : Job). Ok (record (put_together c.args.at.0 c.args.at.1 (parts c)) { reply = Claimed j })) (sym c.new-job.ensures)
 
 pub returns-clause-supplies : goal.returns-clause-supplies
 unfolding parts
 returns-clause-supplies c = supplied c.args.vertices.now.build c.args.caches.now c.args.vertex.now c.in_ok-inputs.inputs.items (parts c) (are_parts c)
 
-pub invariant_of-job : goal.invariant_of-job
+pub new-job-requires : goal.new-job-requires
 unfolding parts
-invariant_of-job c =
-    let p = (goal.at.invariant_of-job c).After-new-2 in
-    workable c.args.vertices.now.build c.args.caches.now c.args.vertex.now c.in_ok-inputs.inputs.items (parts p) (are_parts p) c.requires.few
+new-job-requires c =
+    workable c.args.vertices.now.build c.args.caches.now c.args.vertex.now c.in_ok-inputs.inputs.items (parts c) (are_parts c) c.requires.few
