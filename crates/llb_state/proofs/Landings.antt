@@ -37,10 +37,14 @@ pub record HasSeat (b : Build) (ds : List Desk) (rows : List Row) (w : ℕ) (job
   pub at : slice_get ds w ≡ Some (desk.Runs l own)
   pub run : IsRunOf b (store_of rows) w (execution_of own) job
 
-pub has_seat : (vs : VerticesValue) (ds : List Desk) (rows : List Row) (w : ℕ) (job : Job) → RunsJob vs (seen_of ds rows) w job
-    → HasSeat vs.build ds rows w job
-has_seat vs ds rows w job can = by_seat (slice_get ds w) refl (sym (slice_get-map at_of ds w) ∙ can.runs)
+pub has_seat : (vs : VerticesValue) (ds : List Desk) (rows : List Row) (ws : WorkersValue) (w : ℕ) (job : Job) → seen_of ds rows ≡ ws
+    → RunsJob vs ws w job → HasSeat vs.build ds rows w job
+has_seat vs ds rows ws w job is runs =
+    by_seat (slice_get ds w) refl (sym (slice_get-map at_of ds w) ∙ can.runs)
   where
+    can : RunsJob vs (seen_of ds rows) w job
+    can = subst (λ (v : WorkersValue). RunsJob vs v w job) (sym is) runs
+
     inside_at : {x y : Execution} → ◌≡◌ {A = Option At} (Some (Runs x)) (Some (Runs y)) → x ≡ y
     inside_at e = cc
 

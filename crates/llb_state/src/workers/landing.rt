@@ -8,7 +8,8 @@ ghost use Rattle.llb_model.specs.Caches.{Has};
 ghost use Rattle.llb_model.specs.Kept.{store_of};
 ghost use Rattle.llb_model.specs.Leases.{put_each};
 ghost use Rattle.llb_model.specs.Program.{program_at};
-ghost use Rattle.llb_model.specs.State.{Execution, Runs};
+ghost use Rattle.llb_model.specs.State as machine;
+ghost use Rattle.llb_model.specs.State.{Runs};
 ghost use Rattle.llb_state.specs.Caches.{places_at};
 ghost use Rattle.llb_state.specs.Jobs.{IsRunOf};
 ghost use Rattle.llb_state.specs.Views.{execution_of};
@@ -28,7 +29,7 @@ use llb_wire::Same;
 impl Workers {
     /// Returns whether a job is what a worker has left to do, with the caches as they are now. Does not allocate.
     pub fn is_run_of(&self, vertices: &Vertices, w: u32, job: &Job) -> bool
-        requires there { (x : Execution) → slice_get self.now.workers w ≡ Some (Runs x)
+        requires there { (x : machine.Execution) → slice_get self.now.workers w ≡ Some (Runs x)
             → is_some (slice_get vertices.now.build.graph.vertices x.vertex) ≡ true }
         ensures yes { OnTrue result (RunsJob vertices.now self.now w job.now) }
         ensures no { OnFalse result (RunsJob vertices.now self.now w job.now → ⊥) }

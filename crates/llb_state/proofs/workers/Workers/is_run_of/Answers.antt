@@ -17,7 +17,7 @@ is_left-requires-clause-vertex c =
     let runs : slice_get (map at_of s.seats.items) c.args.w ≡ Some (Runs x)
     = ap (λ (ds : List Desk). slice_get (map at_of ds) c.args.w) (sym c.deref.ensures.value) ∙ sym c.in-Some-Runs.ensures
     ∙ ap (λ d. Some (at_of d)) c.in-Some-Runs.field-0-is in
-    c.requires x (ap (λ (v : WorkersValue). slice_get v.workers c.args.w) (sym c.self.view_is) ∙ runs)
+    c.requires.there x (ap (λ (v : WorkersValue). slice_get v.workers c.args.w) (sym c.self.view_is) ∙ runs)
 
 pub is_left-requires-clause-within : goal.is_left-requires-clause-within
 is_left-requires-clause-within c =

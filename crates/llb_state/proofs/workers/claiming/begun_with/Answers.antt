@@ -44,13 +44,16 @@ are_parts c =
 pub returns-clause-gives : goal.returns-clause-gives
 unfolding parts
 returns-clause-gives c =
+    let p = (goal.at.returns-clause-gives c).After-new-instances in
     begun_of c.args.vertices.now.build c.args.caches.now c.args.at.0 c.args.at.1 c.args.vertex.now
-    (inputs_from (ending_at c.args.vertices.now.statuses) c.args.vertex.now.inputs) c.in_ok-inputs.inputs.items (parts c) c.in_ok-inputs.ensures (are_parts c)
-    ∙ ap (λ (j : Job). Ok (record (put_together c.args.at.0 c.args.at.1 (parts c)) { reply = Claimed j })) (sym c.new-job.ensures)
+    (inputs_from (ending_at c.args.vertices.now.statuses) c.args.vertex.now.inputs) c.in_ok-inputs.inputs.items (parts p) c.in_ok-inputs.ensures (are_parts p)
+    ∙ ap (λ (j : Job). Ok (record (put_together c.args.at.0 c.args.at.1 (parts p)) { reply = Claimed j })) (sym c.new-job.ensures)
 
 pub returns-clause-supplies : goal.returns-clause-supplies
 unfolding parts
-returns-clause-supplies c = supplied c.args.vertices.now.build c.args.caches.now c.args.vertex.now c.in_ok-inputs.inputs.items (parts c) (are_parts c)
+returns-clause-supplies c =
+    let p = (goal.at.returns-clause-supplies c).After-new-instances in
+    supplied c.args.vertices.now.build c.args.caches.now c.args.vertex.now c.in_ok-inputs.inputs.items (parts p) (are_parts p)
 
 pub new-job-requires : goal.new-job-requires
 unfolding parts

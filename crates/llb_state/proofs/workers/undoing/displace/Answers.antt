@@ -23,3 +23,30 @@ give_back-requires c =
     let ds = c.args.seats.now.items in
     lease_out c.args.caches.now.out (map at_of ds) (map leased_by ds) c.in-Unclaim.w c.make_idle-lease.result c.requires.leased
     c.make_idle-lease.ensures.leased
+
+pub index_mut-requires : goal.index_mut-requires
+index_mut-requires c =
+    let ds = c.args.seats.now.items in
+    let low = slice_get_within (map at_of ds) c.in-Resume.w Idle c.requires.behind in
+    let len : vec_len c.args.seats.now ≡ length ds = search rules in
+    omega (arith, low, len, length_map at_of ds)
+
+pub returns-in-Unclaim-clause-workers : goal.returns-in-Unclaim-clause-workers
+returns-in-Unclaim-clause-workers c =
+    ap (map at_of) c.make_idle-lease.ensures.idle ∙ map_set at_of c.args.seats.now.items c.in-Unclaim.w desk.Idle
+
+pub returns-in-Unclaim-clause-made : goal.returns-in-Unclaim-clause-made
+returns-in-Unclaim-clause-made c =
+    ap (map ready_made) c.make_idle-lease.ensures.idle ∙ map_set ready_made c.args.seats.now.items c.in-Unclaim.w desk.Idle
+
+pub returns-in-Unclaim-clause-rows : goal.returns-in-Unclaim-clause-rows
+returns-in-Unclaim-clause-rows c = ap (λ (v : CachesValue). v.rows) c.give_back.ensures
+
+pub returns-in-Unclaim-clause-leased : goal.returns-in-Unclaim-clause-leased
+returns-in-Unclaim-clause-leased c =
+    let ds = c.args.seats.now.items in
+    λ none. subst (λ (v : CachesValue). AreLeased v.out (map at_of c.make_idle-lease.new.desks.items) (map leased_by c.make_idle-lease.new.desks.items))
+    (sym c.give_back.ensures)
+    (subst (λ (es : List Desk). AreLeased (given_back c.args.caches.now c.make_idle-lease.result).out (map at_of es) (map leased_by es))
+    (sym c.make_idle-lease.ensures.idle)
+    (leased_settled c.args.caches.now ds c.in-Unclaim.w c.make_idle-lease.result c.requires.leased c.make_idle-lease.ensures.leased))
