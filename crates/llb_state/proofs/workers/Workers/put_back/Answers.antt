@@ -7,26 +7,16 @@ use Rattle.llb_state.specs.Views.{at_of, leased_by}
 use Rattle.llb_state.specs.Workers.{WorkersValue}
 use Rattle.llb_state.proofs.Undoings.{places_put, crew_put, rows_put}
 use Rattle.llb_state.proofs.workers.Workers.put_back.Goals as goal
-use Rattle.llb_state.proofs.workers.Workers.put_back.Goals.{After-into_parts-back, After-displace-change}
-
-behind : (c : After-into_parts-back) → IsBehind c.args.undo.back (map at_of c.self.inside.seats.items)
-behind c = subst (λ (v : WorkersValue). IsBehind c.args.undo.back v.workers) (sym c.self.view_is) c.requires.behind
-
-fits : (c : After-into_parts-back) → FitsLeases c.args.undo.back (map at_of c.self.inside.seats.items) c.args.undo.caches
-fits c = subst (λ (v : WorkersValue). FitsLeases c.args.undo.back v.workers c.args.undo.caches) (sym c.self.view_is) c.requires.leased
+use Rattle.llb_state.proofs.workers.Workers.put_back.Goals.{After-displace-change}
 
 pub displace-change-requires-clause-behind : goal.displace-change-requires-clause-behind
 displace-change-requires-clause-behind c =
-    let p = (goal.at.displace-change-requires-clause-behind c).After-into_parts-back in
-    subst (λ (k : Back). IsBehind k (map at_of c.self.inside.seats.items)) (sym c.into_parts-back.ensures.back) (behind p)
-
-pub put_caches-requires : goal.put_caches-requires
-put_caches-requires c =
-    let p = (goal.at.put_caches-requires c).After-into_parts-back in
     let s = c.self.inside in
-    places_put c.args.undo.back c.into_parts-back.result.1 (map at_of s.seats.items) (map at_of c.displace-change.new.seats.items)
-    (subst (FitsLeases c.args.undo.back (map at_of s.seats.items)) (sym c.into_parts-back.ensures.caches) (fits p))
-    (c.displace-change.ensures.workers ∙ ap (λ (k : Back). workers_before k (map at_of s.seats.items)) c.into_parts-back.ensures.back)
+    subst (λ (k : Back). IsBehind k (map at_of s.seats.items)) (sym c.into_parts-back.ensures.back)
+    (subst (λ (v : WorkersValue). IsBehind c.args.undo.back v.workers) (sym c.self.view_is) c.requires.behind)
+
+fits : (c : After-displace-change) → FitsLeases c.args.undo.back (map at_of c.self.inside.seats.items) c.args.undo.caches
+fits c = subst (λ (v : WorkersValue). FitsLeases c.args.undo.back v.workers c.args.undo.caches) (sym c.self.view_is) c.requires.leased
 
 -- the workers without the caches that are put back
 first : (c : After-displace-change) → map at_of c.displace-change.new.seats.items ≡ workers_before c.args.undo.back (map at_of c.self.inside.seats.items)
@@ -42,7 +32,7 @@ invariant_of-self c =
     let one = c.displace-change.new in
     let two = c.put_caches.new in
     crew_put u.back s.seats.items one.seats.items two.desks.items s.caches.out one.caches two.caches u.caches c.self.invariant
-    (fits path.After-into_parts-back) (first path.After-displace-change)
+    (fits path.After-displace-change) (first path.After-displace-change)
     (λ none. c.displace-change.ensures.leased (subst HasNoPlaces (sym c.into_parts-back.ensures.back) none))
     c.put_caches.ensures.workers
     (c.put_caches.ensures.leases ∙ ap (λ (o : Option Before). leases_before o (map leased_by one.seats.items)) given)
@@ -69,3 +59,10 @@ returns-clause-supplies c =
 
 pub returns-clause-change : goal.returns-clause-change
 returns-clause-change c = c.displace-change.ensures.change ∙ ap change_in c.into_parts-back.ensures.back
+
+pub put_caches-requires : goal.put_caches-requires
+put_caches-requires c =
+    let p = (goal.at.put_caches-requires c).After-displace-change in
+    let s = c.self.inside in
+    places_put c.args.undo.back c.into_parts-back.result.1 (map at_of s.seats.items) (map at_of c.displace-change.new.seats.items)
+    (subst (FitsLeases c.args.undo.back (map at_of s.seats.items)) (sym c.into_parts-back.ensures.caches) (fits p)) (first p)
