@@ -21,3 +21,5 @@ pub mod Skipping
 pub mod Stepping
 pub mod PutBack
 pub mod Alike
+pub mod Stages
+pub mod InStep

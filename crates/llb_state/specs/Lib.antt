@@ -11,3 +11,4 @@ pub mod OpenInputs
 pub mod Room
 pub mod Begun
 pub mod Undoing
+pub mod Vertices

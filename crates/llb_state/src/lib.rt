@@ -18,6 +18,7 @@ mod same;
 mod stand;
 mod step;
 mod undoing;
+mod vertices;
 
 pub use build::Build;
 pub use choice::{all_settled, first_open, next_claim, next_event};
@@ -32,3 +33,4 @@ pub use same::{same_desks, same_events, same_stands};
 pub use stand::{Desk, Execution, Stand};
 pub use step::{Begun, begin, claimable, desk_at, give_up, is_finished, leave, step_at};
 pub use undoing::{Before, make_idle, mark_anew, open_anew, put_caches, step_back};
+pub use vertices::{Stage, Vertices};
