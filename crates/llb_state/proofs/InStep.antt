@@ -24,7 +24,7 @@ use Rattle.llb_model.proofs.Lists.{Each_of, got_set, got_replicate, get_set_same
 use Rattle.llb_model.proofs.Outcomes.{HasOutputs, each_below, inputs_same, inputs_there}
 use Rattle.llb_model.proofs.Plain.{ending_settled}
 use Rattle.llb_model.proofs.Ready.{ready_waits}
-use Rattle.llb_state.specs.Vertices.{IsWhole, done_in, is_over, AreOver, TellsInputs, IsInStep, status_of}
+use Rattle.llb_state.specs.Vertices.{IsWhole, done_in, is_over, AreCounted, AreOver, TellsInputs, IsInStep, status_of}
 use Rattle.llb_state.specs.declared.vertices.stage.Stage.{Stage}
 use Rattle.llb_state.proofs.Behind.{test_set, others_done, done_here, below, linked_open, ready_so, spread_stops}
 use Rattle.llb_state.proofs.Lists.{length_map, map_set, get_map, set_back}
@@ -100,6 +100,23 @@ pub linked_up : (vs : List Vertex) (T : List Status) (v : ℕ) (old new : Status
 linked_up vs T v old new l m at low was is users counts so =
     linked_raised vs (done_in (slice_set T v old)) (done_in T) l m v low (done_here T v new old at ∙ was) (ap (λ o. is_done (ending_of o)) at ∙ is)
     (λ u apart. sym (others_done T v old u apart)) so users counts
+
+-- the counts are those of the new statuses
+linked_counted : (vs : List Vertex) (T : List Status) (v : ℕ) (old new : Status) (l m : Linked) → slice_get T v ≡ Some new → v < length vs
+    → m.users ≡ l.users → AreCounted (is_done (ending_of (Some old))) (is_done (ending_of (Some new))) (users_at l v) l.counts m.counts
+    → IsLinked vs (done_in (slice_set T v old)) l → IsLinked vs (done_in T) m
+linked_counted vs T v old new l m at low users counts so =
+    by_tests (is_done (ending_of (Some old))) (is_done (ending_of (Some new))) refl refl counts
+  where
+    unchanged : is_done (ending_of (Some old)) ≡ is_done (ending_of (Some new)) → m.counts ≡ l.counts → IsLinked vs (done_in T) m
+    unchanged same is = subst (IsLinked vs (done_in T)) (λ i. record { users = sym users i; counts = sym is i }) (linked_as vs T v old new l at same so)
+
+    by_tests : (was is : Bool) → is_done (ending_of (Some old)) ≡ was → is_done (ending_of (Some new)) ≡ is → AreCounted was is (users_at l v) l.counts m.counts
+        → IsLinked vs (done_in T) m
+    by_tests false true was is counts = linked_down vs T v old new l m at low was is users counts so
+    by_tests true false was is counts = linked_up vs T v old new l m at low was is users counts so
+    by_tests false false was is counts = unchanged (was ∙ sym is) counts
+    by_tests true true was is counts = unchanged (was ∙ sym is) counts
 
 -- ---- the marks
 
@@ -265,6 +282,15 @@ module _ (b : Build) (ss : List Stage) (v : ℕ) (s : Stage) (marks : List Bool)
   over_after r fits under =
       subst (λ S. AreOver b S r) (sym (map_set status_of ss v s))
       (over_set b (map status_of ss) v (status_of s) n r kept.graph low_vertex fits under kept.over)
+
+  -- where the users of the vertex are counted anew, the links are those of the new statuses
+  pub linked_after : (had : Stage) → slice_get ss v ≡ Some had → (m : Linked) → m.users ≡ l.users
+      → AreCounted (is_done (ending_of (Some (status_of had)))) (is_done (ending_of (Some (status_of s)))) (users_at l v) l.counts m.counts
+      → IsLinked b.graph.vertices (done_in after) m
+  linked_after had at m users counts =
+      linked_counted b.graph.vertices after v (status_of had) (status_of s) l m
+      (get_map status_of (slice_set ss v s) v s (get_set_same ss v s had at)) low_vertex users counts
+      (subst (λ S. IsLinked b.graph.vertices (done_in S) l) (sym (before_is had at)) kept.linked)
 
   -- what is kept is in step again
   pub in_step_after : (marked : List Bool) (m : Linked) (r : ℕ) → marked ≡ stopped b after → IsLinked b.graph.vertices (done_in after) m → AreOver b after r

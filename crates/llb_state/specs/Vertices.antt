@@ -1,14 +1,12 @@
--- What contracts see of the vertices, how one looks, and what is kept beside, which follows from it.
-use Rattle.std.specs.Prelude.{◌≡◌, ℕ, ◌<◌, Bool, true, ◌||◌, ◌&&◌, not, List, length, replicate, Option, Some, None, is_some, option_map, slice_get, slice_set}
+-- What contracts see of the vertices, and what is kept beside, which follows from it.
+use Rattle.std.specs.Prelude.{◌≡◌, ℕ, ◌<◌, Bool, true, false, ◌||◌, ◌&&◌, not, List, length, replicate, Option, Some, None, is_some, slice_get, slice_set}
 use Rattle.llb_loader.specs.Graph.{IsGraph}
 use Rattle.llb_loader.specs.declared.graph.Vertex.{Vertex}
 use Rattle.llb_model.specs.Program.{Build}
 use Rattle.llb_model.specs.Outcome.{Done, Failed, inputs_from}
 use Rattle.llb_model.specs.State.{Status, Waiting, Running, Settled, ending_at, is_done, is_ready, is_blocked, stopped}
 use Rattle.llb_model.specs.Run.{is_settled}
-use Rattle.llb_events.specs.declared.event.Status as seen
-use Rattle.llb_links.specs.Links.{Linked, IsLinked, has_inputs}
-use Rattle.llb_events.specs.Views.{look}
+use Rattle.llb_links.specs.Links.{Linked, IsLinked, AreLowered, AreRaised, has_inputs}
 use Rattle.llb_state.specs.declared.vertices.stage.Stage.{Stage}
 use Rattle.llb_state.specs.declared.vertices.stage.Stage.TheVariants as stage
 
@@ -33,10 +31,6 @@ status_of stage.Waiting = Waiting
 status_of (stage.Running w) = Running w
 status_of (stage.Done trees) = Settled (Done trees)
 status_of (stage.Failed f) = Settled (Failed f)
-
--- how a vertex looks
-abbrev pub look_in : Build → List Status → ℕ → Option seen.Status
-look_in b statuses v = option_map (look (is_ready b statuses v) (is_blocked b statuses v)) (slice_get statuses v)
 
 -- ---- what is kept beside
 
@@ -63,6 +57,13 @@ AreOver b statuses n = (v : ℕ) → v < n → is_over b statuses v ≡ true
 -- a vertex's count is 0 exactly where the trees of all its inputs are there
 abbrev pub TellsInputs : Build → List Status → Linked → Type 0
 TellsInputs b statuses l = (v : ℕ) (x : Vertex) → slice_get b.graph.vertices v ≡ Some x → has_inputs l v ≡ is_some (inputs_from (ending_at statuses) x.inputs)
+
+-- the users of a vertex have one open input less where it is done now and was not, one more where it was, and else as many
+abbrev pub AreCounted : (was_done is_done : Bool) → List ℕ → List ℕ → List ℕ → Type 0
+AreCounted false true users old new = AreLowered users old new
+AreCounted true false users old new = AreRaised users old new
+AreCounted false false users old new = new ≡ old
+AreCounted true true users old new = new ≡ old
 
 -- All else follows from the build and the statuses: there is a status for each vertex, and what is done is whole; marked is what has failed or is downstream
 -- of what has; the links count the inputs that are not done; and each vertex below `first_open` is over.

@@ -2,10 +2,10 @@
 //! call begins anew: which vertices are stopped, how many inputs of each are open, and where the search for a Ready vertex begins.
 
 ghost use Rattle.std.specs.Prelude.{◌≡◌, ◌<◌, ◌^◌, ◌||◌, IfOk, IfErr, length, option_map, replicate, slice_get, false, is_ok, true, Some, Err};
-ghost use Rattle.std.specs.Prelude.{MatchResult, map};
+ghost use Rattle.std.specs.Prelude.{MatchResult, map, ℕ, ◌+◌, All, get_or};
 ghost use Rattle.llb_events.specs.Faults.{GivesClaim};
 ghost use Rattle.llb_loader.specs.Graph.{IsGraph, IsVertexOf};
-ghost use Rattle.llb_links.specs.Links.{IsLinked, users_of};
+ghost use Rattle.llb_links.specs.Links.{IsLinked, users_at, users_of};
 ghost use Rattle.llb_model.specs.Outcome.{inputs_from, output_in};
 ghost use Rattle.llb_model.specs.Program.{program_at, program_of};
 ghost use Rattle.llb_model.specs.Run.{least, each, is_settled};
@@ -13,11 +13,10 @@ ghost use Rattle.llb_model.specs.State.{Idle, ending_at, is_blocked, is_ready};
 ghost use Rattle.llb_model.specs.Table.{claim_start};
 ghost use Rattle.llb_events.specs.Causes.{faulted, claim_fault};
 ghost use Rattle.llb_state.specs.Rules.{or_not_ready};
-ghost use Rattle.llb_events.specs.Views.{look};
-ghost use Rattle.llb_state.specs.Vertices.{all_waiting, with_status, status_of, look_in, IsWhole};
+ghost use Rattle.llb_events.specs.Views.{look, look_in};
+ghost use Rattle.llb_state.specs.Vertices.{all_waiting, with_status, status_of, AreCounted, IsWhole};
 ghost use Rattle.llb_state.specs.declared.vertices.stage.Stage.TheVariants as stage;
 
-mod counts;
 mod marks;
 mod over;
 mod stage;
@@ -25,7 +24,6 @@ mod stage;
 pub use stage::Stage;
 
 use crate::build::Build;
-use counts::count;
 use llb_events::{ClaimFault, Memory, Status};
 use llb_links::Links;
 use llb_loader::{Edge, Graph, Locals, Vertex};
@@ -179,6 +177,7 @@ impl Vertices {
         requires whole { IsWhole (slice_get self.old.build.graph.vertices v) (status_of stage) }
         ensures { self.new ≡ with_status v (status_of stage) self.old }
     {
+        let is_done = stage.is_done();
         let had = mem::replace(&mut self.stages[v as usize], stage);
         mark(
             &mut self.stop_marks,
@@ -188,7 +187,7 @@ impl Vertices {
             v,
             &had,
         );
-        count(&mut self.links, &self.build, &self.stages, v, &had);
+        count(&mut self.links, v, had.is_done(), is_done);
         self.first_open = first_open(
             &self.build,
             &self.stages,
@@ -302,6 +301,21 @@ fn output_at(stages: &[Stage], v: u32, i: u32) -> Option<&Tree>
     match stages.get(v as usize) {
         Some(Stage::Done(outputs)) => outputs.as_slice().get(i as usize),
         _ => None,
+    }
+}
+
+// Counts the open inputs of each user of a vertex anew, given whether the vertex was done and whether it is.
+fn count(links: &mut Links, v: u32, was_done: bool, is_done: bool)
+    requires low { v < length links.old.users }
+    requires below { All (λ x. x < length links.old.counts) (users_at links.old v) }
+    requires few { (x : ℕ) → get_or links.old.counts x 0 + length (users_at links.old v) < 2 ^ 32 }
+    ensures users { links.new.users ≡ links.old.users }
+    ensures counts { AreCounted was_done is_done (users_at links.old v) links.old.counts links.new.counts }
+{
+    match (was_done, is_done) {
+        (false, true) => links.count_down(v),
+        (true, false) => links.count_up(v),
+        _ => {}
     }
 }
 

@@ -23,7 +23,7 @@ pub(crate) fn is_marked(stop_marks: &[bool], v: u32) -> bool
 
 /// Brings the marks up to date with the states, of which only that of vertex v has changed; it was `had`.
 pub(crate) fn mark(
-    stop_marks: &mut Vec<bool>,
+    stop_marks: &mut [bool],
     links: &mut Links,
     build: &Build,
     stages: &[Stage],
@@ -33,9 +33,9 @@ pub(crate) fn mark(
     requires graph { IsGraph build.now.graph }
     requires count { length stages.now ≡ length build.now.graph.vertices }
     requires low { v < length stages.now }
-    requires marks { stop_marks.old.items ≡ stopped build.now (slice_set (map status_of stages.now) v (status_of had.now)) }
+    requires marks { stop_marks.old ≡ stopped build.now (slice_set (map status_of stages.now) v (status_of had.now)) }
     requires linked { IsLinked build.now.graph.vertices (done_in (slice_set (map status_of stages.now) v (status_of had.now))) links.old }
-    ensures marks { stop_marks.new.items ≡ stopped build.now (map status_of stages.now) }
+    ensures marks { stop_marks.new ≡ stopped build.now (map status_of stages.now) }
     ensures links { links.new ≡ links.old }
 {
     if had.has_failed() {

@@ -1,11 +1,11 @@
 use Rattle.std.proofs.Common.{◌≡◌, ◌<◌, ◌∙◌, Bool, map, length, refl, sym, ap, arith}
 use Rattle.std.specs.Prelude.{Some, ◌&&◌, false, unwrap_or, option_map, slice_get}
-use Rattle.std.proofs.lemmas.Option.{slice_get_within}
+use Rattle.std.proofs.lemmas.Option.{slice_get_within, slice_get-get_or}
 use Rattle.llb_links.specs.Links.{has_inputs}
 use Rattle.llb_model.specs.Outcome.{Done, Failed}
 use Rattle.llb_model.specs.State.{Status, Waiting, Running, Settled, is_ready, is_waiting, is_blocked}
-use Rattle.llb_events.specs.Views.{look}
-use Rattle.llb_state.specs.Vertices.{VerticesValue, status_of, look_in}
+use Rattle.llb_events.specs.Views.{look, look_in}
+use Rattle.llb_state.specs.Vertices.{VerticesValue, status_of}
 use Rattle.llb_state.proofs.InStep.{tells_in, ready_here}
 use Rattle.llb_state.proofs.Lists.{get_map}
 use Rattle.llb_state.proofs.vertices.Vertices.status.Goals as goal
@@ -24,7 +24,9 @@ returns c =
     let s = status_of c.in_ok-stage.stage.now in
     let kept = c.self.invariant in
     let there : slice_get b.stages.items c.args.v ≡ Some c.in_ok-stage.stage.now
-    = ap (λ l. slice_get l c.args.v) (sym c.deref.ensures.value) ∙ sym c.in_ok-stage.ensures.lookup in
+    = ap (λ l. slice_get l c.args.v) (sym c.deref.ensures.value)
+    ∙ slice_get-get_or c.deref.result.now c.args.v c.in_ok-stage.stage.now c.in_ok-stage.ensures.lookup.3.0
+    ∙ ap (λ s. Some s) (sym c.in_ok-stage.ensures.lookup.1) in
     let at : slice_get S c.args.v ≡ Some s = get_map status_of b.stages.items c.args.v c.in_ok-stage.stage.now there in
     let low : c.args.v < length b.build.graph.vertices = omega (arith, slice_get_within S c.args.v s at, kept.count) in
     let ready : c.is_ready-ready.result ≡ is_ready b.build S c.args.v
