@@ -1,5 +1,5 @@
 -- What is kept of the vertices beside their statuses: what it tells, and that it stays in step where one vertex gets another status.
-use Rattle.std.proofs.Common.{◌≡◌, ◌≢◌, ℕ, zero, suc, ◌+◌, ◌<◌, ◌≤◌, Bool, true, false, ◌||◌, ◌&&◌, List, [], ◌∷◌, ◌++◌, length, get_or, map, Some}
+use Rattle.std.proofs.Common.{◌≡◌, ℕ, zero, suc, ◌+◌, ◌<◌, ◌≤◌, Bool, true, false, ◌||◌, ◌&&◌, List, [], ◌∷◌, ◌++◌, length, get_or, map, Some}
 use Rattle.std.proofs.Common.{unwrap_or, is_some, inl, inr, refl, sym, ap, subst, ◌∙◌, arith, length-append}
 use Rattle.std.specs.Prelude.{All, Option, None, slice_get, slice_set, replicate, nat_lt, not, ◌==◌, option_map}
 use Rattle.std.specs.List.{list_any}
@@ -11,7 +11,6 @@ use Rattle.std.proofs.lemmas.List.Elements.{All-weaker}
 use Rattle.llb_loader.specs.Graph.{IsGraph, LeadsBelow}
 use Rattle.llb_loader.specs.declared.graph.Edge.{Edge}
 use Rattle.llb_loader.specs.declared.graph.Vertex.{Vertex}
-use Rattle.llb_tree.specs.Tree.{TreeMap}
 use Rattle.llb_links.specs.Links.{Linked, IsLinked, AreLowered, AreRaised, Spreads, users_at, open_inputs, has_inputs}
 use Rattle.llb_links.specs.Laws.{linked_same, linked_lowered, linked_raised, counted_done}
 use Rattle.llb_model.specs.ByNumber.{by_number}

@@ -21,8 +21,6 @@ mod marks;
 mod over;
 mod stage;
 
-pub use stage::Stage;
-
 use crate::build::Build;
 use llb_events::{ClaimFault, Memory, Status};
 use llb_links::Links;
@@ -31,6 +29,7 @@ use llb_tree::Tree;
 use llb_wire::{Same, all_same};
 use marks::{is_marked, mark};
 use over::{first_open, is_ended, is_ready};
+pub use stage::Stage;
 use std::alloc::{AllocError, Global};
 use std::marker::Model;
 use std::mem;
@@ -255,8 +254,7 @@ impl Vertices {
 
 impl Same for Vertices {
     fn same(&self, other: &Vertices) -> bool {
-        self.build.same(&other.build)
-            && all_same(self.stages.as_slice(), other.stages.as_slice())
+        self.build.same(&other.build) && all_same(self.stages.as_slice(), other.stages.as_slice())
     }
 }
 

@@ -1,5 +1,5 @@
 use Rattle.std.proofs.Common.{◌≡◌, ◌<◌, ◌+◌, ◌-◌, map, length, sym, ◌∙◌, ap}
-use Rattle.std.specs.Prelude.{true, false, ◌||◌, ◌&&◌, unwrap_or, slice_get}
+use Rattle.std.specs.Prelude.{false, ◌||◌, ◌&&◌, unwrap_or, slice_get}
 use Rattle.llb_model.specs.State.{is_blocked, is_waiting}
 use Rattle.llb_model.specs.Run.{each, is_settled}
 use Rattle.llb_state.specs.Vertices.{VerticesValue, status_of}

@@ -1,7 +1,6 @@
-use Rattle.std.proofs.Common.{◌≡◌, ◌∙◌, List, length, map, sym, ap, subst}
-use Rattle.std.specs.Prelude.{replicate}
+use Rattle.std.proofs.Common.{◌∙◌, List, length, map, sym, ap, subst}
 use Rattle.llb_model.specs.Program.{Build}
-use Rattle.llb_model.specs.State.{Status, Waiting}
+use Rattle.llb_model.specs.State.{Status}
 use Rattle.llb_state.specs.Vertices.{VerticesValue, IsInStep, all_waiting, status_of}
 use Rattle.llb_state.proofs.InStep.{in_step_at_first}
 use Rattle.llb_state.proofs.Stages.{all_wait}

@@ -13,8 +13,7 @@ returns-then-same c =
     let a = c.self.inside in
     let b = c.other.inside in
     let stages : c.as_slice.result.now ≡ a.stages.items = c.as_slice.ensures.value in
-    let others : c.as_slice-then-same.result.now ≡ b.stages.items = c.as_slice-then-same.ensures.value in
-    (
+    let others : c.as_slice-then-same.result.now ≡ b.stages.items = c.as_slice-then-same.ensures.value in (
       λ yes.
           sym c.self.view_is
           ∙ together a.build b.build (map status_of a.stages.items) (map status_of b.stages.items) (c.same.ensures.0 c.if-same.true)
