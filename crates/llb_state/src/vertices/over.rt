@@ -1,7 +1,6 @@
 //! Which vertices are Ready, and which are over: done, failed, or without hope of their inputs.
 
-ghost use Rattle.std.specs.Prelude.{◌≡◌, ◌<◌, map, length, slice_get, false, unwrap_or, not, ◌||◌, ◌&&◌};
-ghost use Rattle.llb_loader.specs.Graph.{IsGraph};
+ghost use Rattle.std.specs.Prelude.{◌≡◌, map, slice_get, false, unwrap_or, ◌||◌, ◌&&◌};
 ghost use Rattle.llb_model.specs.State.{stopped, is_waiting};
 ghost use Rattle.llb_model.specs.Run.{is_settled};
 ghost use Rattle.llb_links.specs.Links.{has_inputs};
