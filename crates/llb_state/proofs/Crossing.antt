@@ -15,6 +15,8 @@ use Rattle.llb_applet.specs.contracts.setting.Setting as setting
 use Rattle.llb_cache.proofs.caches.Lease.TheSendSync as lease_crosses
 use Rattle.llb_cache.proofs.need.Place.TheSendSync as place_crosses
 use Rattle.llb_cache.specs.contracts.need.Place as place
+use Rattle.llb_links.proofs.links.Links.TheSendSync as links_crosses
+use Rattle.llb_links.specs.contracts.links.Links as links
 use Rattle.llb_loader.proofs.graph.Graph.TheSendSync as graph_crosses
 use Rattle.llb_loader.specs.contracts.graph.Graph as graph
 use Rattle.llb_loader.specs.contracts.locals.Locals as locals
@@ -27,6 +29,9 @@ use Rattle.llb_state.specs.contracts.stand.Stand as stand
 use Rattle.llb_state.specs.contracts.events.Events as events
 use Rattle.llb_state.specs.contracts.history.History as history
 use Rattle.llb_state.specs.contracts.history.History.TheInside as history_inside
+use Rattle.llb_state.specs.contracts.vertices.stage.Stage as stage
+use Rattle.llb_state.specs.contracts.vertices.Vertices as vertices
+use Rattle.llb_state.specs.contracts.vertices.Vertices.TheInside as vertices_inside
 
 setting_send : IsSend setting.the_row
 setting_send = setting_crosses.the_send
@@ -96,3 +101,30 @@ history_inside_send = declared_send history_inside.the_type (as_row_send events.
 
 pub history_send : IsSend history.the_row
 history_send = view_send history_inside.the_row _ _ _ _ history_inside_send
+
+stage_send : IsSend stage.the_row
+stage_send = variants_send stage.enum (
+  tt,
+  (
+    (search sendable, tt),
+    (
+      (search (many_crosses.the_send, tree_send, crosses, sendable) depth 20, tt),
+      ((search (fault_crosses.the_send, crosses, sendable) depth 20, tt), tt),
+    ),
+  ),
+)
+
+stages_send : IsSend (as_row (vec.the_field stage.the_row heap.the_row ghosts))
+stages_send = as_row_send (vec.the_field stage.the_row heap.the_row ghosts) (Vec-send stage.the_row stage_send)
+
+links_send : IsSend links.the_row
+links_send = links_crosses.the_send
+
+vertices_inside_send : IsSend vertices_inside.the_row
+vertices_inside_send = declared_send vertices_inside.the_type (
+  as_row_send build.the_field build_send,
+  (stages_send, (search (crosses, sendable) depth 20, (as_row_send links.the_field links_send, (search sendable, tt)))),
+)
+
+pub vertices_send : IsSend vertices.the_row
+vertices_send = view_send vertices_inside.the_row _ _ _ _ vertices_inside_send

@@ -21,6 +21,8 @@ pub mod Skipping
 pub mod Stepping
 pub mod PutBack
 pub mod Alike
+pub mod Stages
+pub mod InStep
 pub mod Crews
 pub mod Worked
 pub mod Claims
