@@ -35,9 +35,9 @@ use llb_links::Links;
 use llb_loader::{Graph, Locals};
 use llb_needs::wanted_by;
 use llb_state::{
-    Begun, Build, Desk, Events, History, Stand, all_settled, begin, claimable, desk_at, first_open,
-    give_all_back, give_back, give_up, is_finished, is_marked, is_ready, lease_with_room, leave,
-    next_claim, next_event, opening, output_at, stand_at, step_at,
+    Begun, Build, Claim, Desk, Events, History, Stand, all_settled, begin, claimable, desk_at,
+    first_open, give_all_back, give_back, give_up, is_finished, is_marked, is_ready,
+    lease_with_room, leave, next_claim, next_event, opening, output_at, stand_at, step_at,
 };
 use llb_tree::Tree;
 use llb_wire::{Memory, Text};
@@ -170,13 +170,17 @@ impl Board {
     {
         let vertex = claimable(&self.build, &self.stands, &self.links, &self.desks, w, v)?;
         let wanted = wanted_by(self.alloc, &self.caches, vertex)?;
+        let claim = Claim {
+            worker: w,
+            number: v,
+            vertex,
+        };
         let begun = begin(
             self.alloc,
             &self.build,
             &self.caches,
             &self.stands,
-            (w, v),
-            vertex,
+            claim,
             wanted,
         )?;
         let Begun {

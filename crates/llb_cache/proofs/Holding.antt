@@ -8,6 +8,7 @@ use Rattle.llb_cache.specs.declared.need.Need.{Need}
 use Rattle.llb_cache.specs.declared.need.Place.{Place}
 use Rattle.llb_cache.specs.Caches.{CachesValue, Row, Leases, taken, is_shut, is_held, leases, granted, with_lease, free_lease, put, given_back, trimmed, before}
 use Rattle.llb_cache.specs.Caches.{places_of, IsCaches, IsExclusive, Has}
+use Rattle.llb_cache.specs.Firsts.{keys_long}
 use Rattle.llb_cache.specs.Members.{In, contained_in}
 use Rattle.llb_cache.specs.Leased.{held_by, holder, in_any, in_place, lease_cases, lease_has, back_cases, trimmed_has}
 use Rattle.llb_cache.specs.Marks.{marked, Remarks, is_one_of, IsMarked}
@@ -17,10 +18,6 @@ use Rattle.llb_cache.proofs.Kept.{nothing_kept, lease_keeps, put_keeps, back_kee
 pub nothing_marked : IsMarked (record { rows = []; out = [] }) []
 unfolding marked is_held
 nothing_marked = record { caches = nothing_kept; each = refl; exact = λ p alone. refl }
-
-keys_long : (es : List Row) → length (keys_of es) ≡ length es
-keys_long [] = refl
-keys_long (e ∷ es) = ap suc (keys_long es)
 
 -- a tree that is written to an instance
 pub put_marked : (c : CachesValue) (p : Place) (tree : TreeMap) (marks : List (List Bool)) (rows : List Row) → rows ≡ put c.rows p tree

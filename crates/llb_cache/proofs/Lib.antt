@@ -5,3 +5,6 @@ pub mod Copies
 pub mod Differing
 pub mod Marked
 pub mod Holding
+pub mod Placed
+pub mod Searched
+pub mod Written

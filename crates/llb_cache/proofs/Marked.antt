@@ -1,16 +1,14 @@
 -- Marks by the row of a key: a look at one, one that changes, and the marks of a key that is new.
-use Rattle.std.proofs.Common.{◌≡◌, ℕ, zero, suc, ◌<◌, Bool, true, false, cond, ◌&&◌, List, [], ◌∷◌, ◌++◌, length, Option, Some, None, is_some}
+use Rattle.std.proofs.Common.{◌≡◌, ℕ, zero, suc, ◌<◌, Bool, true, false, cond, ◌&&◌, List, [], ◌∷◌, ◌++◌, length, Some, is_some}
 use Rattle.std.proofs.Common.{slice_index_or, slice_set, refl, sym, ap, ◌∙◌, arith, position}
 use Rattle.std.specs.Prelude.{◌==◌}
-use Rattle.std.specs.List.{AllByRecursion}
 use Rattle.std.specs.Map.{keys_of, lookup}
-use Rattle.indexmap.specs.IndexMap.{insert_entry, set_value_at}
-use Rattle.indexmap.proofs.MapLemmas.{Found-position, index-first, absent_from_lookup}
 use Rattle.llb_tree.specs.Tree.{TreeMap}
 use Rattle.llb_cache.specs.declared.key.Key.{Key}
 use Rattle.llb_cache.specs.declared.need.Place.{Place}
 use Rattle.llb_cache.specs.Key.{same_key, same_keys, key_equiv}
-use Rattle.llb_cache.specs.Caches.{Row, same_place}
+use Rattle.llb_cache.specs.Caches.{Row, same_place, with_trees}
+use Rattle.llb_cache.specs.Firsts.{IsAbsent, IsFirst, set_trees, first_placed, absent_found}
 use Rattle.llb_cache.specs.Leased.{same_places}
 use Rattle.llb_cache.specs.Marks.{marked, Remarks}
 
@@ -28,28 +26,12 @@ and_false false = refl
 
 -- ---- a look
 
--- no key of a row is this one
-abbrev IsAbsent : Key → List Row → Type 0
-IsAbsent k es = AllByRecursion (λ l. same_key k l ≡ false) (keys_of es)
-
--- the key of row i is this one, and none before it
-abbrev IsFirst : Key → List Row → ℕ → Type 0
-IsFirst k [] i = ⊥
-IsFirst k (e ∷ es) zero = same_key k e.0 ≡ true
-IsFirst k (e ∷ es) (suc i) = (same_key k e.0 ≡ false) × IsFirst k es i
-
-first_row : (k : Key) (es : List Row) (i : ℕ) → position (same_key k) (keys_of es) ≡ Some i → IsFirst k es i
-first_row k [] i e = absurd (let h = (Found-position {X = List TreeMap} (same_key k) [] i e).first in h)
-first_row k (x ∷ es) zero e = (Found-position (same_key k) (x ∷ es) zero e).first
-first_row k (x ∷ es) (suc i) e =
-    let h = (Found-position (same_key k) (x ∷ es) (suc i) e).first in (h.0, first_row k es i (index-first (same_key k) es i h.1))
-
-pub keys_stay : (es : List Row) (i : ℕ) (w : List TreeMap) → keys_of (set_value_at es i w) ≡ keys_of es
+pub keys_stay : (es : List Row) (i : ℕ) (w : List TreeMap) → keys_of (set_trees es i w) ≡ keys_of es
 keys_stay [] i w = refl
 keys_stay (e ∷ es) zero w = refl
 keys_stay (e ∷ es) (suc i) w = ap (λ ks. e.0 ∷ ks) (keys_stay es i w)
 
-pub rows_stay : (es : List Row) (i : ℕ) (w : List TreeMap) → length (set_value_at es i w) ≡ length es
+pub rows_stay : (es : List Row) (i : ℕ) (w : List TreeMap) → length (set_trees es i w) ≡ length es
 rows_stay [] i w = refl
 rows_stay (e ∷ es) zero w = refl
 rows_stay (e ∷ es) (suc i) w = ap suc (rows_stay es i w)
@@ -71,14 +53,10 @@ absent (e ∷ es) (m ∷ marks) p h = ap (λ b. cond b (slice_index_or m p.numbe
 -- the mark of a key that has a row, and of one that has none
 pub mark_there : (es : List Row) (marks : List (List Bool)) (p : Place) (i : ℕ) → position (same_key p.key) (keys_of es) ≡ Some i
     → marked (keys_of es) marks p ≡ mark_at marks i p.number
-mark_there es marks p i e = at_first es marks p i (first_row p.key es i e)
-
-nothing : {X : Type 0} (o : Option X) → is_some o ≡ false → o ≡ None
-nothing None e = refl
-nothing (Some x) e = absurd cc
+mark_there es marks p i e = at_first es marks p i (first_placed p.key es i e)
 
 none_there : (es : List Row) (p : Place) → false ≡ is_some (lookup (same_key p.key) es) → IsAbsent p.key es
-none_there es p e = absent_from_lookup (same_key p.key) es (nothing (lookup (same_key p.key) es) (sym e))
+none_there es p e = absent_found p.key es (sym e)
 
 pub no_mark : (es : List Row) (marks : List (List Bool)) (p : Place) → false ≡ is_some (lookup (same_key p.key) es) → marked (keys_of es) marks p ≡ false
 no_mark es marks p e = absent es marks p (none_there es p e)
@@ -145,7 +123,7 @@ at_row (e ∷ es) (m ∷ marks) p (suc i) new b h below sets q =
 pub remarked : (es : List Row) (marks : List (List Bool)) (p : Place) (i : ℕ) (new : List Bool) (b : Bool)
     → position (same_key p.key) (keys_of es) ≡ Some i → i < length marks
     → Sets (slice_index_or marks i []) new p.number b → Remarks (keys_of es) marks (keys_of es) (slice_set marks i new) (λ q. same_place q p) b
-remarked es marks p i new b e below sets = at_row es marks p i new b (first_row p.key es i e) below sets
+remarked es marks p i new b e below sets = at_row es marks p i new b (first_placed p.key es i e) below sets
 
 -- a key that has none has no mark left to be taken away
 pub unmarked : (es : List Row) (marks : List (List Bool)) (p : Place) → false ≡ is_some (lookup (same_key p.key) es)
@@ -159,7 +137,7 @@ unmarked es marks p e q = go (same_place q p) refl
 
 new_row : (es : List Row) (marks : List (List Bool)) (p : Place) (ts : List TreeMap) (new : List Bool) → IsAbsent p.key es
     → length marks ≡ length es → Sets [] new p.number true
-    → Remarks (keys_of es) marks (keys_of (insert_entry same_key es p.key ts)) (marks ++ new ∷ []) (λ q. same_place q p) true
+    → Remarks (keys_of es) marks (keys_of (with_trees es p.key ts)) (marks ++ new ∷ []) (λ q. same_place q p) true
 unfolding marked
 new_row [] [] p ts new h count sets q = here p q p.key true [] new false refl sets ∙ none (same_key q.key p.key)
   where
@@ -169,12 +147,12 @@ new_row [] [] p ts new h count sets q = here p q p.key true [] new false refl se
 new_row [] (m ∷ marks) p ts new h count sets q = absurd (omega (arith, count))
 new_row (e ∷ es) [] p ts new h count sets q = absurd (omega (arith, count))
 new_row (e ∷ es) (m ∷ marks) p ts new h count sets q =
-    ap (λ (b : Bool). marked (keys_of (cond b ((e.0, ts) ∷ es) (e ∷ insert_entry same_key es p.key ts))) (m ∷ (marks ++ new ∷ [])) q) h.0
-    ∙ behind (keys_of es) (keys_of (insert_entry same_key es p.key ts)) marks (marks ++ new ∷ []) m p e.0 true h.0 q
+    ap (λ (b : Bool). marked (keys_of (cond b ((e.0, ts) ∷ es) (e ∷ with_trees es p.key ts))) (m ∷ (marks ++ new ∷ [])) q) h.0
+    ∙ behind (keys_of es) (keys_of (with_trees es p.key ts)) marks (marks ++ new ∷ []) m p e.0 true h.0 q
     (new_row es marks p ts new h.1 (omega (arith, count)) sets q)
 
 -- the marks of a key that is new
 pub marked_new : (es : List Row) (marks : List (List Bool)) (p : Place) (ts : List TreeMap) (new : List Bool) → false ≡ is_some (lookup (same_key p.key) es)
     → length marks ≡ length es → Sets [] new p.number true
-    → Remarks (keys_of es) marks (keys_of (insert_entry same_key es p.key ts)) (marks ++ new ∷ []) (λ q. same_place q p) true
+    → Remarks (keys_of es) marks (keys_of (with_trees es p.key ts)) (marks ++ new ∷ []) (λ q. same_place q p) true
 marked_new es marks p ts new e count sets = new_row es marks p ts new (none_there es p e) count sets

@@ -5,7 +5,6 @@ use Rattle.std.specs.Prelude.{◌∷◌, ◌++◌, length, map, fold, count_by, 
 use Rattle.std.specs.Prelude.{unwrap_or, Result, Ok, Err}
 use Rattle.std.specs.List.{list_any, find, position_or_len, All, AllPairs, Contains}
 use Rattle.std.specs.Map.{lookup}
-use Rattle.indexmap.specs.IndexMap.{insert_entry}
 use Rattle.llb_tree.specs.Tree.{TreeMap}
 use Rattle.llb_cache.specs.Key.{same_key}
 use Rattle.llb_cache.specs.declared.key.Key.{Key}
@@ -41,7 +40,8 @@ trees_of rows key = unwrap_or (lookup (same_key key) rows) []
 
 -- the rows after a key gets these trees, in place of those that it had; a new key comes last
 abbrev pub with_trees : List Row → Key → List TreeMap → List Row
-with_trees rows key trees = insert_entry same_key rows key trees
+with_trees [] key trees = (key, trees) ∷ []
+with_trees (r ∷ rows) key trees = if same_key key r.0 then (r.0, trees) ∷ rows else r ∷ with_trees rows key trees
 
 -- the tree of an instance
 abbrev pub tree_at : List Row → Place → Option TreeMap

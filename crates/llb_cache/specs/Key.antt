@@ -1,8 +1,7 @@
 -- When two keys of caches are one: their IDs, their seeds and their modes are the same.
-use Rattle.std.specs.Prelude.{◌≡◌, ◌↔◌, ℕ, Bool, true, false, not, ◌&&◌, ◌||◌, ◌==◌, List, [], ◌++◌, length, Option, Some, None, nat_eq}
+use Rattle.std.specs.Prelude.{◌≡◌, ◌↔◌, ℕ, Bool, true, false, not, ◌&&◌, ◌||◌, ◌==◌, List, length, Option, Some, None, nat_eq}
 use Rattle.std.specs.Cmp.{IsEquivalence}
 use Rattle.std.specs.Cmp.Lexicographic.{pointwise, bytes_decides}
-use Rattle.std.specs.Hash as fed
 use Rattle.std.proofs.Common.{refl, sym, ap, ◌∙◌, eq-eqb}
 use Rattle.std.proofs.lemmas.Bool.{eqb-true}
 use Rattle.llb_wire.specs.Hashing.{same_text}
@@ -121,14 +120,3 @@ key_equiv = record {
   symm = λ k l. either_way (same_key k l) (same_key l k) (λ e. (key_test l k).1 (sym (same_keys k l e))) (λ e. (key_test k l).1 (sym (same_keys l k e)));
   congr = λ k l m e. ap (λ n. same_key n m) (same_keys k l e);
 }
-
--- what a hasher takes of a key: its ID, and the digest text and the index of its seed
-abbrev pub seed_fed : Option Seed → fed.HashWrites
-seed_fed None = []
-seed_fed (Some s) = fed.str s.digest ++ fed.u32 s.index
-
-abbrev pub key_fed : Key → fed.HashWrites
-key_fed k = fed.str k.id ++ seed_fed k.seed
-
-pub keys_alike : (k l : Key) → same_key k l ≡ true → key_fed k ≡ key_fed l
-keys_alike k l e = ap key_fed (same_keys k l e)

@@ -7,17 +7,16 @@ use Rattle.std.specs.List.{AllByRecursion}
 use Rattle.std.specs.Map.{keys_of, values_of, lookup}
 use Rattle.std.proofs.lemmas.Bool.{ltb-true, ltb-false}
 use Rattle.std.proofs.lemmas.List.{length-set}
-use Rattle.indexmap.specs.IndexMap.{insert_entry, set_value_at}
-use Rattle.indexmap.proofs.MapLemmas.{Found-position, insert_entry-first}
 use Rattle.llb_tree.specs.Tree.{TreeMap}
 use Rattle.llb_cache.specs.declared.key.Key.{Key}
 use Rattle.llb_cache.specs.declared.need.Place.{Place}
 use Rattle.llb_cache.specs.Key.{same_key, same_keys, key_itself}
 use Rattle.llb_cache.specs.Caches.{Row, Taken, trees_of, with_trees, put, made, made_all, AreFew}
+use Rattle.llb_cache.specs.Firsts.{set_trees, first_placed, first_trees, written_first}
 
 -- ---- a write at the place of a key
 
-some_value : (es : List Row) (i : ℕ) (w : List TreeMap) → slice_get (values_of es) i ≡ Some w → set_value_at es i w ≡ es
+some_value : (es : List Row) (i : ℕ) (w : List TreeMap) → slice_get (values_of es) i ≡ Some w → set_trees es i w ≡ es
 some_value [] i w at = refl
 some_value (e ∷ es) zero w at = let same : e.1 ≡ w = ap (λ o. unwrap_or o w) at in λ j. (e.0, sym same j) ∷ es
 some_value (e ∷ es) (suc i) w at = ap (λ rows. e ∷ rows) (some_value es i w at)
@@ -25,15 +24,15 @@ some_value (e ∷ es) (suc i) w at = ap (λ rows. e ∷ rows) (some_value es i w
 -- the value at the position of a key is its trees
 pub trees_there : (es : List Row) (k : Key) (i : ℕ) (old : List TreeMap) → position (same_key k) (keys_of es) ≡ Some i
     → slice_get (values_of es) i ≡ Some old → trees_of es k ≡ old
-trees_there es k i old place at = ap (λ o. unwrap_or o []) ((Found-position (same_key k) es i place).value ∙ at)
+trees_there es k i old place at = ap (λ o. unwrap_or o []) (first_trees k es i (first_placed k es i place) ∙ at)
 
-pub trees_written : (es : List Row) (k : Key) (i : ℕ) (w : List TreeMap) → position (same_key k) (keys_of es) ≡ Some i → set_value_at es i w ≡ with_trees es k w
-trees_written es k i w place = sym (insert_entry-first same_key k w es i (Found-position (same_key k) es i place).first)
+pub trees_written : (es : List Row) (k : Key) (i : ℕ) (w : List TreeMap) → position (same_key k) (keys_of es) ≡ Some i → set_trees es i w ≡ with_trees es k w
+trees_written es k i w place = sym (written_first k es i w (first_placed k es i place))
 
 -- a new instance
 pub instance_made : (es : List Row) (p : Place) (tree : TreeMap) (i : ℕ) (old w : List TreeMap)
     → position (same_key p.key) (keys_of es) ≡ Some i → slice_get (values_of es) i ≡ Some old
-    → length old ≤ p.number → w ≡ old ++ tree ∷ [] → set_value_at es i w ≡ made es p tree
+    → length old ≤ p.number → w ≡ old ++ tree ∷ [] → set_trees es i w ≡ made es p tree
 instance_made es p tree i old w place at past is =
     let old_is : trees_of es p.key ≡ old = trees_there es p.key i old place at in
     let test : nat_lt p.number (length (trees_of es p.key)) ≡ false = le-ltb p.number (length (trees_of es p.key)) (omega (arith, past, ap length old_is)) in
@@ -43,7 +42,7 @@ instance_made es p tree i old w place at past is =
 -- an instance that is there
 pub instance_there : (es : List Row) (p : Place) (tree : TreeMap) (i : ℕ) (old : List TreeMap)
     → position (same_key p.key) (keys_of es) ≡ Some i → slice_get (values_of es) i ≡ Some old
-    → p.number < length old → set_value_at es i old ≡ made es p tree
+    → p.number < length old → set_trees es i old ≡ made es p tree
 instance_there es p tree i old place at below =
     let old_is : trees_of es p.key ≡ old = trees_there es p.key i old place at in
     let test : nat_lt p.number (length (trees_of es p.key)) ≡ true = lt-ltb p.number (length (trees_of es p.key)) (omega (arith, below, ap length old_is)) in
@@ -52,29 +51,29 @@ instance_there es p tree i old place at below =
 -- another tree in an instance
 pub tree_put : (es : List Row) (p : Place) (tree : TreeMap) (i : ℕ) (old w : List TreeMap)
     → position (same_key p.key) (keys_of es) ≡ Some i → slice_get (values_of es) i ≡ Some old
-    → w ≡ slice_set old p.number tree → set_value_at es i w ≡ put es p tree
+    → w ≡ slice_set old p.number tree → set_trees es i w ≡ put es p tree
 tree_put es p tree i old w place at is =
     trees_written es p.key i w place
     ∙ ap (with_trees es p.key) (is ∙ ap (λ ts. slice_set ts p.number tree) (sym (trees_there es p.key i old place at)))
 
 -- ---- look-ups after a write
 
-found_again : (rows : List Row) (k : Key) (ts : List TreeMap) → lookup (same_key k) (insert_entry same_key rows k ts) ≡ Some ts
+found_again : (rows : List Row) (k : Key) (ts : List TreeMap) → lookup (same_key k) (with_trees rows k ts) ≡ Some ts
 found_again [] k ts = ap (λ b. cond b (Some ts) None) (key_itself k)
 found_again (r ∷ rows) k ts = go (same_key k r.0) refl (found_again rows k ts)
   where
-    go : (b : Bool) → same_key k r.0 ≡ b → lookup (same_key k) (insert_entry same_key rows k ts) ≡ Some ts
-        → lookup (same_key k) (if b then (r.0, ts) ∷ rows else r ∷ insert_entry same_key rows k ts) ≡ Some ts
+    go : (b : Bool) → same_key k r.0 ≡ b → lookup (same_key k) (with_trees rows k ts) ≡ Some ts
+        → lookup (same_key k) (if b then (r.0, ts) ∷ rows else r ∷ with_trees rows k ts) ≡ Some ts
     go true is rest = ap (λ b. cond b (Some ts) (lookup (same_key k) rows)) is
-    go false is rest = ap (λ b. cond b (Some r.1) (lookup (same_key k) (insert_entry same_key rows k ts))) is ∙ rest
+    go false is rest = ap (λ b. cond b (Some r.1) (lookup (same_key k) (with_trees rows k ts))) is ∙ rest
 
 found_before : (rows : List Row) (k l : Key) (ts : List TreeMap) → same_key l k ≡ false
-    → lookup (same_key l) (insert_entry same_key rows k ts) ≡ lookup (same_key l) rows
+    → lookup (same_key l) (with_trees rows k ts) ≡ lookup (same_key l) rows
 found_before [] k l ts apart = ap (λ b. cond b (Some ts) None) apart
 found_before (r ∷ rows) k l ts apart = go (same_key k r.0) refl (found_before rows k l ts apart)
   where
-    go : (b : Bool) → same_key k r.0 ≡ b → lookup (same_key l) (insert_entry same_key rows k ts) ≡ lookup (same_key l) rows
-        → lookup (same_key l) (if b then (r.0, ts) ∷ rows else r ∷ insert_entry same_key rows k ts) ≡ lookup (same_key l) (r ∷ rows)
+    go : (b : Bool) → same_key k r.0 ≡ b → lookup (same_key l) (with_trees rows k ts) ≡ lookup (same_key l) rows
+        → lookup (same_key l) (if b then (r.0, ts) ∷ rows else r ∷ with_trees rows k ts) ≡ lookup (same_key l) (r ∷ rows)
     go true is rest =
         let none : same_key l r.0 ≡ false = ap (same_key l) (sym (same_keys k r.0 is)) ∙ apart in
         ap (λ b. cond b (Some ts) (lookup (same_key l) rows)) none ∙ sym (ap (λ b. cond b (Some r.1) (lookup (same_key l) rows)) none)

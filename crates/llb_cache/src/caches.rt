@@ -7,7 +7,6 @@ ghost use Rattle.llb_cache.specs.Caches.{IsOut, place_for, AreExclusive, IsCache
 ghost use Rattle.llb_cache.specs.Caches.{tree_at, with_content, given_back, is_locked, is_held, number_for, place};
 ghost use Rattle.llb_cache.specs.Faults.{Gives, MemoryLast};
 
-use crate::any_key::{Rows, trees_at, trees_with};
 use crate::copying::{copied_leases, copied_marks, copied_rows, same_rows};
 use crate::fault::{LeaseFault, Memory};
 use crate::growing::{make_all, places_at, places_for, set_at, take_back, take_lease, unmark_all};
@@ -15,8 +14,8 @@ use crate::key::Key;
 use crate::key_ref::KeyRef;
 use crate::marks::Marks;
 use crate::need::{Need, Place};
+use crate::rows::{Rows, no_rows, reserve, trees_at, trees_with};
 use crate::search::{count, keys_differ};
-use indexmap::IndexMap;
 use llb_tree::Tree;
 use llb_wire::{Many, all_same};
 use std::alloc::Global;
@@ -71,14 +70,15 @@ impl Model for Caches {
     ghost use Rattle.llb_tree.specs.Tree.{coded_tree};
     ghost use Rattle.llb_cache.specs.Caches.{CachesValue};
     ghost use Rattle.llb_cache.specs.Marks.{IsMarked};
+    ghost use Rattle.llb_cache.specs.Ordered.{AreOrdered};
 
     ghost Value = { CachesValue };
 
     ghost coded = { Prim.hlevel (codes, coded_tree) };
 
-    ghost view = { λ c. record { rows = c.rows.entries; out = c.out.items } };
+    ghost view = { λ c. record { rows = c.rows.entries.items; out = c.out.items } };
 
-    ghost invariant = { λ c. IsMarked (record { rows = c.rows.entries; out = c.out.items }) c.marks.items };
+    ghost invariant = { λ c. IsMarked (record { rows = c.rows.entries.items; out = c.out.items }) c.marks.items × AreOrdered c.rows };
 }
 
 impl Caches {
@@ -87,7 +87,7 @@ impl Caches {
         ensures { result ≡ record { rows = []; out = [] } }
     {
         Caches {
-            rows: IndexMap::new(alloc),
+            rows: no_rows(alloc),
             marks: Vec::new(alloc),
             out: Vec::new(alloc),
         }
@@ -119,7 +119,7 @@ impl Caches {
         let needs = self.admitted(needs.into_vec())?;
         let readies = self.readied(needs)?;
         let places = places_for(*self.out.allocator(), &readies)?;
-        self.rows.reserve(readies.len())?;
+        reserve(&mut self.rows, readies.len())?;
         self.marks.reserve(readies.len())?;
         self.out.reserve(1)?;
         make_all(&mut self.rows, &mut self.marks, readies);
@@ -238,21 +238,22 @@ impl Caches {
     pub fn same(&self, other: &Caches) -> bool
         ensures { IsTrue result ↔ (self.now ≡ other.now) }
     {
-        same_rows(&self.rows, &other.rows) && all_same(self.out.as_slice(), other.out.as_slice())
+        same_rows(&self.rows.entries, &other.rows.entries)
+            && all_same(self.out.as_slice(), other.out.as_slice())
     }
 
     /// Returns whether both have the same keys in the same order with the same trees, whatever leases are out. Does not allocate.
     pub fn has_same_trees(&self, other: &Caches) -> bool
         ensures { IsTrue result ↔ (self.now.rows ≡ other.now.rows) }
     {
-        same_rows(&self.rows, &other.rows)
+        same_rows(&self.rows.entries, &other.rows.entries)
     }
 
     /// A law: no key occurs twice.
     pub fn keys_differ(&self)
         ensures { AllPairs (λ k l. k ≢ l) (keys_of self.now.rows) }
     {
-        let _len = self.rows.len();
+        let _rows = &self.rows;
     }
 
     /// A law: no two leases have one instance of a locked or a private key, nor have two needs of one lease; what a lease

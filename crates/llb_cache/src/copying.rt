@@ -1,36 +1,33 @@
 //! Equal second owners of caches and of leases, and whether two are the same.
 
-ghost use Rattle.std.specs.Prelude.{◌≡◌, ◌↔◌, ◌<◌, IsTrue, IfOk, IfSome, OnOk, slice_get};
-ghost use Rattle.indexmap.specs.IndexMap.{insert_entry};
-ghost use Rattle.llb_cache.specs.Key.{same_key};
+ghost use Rattle.std.specs.Prelude.{◌≡◌, ◌↔◌, IsTrue, IfOk};
+ghost use Rattle.llb_cache.specs.Ordered.{AreOrdered};
 
-use crate::any_key::Rows;
 use crate::fault::Memory;
+use crate::key::Key;
 use crate::marks::Marks;
 use crate::need::Place;
-use indexmap::IndexMap;
+use crate::rows::Rows;
+use crate::trees::Trees;
 use llb_wire::{Many, Same};
 use std::alloc::Global;
 
-// Puts a copy of the row at an index after the copies.
-fn copy_row(copies: &mut Rows, rows: &Rows, i: usize) -> Result<(), Memory>
-    ensures { OnOk result (IfSome (slice_get rows.now.entries i) (λ e. copies.new.entries ≡ insert_entry same_key copies.old.entries e.0 e.1)) }
+pub(crate) fn copied_rows(rows: &Rows) -> Result<Rows, Memory>
+    requires { AreOrdered rows.now }
+    ensures entries { IfOk result (λ r. r.entries.items ≡ rows.now.entries.items) }
+    ensures order { IfOk result (λ r. AreOrdered r) }
 {
-    match rows.get_index(i) {
-        Some((key, trees)) => {
-            copies.insert(key.copy(*rows.allocator())?, trees.copy()?)?;
-            Ok(())
-        }
-        None => Ok(()),
-    }
+    let entries = copied_entries(&rows.entries)?;
+    let order = rows.order.clone()?;
+    Ok(Rows { entries, order })
 }
 
-pub(crate) fn copied_rows(rows: &Rows) -> Result<Rows, Memory>
-    ensures { IfOk result (λ r. r.entries ≡ rows.now.entries) }
+fn copied_entries(entries: &Vec<(Key, Trees)>) -> Result<Vec<(Key, Trees)>, Memory>
+    ensures { IfOk result (λ es. es.items ≡ entries.now.items) }
 {
-    let mut copies = IndexMap::new(*rows.allocator());
-    for i in 0..rows.len() {
-        copy_row(&mut copies, rows, i)?;
+    let mut copies = Vec::new(*entries.allocator());
+    for entry in entries {
+        copies.push((entry.0.copy()?, entry.1.copy()?))?;
     }
     Ok(copies)
 }
@@ -77,27 +74,15 @@ pub(crate) fn copied_marks(marks: &Vec<Marks>) -> Result<Vec<Marks>, Memory>
     Ok(copies)
 }
 
-// Whether both have the same key with the same trees at an index.
-fn same_row(rows: &Rows, others: &Rows, i: usize) -> bool
-    ensures { IsTrue result ↔ (slice_get rows.now.entries i ≡ slice_get others.now.entries i) }
-{
-    match rows.get_index(i) {
-        Some((key, trees)) => match others.get_index(i) {
-            Some((other, others)) => key.same(other) && trees.same(others),
-            None => false,
-        },
-        None => others.get_index(i).is_none(),
-    }
-}
-
-pub(crate) fn same_rows(rows: &Rows, others: &Rows) -> bool
-    ensures { IsTrue result ↔ (rows.now.entries ≡ others.now.entries) }
+// Whether both have the same keys in the same order with the same trees. Where they do, a key has the same row in both.
+pub(crate) fn same_rows(rows: &[(Key, Trees)], others: &[(Key, Trees)]) -> bool
+    ensures { IsTrue result ↔ (rows.now ≡ others.now) }
 {
     if rows.len() != others.len() {
         return false;
     }
     for i in 0..rows.len() {
-        if !same_row(rows, others, i) {
+        if !rows[i].0.same(&others[i].0) || !rows[i].1.same(&others[i].1) {
             return false;
         }
     }

@@ -1,17 +1,17 @@
 //! How a lease takes its instances: what may be refused comes first, and then the changes do not allocate.
 
-ghost use Rattle.std.specs.Prelude.{◌≡◌, ◌<◌, ◌≤◌, ◌+◌, true, false, map, slice_set, length, vec_len, vec_capacity, IfOk, None};
+ghost use Rattle.std.specs.Prelude.{◌≡◌, ◌<◌, ◌≤◌, ◌+◌, ℕ, true, false, map, slice_set, length, vec_len, vec_capacity, IfOk, None};
 ghost use Rattle.std.specs.List.{All};
 ghost use Rattle.std.specs.Map.{keys_of};
-ghost use Rattle.indexmap.specs.IndexMap.{spare};
 ghost use Rattle.llb_cache.specs.Caches.{same_place, made, made_all, free_lease, with_lease, places_of, put, trees_of, trimmed};
 ghost use Rattle.llb_cache.specs.Growing.{shown, FitsIn};
 ghost use Rattle.llb_cache.specs.Marks.{Remarks, is_one_of};
+ghost use Rattle.llb_cache.specs.Ordered.{AreOrdered, HasRoom};
 
-use crate::any_key::{AnyKey, Rows, row_of};
 use crate::fault::Memory;
 use crate::marks::Marks;
 use crate::need::Place;
+use crate::rows::{Rows, add_row, row_of};
 use crate::search::free_lease;
 use crate::trees::{Room, Trees};
 use llb_tree::Tree;
@@ -38,17 +38,20 @@ pub(crate) fn places_for(alloc: Global, readies: &[Ready]) -> Result<Many<Place>
     Ok(Many::new(places))
 }
 
-// Makes an instance that is not there, and marks it. There is room for one key more.
+// Makes an instance that is not there, and marks it. There is room for one row more.
 fn make(rows: &mut Rows, marks: &mut Vec<Marks>, ready: Ready)
-    requires spare { 0 < spare rows.old }
+    requires order { AreOrdered rows.old }
+    requires spare { HasRoom rows.old 1 }
     requires free { vec_len marks.old < vec_capacity marks.old }
-    requires each { length marks.old.items ≡ length rows.old.entries }
+    requires each { length marks.old.items ≡ length rows.old.entries.items }
     requires room { FitsIn ready }
-    ensures rows { rows.new.entries ≡ made rows.old.entries ready.place ready.tree }
-    ensures spare { spare rows.old ≤ spare rows.new + 1 }
-    ensures marks { Remarks (keys_of rows.old.entries) marks.old.items (keys_of rows.new.entries) marks.new.items (λ q. same_place q ready.place) true }
+    ensures rows { rows.new.entries.items ≡ made rows.old.entries.items ready.place ready.tree }
+    ensures order { AreOrdered rows.new }
+    ensures spare { (more : ℕ) → HasRoom rows.old (more + 1) → HasRoom rows.new more }
+    ensures marks { Remarks (keys_of rows.old.entries.items) marks.old.items (keys_of rows.new.entries.items) marks.new.items
+        (λ q. same_place q ready.place) true }
     ensures free { (vec_capacity marks.new ≡ vec_capacity marks.old) × (vec_len marks.new ≤ vec_len marks.old + 1) }
-    ensures each { length marks.new.items ≡ length rows.new.entries }
+    ensures each { length marks.new.items ≡ length rows.new.entries.items }
 {
     let Ready {
         place,
@@ -60,15 +63,15 @@ fn make(rows: &mut Rows, marks: &mut Vec<Marks>, ready: Ready)
     match row_of(rows, &key.by_ref()) {
         Some(i) => {
             marks[i].set(number, free);
-            let trees = &mut rows[i];
+            let trees = &mut rows.entries[i].1;
             if number as usize >= trees.len() {
                 trees.push_into(room, tree);
             }
         }
         None => {
-            let mut trees = Trees::new(*rows.allocator());
+            let mut trees = Trees::new(*marks.allocator());
             trees.push_into(room, tree);
-            rows.insert(AnyKey::own(key), trees).unwrap();
+            add_row(rows, key, trees);
             let mut first = Marks::new(*marks.allocator());
             first.set(number, free);
             marks.push_reserved(first);
@@ -76,16 +79,18 @@ fn make(rows: &mut Rows, marks: &mut Vec<Marks>, ready: Ready)
     }
 }
 
-// Makes the instances that are not there, and marks all. There is room for as many keys more.
+// Makes the instances that are not there, and marks all. There is room for as many rows more.
 pub(crate) fn make_all(rows: &mut Rows, marks: &mut Vec<Marks>, readies: Vec<Ready>)
-    requires spare { length readies.items ≤ spare rows.old }
+    requires order { AreOrdered rows.old }
+    requires spare { HasRoom rows.old (length readies.items) }
     requires free { vec_len marks.old + length readies.items ≤ vec_capacity marks.old }
-    requires each { length marks.old.items ≡ length rows.old.entries }
+    requires each { length marks.old.items ≡ length rows.old.entries.items }
     requires room { All FitsIn readies.items }
-    ensures rows { rows.new.entries ≡ made_all rows.old.entries (map shown readies.items) }
-    ensures marks { Remarks (keys_of rows.old.entries) marks.old.items (keys_of rows.new.entries) marks.new.items
+    ensures rows { rows.new.entries.items ≡ made_all rows.old.entries.items (map shown readies.items) }
+    ensures marks { Remarks (keys_of rows.old.entries.items) marks.old.items (keys_of rows.new.entries.items) marks.new.items
         (is_one_of (map (λ r. r.place) readies.items)) true }
-    ensures each { length marks.new.items ≡ length rows.new.entries }
+    ensures each { length marks.new.items ≡ length rows.new.entries.items }
+    ensures order { AreOrdered rows.new }
 {
     for ready in readies {
         make(rows, marks, ready);
@@ -94,8 +99,9 @@ pub(crate) fn make_all(rows: &mut Rows, marks: &mut Vec<Marks>, readies: Vec<Rea
 
 // Takes the marks of instances away.
 pub(crate) fn unmark_all(rows: &Rows, marks: &mut Vec<Marks>, places: &[Place])
-    requires each { length marks.old.items ≡ length rows.now.entries }
-    ensures marks { Remarks (keys_of rows.now.entries) marks.old.items (keys_of rows.now.entries) marks.new.items (is_one_of places.now) false }
+    requires order { AreOrdered rows.now }
+    requires each { length marks.old.items ≡ length rows.now.entries.items }
+    ensures marks { Remarks (keys_of rows.now.entries.items) marks.old.items (keys_of rows.now.entries.items) marks.new.items (is_one_of places.now) false }
     ensures each { length marks.new.items ≡ length marks.old.items }
 {
     for place in places {
@@ -105,8 +111,10 @@ pub(crate) fn unmark_all(rows: &Rows, marks: &mut Vec<Marks>, places: &[Place])
 
 // Takes the mark of an instance away.
 fn unmark(rows: &Rows, marks: &mut Vec<Marks>, place: &Place)
-    requires each { length marks.old.items ≡ length rows.now.entries }
-    ensures marks { Remarks (keys_of rows.now.entries) marks.old.items (keys_of rows.now.entries) marks.new.items (λ q. same_place q place.now) false }
+    requires order { AreOrdered rows.now }
+    requires each { length marks.old.items ≡ length rows.now.entries.items }
+    ensures marks { Remarks (keys_of rows.now.entries.items) marks.old.items (keys_of rows.now.entries.items) marks.new.items
+        (λ q. same_place q place.now) false }
     ensures each { length marks.new.items ≡ length marks.old.items }
 {
     if let Some(i) = row_of(rows, &place.key.by_ref()) {
@@ -142,16 +150,14 @@ pub(crate) fn places_at(out: &[Option<Many<Place>>], lease: u32) -> &[Place]
 
 // Puts a tree in the place of an instance's.
 pub(crate) fn set_at(rows: &mut Rows, place: &Place, tree: Tree)
-    requires { place.now.number < length (trees_of rows.old.entries place.now.key) }
-    ensures rows { rows.new.entries ≡ put rows.old.entries place.now tree }
-    ensures keys { keys_of rows.new.entries ≡ keys_of rows.old.entries }
+    requires order { AreOrdered rows.old }
+    requires there { place.now.number < length (trees_of rows.old.entries.items place.now.key) }
+    ensures rows { rows.new.entries.items ≡ put rows.old.entries.items place.now tree }
+    ensures keys { keys_of rows.new.entries.items ≡ keys_of rows.old.entries.items }
+    ensures order { AreOrdered rows.new }
 {
-    match row_of(rows, &place.key.by_ref()) {
-        Some(i) => {
-            let trees = &mut rows[i];
-            trees.set(place.number, tree);
-        }
-        None => {}
+    if let Some(i) = row_of(rows, &place.key.by_ref()) {
+        rows.entries[i].1.set(place.number, tree);
     }
 }
 

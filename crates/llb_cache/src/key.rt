@@ -55,7 +55,7 @@ impl Drop for Key {
     }
 }
 
-pub(crate) fn same_mode(mode: Mode, other: Mode) -> bool
+fn same_mode(mode: Mode, other: Mode) -> bool
     ensures { result ≡ same_mode mode other }
 {
     match mode {

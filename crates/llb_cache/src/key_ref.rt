@@ -1,13 +1,15 @@
 //! A key whose texts another value owns: caches are looked at by it before a key is made.
 
-ghost use Rattle.std.specs.Prelude.{◌≡◌, ◌==◌, not, length, option_map, true, fold, IfErr, IfOk};
-ghost use Rattle.llb_cache.specs.Key.{same_key, same_mode, same_seeds, seed_by, has_digest, has_text, key_fed};
+ghost use Rattle.std.specs.Prelude.{◌≡◌, ◌==◌, not, length, option_map, true, IfErr, IfOk};
+ghost use Rattle.std.specs.Option.{option_cmp};
+ghost use Rattle.llb_cache.specs.Key.{same_key, seed_by, has_digest, has_text};
+ghost use Rattle.llb_cache.specs.Order.{mode_place, seed_cmp, key_cmp};
 
 use crate::fault::Memory;
-use crate::key::{Key, Mode, Seed, same_mode};
+use crate::key::{Key, Mode, Seed};
 use llb_tree::Text;
 use std::alloc::Global;
-use std::hash::{Hash, Hasher};
+use std::cmp::Ordering;
 use std::marker::Model;
 
 /// A key that borrows its texts. Contracts see the key.
@@ -53,40 +55,21 @@ impl<'a> KeyRef<'a> {
         self.mode
     }
 
-    // The same key once more.
-    pub(crate) fn again(&self) -> KeyRef<'_>
-        ensures { result ≡ self.now }
-    {
-        KeyRef {
-            id: self.id,
-            seed: self.seed,
-            mode: self.mode,
-        }
-    }
-
     // Whether both are the same key.
-    #[tactic(auto, unfolding(crate::specs::Key::same_key))]
     pub(crate) fn is(&self, other: &KeyRef<'_>) -> bool
         ensures { result ≡ same_key self.now other.now }
     {
-        if !same_mode(self.mode, other.mode) {
-            return false;
-        }
-        if !same_parts(self.seed, other.seed) {
-            return false;
-        }
-        self.id.as_bytes() == other.id.as_bytes()
+        self.order(other).is_eq()
     }
 
-    // Feeds a hasher the ID, and the seed where there is one, so that keys of one ID with other seeds are hashed apart.
-    pub(crate) fn feed<H: Hasher>(&self, state: &mut H)
-        ensures { state.new ≡ fold H.write state.old (key_fed self.now) }
+    // By ID, then by mode, then by seed, where no seed comes first.
+    #[tactic(auto, unfolding(crate::specs::Order::key_cmp))]
+    pub(crate) fn order(&self, other: &KeyRef<'_>) -> Ordering
+        ensures { result ≡ key_cmp self.now other.now }
     {
-        self.id.hash(state);
-        if let Some((digest, index)) = self.seed {
-            digest.hash(state);
-            index.hash(state);
-        }
+        let ids = self.id.cmp(other.id);
+        let modes = place_of(self.mode).cmp(&place_of(other.mode));
+        ids.then(modes).then(order_of_seeds(self.seed, other.seed))
     }
 }
 
@@ -107,16 +90,30 @@ impl Key {
     }
 }
 
-// Whether both have the same digest text and index, or neither is there.
-fn same_parts(parts: Option<(&str, u32)>, others: Option<(&str, u32)>) -> bool
-    ensures { result ≡ same_seeds (option_map (λ s. seed_by s.0.now s.1) parts.entry) (option_map (λ s. seed_by s.0.now s.1) others.entry) }
+// The place of a mode among the modes.
+fn place_of(mode: Mode) -> u8
+    ensures { result ≡ mode_place mode }
+{
+    match mode {
+        Mode::Shared => 0,
+        Mode::Private => 1,
+        Mode::Locked => 2,
+    }
+}
+
+// By digest text, then by index.
+fn order_of_seeds(parts: Option<(&str, u32)>, others: Option<(&str, u32)>) -> Ordering
+    ensures { result ≡ option_cmp seed_cmp (option_map (λ s. seed_by s.0.now s.1) parts.entry) (option_map (λ s. seed_by s.0.now s.1) others.entry) }
 {
     match parts {
         Some((digest, index)) => match others {
-            Some((other, at)) => index == at && digest.as_bytes() == other.as_bytes(),
-            None => false,
+            Some((other, at)) => digest.cmp(other).then(index.cmp(&at)),
+            None => Ordering::Greater,
         },
-        None => others.is_none(),
+        None => match others {
+            Some(_) => Ordering::Less,
+            None => Ordering::Equal,
+        },
     }
 }
 

@@ -3,7 +3,6 @@
 //! cache. Trees stay when leases are given back.
 #![tactic(auto)]
 
-mod any_key;
 mod caches;
 mod copying;
 mod fault;
@@ -12,6 +11,7 @@ mod key;
 mod key_ref;
 mod marks;
 mod need;
+mod rows;
 mod search;
 mod trees;
 

@@ -8,8 +8,8 @@ ghost use Rattle.llb_cache.specs.Key.{same_key};
 ghost use Rattle.llb_cache.specs.Caches.{place, is_held, leases, taken, number_for, is_locked, is_shut, free_lease};
 ghost use Rattle.llb_cache.specs.Growing.{shown, FitsIn, IsRefusal};
 ghost use Rattle.llb_cache.specs.Marks.{marked};
+ghost use Rattle.llb_cache.specs.Ordered.{AreOrdered};
 
-use crate::any_key::{Rows, row_of};
 use crate::caches::Caches;
 use crate::fault::{LeaseFault, Memory};
 use crate::growing::Ready;
@@ -17,13 +17,15 @@ use crate::key::Mode;
 use crate::key_ref::KeyRef;
 use crate::marks::Marks;
 use crate::need::{Need, Place};
+use crate::rows::{Rows, row_of};
 use crate::trees::Room;
 use llb_wire::Many;
 
 // Whether an instance is marked.
 fn is_marked(rows: &Rows, marks: &[Marks], key: &KeyRef<'_>, number: u32) -> bool
-    requires { length marks.now ≡ length rows.now.entries }
-    ensures { result ≡ marked (keys_of rows.now.entries) marks.now (place key.now number) }
+    requires order { AreOrdered rows.now }
+    requires each { length marks.now ≡ length rows.now.entries.items }
+    ensures { result ≡ marked (keys_of rows.now.entries.items) marks.now (place key.now number) }
 {
     match row_of(rows, key) {
         Some(i) => marks[i].has(number),
@@ -33,9 +35,10 @@ fn is_marked(rows: &Rows, marks: &[Marks], key: &KeyRef<'_>, number: u32) -> boo
 
 // The least number of a key without a mark.
 fn first_unmarked(rows: &Rows, marks: &[Marks], key: &KeyRef<'_>) -> usize
-    requires { length marks.now ≡ length rows.now.entries }
-    ensures below { (k : ℕ) → k < result → marked (keys_of rows.now.entries) marks.now (place key.now k) ≡ true }
-    ensures clear { marked (keys_of rows.now.entries) marks.now (place key.now result) ≡ false }
+    requires order { AreOrdered rows.now }
+    requires each { length marks.now ≡ length rows.now.entries.items }
+    ensures below { (k : ℕ) → k < result → marked (keys_of rows.now.entries.items) marks.now (place key.now k) ≡ true }
+    ensures clear { marked (keys_of rows.now.entries.items) marks.now (place key.now result) ≡ false }
 {
     match row_of(rows, key) {
         Some(i) => marks[i].first_clear(),

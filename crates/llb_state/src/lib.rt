@@ -32,7 +32,7 @@ pub use landing::{has_shared, is_run_of, put_left};
 pub use ready::{is_marked, is_ready, output_at, stand_at};
 pub use same::{same_desks, same_events, same_stands};
 pub use stand::{Desk, Execution, Stand};
-pub use step::{Begun, begin, claimable, desk_at, give_up, is_finished, leave, step_at};
+pub use step::{Begun, Claim, begin, claimable, desk_at, give_up, is_finished, leave, step_at};
 pub use undoing::{Before, make_idle, mark_anew, open_anew, put_caches, step_back};
 pub use vertices::{Stage, Vertices};
 pub use workers::Workers;

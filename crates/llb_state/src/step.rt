@@ -112,26 +112,37 @@ pub struct Begun {
     pub needs: Vec<Need>,
 }
 
-/// Makes the job and the execution of a vertex, before its first micro-step, with the caches that it wants: both have the trees of the
-/// inputs and the cache instances that a lease will give; the execution also has an empty tree for each output, and where its commands
+/// A worker's claim: the number of the worker, and the vertex with its number.
+#[derive(Clone, Copy)]
+pub struct Claim<'a> {
+    pub worker: u32,
+    pub number: u32,
+    pub vertex: &'a Vertex,
+}
+
+/// Makes the job and the execution of a claimed vertex, before its first micro-step, with the caches that it wants: both have the trees of
+/// the inputs and the cache instances that a lease will give; the execution also has an empty tree for each output, and where its commands
 /// run. Fails with 134 `NotReady` where an input is not there, with 141 `Memory`.
 pub fn begin(
     alloc: Global,
     build: &Build,
     caches: &Caches,
     stands: &[Stand],
-    at: (u32, u32),
-    vertex: &Vertex,
+    claim: Claim<'_>,
     wanted: Vec<Wanted>,
 ) -> Result<Begun, ClaimFault>
-    requires kind { IsVertexOf vertex.now vertex.now.op.kind }
-    requires few { length (program_of vertex.now).steps < 2 ^ 32 }
-    requires wanted { map need_of wanted.items ≡ needs_of vertex.now }
-    ensures gives { GivesClaim begun_as result
-        (begun build.now caches.now at.0 at.1 vertex.now (inputs_from (ending_at (map status_of stands.now)) vertex.now.inputs)) }
-    ensures supplies { IfOk result (λ b. supplies_of b.execution ≡ supplies_for (Some vertex.now)) }
+    requires kind { IsVertexOf claim.vertex.now claim.vertex.now.op.kind }
+    requires few { length (program_of claim.vertex.now).steps < 2 ^ 32 }
+    requires wanted { map need_of wanted.items ≡ needs_of claim.vertex.now }
+    ensures gives { GivesClaim begun_as result (begun build.now caches.now claim.entry.worker claim.entry.number claim.entry.vertex.now
+        (inputs_from (ending_at (map status_of stands.now)) claim.entry.vertex.now.inputs)) }
+    ensures supplies { IfOk result (λ b. supplies_of b.execution ≡ supplies_for (Some claim.entry.vertex.now)) }
 {
-    let (w, v) = at;
+    let Claim {
+        worker,
+        number,
+        vertex,
+    } = claim;
     let inputs = gathered(alloc, stands, vertex.inputs.as_slice())?;
     let numbers = mount_numbers(alloc, &wanted)?;
     let taking = taking_for(alloc, caches, &inputs, wanted)?;
@@ -140,9 +151,9 @@ pub fn begin(
     let own = view.copy()?;
     let trees = Many::new(taking.trees);
     let instances = Many::new(taking.instances);
-    let job = Job::new(w, v, outfit.program, view, trees, instances);
+    let job = Job::new(worker, number, outfit.program, view, trees, instances);
     let execution = Execution {
-        vertex: v,
+        vertex: number,
         done: 0,
         fault: None,
         view: own,

@@ -9,7 +9,7 @@ use Rattle.llb_cache.proofs.growing.unmark.Goals as goal
 
 pub returns-in-Some-clause-marks : goal.returns-in-Some-clause-marks
 returns-in-Some-clause-marks c =
-    let es = c.args.rows.now.entries in
+    let es = c.args.rows.now.entries.items in
     let marks = c.args.marks.now.items in
     let at : position (same_key c.args.place.now.key) (keys_of es) ≡ Some c.in-Some.i =
     ap (λ (k : Key). position (same_key k) (keys_of es)) (sym c.by_ref.ensures) ∙ sym c.row_of.ensures.at ∙ c.in-Some.is in
@@ -22,6 +22,6 @@ returns-in-Some-clause-marks c =
 
 pub returns-in_default-clause-marks : goal.returns-in_default-clause-marks
 returns-in_default-clause-marks c =
-    let es = c.args.rows.now.entries in
+    let es = c.args.rows.now.entries.items in
     unmarked es c.args.marks.now.items c.args.place.now
     (c.in_default.ensures.found ∙ ap (λ (k : Key). is_some (lookup (same_key k) es)) c.by_ref.ensures)

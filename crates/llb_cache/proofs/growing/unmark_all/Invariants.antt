@@ -5,6 +5,6 @@ use Rattle.llb_cache.proofs.growing.unmark_all.Given as goal
 
 abbrev pub invariant-loop-place : goal.invariant-loop-place
 invariant-loop-place l = record {
-  marks : Remarks (keys_of l.rows.entries) l.fn.marks.items (keys_of l.rows.entries) l.marks.items (is_one_of (take l.place-index l.places)) false;
+  marks : Remarks (keys_of l.rows.entries.items) l.fn.marks.items (keys_of l.rows.entries.items) l.marks.items (is_one_of (take l.place-index l.places)) false;
   each : length l.marks.items ≡ length l.fn.marks.items;
 }

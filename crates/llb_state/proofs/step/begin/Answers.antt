@@ -12,52 +12,55 @@ use Rattle.llb_state.specs.Views.{status_of}
 use Rattle.llb_events.specs.declared.fault.ClaimFault.{ClaimFault}
 use Rattle.llb_state.proofs.Begins.{Parts, AreParts, put_together, begun_of, supplied, workable}
 use Rattle.llb_state.proofs.step.begin.Goals as goal
-use Rattle.llb_state.proofs.step.begin.Goals.{After-new-2}
+use Rattle.llb_state.proofs.step.begin.Goals.{After-new-instances}
 
 inside_ok : {A : Type 0} {x y : A} → ◌≡◌ {A = Result A ClaimFault} (Ok x) (Ok y) → x ≡ y
 inside_ok e = cc
 
-parts : goal.After-new-2 → Parts
+parts : goal.After-new-instances → Parts
 parts c =
     let t = c.in_ok-taking.taking in
     record {
       view = c.in_ok-view.view;
       own = c.in_ok-own.own;
       places = t.places.items;
-      instances = c.new-2.result;
-      trees = c.new.result;
+      instances = c.new-instances.result;
+      trees = c.new-trees.result;
       needs = t.needs.items;
       outfit = outfit_as c.in_ok-outfit.outfit;
     }
 
-are_parts : (c : goal.After-new-2) → AreParts c.args.build.now c.args.caches.now c.args.vertex.now c.in_ok-inputs.inputs.items (parts c)
+are_parts : (c : goal.After-new-instances) → AreParts c.args.build.now c.args.caches.now c.args.claim.vertex.now c.in_ok-inputs.inputs.items (parts c)
 unfolding parts
 are_parts c =
-    let x = c.args.vertex.now in
+    let x = c.args.claim.vertex.now in
     let view : view_on c.args.build.now.locals x x.op.kind c.in_ok-inputs.inputs.items ≡ c.in_ok-view.view
     = ap (λ locals. view_on locals x x.op.kind c.in_ok-inputs.inputs.items) (sym c.locals.ensures) ∙ sym c.in_ok-view.ensures in
     record {
       view = view;
       own = view ∙ sym c.in_ok-own.ensures;
       taking = (λ i. taken_with c.args.caches.now (sym c.deref-2.ensures.value i) (sym c.requires.wanted i)) ∙ inside_ok c.in_ok-taking.ensures
-          ∙ (λ i. (c.in_ok-taking.taking.places.items, sym c.new-2.ensures i, sym c.new.ensures i, c.in_ok-taking.taking.needs.items));
+          ∙ (λ i. (c.in_ok-taking.taking.places.items, sym c.new-instances.ensures i, sym c.new-trees.ensures i, c.in_ok-taking.taking.needs.items));
       outfit = inside_ok c.in_ok-outfit.ensures;
     }
 
 pub returns-clause-gives : goal.returns-clause-gives
 unfolding parts
 returns-clause-gives c =
-    let there : or_not_ready (inputs_from (ending_at (map status_of c.args.stands.now)) c.args.vertex.now.inputs) ≡ Ok c.in_ok-inputs.inputs.items
+    let p = (goal.at.returns-clause-gives c).After-new-instances in
+    let there : or_not_ready (inputs_from (ending_at (map status_of c.args.stands.now)) c.args.claim.vertex.now.inputs) ≡ Ok c.in_ok-inputs.inputs.items
     = ap (λ (es : List Edge). or_not_ready (inputs_from (ending_at (map status_of c.args.stands.now)) es)) (sym c.as_slice.ensures) ∙ c.in_ok-inputs.ensures in
-    begun_of c.args.build.now c.args.caches.now c.args.at.0 c.args.at.1 c.args.vertex.now
-    (inputs_from (ending_at (map status_of c.args.stands.now)) c.args.vertex.now.inputs) c.in_ok-inputs.inputs.items (parts c) there (are_parts c)
-    ∙ ap (λ (j : Job). Ok (record (put_together c.args.at.0 c.args.at.1 (parts c)) { reply = Claimed j })) (sym c.new-3.ensures)
+    begun_of c.args.build.now c.args.caches.now c.args.claim.worker c.args.claim.number c.args.claim.vertex.now
+    (inputs_from (ending_at (map status_of c.args.stands.now)) c.args.claim.vertex.now.inputs) c.in_ok-inputs.inputs.items (parts p) there (are_parts p)
+    ∙ ap (λ (j : Job). Ok (record (put_together c.args.claim.worker c.args.claim.number (parts p)) { reply = Claimed j })) (sym c.new-job.ensures)
 
 pub returns-clause-supplies : goal.returns-clause-supplies
 unfolding parts
-returns-clause-supplies c = supplied c.args.build.now c.args.caches.now c.args.vertex.now c.in_ok-inputs.inputs.items (parts c) (are_parts c)
+returns-clause-supplies c =
+    let p = (goal.at.returns-clause-supplies c).After-new-instances in
+    supplied c.args.build.now c.args.caches.now c.args.claim.vertex.now c.in_ok-inputs.inputs.items (parts p) (are_parts p)
 
-pub new-3-requires : goal.new-3-requires
+pub new-job-requires : goal.new-job-requires
 unfolding parts
-new-3-requires c =
-    workable c.args.build.now c.args.caches.now c.args.vertex.now c.in_ok-inputs.inputs.items (parts c) (are_parts c) c.requires.few
+new-job-requires c =
+    workable c.args.build.now c.args.caches.now c.args.claim.vertex.now c.in_ok-inputs.inputs.items (parts c) (are_parts c) c.requires.few

@@ -7,4 +7,4 @@ use Rattle.llb_cache.proofs.caches.Caches.keys_differ.Goals as goal
 
 pub returns : goal.returns
 returns c = subst (λ (v : CachesValue). AllPairs (λ k l. k ≢ l) (keys_of v.rows)) c.self.view_is
-    (AllPairs-from_IsDistinct key_test (keys_of c.self.inside.rows.entries) c.len-len.ensures.unique)
+    (AllPairs-from_IsDistinct key_test (keys_of c.self.inside.rows.entries.items) c.self.invariant.1.distinct)

@@ -14,11 +14,11 @@ use Rattle.llb_cache.proofs.caches.Caches.lease.Goals.{After-take_lease-number}
 
 -- the caches at the call
 abbrev before : After-take_lease-number → CachesValue
-before c = record { rows = c.self.inside.rows.entries; out = c.self.inside.out.items }
+before c = record { rows = c.self.inside.rows.entries.items; out = c.self.inside.out.items }
 
 -- and after it
 abbrev behind : After-take_lease-number → CachesValue
-behind c = record { rows = c.make_all.new.rows.entries; out = c.take_lease-number.new.out.items }
+behind c = record { rows = c.make_all.new.rows.entries.items; out = c.take_lease-number.new.out.items }
 
 none_refused : (c : After-take_lease-number) → find (is_shut (before c).out) c.args.needs ≡ None
 none_refused c =
@@ -51,12 +51,14 @@ placed c = places_shown c.in_ok-readies.readies.items
 
 pub invariant_of-self-2 : goal.invariant_of-self-2
 invariant_of-self-2 c =
-    let new = c.make_all.new.marks.items in
-    subst (λ (g : ℕ × CachesValue). IsMarked g.1 new) (all_granted c)
-    (lease_marked (before c) c.args.needs c.self.inside.marks.items new c.self.invariant (few c) c.requires.differ (none_refused c)
-    (λ (q : Place). ap (λ (g : ℕ × CachesValue). marked (keys_of g.1.rows) new q) (all_granted c) ∙ c.make_all.ensures.marks q
-    ∙ (λ i. cond (is_one_of (placed c i) q) true (marked (keys_of (c.reserve.ensures.entries i)) (c.reserve-2.ensures.items i) q)))
-    (c.make_all.ensures.each ∙ ap (λ (g : ℕ × CachesValue). length g.1.rows) (sym (all_granted c))))
+    let new = c.make_all.new.marks.items in (
+      subst (λ (g : ℕ × CachesValue). IsMarked g.1 new) (all_granted c)
+          (lease_marked (before c) c.args.needs c.self.inside.marks.items new c.self.invariant.0 (few c) c.requires.differ (none_refused c)
+          (λ (q : Place). ap (λ (g : ℕ × CachesValue). marked (keys_of g.1.rows) new q) (all_granted c) ∙ c.make_all.ensures.marks q
+          ∙ (λ i. cond (is_one_of (placed c i) q) true (marked (keys_of (c.reserve.ensures.entries i)) (c.reserve-2.ensures.items i) q)))
+          (c.make_all.ensures.each ∙ ap (λ (g : ℕ × CachesValue). length g.1.rows) (sym (all_granted c)))),
+      c.make_all.ensures.order,
+    )
 
 pub returns-clause-gives : goal.returns-clause-gives
 returns-clause-gives c =

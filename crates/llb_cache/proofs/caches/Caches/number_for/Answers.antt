@@ -11,22 +11,22 @@ use Rattle.llb_cache.proofs.caches.Caches.number_for.Goals.{After-first_unmarked
 
 -- for a private key the marks are exact
 held : (c : After-first_unmarked) (k : ℕ) → is_held c.self.inside.out.items (place c.args.key.now k)
-    ≡ marked (keys_of c.self.inside.rows.entries) c.deref.result.now (place c.args.key.now k)
+    ≡ marked (keys_of c.self.inside.rows.entries.items) c.deref.result.now (place c.args.key.now k)
 held c k =
-    sym (c.self.invariant.exact (place c.args.key.now k) (subst IsExclusive c.in-Private.ensures tt))
-    ∙ ap (λ (marks : List (List Bool)). marked (keys_of c.self.inside.rows.entries) marks (place c.args.key.now k)) (sym c.deref.ensures.value)
+    sym (c.self.invariant.0.exact (place c.args.key.now k) (subst IsExclusive c.in-Private.ensures tt))
+    ∙ ap (λ (marks : List (List Bool)). marked (keys_of c.self.inside.rows.entries.items) marks (place c.args.key.now k)) (sym c.deref.ensures.value)
 
 -- the least number without a mark is the one that is chosen for the key
 least : (c : After-first_unmarked) → first_free c.self.inside.out.items c.args.key.now 0 (leases c.self.inside.out.items) ≡ c.first_unmarked.result
 least c =
-    first_unheld c.self.inside.out.items c.args.key.now c.first_unmarked.result c.self.invariant.caches.apart
+    first_unheld c.self.inside.out.items c.args.key.now c.first_unmarked.result c.self.invariant.0.caches.apart
     (λ k below. held c k ∙ c.first_unmarked.ensures.below k below) (held c c.first_unmarked.result ∙ c.first_unmarked.ensures.clear)
 
 pub overflow_cast-result : goal.overflow_cast-result
 overflow_cast-result c =
     let within = number_within c.self.inside.out.items c.args.key.now Private in
     let few = count_by-le-length is_some c.self.inside.out.items in
-    let short = c.self.invariant.caches.short in
+    let short = c.self.invariant.0.caches.short in
     let same = least c in
     Fits-of_lt (omega (arith, within, few, short, same))
 

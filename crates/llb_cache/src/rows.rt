@@ -1,0 +1,135 @@
+//! The keys with the trees of their instances, and the row of each key. A look searches the rows in the order of their keys, so that
+//! it costs the logarithm of their number, whatever the keys are.
+
+ghost use Rattle.std.specs.Prelude.{◌≡◌, ◌<◌, ◌+◌, ℕ, false, [], length, IfSome, OnOk, IsSome, Some};
+ghost use Rattle.std.specs.Prelude.{is_some, option_map, position, slice_get};
+ghost use Rattle.std.specs.Map.{keys_of, values_of, lookup};
+ghost use Rattle.llb_cache.specs.Caches.{with_trees};
+ghost use Rattle.llb_cache.specs.Key.{same_key};
+ghost use Rattle.llb_cache.specs.Ordered.{is_before, IsPlace, AreOrdered, HasRoom};
+
+use crate::fault::Memory;
+use crate::key::Key;
+use crate::key_ref::KeyRef;
+use crate::trees::Trees;
+use std::alloc::Global;
+
+// The keys in the order in which they were first leased, with the trees of their instances, and the numbers of these rows in the
+// order of their keys.
+pub(crate) struct Rows {
+    pub(crate) entries: Vec<(Key, Trees)>,
+    pub(crate) order: Vec<usize>,
+}
+
+// Written out, so that what owns one drops it by this one function.
+impl Drop for Rows {
+    fn drop(self) {
+        let Rows {
+            entries: _,
+            order: _,
+        } = self;
+    }
+}
+
+pub(crate) fn no_rows(alloc: Global) -> Rows
+    ensures empty { result.entries.items ≡ [] }
+    ensures order { AreOrdered result }
+{
+    Rows {
+        entries: Vec::new(alloc),
+        order: Vec::new(alloc),
+    }
+}
+
+// Whether a row's key comes before a key.
+fn comes_before(rows: &Rows, row: usize, key: &KeyRef<'_>) -> bool
+    requires { row < length rows.now.entries.items }
+    ensures { result ≡ is_before rows.now.entries.items row key.now }
+{
+    rows.entries[row].0.by_ref().order(key).is_lt()
+}
+
+// How many rows come before a key.
+fn place_of(rows: &Rows, key: &KeyRef<'_>) -> usize
+    requires { AreOrdered rows.now }
+    ensures { IsPlace rows.now.entries.items rows.now.order.items key.now result }
+{
+    let mut low = 0;
+    let mut high = rows.order.len();
+    while low < high {
+        let middle = low + (high - low) / 2;
+        if comes_before(rows, rows.order[middle], key) {
+            low = middle + 1;
+        } else {
+            high = middle;
+        }
+    }
+    low
+}
+
+// The number of a key's row.
+pub(crate) fn row_of(rows: &Rows, key: &KeyRef<'_>) -> Option<usize>
+    requires { AreOrdered rows.now }
+    ensures at { result ≡ position (same_key key.now) (keys_of rows.now.entries.items) }
+    ensures found { is_some result ≡ is_some (lookup (same_key key.now) rows.now.entries.items) }
+    ensures within { IfSome result (λ i. i < length rows.now.entries.items) }
+    ensures value { IfSome result (λ i. slice_get (values_of rows.now.entries.items) i ≡ lookup (same_key key.now) rows.now.entries.items) }
+{
+    let place = place_of(rows, key);
+    if place >= rows.order.len() {
+        return None;
+    }
+    let row = rows.order[place];
+    if key.is(&rows.entries[row].0.by_ref()) {
+        Some(row)
+    } else {
+        None
+    }
+}
+
+// The trees of a key, where it has a row.
+pub(crate) fn trees_with<'a>(rows: &'a Rows, key: &Key) -> Option<&'a Trees>
+    requires { AreOrdered rows.now }
+    ensures { option_map (λ t. t.now) result ≡ lookup (same_key key.now) rows.now.entries.items }
+{
+    match row_of(rows, &key.by_ref()) {
+        Some(i) => Some(&rows.entries[i].1),
+        None => None,
+    }
+}
+
+// The trees of a key that has a row.
+pub(crate) fn trees_at<'a>(rows: &'a Rows, key: &Key) -> &'a Trees
+    requires order { AreOrdered rows.now }
+    requires there { IsSome (lookup (same_key key.now) rows.now.entries.items) }
+    ensures { lookup (same_key key.now) rows.now.entries.items ≡ Some result.now }
+{
+    let i = row_of(rows, &key.by_ref()).unwrap();
+    &rows.entries[i].1
+}
+
+// Room for more rows.
+pub(crate) fn reserve(rows: &mut Rows, more: usize) -> Result<(), Memory>
+    ensures entries { rows.new.entries.items ≡ rows.old.entries.items }
+    ensures order { rows.new.order.items ≡ rows.old.order.items }
+    ensures kept { AreOrdered rows.old → AreOrdered rows.new }
+    ensures room { OnOk result (HasRoom rows.new more) }
+{
+    rows.entries.reserve(more)?;
+    rows.order.reserve(more)?;
+    Ok(())
+}
+
+// Adds the row of a key that has none. There is room for one more.
+pub(crate) fn add_row(rows: &mut Rows, key: Key, trees: Trees)
+    requires order { AreOrdered rows.old }
+    requires room { HasRoom rows.old 1 }
+    requires apart { is_some (lookup (same_key key) rows.old.entries.items) ≡ false }
+    ensures rows { rows.new.entries.items ≡ with_trees rows.old.entries.items key trees }
+    ensures order { AreOrdered rows.new }
+    ensures room { (more : ℕ) → HasRoom rows.old (more + 1) → HasRoom rows.new more }
+{
+    let place = place_of(rows, &key.by_ref());
+    rows.order.insert(place, rows.entries.len()).unwrap();
+    rows.entries.push_reserved((key, trees));
+}
