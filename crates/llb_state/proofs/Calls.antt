@@ -129,14 +129,14 @@ pub shut_as_held : (c : CachesValue) (workers : List At) (inputs : List TreeMap)
 shut_as_held c workers inputs x same = sym (shut_first c.out inputs (needs_of x)) ∙ refuses_alike c.out workers inputs (needs_of x) same
 
 -- the first key that is shut is the fault
-shut_is : (needs : List Need) (o : Option Key) (e : ClaimFault) → unless_shut needs o ≡ Err e → (k : Key) × (o ≡ Some k) × (e ≡ claim.Held k)
+pub shut_is : (needs : List Need) (o : Option Key) (e : ClaimFault) → unless_shut needs o ≡ Err e → (k : Key) × (o ≡ Some k) × (e ≡ claim.Held k)
 shut_is needs None e is = absurd cc
 shut_is needs (Some k) e is = (k, refl, sym (fault_inside is))
   where
     fault_inside : ◌≡◌ {A = Result (List Need) ClaimFault} (Err (claim.Held k)) (Err e) → claim.Held k ≡ e
     fault_inside e = cc
 
-open_is : (needs ns : List Need) (o : Option Key) → unless_shut needs o ≡ Ok ns → (o ≡ None) × (ns ≡ needs)
+pub open_is : (needs ns : List Need) (o : Option Key) → unless_shut needs o ≡ Ok ns → (o ≡ None) × (ns ≡ needs)
 open_is needs ns None is = (refl, sym (inside_ok is))
 open_is needs ns (Some k) is = absurd cc
 
@@ -235,7 +235,7 @@ pub record Claims (b : Build) (s : State) (w v : ℕ) (x : Vertex) (c new : Cach
   pub vertex : z.vertex ≡ v
   pub rows : new.rows ≡ written (store_of new.rows) c.rows z.places
 
-begun_is : (b : Build) (c : CachesValue) (w v : ℕ) (x : Vertex) (trees : List TreeMap) (o : Option (List TreeMap)) (begun_so : Begun)
+pub begun_is : (b : Build) (c : CachesValue) (w v : ℕ) (x : Vertex) (trees : List TreeMap) (o : Option (List TreeMap)) (begun_so : Begun)
     → o ≡ Some trees → begun b c w v x o ≡ Ok begun_so
     → begun_at b c w v x trees (places_taken c.out (needs_of x)) ≡ begun_so
 begun_is b c w v x trees o begun_so there is = inside_ok (ap (begun b c w v x) (sym there) ∙ is)

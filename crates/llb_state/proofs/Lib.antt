@@ -23,3 +23,9 @@ pub mod PutBack
 pub mod Alike
 pub mod Stages
 pub mod InStep
+pub mod Crews
+pub mod Worked
+pub mod Claims
+pub mod Landings
+pub mod Undoings
+pub mod Befores

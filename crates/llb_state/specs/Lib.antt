@@ -12,3 +12,5 @@ pub mod Room
 pub mod Begun
 pub mod Undoing
 pub mod Vertices
+pub mod Workers
+pub mod Undo

@@ -27,8 +27,8 @@ pub fn end(execution: Execution, vertex: Option<&Vertex>) -> Stand
     }
 }
 
-// Returns the outputs, read from the view that the micro-steps left. Without a vertex there are none.
-fn outputs(view: View, outputs: Vec<Tree>, vertex: Option<&Vertex>) -> Vec<Tree>
+/// Returns the outputs, read from the view that the micro-steps left. Without a vertex there are none.
+pub fn outputs(view: View, outputs: Vec<Tree>, vertex: Option<&Vertex>) -> Vec<Tree>
     requires { outputs.items ≡ replicate (program_at (option_map (λ v. v.now) vertex)).outputs empty_tree }
     ensures { result.items ≡ outputs_of (program_at (option_map (λ v. v.now) vertex.entry)) view }
 {

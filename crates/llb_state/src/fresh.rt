@@ -59,7 +59,7 @@ fn waiting(alloc: Global, count: usize) -> Result<Vec<Stand>, AllocError>
     Ok(stands)
 }
 
-fn idle(alloc: Global, count: u32) -> Result<Vec<Desk>, AllocError>
+pub fn idle(alloc: Global, count: u32) -> Result<Vec<Desk>, AllocError>
     ensures { IfOk result (λ v. v.items ≡ replicate count desk.Idle) }
 {
     let mut desks = Vec::with_capacity(alloc, count as usize)?;

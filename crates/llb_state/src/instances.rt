@@ -43,9 +43,9 @@ fn content(alloc: Global, caches: &Caches, place: &Place) -> Result<Tree, StepFa
     }
 }
 
-// Leases instances for these needs, whose keys differ; `None` if there are no needs. Fails with 111 and the first locked key that is
-// held, or with 112 `Memory`; then the caches are as they were.
-fn lease_for(caches: &mut Caches, needs: Vec<Need>) -> Result<Option<Lease>, LeaseFault>
+/// Leases instances for these needs, whose keys differ; `None` if there are no needs. Fails with 111 and the first locked key that is
+/// held, or with 112 `Memory`; then the caches are as they were.
+pub fn lease_for(caches: &mut Caches, needs: Vec<Need>) -> Result<Option<Lease>, LeaseFault>
     requires differ { AllPairs (λ n m. n.key ≢ m.key) needs.items }
     requires few { leases caches.old.out < 65536 }
     ensures gives { Gives (λ l. (l, caches.new)) result (lease_if caches.old needs.items) }

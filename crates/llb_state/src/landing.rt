@@ -48,8 +48,8 @@ pub fn is_run_of(build: &Build, caches: &Caches, w: u32, execution: &Execution, 
         && has_numbers(&execution.places, job.instances())
 }
 
-// Returns whether a job has this worker and the execution's vertex, as many micro-steps are done, and none of them has faulted.
-fn is_begun(w: u32, execution: &Execution, job: &Job) -> bool
+/// Returns whether a job has this worker and the execution's vertex, as many micro-steps are done, and none of them has faulted.
+pub fn is_begun(w: u32, execution: &Execution, job: &Job) -> bool
     ensures { IsTrue result ↔ IsBegun w (execution_of execution.now) job.now }
 {
     job.worker() == w
@@ -69,8 +69,8 @@ fn has_program(build: &Build, v: u32, program: &Program) -> bool
     }
 }
 
-// Returns whether instances, which are there, have these trees.
-fn has_trees(caches: &Caches, places: &[Place], trees: &[Tree]) -> bool
+/// Returns whether instances, which are there, have these trees.
+pub fn has_trees(caches: &Caches, places: &[Place], trees: &[Tree]) -> bool
     requires { (p : model.Place) → Has places.now p → p.number < length (trees_of caches.now.rows p.key) }
     ensures { IsTrue result ↔ (trees.now ≡ trees_at (store_of caches.now.rows) places.now) }
 {
@@ -96,8 +96,8 @@ fn has_tree(caches: &Caches, place: &Place, tree: &Tree) -> bool
     }
 }
 
-// Returns whether instances have these numbers.
-fn has_numbers(places: &[Place], numbers: &[u32]) -> bool
+/// Returns whether instances have these numbers.
+pub fn has_numbers(places: &[Place], numbers: &[u32]) -> bool
     ensures { IsTrue result ↔ (numbers.now ≡ map number_of places.now) }
 {
     if numbers.len() != places.len() {

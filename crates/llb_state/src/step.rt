@@ -82,15 +82,16 @@ pub fn claimable<'a>(
     Ok(vertex)
 }
 
-// What a vertex's execution holds besides its view: the program, an empty tree for each output, and where its commands run.
+/// What a vertex's execution holds besides its view: the program, an empty tree for each output, and where its commands run.
 #[derive(Drop)]
-struct Outfit {
-    program: Program,
-    outputs: Vec<Tree>,
-    setting: Setting,
+pub struct Outfit {
+    pub program: Program,
+    pub outputs: Vec<Tree>,
+    pub setting: Setting,
 }
 
-fn outfit_for(alloc: Global, vertex: &Vertex) -> Result<Outfit, ClaimFault>
+/// Returns what the execution of a vertex begins with beside its view. Fails with 141 `Memory` alone.
+pub fn outfit_for(alloc: Global, vertex: &Vertex) -> Result<Outfit, ClaimFault>
     ensures { GivesClaim outfit_as result (Ok (outfit_of vertex.now)) }
 {
     let program = Program::of(alloc, vertex)?;

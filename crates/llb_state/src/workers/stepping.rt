@@ -1,0 +1,84 @@
+//! A micro-step of what a worker runs.
+
+ghost use Rattle.std.specs.Prelude.{◌≡◌, length, Some, OnErr, OnOk, slice_get};
+ghost use Rattle.llb_model.specs.Leases.{HasLease};
+ghost use Rattle.llb_state.specs.Caches.{rows_after};
+ghost use Rattle.llb_state.specs.Room.{supplies_of, supplies_for};
+ghost use Rattle.llb_events.specs.Causes.{step_memory, GivesStep};
+ghost use Rattle.llb_state.specs.Rules.{worked_in};
+ghost use Rattle.llb_state.specs.Views.{execution_of};
+ghost use Rattle.llb_events.specs.Views.{step_reply};
+ghost use Rattle.llb_state.specs.Workers.{Fits, state_in, step_in};
+ghost use Rattle.llb_wire.specs.Answer.{MemoryLast};
+
+use crate::instances::{contents, write_back};
+use crate::micro_step::{skip, step};
+use crate::stand::{Desk, Execution};
+use crate::step::is_finished;
+use crate::vertices::Vertices;
+use crate::workers::Workers;
+use llb_cache::{Caches, Lease};
+use llb_events::{StepFault, Stepped};
+use std::alloc::Global;
+
+impl Workers {
+    /// Does the next micro-step of what a worker runs on its cache instances as they are, and writes them at once. Fails with 131 `NoWorker`,
+    /// 136 `NotRunning`, 137 `NothingLeft` or 141 `Memory`; then nothing has changed.
+    pub fn step(
+        &mut self,
+        alloc: Global,
+        vertices: &Vertices,
+        w: u32,
+    ) -> Result<Stepped, StepFault>
+        requires { Fits vertices.now.build self.old }
+        ensures gives { GivesStep (λ r. (state_in vertices.now self.new, step_reply r)) result (step_in vertices.now self.old w) }
+        ensures last { MemoryLast step_memory result (step_in vertices.now self.old w) }
+        ensures rows { OnOk result (self.new.rows ≡ rows_after self.old.rows (state_in vertices.now self.new) w) }
+        ensures count { length self.new.workers ≡ length self.old.workers }
+        ensures fits { OnOk result (Fits vertices.now.build self.new) }
+        ensures err { OnErr result (self.new ≡ self.old) }
+    {
+        if w as usize >= self.seats.len() {
+            return Err(StepFault::NoWorker);
+        }
+        self.caches.is_exclusive();
+        match &mut self.seats[w as usize] {
+            Desk::Idle => Err(StepFault::NotRunning),
+            Desk::Runs(lease, execution) => {
+                step_of(alloc, vertices, execution, &mut self.caches, *lease)
+            }
+        }
+    }
+}
+
+// Does the next micro-step of an execution on the instances of its lease as they are now, and writes them back.
+fn step_of(
+    alloc: Global,
+    vertices: &Vertices,
+    execution: &mut Execution,
+    caches: &mut Caches,
+    lease: Option<Lease>,
+) -> Result<Stepped, StepFault>
+    requires supplies { supplies_of execution.old ≡ supplies_for (slice_get vertices.now.build.graph.vertices execution.old.vertex) }
+    requires leased { HasLease caches.old.out (Some lease) execution.old.places.items }
+    ensures gives { GivesStep (λ r. (execution_of execution.new, caches.new.rows, step_reply r)) result
+        (worked_in vertices.now.build caches.old.rows (execution_of execution.old)) }
+    ensures last { MemoryLast step_memory result (worked_in vertices.now.build caches.old.rows (execution_of execution.old)) }
+    ensures supplies { supplies_of execution.new ≡ supplies_of execution.old }
+    ensures places { execution.new.places ≡ execution.old.places }
+    ensures out { caches.new.out ≡ caches.old.out }
+    ensures err { OnErr result ((execution.new ≡ execution.old) × (caches.new ≡ caches.old)) }
+{
+    let vertex = vertices.vertex(execution.vertex);
+    if is_finished(execution, vertices.steps(execution.vertex)) {
+        return Err(StepFault::NothingLeft);
+    }
+    if let Some(stepped) = skip(execution, vertex) {
+        caches.is_exclusive();
+        return Ok(stepped);
+    }
+    let mut trees = contents(alloc, caches, &execution.places)?;
+    let stepped = step(alloc, execution, &mut trees, vertex)?;
+    write_back(caches, lease, trees);
+    Ok(stepped)
+}
