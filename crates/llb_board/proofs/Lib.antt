@@ -1,12 +1,5 @@
-pub mod Crossing
 pub mod Others
-pub mod Claiming
-pub mod Settling
-pub mod Cancelling
-pub mod Opened
-pub mod Walks
-pub mod Undone
-pub mod Undos
-pub mod Copies
 pub mod Landed
 pub mod Begun
+pub mod Choosing
+pub mod Kept

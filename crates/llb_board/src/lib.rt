@@ -18,7 +18,6 @@ pub use llb_events::{
     Stepped, WalkFault,
 };
 pub use llb_execution::{Gate, Job, Outcome, Program, Stopped, View, WorkFault, work};
-pub use llb_state::Events;
+pub use llb_state::{Events, Undo};
 pub use llb_wire::{Bytes, Text};
-pub use undo::Undo;
 pub use walk::{Reply, Walked};

@@ -4,7 +4,7 @@
 ghost use Rattle.std.specs.Prelude.{◌≡◌, ◌↔◌, IsTrue};
 
 use crate::board::Board;
-use llb_state::{same_desks, same_events, same_stands};
+use llb_state::same_events;
 use llb_wire::Same;
 
 impl Board {
@@ -13,11 +13,9 @@ impl Board {
     pub fn same(&self, other: &Board) -> bool
         ensures { IsTrue result ↔ (self.now ≡ other.now) }
     {
-        self.build.same(&other.build)
+        self.vertices.same(&other.vertices)
             && self.start.has_same_trees(&other.start)
-            && self.caches.has_same_trees(&other.caches)
-            && same_stands(self.stands.as_slice(), other.stands.as_slice())
-            && same_desks(self.desks.as_slice(), other.desks.as_slice())
+            && self.workers.same(&other.workers)
             && same_events(
                 self.history.events().as_slice(),
                 other.history.events().as_slice(),
