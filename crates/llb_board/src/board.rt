@@ -357,7 +357,7 @@ fn at_first(
     alloc: Global,
     vertices: &Vertices,
     caches: &Caches,
-) -> Result<(Caches, History), Memory>
+) -> Result<(Caches, History), llb_events::Memory>
     ensures start { IfOk result (λ r. r.0 ≡ caches.now) }
     ensures none { IfOk result (λ r. r.1.list ≡ []) }
     ensures room { IfOk result (λ r. r.1.space.room ≡ most_events vertices.now.build []) }
