@@ -1,4 +1,4 @@
-use Rattle.std.proofs.Common.{◌∙◌, sym, ap, subst, List}
+use Rattle.std.proofs.Common.{◌≡◌}
 use Rattle.std.specs.Prelude.{Ok}
 use Rattle.llb_model.specs.Table.{Event, Step, step_grant}
 use Rattle.llb_events.specs.Causes.{step_fault}
