@@ -1,6 +1,0 @@
-use Rattle.llb_state.proofs.Sound.{consistent}
-use Rattle.llb_board.proofs.laws.is_consistent.Goals as goal
-
-pub returns : goal.returns
-returns c =
-    consistent c.args.board.now c.replays.ensures.run
