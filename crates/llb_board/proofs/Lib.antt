@@ -5,3 +5,10 @@ pub mod Spaces
 pub mod Counted
 pub mod Calls
 pub mod Kept
+pub mod Others
+pub mod Opened
+pub mod Leaving
+pub mod Walks
+pub mod Undone
+pub mod Landed
+pub mod Begun

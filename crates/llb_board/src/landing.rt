@@ -96,7 +96,6 @@ impl Board {
         ensures { IsThrough self.old w outcome.count self.new }
     {
         outcome.is_whole();
-        self.workers.caches().is_exclusive();
         let count = outcome.count();
         self.workers.land(&self.vertices, w, outcome);
         self.history.record_steps(w, count);

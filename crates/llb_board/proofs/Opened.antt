@@ -1,0 +1,72 @@
+-- A board on which nothing has happened.
+use Rattle.std.proofs.Common.{◌≡◌, ℕ, zero, suc, ◌<◌, ◌≤◌, List, [], ◌∷◌, map, length, refl, sym, ap, ◌∙◌, subst, arith}
+use Rattle.std.specs.Prelude.{Some, None, Bool, true, false, ◌&&◌, nat_le, replicate}
+use Rattle.std.proofs.lemmas.Bool.{leb-true}
+use Rattle.std.proofs.lemmas.List.{length-replicate}
+use Rattle.llb_cache.specs.Caches.{Row}
+use Rattle.llb_model.specs.Program.{Build}
+use Rattle.llb_model.specs.State as model
+use Rattle.llb_model.specs.Table.{Event}
+use Rattle.llb_model.specs.Room.{most_events}
+use Rattle.llb_model.specs.Run.{run}
+use Rattle.llb_model.proofs.Owing.{IsRoomy, opening_roomy}
+use Rattle.llb_model.proofs.Cancels.{counts_open}
+use Rattle.llb_state.specs.Room.{supplies_for, needed}
+use Rattle.llb_state.specs.Vertices.{VerticesValue, all_waiting}
+use Rattle.llb_state.specs.Workers.{WorkersValue}
+use Rattle.llb_board.specs.Seen.{Seen, opening_with, opened, seen}
+use Rattle.llb_board.specs.Kept.{IsBoard}
+use Rattle.llb_board.specs.History.{Space}
+use Rattle.llb_board.specs.Opening.{may_work}
+
+-- a function maps n equal items to n equal results
+map_replicate : {A B : Type 0} (f : A → B) (n : ℕ) (x : A) → map f (replicate n x) ≡ replicate n (f x)
+map_replicate f zero x = refl
+map_replicate f (suc n) x = ap (λ l. f x ∷ l) (map_replicate f n x)
+
+-- n idle workers on these lists of instances
+abbrev pub idle_on : ℕ → List Row → WorkersValue
+idle_on n rows = record { workers = replicate n model.Idle; rows = rows; supplies = replicate n (supplies_for None) }
+
+opened_leads : (b : Build) (s : model.State) → run b s [] ≡ Some (s, [])
+unfolding run
+opened_leads b s = refl
+
+both : (a b : Bool) → (a && b) ≡ true → (a ≡ true) × (b ≡ true)
+both true true is = (refl, refl)
+both true false is = absurd (cc)
+both false b is = absurd (cc)
+
+-- an allowed number of workers is at least 1
+pub some_work : (n : ℕ) → may_work n ≡ true → 0 < n
+some_work n is = let some : 1 ≤ n = leb-true 1 n (both (nat_le 1 n) (nat_le n 64) is).0 in omega arith
+
+-- a number of workers that is allowed is at most 64
+pub few_work : (n : ℕ) → may_work n ≡ true → n ≤ 64
+few_work n is = leb-true n 64 (both (nat_le 1 n) (nat_le n 64) is).1
+
+-- where all vertices wait, all workers are idle and no event is recorded, a board is seen as one that was just opened
+pub seen_open : (vs : VerticesValue) (first : List Row) (ws : WorkersValue) (es : List Event) (n : ℕ) (rows : List Row) → vs ≡ all_waiting vs.build
+    → ws ≡ idle_on n rows → es ≡ [] → first ≡ rows
+    → seen vs first ws es ≡ opened vs.build n rows
+seen_open vs first ws es n rows v w e f =
+    (λ i. seen (v i) (f i) (w i) (e i))
+    ∙ (λ i. record (opened vs.build n rows) { opening = opening_with (length-replicate n model.Idle i) rows })
+
+kept_fresh : (b : Build) (n : ℕ) (rows : List Row) (space : Space) → space.room ≡ most_events b [] → space.cancels ≡ replicate (length b.graph.vertices) 0
+    → IsBoard (opened b n rows) (idle_on n rows) space
+kept_fresh b n rows space room cancels = record {
+  replays = record { replies = []; leads = opened_leads b (model.opening b (opening_with n rows)); keeps = refl };
+  room = subst (IsRoomy b (model.opening b (opening_with n rows)) []) (sym room) (opening_roomy b (opening_with n rows));
+  counted = cancels ∙ sym (counts_open b.graph.vertices 0);
+  fits = sym (map_replicate (needed b) n model.Idle);
+}
+
+-- a board that was just opened has its type's invariant
+pub kept_open : (vs : VerticesValue) (first : List Row) (ws : WorkersValue) (es : List Event) (n : ℕ) (rows : List Row) (space : Space)
+    → vs ≡ all_waiting vs.build
+    → ws ≡ idle_on n rows → es ≡ [] → first ≡ rows → space.room ≡ most_events vs.build [] → space.cancels ≡ replicate (length vs.build.graph.vertices) 0
+    → IsBoard (seen vs first ws es) ws space
+kept_open vs first ws es n rows space v w e f room cancels =
+    subst (λ (us : WorkersValue). IsBoard (seen vs first ws es) us space) (sym w)
+    (subst (λ (s : Seen). IsBoard s (idle_on n rows) space) (sym (seen_open vs first ws es n rows v w e f)) (kept_fresh vs.build n rows space room cancels))

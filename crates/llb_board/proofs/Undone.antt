@@ -1,0 +1,273 @@
+-- An event is taken back: the board does what the definitions say, and keeps its invariant.
+use Rattle.std.proofs.Common.{◌≡◌, ℕ, ◌+◌, ◌-◌, ◌<◌, ◌≤◌, List, [], ◌∷◌, ◌++◌, map, length, Option, Some, None, refl, sym, ap, subst, ◌∙◌, arith}
+use Rattle.std.proofs.Common.{length-append}
+use Rattle.std.specs.Prelude.{slice_get, slice_set}
+use Rattle.std.proofs.lemmas.Option.{slice_get_within}
+use Rattle.llb_cache.specs.Caches.{Row}
+use Rattle.llb_execution.specs.Marks.{Mark, put_back}
+use Rattle.llb_execution.specs.Parts.{mounts_in}
+use Rattle.llb_execution.proofs.Stepping.{seen_so}
+use Rattle.llb_loader.specs.declared.graph.Vertex.{Vertex}
+use Rattle.llb_model.specs.Caches.{trees_at}
+use Rattle.llb_model.specs.Kept.{store_of}
+use Rattle.llb_model.specs.Program.{Build, program_at, step_on}
+use Rattle.llb_model.specs.Room.{events_of, cancel_counts}
+use Rattle.llb_model.specs.Run.{run}
+use Rattle.llb_model.specs.State.{State, opening, Status, Waiting, Running, Execution, At, Idle, Runs, work_of}
+use Rattle.llb_model.specs.Table.{Event, Claim, Step, Settle, Cancel, Reply, Cancelled, with_step, table}
+use Rattle.llb_model.proofs.Cancels.{event_returns}
+use Rattle.llb_model.proofs.Events.{Answer, step_is, cancel_is}
+use Rattle.llb_model.proofs.Lists.{inside, get_set_same, get_within, length_set}
+use Rattle.llb_model.proofs.Owing.{IsRoomy}
+use Rattle.llb_model.proofs.Runs.{run_more}
+use Rattle.llb_state.specs.Room.{Supplies, needed, supplies_for}
+use Rattle.llb_state.specs.Undo.{Back, Unclaim, Unstep, Resume, Displaced, end_of, workers_before, with_view_back, step_before, rows_before, supplies_before}
+use Rattle.llb_state.specs.Undo.{change_in, IsBehind, CanPutBack}
+use Rattle.llb_state.specs.Undoing.{Before}
+use Rattle.llb_state.specs.Vertices.{VerticesValue, IsWhole}
+use Rattle.llb_state.specs.Workers.{WorkersValue, Fits, state_in}
+use Rattle.llb_state.specs.declared.workers.undoing.End.{End}
+use Rattle.llb_state.specs.declared.workers.undoing.End.TheVariants as end
+use Rattle.llb_state.proofs.Lists.{map_set, set_same, get_map}
+use Rattle.llb_board.specs.Seen.{Seen, Replays, opening_with, kept_along, seen}
+use Rattle.llb_board.specs.Kept.{IsBoard}
+use Rattle.llb_board.specs.History.{Space, front, last_of, space_back}
+use Rattle.llb_board.specs.Undo.{statuses_before, store_before, undone, event_before, CanUndo}
+use Rattle.llb_board.proofs.Kept.{waits_whole, runs_whole, has_vertex}
+use Rattle.llb_board.proofs.Sound.{consistent}
+use Rattle.llb_board.proofs.Spaces.{SpaceBefore, space_stayed, space_unclaimed, space_uncancelled}
+
+-- ---- the workers as the event left them
+
+runs_inside : {x y : Execution} → ◌≡◌ {A = Option At} (Some (Runs x)) (Some (Runs y)) → x ≡ y
+runs_inside e = cc
+
+-- a view that is put back has as many mounts, since the micro-step that is taken back kept them
+unstepped_mounts : (b : Seen) (o : Option Before) (w : ℕ) (mark : Mark) (x : Execution) → CanUndo (record { back = Unstep w mark; caches = o }) b
+    → slice_get b.state.workers w ≡ Some (Runs x)
+    → mounts_in (put_back mark x.own) ≡ mounts_in x.own
+unstepped_mounts b o w mark x can runs =
+    let s = (undone (record { back = Unstep w mark; caches = o }) b).state in
+    let c = step_is b.build s w _ can.last.gives in
+    let y = with_view_back mark x in
+    let before : slice_get s.workers w ≡ Some (Runs y)
+    = get_set_same b.state.workers w (step_before mark (slice_get b.state.workers w)) (Runs x) runs ∙ ap (λ a. Some (step_before mark a)) runs in
+    let is : c.x ≡ y = runs_inside (sym c.there ∙ before) in
+    let left = step_on c.x.done (Some c.step) (work_of s c.x) in
+    let after : slice_get b.state.workers w ≡ Some (Runs (with_step c.x left))
+    = ap (λ (a : Answer). slice_get a.0.workers w) c.gives ∙ get_set_same s.workers w (Runs (with_step c.x left)) (Runs c.x) c.there in
+    let own : x ≡ with_step c.x left = runs_inside (sym runs ∙ after) in
+    sym (ap (λ (z : Execution). mounts_in z.own) own ∙ (seen_so c.x.done c.step c.x.own (trees_at s.store c.x.places)).mounts
+    ∙ ap (λ (z : Execution). mounts_in z.own) is)
+
+behind : (b : Seen) (k : Back) (o : Option Before) → Replays b → CanUndo (record { back = k; caches = o }) b → IsBehind k b.state.workers
+behind b (Unclaim w v) o here can =
+    let r = (consistent b here).running v w can.stands.runs in
+    slice_get_within b.state.workers w (Runs r.0) r.1
+behind b (Unstep w mark) o here can =
+    record { x = can.stands.x; runs = can.stands.runs; mounts = unstepped_mounts b o w mark can.stands.x can can.stands.runs }
+behind b (Resume e w left) o here can = can.stands.idle
+
+-- what an event displaced can be put back
+pub can_put_back : (vs : VerticesValue) (first : List Row) (ws : WorkersValue) (es : List Event) (u : Displaced) → Replays (seen vs first ws es)
+    → CanUndo u (seen vs first ws es) → CanPutBack u ws
+can_put_back vs first ws es u here can = record { behind = behind (seen vs first ws es) u.back u.caches here can; leased = can.leased }
+
+-- ---- the vertex that has another status
+
+change_inside : {v u : ℕ} {s t : Status} → ◌≡◌ {A = Option (ℕ × Status)} (Some (v, s)) (Some (u, t)) → (v ≡ u) × (s ≡ t)
+change_inside e = (ap (λ (p : ℕ × Status). p.0) (inside e), ap (λ (p : ℕ × Status). p.1) (inside e))
+
+pub changed : (k : Back) (statuses : List Status) (v : ℕ) (s : Status) → Some (v, s) ≡ change_in k → statuses_before k statuses ≡ slice_set statuses v s
+changed (Unclaim w u) statuses v s is = let h = change_inside (sym is) in λ i. slice_set statuses (h.0 i) (h.1 i)
+changed (Unstep w mark) statuses v s is = absurd cc
+changed (Resume e w left) statuses v s is = let h = change_inside (sym is) in λ i. slice_set statuses (h.0 i) (h.1 i)
+
+pub unchanged : (k : Back) (statuses : List Status) → None ≡ change_in k → statuses_before k statuses ≡ statuses
+unchanged (Unclaim w u) statuses is = absurd cc
+unchanged (Unstep w mark) statuses is = refl
+unchanged (Resume e w left) statuses is = absurd cc
+
+-- that status has no trees
+pub change_whole : (k : Back) (o : Option Vertex) (v : ℕ) (s : Status) → Some (v, s) ≡ change_in k → IsWhole o s
+change_whole (Unclaim w u) o v s is = subst (IsWhole o) (change_inside (sym is)).1 (waits_whole o)
+change_whole (Unstep w mark) o v s is = absurd cc
+change_whole (Resume e w left) o v s is = subst (IsWhole o) (change_inside (sym is)).1 (runs_whole o w)
+
+-- and it is that of a vertex
+pub change_low : (b : Seen) (k : Back) (o : Option Before) (v : ℕ) (s : Status) → CanUndo (record { back = k; caches = o }) b → Some (v, s) ≡ change_in k
+    → v < length b.state.statuses
+change_low b (Unclaim w u) o v s can is =
+    let same = (change_inside (sym is)).0 in
+    subst (λ n. n < length b.state.statuses) same (slice_get_within b.state.statuses u (Running w) can.stands.runs)
+change_low b (Unstep w mark) o v s can is = absurd cc
+change_low b (Resume e w left) o v s can is =
+    let same = (change_inside (sym is)).0 in
+    let m = undone (record { back = Resume e w left; caches = o }) b in
+    let runs : slice_get m.state.workers w ≡ Some (Runs left.execution) = get_set_same b.state.workers w (Runs left.execution) Idle can.stands.idle in
+    let ran = (consistent m can.replays).working w left.execution runs in
+    let low = slice_get_within m.state.statuses left.execution.vertex (Running w) ran in
+    let count = length_set b.state.statuses left.execution.vertex (Running w) in
+    subst (λ n. n < length b.state.statuses) same (omega (arith, low, count))
+
+-- ---- what is left
+
+pub as_many : (k : Back) (workers : List At) → length (workers_before k workers) ≡ length workers
+as_many (Unclaim w v) workers = length_set workers w Idle
+as_many (Unstep w mark) workers = length_set workers w (step_before mark (slice_get workers w))
+as_many (Resume e w left) workers = length_set workers w (Runs left.execution)
+
+store_by : (o : Option Before) (rows : List Row) → store_of (rows_before o rows) ≡ store_before o (store_of rows)
+store_by (Some c) rows = refl
+store_by None rows = refl
+
+-- what an undo leaves of the statuses and of the workers
+pub record Leaves (vs : VerticesValue) (ws us : WorkersValue) (old : List Status) (u : Displaced) : Type 0 where
+  pub statuses : old ≡ statuses_before u.back vs.statuses
+  pub workers : us.workers ≡ workers_before u.back ws.workers
+  pub rows : us.rows ≡ rows_before u.caches ws.rows
+  pub supplies : us.supplies ≡ supplies_before u.back ws.supplies
+
+-- it is seen as the board that `undone` gives
+pub undone_is : (vs : VerticesValue) (first : List Row) (ws us : WorkersValue) (es : List Event) (old : List Status) (u : Displaced) → Leaves vs ws us old u
+    → seen (record vs { statuses = old }) first us (front es) ≡ undone u (seen vs first ws es)
+undone_is vs first ws us es old u leaves =
+    let many : length us.workers ≡ length ws.workers = ap length leaves.workers ∙ as_many u.back ws.workers in
+    let store = ap store_of leaves.rows ∙ store_by u.caches ws.rows in
+    λ i. record {
+      build = vs.build;
+      opening = opening_with (many i) first;
+      first = first;
+      state = record { statuses = leaves.statuses i; workers = leaves.workers i; store = store i };
+      rows = leaves.rows i;
+      events = front es;
+    }
+
+-- each worker has the supplies of its vertex
+fits_before : (b : Seen) (k : Back) (o : Option Before) (supplies : List Supplies) → CanUndo (record { back = k; caches = o }) b
+    → supplies ≡ map (needed b.build) b.state.workers
+    → supplies_before k supplies ≡ map (needed b.build) (workers_before k b.state.workers)
+fits_before b (Unclaim w v) o supplies can fits =
+    ap (λ l. slice_set l w (supplies_for None)) fits ∙ sym (map_set (needed b.build) b.state.workers w Idle)
+fits_before b (Unstep w mark) o supplies can fits =
+    let ws = b.state.workers in
+    let x = can.stands.x in
+    fits
+    ∙ sym (set_same (map (needed b.build) ws) w (needed b.build (Runs x)) (get_map (needed b.build) ws w (Runs x) can.stands.runs))
+    ∙ sym (map_set (needed b.build) ws w (Runs (with_view_back mark x)))
+    ∙ ap (λ a. map (needed b.build) (slice_set ws w (step_before mark a))) (sym can.stands.runs)
+fits_before b (Resume e w left) o supplies can fits =
+    (λ i. slice_set (fits i) w (can.stands.supplies i)) ∙ sym (map_set (needed b.build) b.state.workers w (Runs left.execution))
+
+-- ---- the record before
+
+-- a record that can be taken back: what it was, with its last event, and the room and the counts by its replies
+pub record EndsWith (b : Seen) (space : Space) (u : Displaced) : Type 0 where
+  pub replies : List Reply
+  pub leads : run b.build (opening b.build b.opening) (front b.events) ≡ Some ((undone u b).state, replies)
+  pub reply : Reply
+  pub gives : table b.build (undone u b).state (event_before u.back) ≡ Some (b.state, reply)
+  pub counted : space.cancels ≡ cancel_counts b.build (replies ++ reply ∷ [])
+  pub roomy : IsRoomy b.build b.state (replies ++ reply ∷ []) space.room
+
+replies_inside : {s t : State} {rs qs : List Reply} → ◌≡◌ {A = Option (State × List Reply)} (Some (s, rs)) (Some (t, qs)) → rs ≡ qs
+replies_inside e = ap (λ (a : State × List Reply). a.1) (inside e)
+
+pub ends_with : (b : Seen) (ws : WorkersValue) (space : Space) (u : Displaced) → IsBoard b ws space → CanUndo u b → EndsWith b space u
+ends_with b ws space u kept can =
+    let o = opening b.build b.opening in
+    let rs = can.replays.replies in
+    let r = can.last.reply in
+    let all : run b.build o b.events ≡ Some (b.state, rs ++ r ∷ [])
+    = ap (run b.build o) can.last.events
+    ∙ run_more b.build o (undone u b).state b.state (front b.events) rs (event_before u.back) r can.replays.leads can.last.gives in
+    let same : kept.replays.replies ≡ rs ++ r ∷ [] = replies_inside (sym kept.replays.leads ∙ all) in
+    record {
+      replies = rs;
+      leads = can.replays.leads;
+      reply = r;
+      gives = can.last.gives;
+      counted = kept.counted ∙ ap (cancel_counts b.build) same;
+      roomy = subst (λ qs. IsRoomy b.build b.state qs space.room) same kept.room;
+    }
+
+-- the last event is the one that is taken back
+pub last_is : (xs : List Event) (ys : List Event) (e : Event) → xs ≡ ys ++ e ∷ [] → last_of xs ≡ Some e
+last_is xs ys e is = ap last_of is ∙ go ys
+  where
+    at : (zs : List Event) → slice_get (zs ++ e ∷ []) (length zs) ≡ Some e
+    at [] = refl
+    at (z ∷ zs) = at zs
+
+    go : (zs : List Event) → last_of (zs ++ e ∷ []) ≡ Some e
+    go zs =
+        let n : length (zs ++ e ∷ []) - 1 ≡ length zs = omega (arith, length-append zs (e ∷ [])) in
+        ap (slice_get (zs ++ e ∷ [])) n ∙ at zs
+
+-- the room and the counts before the event, where a vertex has another status than before
+pub space_changed : (b : Seen) (space : Space) (k : Back) (o : Option Before) (v n : ℕ) (s : Status) → Replays b
+    → (ends : EndsWith b space (record { back = k; caches = o })) → CanUndo (record { back = k; caches = o }) b
+    → Some (v, s) ≡ change_in k → n ≡ length (program_at (slice_get b.build.graph.vertices v)).steps
+    → SpaceBefore b.build ends.replies (event_before k) space (space_back (last_of b.events) v (n + 2) space)
+space_changed b space (Unclaim w u) o v n s here ends can is counts =
+    let same = (change_inside (sym is)).0 in
+    let x = has_vertex b here u (Running w) can.stands.runs in
+    let many : n + 2 ≡ events_of x.0
+    = ap (λ m. m + 2) counts ∙ ap (λ m. length (program_at (slice_get b.build.graph.vertices m)).steps + 2) (sym same)
+    ∙ ap (λ (y : Option Vertex). length (program_at y).steps + 2) x.1 in
+    subst (λ e. SpaceBefore b.build ends.replies (Claim w u) space (space_back e v (n + 2) space))
+    (sym (last_is b.events _ (Claim w u) can.last.events))
+    (subst (λ m. SpaceBefore b.build ends.replies (Claim w u) space (space_back (Some (Claim w u)) m (n + 2) space)) same
+    (space_unclaimed b.build _ w u (n + 2) x.0 _ ends.replies space x.1 many ends.gives ends.counted))
+space_changed b space (Unstep w mark) o v n s here ends can is counts = absurd cc
+space_changed b space (Resume end.Settle w left) o v n s here ends can is counts =
+    subst (λ e. SpaceBefore b.build ends.replies (Settle w) space (space_back e v (n + 2) space))
+    (sym (last_is b.events _ (Settle w) can.last.events))
+    (space_stayed b.build _ (Settle w) _ ends.replies space (λ u e. cc) refl ends.gives ends.counted)
+space_changed b space (Resume end.Cancel w left) o v n s here ends can is counts =
+    let same = (change_inside (sym is)).0 in
+    let m = undone (record { back = Resume end.Cancel w left; caches = o }) b in
+    let x = left.execution in
+    let runs : slice_get m.state.workers w ≡ Some (Runs x) = get_set_same b.state.workers w (Runs x) Idle can.stands.idle in
+    let y = has_vertex m can.replays x.vertex (Running w) ((consistent m can.replays).working w x runs) in
+    let c = cancel_is b.build m.state w _ ends.gives in
+    let ran : c.x ≡ x = runs_inside (sym c.there ∙ runs) in
+    let reply : ends.reply ≡ Cancelled x.vertex x.done = ap (λ (t : Answer). t.1) c.gives ∙ (λ i. Cancelled (ran i).vertex (ran i).done) in
+    subst (λ e. SpaceBefore b.build ends.replies (Cancel w) space (space_back e v (n + 2) space))
+    (sym (last_is b.events _ (Cancel w) can.last.events))
+    (subst (λ m. SpaceBefore b.build ends.replies (Cancel w) space (space_back (Some (Cancel w)) m (n + 2) space)) same
+    (space_uncancelled b.build w x.vertex x.done y.0 ends.replies space y.1
+    (subst (λ r. space.cancels ≡ cancel_counts b.build (ends.replies ++ r ∷ [])) reply ends.counted)))
+
+-- and where none has
+pub space_unchanged : (b : Seen) (space : Space) (k : Back) (o : Option Before) (v n : ℕ) → (ends : EndsWith b space (record { back = k; caches = o }))
+    → CanUndo (record { back = k; caches = o }) b
+    → None ≡ change_in k
+    → SpaceBefore b.build ends.replies (event_before k) space (space_back (last_of b.events) v n space)
+space_unchanged b space (Unclaim w u) o v n ends can is = absurd cc
+space_unchanged b space (Unstep w mark) o v n ends can is =
+    subst (λ e. SpaceBefore b.build ends.replies (Step w) space (space_back e v n space)) (sym (last_is b.events _ (Step w) can.last.events))
+    (space_stayed b.build _ (Step w) _ ends.replies space (λ u e. cc) refl ends.gives ends.counted)
+space_unchanged b space (Resume e w left) o v n ends can is = absurd cc
+
+-- ---- the invariant
+
+-- what an undo leaves has the board's invariant, if the room and the counts are what they were
+pub undo_keeps : (vs : VerticesValue) (first : List Row) (ws us : WorkersValue) (es : List Event) (space more : Space) (old : List Status) (u : Displaced)
+    → IsBoard (seen vs first ws es) ws space
+    → (can : CanUndo u (seen vs first ws es)) → (ends : EndsWith (seen vs first ws es) space u)
+    → SpaceBefore vs.build ends.replies (event_before u.back) space more
+    → Leaves vs ws us old u → IsBoard (seen (record vs { statuses = old }) first us (front es)) us more
+undo_keeps vs first ws us es space more old u kept can ends before leaves =
+    let b = seen vs first ws es in
+    let n = undone u b in
+    let replays : Replays n = record { replies = ends.replies; leads = ends.leads; keeps = can.replays.keeps } in
+    let returned = event_returns vs.build n.state ends.replies space.room (event_before u.back) (b.state, ends.reply)
+    (consistent n replays) ends.gives ends.roomy in
+    let here : IsBoard n us more = record {
+      replays = replays;
+      room = subst (IsRoomy vs.build n.state ends.replies) (sym before.room) returned.1;
+      counted = before.counted;
+      fits = leaves.supplies ∙ fits_before b u.back u.caches ws.supplies can kept.fits ∙ ap (map (needed vs.build)) (sym leaves.workers);
+    } in
+    subst (λ (s : Seen). IsBoard s us more) (sym (undone_is vs first ws us es old u leaves)) here

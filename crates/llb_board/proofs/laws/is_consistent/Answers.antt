@@ -1,0 +1,6 @@
+use Rattle.llb_board.proofs.Sound.{consistent}
+use Rattle.llb_board.proofs.laws.is_consistent.Goals as goal
+
+pub returns : goal.returns
+returns c =
+    consistent c.args.board.now c.replays.ensures.run

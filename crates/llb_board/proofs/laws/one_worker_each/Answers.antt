@@ -1,0 +1,5 @@
+use Rattle.llb_board.proofs.Others.{one_each}
+use Rattle.llb_board.proofs.laws.one_worker_each.Goals as goal
+
+pub returns : goal.returns
+returns c = one_each c.args.board.now c.replays.ensures.run
