@@ -1,3 +1,4 @@
+pub mod Crossing
 pub mod Alike
 pub mod Choices
 pub mod Sound
@@ -7,6 +8,7 @@ pub mod Calls
 pub mod Kept
 pub mod Others
 pub mod Opened
+pub mod Claiming
 pub mod Leaving
 pub mod Walks
 pub mod Undone

@@ -15,6 +15,7 @@ use Rattle.llb_applet.specs.contracts.setting.Setting as setting
 use Rattle.llb_cache.proofs.caches.Lease.TheSendSync as lease_crosses
 use Rattle.llb_cache.proofs.need.Place.TheSendSync as place_crosses
 use Rattle.llb_cache.specs.contracts.need.Place as place
+use Rattle.llb_cache.specs.contracts.caches.Caches as caches
 use Rattle.llb_links.proofs.links.Links.TheSendSync as links_crosses
 use Rattle.llb_links.specs.contracts.links.Links as links
 use Rattle.llb_loader.proofs.graph.Graph.TheSendSync as graph_crosses
@@ -32,6 +33,8 @@ use Rattle.llb_state.specs.contracts.history.History.TheInside as history_inside
 use Rattle.llb_state.specs.contracts.vertices.stage.Stage as stage
 use Rattle.llb_state.specs.contracts.vertices.Vertices as vertices
 use Rattle.llb_state.specs.contracts.vertices.Vertices.TheInside as vertices_inside
+use Rattle.llb_state.specs.contracts.workers.Workers as workers
+use Rattle.llb_state.specs.contracts.workers.Workers.TheInside as workers_inside
 
 setting_send : IsSend setting.the_row
 setting_send = setting_crosses.the_send
@@ -128,3 +131,12 @@ vertices_inside_send = declared_send vertices_inside.the_type (
 
 pub vertices_send : IsSend vertices.the_row
 vertices_send = view_send vertices_inside.the_row _ _ _ _ vertices_inside_send
+
+pub caches_send : IsSend caches.the_row
+caches_send = search (tree_send, place_crosses.the_send, crosses, sendable) depth 60 fits 20000
+
+workers_inside_send : IsSend workers_inside.the_row
+workers_inside_send = declared_send workers_inside.the_type (desks_send, (as_row_send caches.the_field caches_send, tt))
+
+pub workers_send : IsSend workers.the_row
+workers_send = view_send workers_inside.the_row _ _ _ _ workers_inside_send

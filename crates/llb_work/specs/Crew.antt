@@ -4,7 +4,7 @@ use Rattle.llb_model.specs.Program.{Build}
 use Rattle.llb_model.specs.State.{State}
 use Rattle.llb_model.specs.Table.{Event, Reply}
 use Rattle.llb_model.specs.Run.{run}
-use Rattle.llb_state.specs.Board.{Seen, opened}
+use Rattle.llb_board.specs.Seen.{Seen, opened}
 
 -- events that are granted one after another are added at the end of the record
 pub record GoesOn (old new : Seen) : Type 0 where

@@ -1,0 +1,29 @@
+use Rattle.std.proofs.Common.{◌≡◌, ◌∙◌, false, sym, ap, subst}
+use Rattle.std.specs.Prelude.{Err}
+use Rattle.llb_events.specs.Views.{event_of}
+use Rattle.llb_state.specs.Undo.{walk_memory}
+use Rattle.llb_board.specs.Seen.{Seen}
+use Rattle.llb_board.specs.Undo.{walk_of, undone, CanUndo}
+use Rattle.llb_board.proofs.Walks.{walk_back, walk_can, walk_refused}
+use Rattle.llb_board.proofs.board.Board.walk.Goals as goal
+
+pub returns-in_err-undo-clause-gives : goal.returns-in_err-undo-clause-gives
+returns-in_err-undo-clause-gives c =
+    let b = c.self.inside in
+    λ known. ap (λ (m : Seen). walk_of m (event_of c.args.event)) (sym c.self.view_is)
+    ∙ walk_refused b.vertices b.start.rows b.workers b.history.list (event_of c.args.event) _ (c.in_err-undo.ensures.refused known)
+
+pub returns-clause-undo : goal.returns-clause-undo
+returns-clause-undo c =
+    let b = c.self.inside in
+    walk_back b.vertices b.start.rows b.workers b.history.list _ (event_of c.args.event) c.in_ok-reply.reply c.in_ok-undo.undo c.self.invariant.replays
+    (ap (λ (m : Seen). walk_of m (event_of c.args.event)) c.self.view_is ∙ c.in_ok-reply.ensures.gives)
+    c.in_ok-undo.ensures.marks
+    ∙ c.self.view_is
+
+pub returns-clause-can : goal.returns-clause-can
+returns-clause-can c =
+    let b = c.self.inside in
+    walk_can b.vertices b.start.rows b.workers b.history.list _ (event_of c.args.event) c.in_ok-reply.reply c.in_ok-undo.undo c.self.invariant.replays
+    (ap (λ (m : Seen). walk_of m (event_of c.args.event)) c.self.view_is ∙ c.in_ok-reply.ensures.gives)
+    c.in_ok-undo.ensures.marks
