@@ -96,6 +96,7 @@ impl Board {
         ensures { IsThrough self.old w outcome.count self.new }
     {
         outcome.is_whole();
+        let _ = self.vertices.graph().vertices();
         let count = outcome.count();
         self.workers.land(&self.vertices, w, outcome);
         self.history.record_steps(w, count);
