@@ -1,5 +1,5 @@
 -- What is kept of workers before an event.
-use Rattle.std.proofs.Common.{◌≡◌, ℕ, Bool, true, false, List, [], ◌∷◌, map, length, Option, Some, None, refl, sym, ap, subst, ◌∙◌, arith}
+use Rattle.std.proofs.Common.{◌≡◌, ℕ, Bool, true, false, List, [], ◌∷◌, length, Option, Some, None, refl, sym, ap, arith}
 use Rattle.std.specs.Prelude.{Err, slice_get, not, ◌==◌}
 use Rattle.std.proofs.lemmas.Bool.{eqb-true}
 use Rattle.llb_cache.specs.Caches.{Row}
@@ -8,7 +8,7 @@ use Rattle.llb_model.specs.State.{Idle}
 use Rattle.llb_model.specs.Table.{Step, stepped, settled, cancelled}
 use Rattle.llb_events.specs.declared.fault.StepFault.TheVariants as no_step
 use Rattle.llb_events.specs.declared.fault.WalkFault.TheVariants as walk
-use Rattle.llb_state.specs.Room.{Supplies, ready_made}
+use Rattle.llb_state.specs.Room.{Supplies}
 use Rattle.llb_events.specs.Causes.{faulted, step_fault, settle_fault, cancel_fault}
 use Rattle.llb_state.specs.Undo.{Unstep, Resume, KeepsIf, KeepsWhere, MarksStep, MarksEnd, walk_in, end_of, no_worker, not_running}
 use Rattle.llb_state.specs.Undoing.{Before, left_in}

@@ -1,17 +1,16 @@
 -- A claim in two halves: what it begins is the table's, and with a lease of it the table's claim is done.
 use Rattle.std.proofs.Common.{◌≡◌, ◌≢◌, ℕ, ◌<◌, List, [], map, length, Option, Some, None, refl, sym, ap, subst, ◌∙◌, arith}
-use Rattle.std.specs.Prelude.{Bool, true, false, Result, Ok, Err, AllPairs, IfOk, IfErr, is_ok, option_map, slice_get, slice_set}
+use Rattle.std.specs.Prelude.{true, Result, Ok, Err, AllPairs, IfOk, IfErr, option_map, slice_get, slice_set}
 use Rattle.std.proofs.lemmas.Option.{slice_get_within}
 use Rattle.llb_cache.specs.declared.key.Key.{Key}
 use Rattle.llb_cache.specs.declared.need.Need as cache_need
-use Rattle.llb_cache.specs.Caches.{CachesValue, Row, Leases, leases, AreApart, AreThere}
+use Rattle.llb_cache.specs.Caches.{CachesValue, Leases, leases, AreApart, AreThere}
 use Rattle.llb_loader.specs.declared.graph.Vertex.{Vertex}
 use Rattle.llb_loader.specs.Graph.{IsGraph}
-use Rattle.llb_tree.specs.Tree.{TreeMap}
-use Rattle.llb_model.specs.Caches.{Place, Distinct, put_all}
+use Rattle.llb_model.specs.Caches.{Distinct, put_all}
 use Rattle.llb_model.specs.ClaimCause.{ClaimCause}
 use Rattle.llb_model.specs.Kept.{store_of}
-use Rattle.llb_model.specs.Leases.{HoldsAs, AreLeased, asked}
+use Rattle.llb_model.specs.Leases.{HoldsAs}
 use Rattle.llb_model.specs.Outcome.{inputs_from}
 use Rattle.llb_model.specs.Program.{Build, Need, Start, key_of, needs_of, start_with}
 use Rattle.llb_model.specs.State.{Status, At, Idle, Runs, State, Running, Execution, ending_at, begin_at, start_from, held, held_key, places_for, first_trees}

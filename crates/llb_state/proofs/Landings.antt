@@ -3,7 +3,7 @@ use Rattle.std.proofs.Common.{◌≡◌, ℕ, ◌+◌, ◌<◌, ◌^◌, List, m
 use Rattle.std.specs.Prelude.{Bool, true, false, IsTrue, ◌↔◌, option_map, slice_get, slice_set}
 use Rattle.std.specs.Bool.{OnTrue, OnFalse}
 use Rattle.std.proofs.lemmas.Option.{slice_get-map, slice_get_within}
-use Rattle.llb_cache.specs.Caches.{Row, Leases, AreThere}
+use Rattle.llb_cache.specs.Caches.{Row, Leases}
 use Rattle.llb_loader.specs.Graph.{IsGraph}
 use Rattle.llb_model.specs.Caches.{Place, trees_at}
 use Rattle.llb_model.specs.Kept.{store_of}
@@ -16,7 +16,7 @@ use Rattle.llb_model.proofs.Lists.{inside}
 use Rattle.llb_state.specs.Caches.{leased_places, places_at}
 use Rattle.llb_execution.specs.Jobs.{OutcomeValue, IsOutcome, begun_on}
 use Rattle.llb_state.specs.Jobs.{IsRunOf, job_now, desk_left}
-use Rattle.llb_state.specs.Room.{Supplies, supplies_of, supplies_for, needs_at}
+use Rattle.llb_state.specs.Room.{Supplies, supplies_of, needs_at}
 use Rattle.llb_state.specs.Vertices.{VerticesValue}
 use Rattle.llb_state.specs.Views.{at_of, leased_by, execution_of}
 use Rattle.llb_state.specs.Workers.{WorkersValue, Fits, RunsJob, steps_left}

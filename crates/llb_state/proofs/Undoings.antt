@@ -10,10 +10,9 @@ use Rattle.llb_execution.proofs.Marks.{shown_back}
 use Rattle.llb_model.specs.Leases.{AreLeased}
 use Rattle.llb_model.specs.State.{At, Idle, Runs, Execution}
 use Rattle.llb_model.proofs.Lists.{get_within, length_set}
-use Rattle.llb_state.specs.Caches.{IsOutIf, given_back}
 use Rattle.llb_state.specs.Room.{ready_made, supplies_of}
-use Rattle.llb_state.specs.Undo.{Unclaim, Unstep, Resume, workers_before, supplies_before, step_before, IsStepped, HasNoPlaces, FitsLeases, Back, rows_before}
-use Rattle.llb_state.specs.Undoing.{Before, caches_in, desk_before, leases_before, caches_before, left_in, HasPlaceFor}
+use Rattle.llb_state.specs.Undo.{Unclaim, Unstep, Resume, workers_before, step_before, IsStepped, HasNoPlaces, FitsLeases, Back, rows_before}
+use Rattle.llb_state.specs.Undoing.{Before, caches_in, desk_before, leases_before, caches_before, HasPlaceFor}
 use Rattle.llb_state.specs.Views.{at_of, leased_by, execution_of}
 use Rattle.llb_state.specs.declared.stand.Desk.{Desk}
 use Rattle.llb_state.specs.declared.stand.Desk.TheVariants as desk
@@ -21,8 +20,7 @@ use Rattle.llb_state.specs.declared.stand.Execution as own
 use Rattle.llb_state.specs.declared.undoing.Before as before
 use Rattle.llb_state.proofs.Crews.{Crew}
 use Rattle.llb_state.proofs.Kept.{leased_claimed}
-use Rattle.llb_state.proofs.Lent.{leased_settled, lease_out}
-use Rattle.llb_state.proofs.Lists.{map_set, get_map, length_map, set_same}
+use Rattle.llb_state.proofs.Lists.{map_set, get_map, set_same}
 use Rattle.llb_state.proofs.Stepping.{leased_stepped}
 
 -- ---- a micro-step

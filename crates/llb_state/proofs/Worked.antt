@@ -5,7 +5,7 @@ use Rattle.llb_wire.specs.Answer.{MemoryLast}
 use Rattle.llb_cache.specs.Caches.{Row, Leases, trees_of, AreApart, AreThere}
 use Rattle.llb_model.specs.Caches.{Place, Has, trees_at}
 use Rattle.llb_model.specs.Kept.{store_of}
-use Rattle.llb_model.specs.Leases.{AreLeased, put_each}
+use Rattle.llb_model.specs.Leases.{put_each}
 use Rattle.llb_model.specs.Program.{Build, MicroStep, step_on}
 use Rattle.llb_model.specs.State.{Status, Execution, At, Runs, State, program_in, next_step}
 use Rattle.llb_model.specs.Table.{Reply, step_grant, stepped, step_with, with_step, step_reply}
@@ -14,19 +14,19 @@ use Rattle.llb_execution.specs.Parts.{work_with}
 use Rattle.llb_events.specs.declared.event.Stepped.{Stepped}
 use Rattle.llb_events.specs.declared.fault.StepFault.{StepFault}
 use Rattle.llb_state.specs.Caches.{written, rows_after}
-use Rattle.llb_state.specs.Room.{ready_made, needed, supplies_of, supplies_for}
+use Rattle.llb_state.specs.Room.{ready_made, supplies_of, supplies_for}
 use Rattle.llb_events.specs.Causes.{faulted, step_fault, step_memory, GivesStep}
 use Rattle.llb_state.specs.Rules.{Written, worked_by, written_by, worked_in}
 use Rattle.llb_state.specs.Vertices.{VerticesValue}
 use Rattle.llb_events.specs.Views as views
-use Rattle.llb_state.specs.Views.{at_of, leased_by, execution_of}
+use Rattle.llb_state.specs.Views.{at_of, execution_of}
 use Rattle.llb_state.specs.Workers.{WorkersValue, Fits, state_in, step_in}
 use Rattle.llb_state.specs.declared.stand.Desk.{Desk}
 use Rattle.llb_state.specs.declared.stand.Desk.TheVariants as desk
 use Rattle.llb_state.specs.declared.stand.Execution as own
 use Rattle.llb_state.proofs.Crews.{Crew, crew_set}
 use Rattle.llb_state.proofs.Kept.{made_enough, supplies_claimed}
-use Rattle.llb_state.proofs.Lists.{get_map, map_set, set_same}
+use Rattle.llb_state.proofs.Lists.{get_map, map_set}
 use Rattle.llb_state.proofs.Stepping.{holding, ok_through, rows_through, places_set, leased_stepped}
 
 inside_ok : {A E : Type 0} {x y : A} → ◌≡◌ {A = Result A E} (Ok x) (Ok y) → x ≡ y

@@ -1,5 +1,5 @@
 -- What an event displaces of the workers, and the workers after it is put back.
-use Rattle.std.specs.Prelude.{◌≡◌, ℕ, ◌-◌, ◌<◌, Bool, true, false, List, [], length, Option, Some, None, Result, Err, slice_get, slice_set}
+use Rattle.std.specs.Prelude.{◌≡◌, ℕ, ◌-◌, ◌<◌, Bool, true, false, List, [], length, Option, Some, None, Result, slice_get, slice_set}
 use Rattle.llb_cache.specs.Caches.{Row}
 use Rattle.llb_execution.specs.Marks.{Mark, mark_of, put_back}
 use Rattle.llb_execution.specs.Parts.{mounts_in}

@@ -8,7 +8,7 @@ use Rattle.llb_model.specs.Caches.{put_all}
 use Rattle.llb_model.specs.Kept.{store_of}
 use Rattle.llb_model.specs.Leases.{AreLeased, asked}
 use Rattle.llb_model.specs.Program.{Build, needs_of, start_with}
-use Rattle.llb_model.specs.State.{State, Status, Running, Execution, At, Idle, Runs, held, held_key, places_for}
+use Rattle.llb_model.specs.State.{State, Running, Execution, At, Idle, Runs, held, held_key, places_for}
 use Rattle.llb_model.specs.Table.{Job, Reply, Claimed, claim_start, claim_at, claim_grant, step_grant}
 use Rattle.llb_events.specs.declared.fault.ClaimFault.{ClaimFault}
 use Rattle.llb_events.specs.declared.fault.StepFault.{StepFault}
@@ -17,7 +17,7 @@ use Rattle.llb_execution.specs.Jobs.{OutcomeValue}
 use Rattle.llb_state.specs.Room.{Supplies, supplies_for, needed}
 use Rattle.llb_events.specs.Causes.{faulted, claim_fault, step_fault}
 use Rattle.llb_state.specs.Rules.{Begun}
-use Rattle.llb_state.specs.Vertices.{VerticesValue, with_status}
+use Rattle.llb_state.specs.Vertices.{VerticesValue}
 
 -- what contracts see of the workers: what each does, the lists of cache instances, and what each is supplied with
 pub record WorkersValue : Type 0 where

@@ -1,6 +1,6 @@
 //! A claim: all tests that can refuse it, and what the worker will run; then the lease, which memory alone can refuse.
 
-ghost use Rattle.std.specs.Prelude.{◌≡◌, ◌<◌, ◌^◌, length, map, slice_get, true, Ok, Some, OnErr, OnOk, IfErr, IfOk};
+ghost use Rattle.std.specs.Prelude.{◌≡◌, ◌<◌, ◌^◌, length, map, true, Ok, Some, OnErr, OnOk, IfErr, IfOk};
 ghost use Rattle.llb_events.specs.Faults.{GivesClaim, claim_memory, claim_may_want};
 ghost use Rattle.llb_events.specs.declared.fault.ClaimFault.TheVariants as claim;
 ghost use Rattle.llb_loader.specs.Graph.{IsVertexOf};
@@ -9,7 +9,6 @@ ghost use Rattle.llb_model.specs.Program.{needs_of, program_of};
 ghost use Rattle.llb_model.specs.State.{ending_at, Running};
 ghost use Rattle.llb_model.specs.Table.{claim_grant};
 ghost use Rattle.llb_needs.specs.Needs.{need_of};
-ghost use Rattle.llb_state.specs.Begun.{outfit_as, outfit_of};
 ghost use Rattle.llb_state.specs.Caches.{rows_after};
 ghost use Rattle.llb_state.specs.Room.{supplies_for, supplies_of};
 ghost use Rattle.llb_state.specs.Rules as rules;

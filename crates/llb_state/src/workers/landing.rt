@@ -1,6 +1,6 @@
 //! Compares a job with what a worker has left to do, by value, and puts what the job's micro-steps left in the place of what the worker had.
 
-ghost use Rattle.std.specs.Prelude.{◌≡◌, ◌↔◌, ◌<◌, ℕ, length, true, Some, slice_get, slice_set, is_some, IsTrue};
+ghost use Rattle.std.specs.Prelude.{◌≡◌, ◌↔◌, ◌<◌, length, true, Some, slice_get, slice_set, is_some, IsTrue};
 ghost use Rattle.std.specs.Bool.{OnTrue, OnFalse};
 ghost use Rattle.llb_cache.specs.Caches.{trees_of};
 ghost use Rattle.llb_model.specs.Caches as model;

@@ -1,6 +1,6 @@
 //! A worker leaves what it runs, or gives it up: its instances are free again.
 
-ghost use Rattle.std.specs.Prelude.{◌≡◌, OnErr, OnOk, IfOk, map, option_map, replicate, slice_get, slice_set};
+ghost use Rattle.std.specs.Prelude.{◌≡◌, OnErr, OnOk, IfOk, option_map, replicate, slice_get, slice_set};
 ghost use Rattle.llb_tree.specs.Tree.{empty_tree};
 ghost use Rattle.llb_model.specs.Outcome.{ended};
 ghost use Rattle.llb_model.specs.Program.{Build, program_at};

@@ -1,12 +1,9 @@
 use Rattle.std.proofs.Common.{◌≡◌, ◌∙◌, List, map, sym, ap, subst, rules}
 use Rattle.std.specs.Prelude.{Option, Some, Err, IfOk, IfErr, false, true, is_ok, slice_get}
-use Rattle.llb_loader.specs.declared.graph.Vertex.{Vertex}
-use Rattle.llb_model.specs.Program.{needs_of}
 use Rattle.llb_model.specs.State.{At, Idle}
 use Rattle.llb_model.specs.Table.{claim_start, claimed}
 use Rattle.llb_model.proofs.Leasing.{leased_holds_as}
 use Rattle.llb_events.specs.Faults.{GivesClaim, claim_memory, claim_may_want}
-use Rattle.llb_needs.specs.Needs.{shut_key, unless_shut}
 use Rattle.llb_events.specs.Causes.{faulted, claim_fault}
 use Rattle.llb_state.specs.Views.{at_of, leased_by}
 use Rattle.llb_events.specs.Views.{claim_reply}

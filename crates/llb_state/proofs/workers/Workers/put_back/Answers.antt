@@ -1,8 +1,7 @@
 use Rattle.std.proofs.Common.{◌≡◌, ◌∙◌, Option, List, map, sym, ap, subst}
-use Rattle.llb_cache.specs.Caches.{Row}
 use Rattle.llb_state.specs.Room.{Supplies, ready_made}
 use Rattle.llb_state.specs.Undo.{Back, IsBehind, HasNoPlaces, FitsLeases, workers_before, supplies_before, rows_before, change_in}
-use Rattle.llb_state.specs.Undoing.{Before, caches_in, leases_before, caches_before}
+use Rattle.llb_state.specs.Undoing.{Before, leases_before, caches_before}
 use Rattle.llb_state.specs.Views.{at_of, leased_by}
 use Rattle.llb_state.specs.Workers.{WorkersValue}
 use Rattle.llb_state.proofs.Undoings.{places_put, crew_put, rows_put}

@@ -1,4 +1,4 @@
-use Rattle.std.proofs.Common.{◌≡◌, ◌∙◌, ◌<◌, Option, length, map, ap, sym, subst, rules}
+use Rattle.std.proofs.Common.{◌≡◌, ◌∙◌, ◌<◌, Option, length, ap, sym, subst, rules}
 use Rattle.std.specs.Prelude.{Some, OnOk, slice_get, slice_set}
 use Rattle.std.proofs.lemmas.Option.{slice_get-get_or}
 use Rattle.llb_wire.specs.Answer.{MemoryLast}
@@ -9,7 +9,6 @@ use Rattle.llb_events.specs.Causes.{faulted, step_fault, step_memory, GivesStep}
 use Rattle.llb_state.specs.Views.{at_of}
 use Rattle.llb_events.specs.Views.{step_reply}
 use Rattle.llb_state.specs.Workers.{WorkersValue, Fits, state_in, step_in}
-use Rattle.llb_state.specs.declared.stand.Desk.{Desk}
 use Rattle.llb_state.specs.declared.stand.Desk.TheVariants as desk
 use Rattle.llb_state.proofs.Kept.{made_enough}
 use Rattle.llb_state.proofs.Lists.{get_map}
@@ -97,8 +96,8 @@ returns-in-Runs-clause-rows c =
     let low : c.args.w < length ds = search rules in
     let at : slice_get ds c.args.w ≡ Some (desk.Runs l c.in-Runs.execution)
     = slice_get-get_or ds c.args.w c.index_mut.result.now low ∙ ap (λ d. Some d) (sym c.index_mut.ensures.value ∙ c.in-Runs.is) in
-    subst (λ (v : WorkersValue). OnOk c.step_of.result (after ≡ rows_after v.rows (state_in vs (seen_of (slice_set ds c.args.w (desk.Runs l y)) after)) c.args.w))
-    c.self.view_is
+    let seen = seen_of (slice_set ds c.args.w (desk.Runs l y)) after in
+    subst (λ (v : WorkersValue). OnOk c.step_of.result (after ≡ rows_after v.rows (state_in vs seen) c.args.w)) c.self.view_is
     (step_rows vs ds s.caches.rows s.caches.out c.args.w l c.in-Runs.execution c.self.invariant c.is_exclusive.ensures.apart
     c.is_exclusive.ensures.there at c.step_of.result y after c.step_of.ensures.gives)
 
