@@ -1,6 +1,6 @@
 use Rattle.std.proofs.Common.{true≢false, sym, ◌∙◌}
 use Rattle.llb_events.specs.Views.{event_of}
-use Rattle.llb_board.proofs.Alike.{alike_read, differ}
+use Rattle.llb_state.proofs.Alike.{alike_read, differ}
 use Rattle.llb_board.proofs.same.same_events.Goals as goal
 
 pub returns-then-not-same_event : goal.returns-then-not-same_event
