@@ -1,6 +1,8 @@
 pub mod Crossing
+pub mod Alike
 pub mod Choices
 pub mod Sound
+pub mod Recorded
 pub mod Spaces
 pub mod Counted
 pub mod Calls

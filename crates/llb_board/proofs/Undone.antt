@@ -34,6 +34,7 @@ use Rattle.llb_board.specs.Kept.{IsBoard}
 use Rattle.llb_board.specs.History.{Space, front, last_of, space_back}
 use Rattle.llb_board.specs.Undo.{statuses_before, store_before, undone, event_before, CanUndo}
 use Rattle.llb_board.proofs.Kept.{waits_whole, runs_whole, has_vertex}
+use Rattle.llb_board.proofs.Recorded.{last_is}
 use Rattle.llb_board.proofs.Sound.{consistent}
 use Rattle.llb_board.proofs.Spaces.{SpaceBefore, space_stayed, space_unclaimed, space_uncancelled}
 
@@ -190,19 +191,6 @@ ends_with b ws space u kept can =
       counted = kept.counted ∙ ap (cancel_counts b.build) same;
       roomy = subst (λ qs. IsRoomy b.build b.state qs space.room) same kept.room;
     }
-
--- the last event is the one that is taken back
-pub last_is : (xs : List Event) (ys : List Event) (e : Event) → xs ≡ ys ++ e ∷ [] → last_of xs ≡ Some e
-last_is xs ys e is = ap last_of is ∙ go ys
-  where
-    at : (zs : List Event) → slice_get (zs ++ e ∷ []) (length zs) ≡ Some e
-    at [] = refl
-    at (z ∷ zs) = at zs
-
-    go : (zs : List Event) → last_of (zs ++ e ∷ []) ≡ Some e
-    go zs =
-        let n : length (zs ++ e ∷ []) - 1 ≡ length zs = omega (arith, length-append zs (e ∷ [])) in
-        ap (slice_get (zs ++ e ∷ [])) n ∙ at zs
 
 -- the room and the counts before the event, where a vertex has another status than before
 pub space_changed : (b : Seen) (space : Space) (k : Back) (o : Option Before) (v n : ℕ) (s : Status) → Replays b

@@ -139,7 +139,7 @@ impl History {
     fn claim_takes(&self, v: u32, events: usize) -> usize
         ensures { result ≡ taken_by v events self.now.space }
     {
-        match self.cancels.get(v as usize) {
+        match self.cancels.get(v as usize).copied() {
             None | Some(0) => 0,
             Some(_) => events,
         }
