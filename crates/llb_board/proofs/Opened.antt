@@ -1,9 +1,10 @@
 -- A board on which nothing has happened.
-use Rattle.std.proofs.Common.{◌≡◌, ℕ, zero, suc, ◌<◌, ◌≤◌, List, [], ◌∷◌, map, length, refl, sym, ap, ◌∙◌, subst, arith}
-use Rattle.std.specs.Prelude.{Some, None, Bool, true, false, ◌&&◌, nat_le, replicate}
+use Rattle.std.proofs.Common.{◌≡◌, true≢false, ℕ, zero, suc, ◌<◌, ◌≤◌, List, [], ◌∷◌, map, length, refl, sym, ap, ◌∙◌, subst, arith}
+use Rattle.std.specs.Prelude.{Some, None, Bool, true, false, ◌&&◌, nat_le, replicate, Result, Ok, Err, IfOk, IfErr, is_ok, if◌then◌else◌}
 use Rattle.std.proofs.lemmas.Bool.{leb-true}
 use Rattle.std.proofs.lemmas.List.{length-replicate}
-use Rattle.llb_cache.specs.Caches.{Row}
+use Rattle.llb_cache.specs.Caches.{CachesValue, Row}
+use Rattle.llb_wire.specs.Answer.{MemoryLast}
 use Rattle.llb_model.specs.Program.{Build}
 use Rattle.llb_model.specs.State as model
 use Rattle.llb_model.specs.Table.{Event}
@@ -17,7 +18,9 @@ use Rattle.llb_state.specs.Workers.{WorkersValue}
 use Rattle.llb_board.specs.Seen.{Seen, opening_with, opened, seen}
 use Rattle.llb_board.specs.Kept.{IsBoard}
 use Rattle.llb_board.specs.History.{Space}
-use Rattle.llb_board.specs.Opening.{may_work}
+use Rattle.llb_board.specs.Opening.{may_work, open_with, open_memory, GivesOpen, returned}
+use Rattle.llb_board.specs.declared.fault.OpenFault.{OpenFault}
+use Rattle.llb_board.specs.declared.fault.OpenFault.TheVariants as opening
 
 -- a function maps n equal items to n equal results
 map_replicate : {A B : Type 0} (f : A → B) (n : ℕ) (x : A) → map f (replicate n x) ≡ replicate n (f x)
@@ -70,3 +73,26 @@ pub kept_open : (vs : VerticesValue) (first : List Row) (ws : WorkersValue) (es 
 kept_open vs first ws es n rows space v w e f room cancels =
     subst (λ (us : WorkersValue). IsBoard (seen vs first ws es) us space) (sym w)
     (subst (λ (s : Seen). IsBoard s (idle_on n rows) space) (sym (seen_open vs first ws es n rows v w e f)) (kept_fresh vs.build n rows space room cancels))
+
+-- ---- what an opening returns
+
+if_open : Build → CachesValue → ℕ → Bool → Result Seen OpenFault
+if_open b c n may = if may then Ok (opened b n c.rows) else Err (opening.Workers b.graph b.locals c)
+
+-- with an allowed number of workers, an opening returns the board, or memory was refused
+pub opens : (b : Build) (c : CachesValue) (n : ℕ) (vs : VerticesValue) (r : Result Seen OpenFault) → may_work n ≡ true → vs.build ≡ b
+    → IfOk r (λ s. s ≡ opened vs.build n c.rows) → IfErr r (λ e. e ≡ opening.Memory vs.build.graph vs.build.locals c)
+    → GivesOpen (λ s. s) r (open_with b c n)
+unfolding if_open
+opens b c n vs (Ok s) may same ok err = ap (if_open b c n) may ∙ ap (λ (x : Seen). Ok x) (ap (λ (d : Build). opened d n c.rows) (sym same) ∙ sym ok)
+opens b c n vs (Err e) may same ok err = λ known. absurd (true≢false (sym (ap open_memory err) ∙ known))
+
+pub open_last : (b : Build) (c : CachesValue) (n : ℕ) (r : Result Seen OpenFault) → may_work n ≡ true → MemoryLast open_memory r (open_with b c n)
+unfolding if_open
+open_last b c n (Ok s) may = tt
+open_last b c n (Err e) may = λ memory. ap (λ f. is_ok (if_open b c n f)) may
+
+pub open_back : (b : Build) (c : CachesValue) (vs : VerticesValue) (r : Result Seen OpenFault) → vs.build ≡ b
+    → IfErr r (λ e. e ≡ opening.Memory vs.build.graph vs.build.locals c) → IfErr r (λ e. returned e ≡ (b, c))
+open_back b c vs (Ok s) same err = tt
+open_back b c vs (Err e) same err = ap returned err ∙ (λ i. (same i, c))
