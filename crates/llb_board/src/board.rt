@@ -30,13 +30,14 @@ use crate::fault::OpenFault;
 use crate::history::History;
 use llb_cache::Caches;
 use llb_events::{
-    At, CancelFault, Cancelled, ClaimFault, Event, SettleFault, Settled, Status, StepFault, Stepped,
+    At, CancelFault, Cancelled, ClaimFault, Event, Memory, SettleFault, Settled, Status, StepFault,
+    Stepped,
 };
 use llb_execution::{Job, missing_local};
 use llb_loader::{Graph, Locals};
 use llb_state::{Stage, Vertices, Workers};
 use llb_tree::Tree;
-use llb_wire::{Memory, Text};
+use llb_wire::Text;
 use std::alloc::Global;
 use std::marker::Model;
 
