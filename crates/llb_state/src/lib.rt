@@ -35,4 +35,4 @@ pub use stand::{Desk, Execution, Stand};
 pub use step::{Begun, Claim, begin, claimable, desk_at, give_up, is_finished, leave, step_at};
 pub use undoing::{Before, make_idle, mark_anew, open_anew, put_caches, step_back};
 pub use vertices::{Stage, Vertices};
-pub use workers::{Begun, Change, Undo, Workers};
+pub use workers::{Change, Undo, Workers};
