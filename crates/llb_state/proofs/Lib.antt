@@ -29,4 +29,3 @@ pub mod Claims
 pub mod Landings
 pub mod Undoings
 pub mod Befores
-pub mod MicroSteps
