@@ -1,5 +1,5 @@
 -- A claim in two halves: what it begins is the table's, and with a lease of it the table's claim is done.
-use Rattle.std.proofs.Common.{◌≡◌, ◌≢◌, ℕ, ◌<◌, List, [], map, length, Option, Some, None, refl, sym, ap, subst, ◌∙◌, arith}
+use Rattle.std.proofs.Common.{◌≡◌, ◌≢◌, ℕ, ◌<◌, List, map, length, Option, Some, None, refl, sym, ap, subst, ◌∙◌, arith}
 use Rattle.std.specs.Prelude.{true, Result, Ok, Err, AllPairs, IfOk, IfErr, option_map, slice_get, slice_set}
 use Rattle.std.proofs.lemmas.Option.{slice_get_within}
 use Rattle.llb_cache.specs.declared.key.Key.{Key}
@@ -21,7 +21,7 @@ use Rattle.llb_model.proofs.Lists.{get_set_same}
 use Rattle.llb_model.proofs.Needs.{graph_distinct}
 use Rattle.llb_events.specs.Faults.{GivesClaim, claim_memory, claim_may_want}
 use Rattle.llb_events.specs.declared.fault.ClaimFault.{ClaimFault}
-use Rattle.llb_needs.specs.Needs.{shut_key, unless_shut, places_taken}
+use Rattle.llb_state.specs.Needs.{shut_key, unless_shut, places_taken}
 use Rattle.llb_state.specs.Caches.{lease_if, written, places_at, rows_after}
 use Rattle.llb_state.specs.Room.{supplies_of, supplies_for}
 use Rattle.llb_events.specs.Causes.{faulted, claim_fault}
@@ -277,7 +277,7 @@ module _ (vs : VerticesValue) (ds : List Desk) (c : CachesValue) (w v : ℕ) (g 
     start_crew =
         let taken = places_alike c (map at_of ds) on.inputs (needs_of on.vertex) (record { same = holds; apart = apart; there = there }) in
         crew_set ds w (desk.Runs l own) c.out new.out crew
-        (leased_claimed (record { stands = []; desks = ds; rows = c.rows; out = c.out; stop_marks = [] }) w l own
+        (leased_claimed c.out ds w l own
         (places_taken c.out (needs_of on.vertex)) new.out crew.leased idle
         (ap (λ (e : Execution). e.places) same ∙ sym places ∙ sym taken) lease.leased)
 

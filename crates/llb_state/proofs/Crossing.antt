@@ -26,10 +26,6 @@ use Rattle.llb_state.specs.contracts.build.Build as build
 use Rattle.llb_state.specs.contracts.build.Build.TheInside as build_inside
 use Rattle.llb_state.specs.contracts.stand.Desk as desk
 use Rattle.llb_state.specs.contracts.stand.Execution as execution
-use Rattle.llb_state.specs.contracts.stand.Stand as stand
-use Rattle.llb_state.specs.contracts.events.Events as events
-use Rattle.llb_state.specs.contracts.history.History as history
-use Rattle.llb_state.specs.contracts.history.History.TheInside as history_inside
 use Rattle.llb_state.specs.contracts.vertices.stage.Stage as stage
 use Rattle.llb_state.specs.contracts.vertices.Vertices as vertices
 use Rattle.llb_state.specs.contracts.vertices.Vertices.TheInside as vertices_inside
@@ -75,35 +71,11 @@ locals_send = search (tree_send, crosses, sendable) depth 60 fits 20000
 build_inside_send : IsSend build_inside.the_row
 build_inside_send = declared_send build_inside.the_type (as_row_send graph.the_field graph_send, (as_row_send locals.the_field locals_send, tt))
 
-pub build_send : IsSend build.the_row
+build_send : IsSend build.the_row
 build_send = view_send build_inside.the_row _ _ _ _ build_inside_send
 
-stand_send : IsSend stand.the_row
-stand_send = variants_send stand.enum (
-  tt,
-  (
-    (search sendable, tt),
-    (
-      (search (many_crosses.the_send, tree_send, crosses, sendable) depth 20, tt),
-      ((search (fault_crosses.the_send, crosses, sendable) depth 20, tt), tt),
-    ),
-  ),
-)
-
-pub stands_send : IsSend (as_row (vec.the_field stand.the_row heap.the_row ghosts))
-stands_send = as_row_send (vec.the_field stand.the_row heap.the_row ghosts) (Vec-send stand.the_row stand_send)
-
-pub desks_send : IsSend (as_row (vec.the_field desk.the_row heap.the_row ghosts))
+desks_send : IsSend (as_row (vec.the_field desk.the_row heap.the_row ghosts))
 desks_send = as_row_send (vec.the_field desk.the_row heap.the_row ghosts) (Vec-send desk.the_row desk_send)
-
-events_send : IsSend events.the_row
-events_send = search (crosses, sendable) depth 60 fits 20000
-
-history_inside_send : IsSend history_inside.the_row
-history_inside_send = declared_send history_inside.the_type (as_row_send events.the_field events_send, (search (crosses, sendable) depth 20, tt))
-
-pub history_send : IsSend history.the_row
-history_send = view_send history_inside.the_row _ _ _ _ history_inside_send
 
 stage_send : IsSend stage.the_row
 stage_send = variants_send stage.enum (

@@ -1,9 +1,9 @@
+pub mod Wanted
 pub mod Crossing
 pub mod Lists
 pub mod Needed
 pub mod Inputs
 pub mod Marked
-pub mod Counted
 pub mod Steps
 pub mod Behind
 pub mod Choices
@@ -14,8 +14,6 @@ pub mod Returned
 pub mod Lent
 pub mod Begins
 pub mod Calls
-pub mod Sound
-pub mod Spaces
 pub mod Kept
 pub mod Skipping
 pub mod Stepping

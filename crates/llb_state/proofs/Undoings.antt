@@ -76,7 +76,7 @@ pub resumed : (ds : List Desk) (out : Leases) (w : ℕ) (x : own.Execution) → 
     → slice_get (map at_of ds) w ≡ Some Idle → x.places.items ≡ []
     → AreLeased out (map at_of (slice_set ds w (desk.Runs None x))) (map leased_by (slice_set ds w (desk.Runs None x)))
 resumed ds out w x leased idle none =
-    leased_claimed (record { stands = []; desks = ds; rows = []; out = out; stop_marks = [] }) w None x [] out leased idle none (inr (refl, refl, refl))
+    leased_claimed out ds w None x [] out leased idle none (inr (refl, refl, refl))
 
 -- ---- caches that are put back
 

@@ -1,6 +1,6 @@
 //! One micro-step of an execution, on its own view and its cache instances.
 
-ghost use Rattle.std.specs.Prelude.{◌≡◌, ◌<◌, ◌^◌, List, map, option_map, length, Some, None, Ok, OnErr, IfNone, IfSome};
+ghost use Rattle.std.specs.Prelude.{◌≡◌, ◌<◌, ◌^◌, List, option_map, length, Some, None, Ok, OnErr, IfNone, IfSome};
 ghost use Rattle.llb_wire.specs.Answer.{MemoryLast};
 ghost use Rattle.llb_execution.specs.Parts.{step_in, is_skipped};
 ghost use Rattle.llb_model.specs.Program as model;

@@ -21,7 +21,7 @@ use crate::workers::Workers;
 use llb_cache::Caches;
 use llb_events::{CancelFault, Event, Memory, SettleFault, StepFault, WalkFault};
 use llb_execution::Mark;
-use llb_needs::shows_cache;
+use crate::needs::shows_cache;
 use std::alloc::Global;
 use std::marker::Model;
 

@@ -4,7 +4,7 @@ use Rattle.llb_model.specs.Outcome.{inputs_from}
 use Rattle.llb_model.specs.Program.{view_on}
 use Rattle.llb_model.specs.State.{ending_at}
 use Rattle.llb_model.specs.Table.{Job, Claimed}
-use Rattle.llb_needs.specs.Needs.{taken_with}
+use Rattle.llb_state.specs.Needs.{taken_with}
 use Rattle.llb_state.specs.Begun.{outfit_as}
 use Rattle.llb_events.specs.declared.fault.ClaimFault.{ClaimFault}
 use Rattle.llb_state.proofs.Begins.{Parts, AreParts, put_together, begun_of, supplied, workable}
