@@ -1,7 +1,12 @@
-use Rattle.std.proofs.Common.{rules}
+use Rattle.std.proofs.Common.{rules, subst, sym}
 use Rattle.std.proofs.lemmas.Result.{err_from_is_err_and}
+use Rattle.llb_commands.specs.Running.{Finishes}
 use Rattle.llb_commands.proofs.Ending.{finishes_by}
 use Rattle.llb_commands.proofs.run.finished_by.Goals as goal
+
+pub returns-then-workers-eq1 : goal.returns-then-workers-eq1
+returns-then-workers-eq1 g c =
+    subst (λ n. Finishes n c.args.locals (g.R.Read.remaining c.args.input.now) c.finished.result) (sym c.if-workers-eq1.true) c.finished.ensures
 
 pub returns-in-None : goal.returns-in-None
 returns-in-None g c =
