@@ -8,7 +8,6 @@ mod ending;
 mod fresh;
 mod instances;
 mod landing;
-mod micro_step;
 mod needs;
 mod same;
 mod stand;

@@ -12,12 +12,11 @@ ghost use Rattle.llb_state.specs.Room.{supplies_of, supplies_for};
 ghost use Rattle.llb_events.specs.Causes.{step_memory, GivesStep};
 ghost use Rattle.llb_state.specs.Rules.{worked_in};
 ghost use Rattle.llb_state.specs.Views.{execution_of};
-ghost use Rattle.llb_events.specs.Views.{step_reply};
+ghost use Rattle.llb_events.specs.Views.{fault_or, step_reply};
 ghost use Rattle.llb_state.specs.Workers.{Fits, state_in, step_in};
 ghost use Rattle.llb_wire.specs.Answer.{MemoryLast};
 
 use crate::instances::{contents, write_back};
-use crate::micro_step::unless_faulted;
 use crate::stand::{Desk, Execution};
 use crate::vertices::Vertices;
 use crate::workers::Workers;
@@ -108,5 +107,15 @@ fn told(step: MicroStep<'_>, done: u32, last: u32, fault: Option<VertexFault>) -
         MicroStep::Act(_) => unless_faulted(fault, Stepped::Acted(done)),
         MicroStep::LayInput(_) => unless_faulted(fault, Stepped::Merged(done)),
         MicroStep::Run(_, _, _) => Stepped::Ran(done, last),
+    }
+}
+
+// Returns the fault as a reply, or `done` if there is no fault.
+fn unless_faulted(fault: Option<VertexFault>, done: Stepped) -> Stepped
+    ensures { result ≡ fault_or fault done }
+{
+    match fault {
+        Some(fault) => Stepped::Fault(fault),
+        None => done,
     }
 }
