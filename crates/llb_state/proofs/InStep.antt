@@ -275,7 +275,9 @@ module _ (b : Build) (ss : List Stage) (v : ℕ) (s : Stage) (marks : List Bool)
       ∙ set_back (map status_of ss) v (status_of s) (status_of had) (get_map status_of ss v had at)
 
   pub whole_after : AreWhole b.graph.vertices after
-  whole_after = subst (AreWhole b.graph.vertices) (sym (map_set status_of ss v s)) (whole_set b.graph.vertices (map status_of ss) v (status_of s) kept.whole whole)
+  whole_after =
+      subst (AreWhole b.graph.vertices) (sym (map_set status_of ss v s))
+      (whole_set b.graph.vertices (map status_of ss) v (status_of s) kept.whole whole)
 
   pub over_after : (r : ℕ) → r ≤ n → r ≤ v → AreOver b after r
   over_after r fits under =

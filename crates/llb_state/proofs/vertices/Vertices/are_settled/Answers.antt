@@ -44,4 +44,5 @@ returns-then-not-is_ended c =
     ap (λ t. t && each (λ v. is_settled (slice_get S v) || is_blocked b.build S v) (c.loop-v.v + 1) (n - (c.loop-v.v + 1)))
     (sym (sym (ended_is (goal.at.returns-then-not-is_ended c).After-is_ended) ∙ c.if-not-is_ended.true))
     ∙ sym (each_next (λ v. is_settled (slice_get S v) || is_blocked b.build S v) n c.loop-v.v low) ∙ c.loop-v.invariant
-    ∙ ap (λ (m : VerticesValue). each (λ v. is_settled (slice_get m.statuses v) || is_blocked m.build m.statuses v) 0 (length m.build.graph.vertices)) c.self.view_is
+    ∙ ap (λ (m : VerticesValue). each (λ v. is_settled (slice_get m.statuses v) || is_blocked m.build m.statuses v) 0 (length m.build.graph.vertices))
+    c.self.view_is

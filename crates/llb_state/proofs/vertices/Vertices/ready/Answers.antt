@@ -24,8 +24,8 @@ is_there (Some start) is = refl
 
 -- what the vertex begins with is there where it is Ready
 starts : (c : After-is_ready)
-    → is_some (start_from (map status_of c.self.inside.stages.items) (slice_get (map status_of c.self.inside.stages.items) c.args.v) (Some c.in-Some.vertex.now))
-    ≡ c.is_ready.result
+    → is_some (start_from (map status_of c.self.inside.stages.items) (slice_get (map status_of c.self.inside.stages.items) c.args.v)
+      (Some c.in-Some.vertex.now)) ≡ c.is_ready.result
 starts c =
     let b = c.self.inside in
     let S = map status_of b.stages.items in
@@ -36,7 +36,8 @@ starts c =
 pub returns-then-not-is_ready-clause-first : goal.returns-then-not-is_ready-clause-first
 returns-then-not-is_ready-clause-first c =
     let b = c.self.inside in
-    ap (λ (n : VerticesValue). faulted claim_fault (claim_start n.statuses c.args.v (Some Idle) (slice_get n.build.graph.vertices c.args.v))) (sym c.self.view_is)
+    ap (λ (n : VerticesValue). faulted claim_fault (claim_start n.statuses c.args.v (Some Idle) (slice_get n.build.graph.vertices c.args.v)))
+    (sym c.self.view_is)
     ∙ ap (λ o. faulted claim_fault (claim_start (map status_of b.stages.items) c.args.v (Some Idle) o)) (sym c.in-Some.ensures.there)
     ∙ not_ready _ (starts (goal.at.returns-then-not-is_ready-clause-first c).After-is_ready ∙ c.if-not-is_ready.true)
 

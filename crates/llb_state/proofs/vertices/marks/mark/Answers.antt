@@ -38,7 +38,8 @@ pub spread-requires-clause-below : goal.spread-requires-clause-below
 spread-requires-clause-below c =
     let b = c.args.build.now in
     subst (λ n. All (λ us. All (λ x. x < n) us) c.args.links.now.users) (sym (count (goal.at.spread-requires-clause-below c).After-has_failed))
-    (all_counted b.graph.vertices (done_in (slice_set (map status_of c.args.stages.now) c.args.v (status_of c.args.had.now))) c.args.links.now c.requires.linked)
+    (all_counted b.graph.vertices (done_in (slice_set (map status_of c.args.stages.now) c.args.v (status_of c.args.had.now))) c.args.links.now
+    c.requires.linked)
 
 pub returns-then-has_failed-2-clause-marks : goal.returns-then-has_failed-2-clause-marks
 returns-then-has_failed-2-clause-marks c =
