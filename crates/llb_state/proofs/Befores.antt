@@ -1,20 +1,17 @@
 -- What is kept of workers before an event.
 use Rattle.std.proofs.Common.{◌≡◌, ℕ, Bool, true, false, List, [], ◌∷◌, length, Option, Some, None, refl, sym, ap, arith}
-use Rattle.std.specs.Prelude.{Err, slice_get, not, ◌==◌}
+use Rattle.std.specs.Prelude.{slice_get, not, ◌==◌}
 use Rattle.std.proofs.lemmas.Bool.{eqb-true}
 use Rattle.llb_cache.specs.Caches.{Row}
 use Rattle.llb_execution.specs.Marks.{Mark, mark_of}
-use Rattle.llb_model.specs.State.{Idle}
-use Rattle.llb_model.specs.Table.{Step, stepped, settled, cancelled}
 use Rattle.llb_events.specs.declared.fault.StepFault.TheVariants as no_step
 use Rattle.llb_events.specs.declared.fault.WalkFault.TheVariants as walk
 use Rattle.llb_state.specs.Room.{Supplies}
-use Rattle.llb_events.specs.Causes.{faulted, step_fault, settle_fault, cancel_fault}
-use Rattle.llb_state.specs.Undo.{Unstep, Resume, KeepsIf, KeepsWhere, MarksStep, MarksEnd, walk_in, end_of, no_worker, not_running}
+use Rattle.llb_state.specs.Undo.{Unstep, Resume, KeepsIf, KeepsWhere, MarksStep, MarksEnd}
 use Rattle.llb_state.specs.Undoing.{Before, left_in}
 use Rattle.llb_state.specs.Vertices.{VerticesValue}
 use Rattle.llb_state.specs.Views.{at_of, execution_of}
-use Rattle.llb_state.specs.Workers.{WorkersValue, Fits, state_in}
+use Rattle.llb_state.specs.Workers.{WorkersValue, Fits}
 use Rattle.llb_state.specs.declared.stand.Desk.{Desk}
 use Rattle.llb_state.specs.declared.stand.Desk.TheVariants as desk
 use Rattle.llb_state.specs.declared.stand.Execution as own
@@ -56,23 +53,6 @@ module _ (vs : VerticesValue) (ds : List Desk) (rows : List Row) (w : ℕ) (l : 
   }
 
 -- ---- a worker that runs nothing
-
-pub step_none : (vs : VerticesValue) (ws : WorkersValue) (w : ℕ) → slice_get ws.workers w ≡ None → walk_in vs ws (Step w) ≡ Err (walk.Step no_step.NoWorker)
-step_none vs ws w at = ap (λ o. faulted walk.Step (faulted step_fault (stepped vs.build (state_in vs ws) w o))) at
-
-pub step_idle : (vs : VerticesValue) (ws : WorkersValue) (w : ℕ) → slice_get ws.workers w ≡ Some Idle
-    → walk_in vs ws (Step w) ≡ Err (walk.Step no_step.NotRunning)
-step_idle vs ws w at = ap (λ o. faulted walk.Step (faulted step_fault (stepped vs.build (state_in vs ws) w o))) at
-
-pub end_none : (vs : VerticesValue) (ws : WorkersValue) (e : End) (w : ℕ) → slice_get ws.workers w ≡ None
-    → walk_in vs ws (end_of e w) ≡ Err (no_worker e)
-end_none vs ws end.Settle w at = ap (λ o. faulted walk.Settle (faulted settle_fault (settled vs.build (state_in vs ws) w o))) at
-end_none vs ws end.Cancel w at = ap (λ o. faulted walk.Cancel (faulted cancel_fault (cancelled (state_in vs ws) w o))) at
-
-pub end_idle : (vs : VerticesValue) (ws : WorkersValue) (e : End) (w : ℕ) → slice_get ws.workers w ≡ Some Idle
-    → walk_in vs ws (end_of e w) ≡ Err (not_running e)
-end_idle vs ws end.Settle w at = ap (λ o. faulted walk.Settle (faulted settle_fault (settled vs.build (state_in vs ws) w o))) at
-end_idle vs ws end.Cancel w at = ap (λ o. faulted walk.Cancel (faulted cancel_fault (cancelled (state_in vs ws) w o))) at
 
 none_of : {A : Type 0} (xs : List A) → length xs ≡ 0 → xs ≡ []
 none_of [] len = refl

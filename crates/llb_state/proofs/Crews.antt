@@ -18,7 +18,7 @@ use Rattle.llb_state.specs.Workers.{IsCrew}
 use Rattle.llb_state.specs.declared.stand.Desk.{Desk}
 use Rattle.llb_state.specs.declared.stand.Desk.TheVariants as desk
 use Rattle.llb_state.specs.declared.stand.Execution as own
-use Rattle.llb_state.proofs.Lists.{length_map, get_map, set_same}
+use Rattle.llb_state.proofs.Lists.{length_map, get_map}
 use Rattle.llb_state.proofs.Lent.{leased_settled, lease_out}
 use Rattle.llb_state.proofs.Returned.{none_leased}
 
@@ -46,10 +46,6 @@ crew_idle ds w l x c crew at =
 pub crew_out : (ds : List Desk) (w : ℕ) (l : Option ℕ) (x : own.Execution) (out : Leases) → Crew ds out → slice_get ds w ≡ Some (desk.Runs l x)
     → IsOutIf out l
 crew_out ds w l x out crew at = lease_out out (map at_of ds) (map leased_by ds) w l crew.leased (get_map leased_by ds w (desk.Runs l x) at)
-
--- a seat that is set to what it is
-pub crew_same : (ds : List Desk) (w : ℕ) (d : Desk) (out : Leases) → Crew ds out → slice_get ds w ≡ Some d → Crew (slice_set ds w d) out
-crew_same ds w d out crew at = subst (λ (es : List Desk). Crew es out) (sym (set_same ds w d at)) crew
 
 -- ---- a worker leaves its vertex
 

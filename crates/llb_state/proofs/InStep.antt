@@ -4,7 +4,7 @@ use Rattle.std.proofs.Common.{unwrap_or, is_some, inl, inr, refl, sym, ap, subst
 use Rattle.std.specs.Prelude.{All, Option, None, slice_get, slice_set, replicate, nat_lt, not, ◌==◌, option_map}
 use Rattle.std.specs.List.{list_any}
 use Rattle.std.proofs.Math.Bool.{and-false}
-use Rattle.std.proofs.lemmas.Bool.{cases_lt, ltb-true, ltb-false}
+use Rattle.std.proofs.lemmas.Bool.{ltb-true, ltb-false}
 use Rattle.std.proofs.lemmas.Option.{slice_get_within}
 use Rattle.std.proofs.lemmas.List.{length-replicate}
 use Rattle.std.proofs.lemmas.List.Elements.{All-weaker}
@@ -204,13 +204,6 @@ over_set b S v new n r graph there fits under over k low =
     let ready = ready_below b S T v k graph other (omega (arith, low, under)) (omega (arith, low, under, there)) in
     (λ i. is_settled (here i) || ((is_waiting (here i) && marks i) && not (ready i))) ∙ over k (omega (arith, low, fits))
 
--- one vertex more is over
-pub over_more : (b : Build) (S : List Status) (n : ℕ) → AreOver b S n → is_over b S n ≡ true → AreOver b S (n + 1)
-over_more b S n under here v low = elim (cases_lt v n) [
-  | inl lt ↦ under v lt
-  | inr ge ↦ let same : v ≡ n = omega (arith, low, ge) in ap (is_over b S) same ∙ here
-]
-
 -- what is over is not Ready
 pub over_not_ready : (b : Build) (S : List Status) (v : ℕ) → is_over b S v ≡ true → is_ready b S v ≡ false
 over_not_ready b S v over = by_test (is_ready b S v) refl
@@ -231,16 +224,6 @@ over_ended b S v over = by_tests (is_settled (slice_get S v)) (is_blocked b S v)
     by_tests true c d h = refl
     by_tests false true d h = refl
     by_tests false false d h = h
-
--- what is settled or blocked, and not Ready, is over
-pub ended_over : (b : Build) (S : List Status) (v : ℕ) → (is_settled (slice_get S v) || is_blocked b S v) ≡ true → is_ready b S v ≡ false
-    → is_over b S v ≡ true
-ended_over b S v ended unready = by_tests (is_settled (slice_get S v)) (is_blocked b S v) (is_ready b S v) ended unready
-  where
-    by_tests : (a c d : Bool) → (a || c) ≡ true → d ≡ false → (a || (c && not d)) ≡ true
-    by_tests true c d h is = refl
-    by_tests false true d h is = ap not is
-    by_tests false false d h is = h
 
 -- ---- all vertices wait
 

@@ -36,10 +36,6 @@ seat_at (desk.Runs l y ∷ ds) zero x at = (l, y, refl, runs_inside at)
     runs_inside e = cc
 seat_at (d ∷ ds) (suc w) x at = seat_at ds w x at
 
-unstepped_at : (mark : Mark) (d : Desk) → at_of (desk_before mark (Some d)) ≡ step_before mark (Some (at_of d))
-unstepped_at mark desk.Idle = refl
-unstepped_at mark (desk.Runs l x) = refl
-
 -- a worker whose micro-step is taken back keeps its lease, and has the same supplies
 pub record IsUnstepped (ds new : List Desk) (out : Leases) (w : ℕ) (mark : Mark) : Type 0 where
   pub low : w < length ds

@@ -67,11 +67,6 @@ back_in (back.Unclaim w v) = Unclaim w v
 back_in (back.Unstep w mark) = Unstep w mark
 back_in (back.Resume e w x) = Resume e w (left_in x)
 
-abbrev pub worker_in : Back → ℕ
-worker_in (Unclaim w v) = w
-worker_in (Unstep w mark) = w
-worker_in (Resume e w left) = w
-
 -- ---- the event taken back
 
 -- one micro-step less is done, and none has faulted
