@@ -1,6 +1,4 @@
--- What a board keeps so that no event to come needs memory for the record but a claim after a cancel, and no settle needs memory for its outputs;
--- that commands run where their exec says and see the caches that it shows, that each running worker has a lease of its instances, and that no
--- search begins anew.
+-- What each worker is supplied with: so no settle needs memory for its outputs, and commands run where their exec says and see the caches that it shows.
 use Rattle.std.specs.Prelude.{ℕ, List, [], map, replicate, length, Option, Some, None, slice_get}
 use Rattle.llb_tree.specs.Tree.{TreeMap, empty_tree}
 use Rattle.llb_applet.specs.declared.setting.Setting.{Setting}

@@ -1,4 +1,4 @@
--- What each call returns: the table's result, or the first cause of its refusal as a fault.
+-- What a claim begins, a micro-step leaves, and a worker leaves or gives up; or the first cause of a refusal as a fault.
 use Rattle.std.specs.Prelude.{ℕ, List, Option, Some, None, Result, Ok, Err, if◌then◌else◌}
 use Rattle.llb_loader.specs.declared.graph.Vertex.{Vertex}
 use Rattle.llb_tree.specs.Tree.{TreeMap}

@@ -1,4 +1,4 @@
--- What the board's data represents, in the words of the machine's definitions.
+-- What a worker's data represents, in the words of the machine's definitions.
 use Rattle.std.specs.Prelude.{ℕ, Option, None}
 use Rattle.llb_model.specs.State as model
 use Rattle.llb_state.specs.declared.stand.Desk.{Desk}

@@ -1,4 +1,4 @@
-//! Second owners of a state's parts, which share trees and views as far as they can.
+//! Second owners of what workers have, which share trees and views as far as they can.
 
 ghost use Rattle.std.specs.Prelude.{◌≡◌, map, IfOk};
 ghost use Rattle.llb_state.specs.Room.{ready_made};

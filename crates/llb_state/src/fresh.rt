@@ -1,5 +1,4 @@
-//! What a board begins with: all vertices wait, all workers are idle, a copy of the caches as they were handed in is kept, and the
-//! record has room for every event.
+//! The workers at first: all are idle.
 
 ghost use Rattle.std.specs.Prelude.{◌≡◌, replicate, IfOk};
 ghost use Rattle.llb_state.specs.declared.stand.Desk.TheVariants as desk;

@@ -1,4 +1,4 @@
-//! Whether the parts of two states are the same by value. The numbers of leases are not compared. Nothing here allocates.
+//! Whether two lists of workers do the same, by value. The numbers of leases are not compared. Nothing here allocates.
 
 ghost use Rattle.std.specs.Prelude.{◌≡◌, ◌↔◌, IsTrue, map};
 ghost use Rattle.llb_state.specs.Views.{execution_of, at_of};

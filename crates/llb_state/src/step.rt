@@ -1,4 +1,4 @@
-//! One worker's execution of a vertex: how it begins, one micro-step of it, and how it ends.
+//! One worker's execution of a vertex: what it holds beside its view, and when it is finished.
 
 ghost use Rattle.std.specs.Prelude.{◌≡◌, ◌<◌, map, option_map, slice_get, is_some, nat_le, ◌||◌};
 ghost use Rattle.std.specs.Prelude.{Ok};

@@ -1,4 +1,4 @@
-//! Puts back what an event changed: what a worker has, the leases of all workers, the marks and the counts of open inputs.
+//! Puts back what an event changed of the workers: what one of them has, the leases of all, and the caches.
 
 ghost use Rattle.std.specs.Prelude.{◌≡◌, ◌<◌, Some, length, map, slice_get, slice_set};
 ghost use Rattle.std.specs.Option.{ForSome};
