@@ -74,6 +74,7 @@ module _ (vs : VerticesValue) (first : List Row) (ws us : WorkersValue) (es : Li
   vertex = (claim_is vs.build (state_in vs ws) w v _ (claim_done vs.build (state_in vs ws) w v _ grants)).start.vertex
 
   there : slice_get vs.build.graph.vertices v ≡ Some vertex
+  unfolding vertex
   there = (claim_is vs.build (state_in vs ws) w v _ (claim_done vs.build (state_in vs ws) w v _ grants)).begins.there
 
   pub low : v < length vs.statuses

@@ -107,6 +107,7 @@ record AreApart (s : State) : Type 0 where
   each : (w : ℕ) (x : Execution) → slice_get s.workers w ≡ Some (Runs x) → AreKeysApart x.places
 
 has_key : (ps : List Place) (ns : List Need) (p : Place) → Has (places_for ps ns) p → Has (map key_of ns) p.key
+has_key ps [] p there = absurd there
 has_key ps (n ∷ ns) p (inl h) = inl (ap (λ (q : Place). q.key) h)
 has_key ps (n ∷ ns) p (inr h) = inr (has_key ps ns p h)
 

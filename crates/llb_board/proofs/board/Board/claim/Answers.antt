@@ -1,4 +1,4 @@
-use Rattle.std.proofs.Common.{◌≡◌, ◌∙◌, ◌+◌, ◌++◌, ◌∷◌, [], true, false, sym, ap, subst}
+use Rattle.std.proofs.Common.{◌≡◌, ◌∙◌, ◌+◌, ◌++◌, ◌∷◌, [], true, false, sym, ap, subst, rules}
 use Rattle.std.specs.Prelude.{Ok, Err, slice_get}
 use Rattle.llb_model.specs.Table.{Claim, claim_grant}
 use Rattle.llb_events.specs.Causes.{claim_fault}
@@ -17,23 +17,30 @@ use Rattle.llb_board.proofs.board.Board.claim.Goals as goal
 pub returns-in_err-begun-clause-gives : goal.returns-in_err-begun-clause-gives
 returns-in_err-begun-clause-gives c =
     let b = c.self.inside in
-    λ known. ap (λ (m : Seen). claim_of m c.args.w c.args.v) (sym c.self.view_is)
+    let e = c.in_err-begun.field-0.0 in
+    let refused : claim_memory e ≡ false → claim_of c.args.self.now c.args.w c.args.v ≡ Err e
+    = λ known. ap (λ (m : Seen). claim_of m c.args.w c.args.v) (sym c.self.view_is)
     ∙ refused_as (seen b.vertices b.start.rows b.workers b.history.list) (Claim c.args.w c.args.v)
-    (claim_grant b.vertices.build (state_in b.vertices b.workers) c.args.w c.args.v) c.in_err-begun.field-0.0 (c.in_err-begun.ensures.gives known)
+    (claim_grant b.vertices.build (state_in b.vertices b.workers) c.args.w c.args.v) e (c.in_err-begun.ensures.gives known) in
+    search (rules, refused)
 
 pub returns-in_err-begun-clause-last : goal.returns-in_err-begun-clause-last
 returns-in_err-begun-clause-last c =
     let b = c.self.inside in
-    λ memory. ap (λ (m : Seen). claim_may_want (claim_of m c.args.w c.args.v)) (sym c.self.view_is)
+    let may_want : claim_memory c.in_err-begun.field-0.0 ≡ true → claim_may_want (claim_of c.args.self.now c.args.w c.args.v) ≡ true
+    = λ memory. ap (λ (m : Seen). claim_may_want (claim_of m c.args.w c.args.v)) (sym c.self.view_is)
     ∙ wants_as (seen b.vertices b.start.rows b.workers b.history.list) (Claim c.args.w c.args.v)
-    (claim_grant b.vertices.build (state_in b.vertices b.workers) c.args.w c.args.v) (c.in_err-begun.ensures.last memory)
+    (claim_grant b.vertices.build (state_in b.vertices b.workers) c.args.w c.args.v) (c.in_err-begun.ensures.last memory) in
+    search (rules, may_want)
 
 pub returns-in_err-reserve-clause-last : goal.returns-in_err-reserve-clause-last
 returns-in_err-reserve-clause-last c =
     let b = c.self.inside in
-    λ memory. ap (λ (m : Seen). claim_may_want (claim_of m c.args.w c.args.v)) (sym c.self.view_is)
+    let may_want : claim_may_want (claim_of c.args.self.now c.args.w c.args.v) ≡ true
+    = ap (λ (m : Seen). claim_may_want (claim_of m c.args.w c.args.v)) (sym c.self.view_is)
     ∙ granted_wants (seen b.vertices b.start.rows b.workers b.history.list) (Claim c.args.w c.args.v)
-    (claim_grant b.vertices.build (state_in b.vertices b.workers) c.args.w c.args.v) _ c.in_ok-begun.ensures.gives
+    (claim_grant b.vertices.build (state_in b.vertices b.workers) c.args.w c.args.v) _ c.in_ok-begun.ensures.gives in
+    search (rules, may_want)
 
 pub returns-in_default-clause-last : goal.returns-in_default-clause-last
 returns-in_default-clause-last c =
@@ -67,8 +74,8 @@ record-requires c =
     rw (c.in_ok-reserve.ensures.list, c.in_ok-reserve.ensures.ok) (room b.vertices b.start.rows b.workers new b.history.list b.history.space c.args.w c.args.v c.steps.result (claim_reply c.in_ok-begun.begun.job)
     c.self.invariant grants c.steps.ensures.all)
 
-pub invariant_of-self-3 : goal.invariant_of-self-3
-invariant_of-self-3 c =
+pub invariant_of-self-2 : goal.invariant_of-self-2
+invariant_of-self-2 c =
     let b = c.self.inside in
     let a = c.in_ok-begun.ensures.at in
     let e = c.in-Ok.ensures in
@@ -92,3 +99,10 @@ returns-clause-gives c =
     grants e.count rows
     ∙ (λ i. Ok (seen (sym c.set.ensures i) b.start.rows new (sym (c.record.ensures.list ∙ ap (λ es. es ++ Claim c.args.w c.args.v ∷ [])
     c.in_ok-reserve.ensures.list) i), claim_reply (sym e.job i)))
+
+-- if memory for the lease is refused, the board is as it was
+pub invariant_of-self-in_default : goal.invariant_of-self-in_default
+invariant_of-self-in_default c =
+    let b = c.self.inside in
+    rw (c.release.ensures.list, c.release.ensures.space, c.in_ok-reserve.ensures.list, c.in_ok-reserve.ensures.ok, c.in_default.ensures.err)
+    (rw (released c.args.v (c.steps.result + 2) b.history.space) c.self.invariant)

@@ -18,7 +18,7 @@ record_steps-requires c =
     let b = c.self.inside in
     let can : CanLand (seen b.vertices b.start.rows b.workers b.history.list) c.args.w c.args.outcome.job
     = subst (λ (m : Seen). CanLand m c.args.w c.args.outcome.job) (sym c.self.view_is) c.requires in
-    rw c.count.ensures (room b.vertices b.start.rows b.workers c.land.new.self b.history.list b.history.space c.args.w can.x c.args.outcome c.self.invariant
+    rw c.count-count.ensures (room b.vertices b.start.rows b.workers c.land.new.self b.history.list b.history.space c.args.w can.x c.args.outcome c.self.invariant
     (subst IsGraph c.graph.ensures c.vertices.ensures.graph) can.runs can.own c.is_whole.ensures c.land.ensures.workers c.land.ensures.rows)
 
 pub invariant_of-self : goal.invariant_of-self
@@ -26,7 +26,7 @@ invariant_of-self c =
     let b = c.self.inside in
     let can : CanLand (seen b.vertices b.start.rows b.workers b.history.list) c.args.w c.args.outcome.job
     = subst (λ (m : Seen). CanLand m c.args.w c.args.outcome.job) (sym c.self.view_is) c.requires in
-    rw (c.record_steps.ensures.list, c.record_steps.ensures.space, c.count.ensures)
+    rw (c.record_steps.ensures.list, c.record_steps.ensures.space, c.count-count.ensures)
     (keeps b.vertices b.start.rows b.workers c.land.new.self b.history.list b.history.space c.args.w can.x c.args.outcome c.self.invariant
     (subst IsGraph c.graph.ensures c.vertices.ensures.graph) can.runs can.own c.is_whole.ensures c.land.ensures.workers c.land.ensures.rows c.land.ensures.fits)
 
@@ -38,4 +38,4 @@ returns c =
     let done = through b.vertices b.start.rows b.workers c.land.new.self b.history.list b.history.space c.args.w can.x c.args.outcome c.self.invariant
     (subst IsGraph c.graph.ensures c.vertices.ensures.graph) can.runs can.own c.is_whole.ensures c.land.ensures.workers c.land.ensures.rows in
     subst (λ (m : Seen). IsThrough m c.args.w c.args.outcome.count (seen b.vertices b.start.rows c.land.new.self c.record_steps.new.self.list)) c.self.view_is
-    (rw (c.record_steps.ensures.list, c.count.ensures) done)
+    (rw (c.record_steps.ensures.list, c.count-count.ensures) done)

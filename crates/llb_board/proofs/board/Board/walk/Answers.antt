@@ -1,4 +1,4 @@
-use Rattle.std.proofs.Common.{◌≡◌, ◌∙◌, false, sym, ap, subst}
+use Rattle.std.proofs.Common.{◌≡◌, ◌∙◌, false, sym, ap, subst, rules}
 use Rattle.std.specs.Prelude.{Err}
 use Rattle.llb_events.specs.Views.{event_of}
 use Rattle.llb_state.specs.Undo.{walk_memory}
@@ -10,8 +10,11 @@ use Rattle.llb_board.proofs.board.Board.walk.Goals as goal
 pub returns-in_err-undo-clause-gives : goal.returns-in_err-undo-clause-gives
 returns-in_err-undo-clause-gives c =
     let b = c.self.inside in
-    λ known. ap (λ (m : Seen). walk_of m (event_of c.args.event)) (sym c.self.view_is)
-    ∙ walk_refused b.vertices b.start.rows b.workers b.history.list (event_of c.args.event) _ (c.in_err-undo.ensures.refused known)
+    let e = c.in_err-undo.field-0.0 in
+    let refused : walk_memory e ≡ false → walk_of c.args.self.now (event_of c.args.event) ≡ Err e
+    = λ known. ap (λ (m : Seen). walk_of m (event_of c.args.event)) (sym c.self.view_is)
+    ∙ walk_refused b.vertices b.start.rows b.workers b.history.list (event_of c.args.event) e (c.in_err-undo.ensures.refused known) in
+    search (rules, refused)
 
 pub returns-clause-undo : goal.returns-clause-undo
 returns-clause-undo c =
