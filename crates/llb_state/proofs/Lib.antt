@@ -29,3 +29,4 @@ pub mod Claims
 pub mod Landings
 pub mod Undoings
 pub mod Befores
+pub mod MicroSteps

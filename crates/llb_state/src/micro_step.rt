@@ -147,8 +147,8 @@ fn told(
     }
 }
 
-// Returns the fault as a reply, or `done` if there is no fault.
-fn unless_faulted(fault: Option<VertexFault>, done: Stepped) -> Stepped
+/// Returns the fault as a reply, or `done` if there is no fault.
+pub fn unless_faulted(fault: Option<VertexFault>, done: Stepped) -> Stepped
     ensures { result ≡ fault_or fault done }
 {
     match fault {

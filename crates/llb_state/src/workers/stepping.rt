@@ -1,7 +1,12 @@
 //! A micro-step of what a worker runs.
 
-ghost use Rattle.std.specs.Prelude.{◌≡◌, length, Some, OnErr, OnOk, slice_get};
+ghost use Rattle.std.specs.Prelude.{◌≡◌, length, false, Some, OnErr, OnOk, slice_get};
+ghost use Rattle.llb_execution.specs.Parts as parts;
+ghost use Rattle.llb_execution.specs.Parts.{is_skipped};
 ghost use Rattle.llb_model.specs.Leases.{HasLease};
+ghost use Rattle.llb_model.specs.Program as model;
+ghost use Rattle.llb_model.specs.Program.{Left, last_of};
+ghost use Rattle.llb_model.specs.Table as table;
 ghost use Rattle.llb_state.specs.Caches.{rows_after};
 ghost use Rattle.llb_state.specs.Room.{supplies_of, supplies_for};
 ghost use Rattle.llb_events.specs.Causes.{step_memory, GivesStep};
@@ -12,13 +17,14 @@ ghost use Rattle.llb_state.specs.Workers.{Fits, state_in, step_in};
 ghost use Rattle.llb_wire.specs.Answer.{MemoryLast};
 
 use crate::instances::{contents, write_back};
-use crate::micro_step::{skip, step};
+use crate::micro_step::unless_faulted;
 use crate::stand::{Desk, Execution};
-use crate::step::is_finished;
 use crate::vertices::Vertices;
 use crate::workers::Workers;
 use llb_cache::{Caches, Lease};
 use llb_events::{StepFault, Stepped};
+use llb_execution::{MicroStep, step_of};
+use llb_model::VertexFault;
 use std::alloc::Global;
 
 impl Workers {
@@ -45,14 +51,14 @@ impl Workers {
         match &mut self.seats[w as usize] {
             Desk::Idle => Err(StepFault::NotRunning),
             Desk::Runs(lease, execution) => {
-                step_of(alloc, vertices, execution, &mut self.caches, *lease)
+                micro_step(alloc, vertices, execution, &mut self.caches, *lease)
             }
         }
     }
 }
 
 // Does the next micro-step of an execution on the instances of its lease as they are now, and writes them back.
-fn step_of(
+fn micro_step(
     alloc: Global,
     vertices: &Vertices,
     execution: &mut Execution,
@@ -69,16 +75,38 @@ fn step_of(
     ensures out { caches.new.out ≡ caches.old.out }
     ensures err { OnErr result ((execution.new ≡ execution.old) × (caches.new ≡ caches.old)) }
 {
-    let vertex = vertices.vertex(execution.vertex);
-    if is_finished(execution, vertices.steps(execution.vertex)) {
+    if execution.fault.is_some() {
         return Err(StepFault::NothingLeft);
     }
-    if let Some(stepped) = skip(execution, vertex) {
+    let Some(vertex) = vertices.vertex(execution.vertex) else {
+        return Err(StepFault::NothingLeft);
+    };
+    let done = execution.done;
+    let Some(next) = step_of(vertex, &execution.setting, done) else {
+        return Err(StepFault::NothingLeft);
+    };
+    if execution.view.skips(next) {
         caches.is_exclusive();
-        return Ok(stepped);
+        execution.done = done + 1;
+        return Ok(Stepped::Skipped(done));
     }
     let mut trees = contents(alloc, caches, &execution.places)?;
-    let stepped = step(alloc, execution, &mut trees, vertex)?;
+    let fault = execution.view.step(alloc, done, next, &mut trees)?;
+    execution.done = done + 1;
+    execution.fault = fault;
     write_back(caches, lease, trees);
-    Ok(stepped)
+    Ok(told(next, done, execution.view.last(), fault))
+}
+
+// Returns the reply of the micro-step of number `done`, which was not skipped, given the last status and the fault that it left.
+fn told(step: MicroStep<'_>, done: u32, last: u32, fault: Option<VertexFault>) -> Stepped
+    ensures { (before : model.View) (left : Left) → is_skipped (parts.step_in step.entry) before ≡ false → last_of left.work.own ≡ last
+        → left.fault ≡ fault → step_reply result ≡ table.step_reply done (parts.step_in step.entry) before left }
+{
+    match step {
+        MicroStep::ReadLocal => unless_faulted(fault, Stepped::Read),
+        MicroStep::Act(_) => unless_faulted(fault, Stepped::Acted(done)),
+        MicroStep::LayInput(_) => unless_faulted(fault, Stepped::Merged(done)),
+        MicroStep::Run(_, _, _) => Stepped::Ran(done, last),
+    }
 }

@@ -16,8 +16,8 @@ use Rattle.llb_state.proofs.Stepping.{holding}
 use Rattle.llb_state.proofs.Worked.{seen_of, step_gives, step_last, step_rows, step_crew, step_fits}
 use Rattle.llb_state.proofs.workers.Workers.step.Goals as goal
 
-pub step_of-requires-clause-supplies : goal.step_of-requires-clause-supplies
-step_of-requires-clause-supplies c =
+pub micro_step-requires-clause-supplies : goal.micro_step-requires-clause-supplies
+micro_step-requires-clause-supplies c =
     let ds = c.self.inside.seats.items in
     let low : c.args.w < length ds = search rules in
     let at : slice_get ds c.args.w ≡ Some (desk.Runs c.in-Runs.lease c.in-Runs.execution)
@@ -25,8 +25,8 @@ step_of-requires-clause-supplies c =
     made_enough c.args.vertices.now.build ds c.args.w c.in-Runs.lease c.in-Runs.execution
     (subst (Fits c.args.vertices.now.build) (sym c.self.view_is) c.requires) at
 
-pub step_of-requires-clause-leased : goal.step_of-requires-clause-leased
-step_of-requires-clause-leased c =
+pub micro_step-requires-clause-leased : goal.micro_step-requires-clause-leased
+micro_step-requires-clause-leased c =
     let s = c.self.inside in
     let ds = s.seats.items in
     let low : c.args.w < length ds = search rules in
@@ -43,8 +43,8 @@ invariant_of-self-in-Runs c =
     let at : slice_get ds c.args.w ≡ Some (desk.Runs c.in-Runs.lease c.in-Runs.execution)
     = slice_get-get_or ds c.args.w c.index_mut.result.now low ∙ ap (λ d. Some d) (sym c.index_mut.ensures.value ∙ c.in-Runs.is) in
     step_crew c.args.vertices.now ds s.caches.rows s.caches.out c.args.w c.in-Runs.lease c.in-Runs.execution c.self.invariant
-    c.is_exclusive.ensures.apart c.is_exclusive.ensures.there at c.step_of.new.execution c.step_of.new.caches.out c.step_of.ensures.out
-    c.step_of.ensures.places
+    c.is_exclusive.ensures.apart c.is_exclusive.ensures.there at c.micro_step.new.execution c.micro_step.new.caches.out c.micro_step.ensures.out
+    c.micro_step.ensures.places
 
 pub returns-in-Idle-clause-gives : goal.returns-in-Idle-clause-gives
 returns-in-Idle-clause-gives c =
@@ -63,15 +63,15 @@ returns-in-Runs-clause-gives c =
     let ds = s.seats.items in
     let vs = c.args.vertices.now in
     let l = c.in-Runs.lease in
-    let y = c.step_of.new.execution in
-    let after = c.step_of.new.caches.rows in
+    let y = c.micro_step.new.execution in
+    let after = c.micro_step.new.caches.rows in
     let low : c.args.w < length ds = search rules in
     let at : slice_get ds c.args.w ≡ Some (desk.Runs l c.in-Runs.execution)
     = slice_get-get_or ds c.args.w c.index_mut.result.now low ∙ ap (λ d. Some d) (sym c.index_mut.ensures.value ∙ c.in-Runs.is) in
-    subst (λ (v : WorkersValue). GivesStep (λ r. (state_in vs (seen_of (slice_set ds c.args.w (desk.Runs l y)) after), step_reply r)) c.step_of.result
+    subst (λ (v : WorkersValue). GivesStep (λ r. (state_in vs (seen_of (slice_set ds c.args.w (desk.Runs l y)) after), step_reply r)) c.micro_step.result
     (step_in vs v c.args.w)) c.self.view_is
     (step_gives vs ds s.caches.rows s.caches.out c.args.w l c.in-Runs.execution c.self.invariant c.is_exclusive.ensures.apart
-    c.is_exclusive.ensures.there at c.step_of.result y after c.step_of.ensures.gives)
+    c.is_exclusive.ensures.there at c.micro_step.result y after c.micro_step.ensures.gives)
 
 pub returns-in-Runs-clause-last : goal.returns-in-Runs-clause-last
 returns-in-Runs-clause-last c =
@@ -81,9 +81,9 @@ returns-in-Runs-clause-last c =
     let low : c.args.w < length ds = search rules in
     let at : slice_get ds c.args.w ≡ Some (desk.Runs c.in-Runs.lease c.in-Runs.execution)
     = slice_get-get_or ds c.args.w c.index_mut.result.now low ∙ ap (λ d. Some d) (sym c.index_mut.ensures.value ∙ c.in-Runs.is) in
-    subst (λ (v : WorkersValue). MemoryLast step_memory c.step_of.result (step_in vs v c.args.w)) c.self.view_is
+    subst (λ (v : WorkersValue). MemoryLast step_memory c.micro_step.result (step_in vs v c.args.w)) c.self.view_is
     (step_last vs ds s.caches.rows s.caches.out c.args.w c.in-Runs.lease c.in-Runs.execution c.self.invariant c.is_exclusive.ensures.apart
-    c.is_exclusive.ensures.there at c.step_of.result c.step_of.ensures.last)
+    c.is_exclusive.ensures.there at c.micro_step.result c.micro_step.ensures.last)
 
 pub returns-in-Runs-clause-rows : goal.returns-in-Runs-clause-rows
 returns-in-Runs-clause-rows c =
@@ -91,15 +91,15 @@ returns-in-Runs-clause-rows c =
     let ds = s.seats.items in
     let vs = c.args.vertices.now in
     let l = c.in-Runs.lease in
-    let y = c.step_of.new.execution in
-    let after = c.step_of.new.caches.rows in
+    let y = c.micro_step.new.execution in
+    let after = c.micro_step.new.caches.rows in
     let low : c.args.w < length ds = search rules in
     let at : slice_get ds c.args.w ≡ Some (desk.Runs l c.in-Runs.execution)
     = slice_get-get_or ds c.args.w c.index_mut.result.now low ∙ ap (λ d. Some d) (sym c.index_mut.ensures.value ∙ c.in-Runs.is) in
     let seen = seen_of (slice_set ds c.args.w (desk.Runs l y)) after in
-    subst (λ (v : WorkersValue). OnOk c.step_of.result (after ≡ rows_after v.rows (state_in vs seen) c.args.w)) c.self.view_is
+    subst (λ (v : WorkersValue). OnOk c.micro_step.result (after ≡ rows_after v.rows (state_in vs seen) c.args.w)) c.self.view_is
     (step_rows vs ds s.caches.rows s.caches.out c.args.w l c.in-Runs.execution c.self.invariant c.is_exclusive.ensures.apart
-    c.is_exclusive.ensures.there at c.step_of.result y after c.step_of.ensures.gives)
+    c.is_exclusive.ensures.there at c.micro_step.result y after c.micro_step.ensures.gives)
 
 pub returns-in-Runs-clause-fits : goal.returns-in-Runs-clause-fits
 returns-in-Runs-clause-fits c =
@@ -110,5 +110,5 @@ returns-in-Runs-clause-fits c =
     let at : slice_get ds c.args.w ≡ Some (desk.Runs c.in-Runs.lease c.in-Runs.execution)
     = slice_get-get_or ds c.args.w c.index_mut.result.now low ∙ ap (λ d. Some d) (sym c.index_mut.ensures.value ∙ c.in-Runs.is) in
     step_fits vs ds s.caches.rows s.caches.out c.args.w c.in-Runs.lease c.in-Runs.execution c.self.invariant c.is_exclusive.ensures.apart
-    c.is_exclusive.ensures.there at c.step_of.result c.step_of.new.execution c.step_of.new.caches.rows c.step_of.ensures.supplies
-    c.step_of.ensures.gives (subst (Fits vs.build) (sym c.self.view_is) c.requires)
+    c.is_exclusive.ensures.there at c.micro_step.result c.micro_step.new.execution c.micro_step.new.caches.rows c.micro_step.ensures.supplies
+    c.micro_step.ensures.gives (subst (Fits vs.build) (sym c.self.view_is) c.requires)
