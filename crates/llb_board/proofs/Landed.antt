@@ -3,6 +3,7 @@ use Rattle.std.proofs.Common.{◌≡◌, ◌≢◌, ℕ, zero, suc, ◌+◌, ◌
 use Rattle.std.proofs.Common.{length-append}
 use Rattle.std.specs.Prelude.{Bool, true, false, ◌||◌, Option, Some, None, option_map, Result, Ok, Err, is_ok, is_some, nat_le, slice_get, slice_set, fold}
 use Rattle.std.specs.Prelude.{if◌then◌else◌}
+use Rattle.std.specs.Bool.{OnFalse}
 use Rattle.std.specs.Result.{result_unwrap_or}
 use Rattle.std.proofs.lemmas.List.{length-replicate, append_assoc}
 use Rattle.std.proofs.lemmas.List.Sums.{fold-append}
@@ -361,3 +362,8 @@ pub lands : (b n m : Seen) (w : ℕ) (o : OutcomeValue) (r : Result Settled Sett
     → GivesSettle (λ s. (m, settle_reply s)) r (settle_of n w) → Lands b w o m (settle_reply (result_unwrap_or r other))
 lands b n m w o (Ok s) other can through gives = settles b n m w o (settle_reply s) can through gives
 lands b n m w o (Err e) other can through gives = absurd (not_refused b n w o.count e through (gives refl))
+
+-- a fact that holds if a test fails, for a test that has failed
+pub on_false : (b : Bool) (P : Type 0) → OnFalse b P → b ≡ false → P
+on_false true P h is = absurd cc
+on_false false P h is = h

@@ -1,12 +1,44 @@
-use Rattle.std.proofs.Common.{◌≡◌, ◌∙◌, Option, Some, None, sym, ap, subst, refl, rules}
-use Rattle.std.specs.Prelude.{slice_get, option_map, true, false}
-use Rattle.llb_model.specs.State.{At, Idle, Runs, Execution}
-use Rattle.llb_events.specs.Views.{look_of}
+use Rattle.std.proofs.Common.{◌≡◌, ◌∙◌, Option, Some, sym, ap, subst}
+use Rattle.std.specs.List.{list_any}
+use Rattle.std.specs.Prelude.{slice_get}
+use Rattle.llb_model.specs.Caches.{Place}
+use Rattle.llb_model.specs.State.{At}
+use Rattle.llb_state.specs.Caches.{places_at}
+use Rattle.llb_state.specs.Jobs.{is_shared, has_shared}
 use Rattle.llb_board.specs.Seen.{Seen, seen}
-use Rattle.llb_board.proofs.Landed.{runs_vertex}
+use Rattle.llb_board.specs.Landing.{RunsAlone, RunsShared}
+use Rattle.llb_board.proofs.Choices.{runs_at}
+use Rattle.llb_board.proofs.Landed.{runs_vertex, on_false}
 use Rattle.llb_board.proofs.board.Board.can_land.Goals as goal
 
 pub is_run_of-requires : goal.is_run_of-requires
 is_run_of-requires c =
     let b = c.self.inside in
-    runs_vertex (seen b.vertices b.start.rows b.workers b.history.list) c.self.invariant.replays c.args.w
+    record { there = runs_vertex (seen b.vertices b.start.rows b.workers b.history.list) c.self.invariant.replays c.args.w }
+
+pub returns-then-has_shared-clause-err : goal.returns-then-has_shared-clause-err
+returns-then-has_shared-clause-err c =
+    let b = c.self.inside in
+    let r = runs_at b.vertices.build (slice_get b.workers.workers c.args.w) c.in-Some-Runs.field-0-0 c.in-Some-Runs.field-0-1 c.in-Some-Runs.field-0-2
+    (sym c.look.ensures.looks ∙ c.in-Some-Runs.is ∙ ap (λ a. Some a) c.in-Some-Runs.field-0-is) in
+    let x = r.0 in
+    let held : has_shared x ≡ c.has_shared.result
+    = ap (λ (o : Option At). list_any (λ (p : Place). is_shared p.key.mode) (places_at o)) (sym r.1)
+    ∙ ap (list_any (λ (p : Place). is_shared p.key.mode)) (sym c.places.ensures) ∙ sym c.has_shared.ensures in
+    subst (λ (m : Seen). RunsShared m c.args.w) c.self.view_is (record { x = x; runs = r.1; shared = held ∙ c.if-has_shared.true })
+
+pub returns-then-not-is_run_of-clause-err : goal.returns-then-not-is_run_of-clause-err
+returns-then-not-is_run_of-clause-err c =
+    let b = c.self.inside in
+    let r = runs_at b.vertices.build (slice_get b.workers.workers c.args.w) c.in-Some-Runs.field-0-0 c.in-Some-Runs.field-0-1 c.in-Some-Runs.field-0-2
+    (sym c.look.ensures.looks ∙ c.in-Some-Runs.is ∙ ap (λ a. Some a) c.in-Some-Runs.field-0-is) in
+    let x = r.0 in
+    let held : has_shared x ≡ c.has_shared.result
+    = ap (λ (o : Option At). list_any (λ (p : Place). is_shared p.key.mode) (places_at o)) (sym r.1)
+    ∙ ap (list_any (λ (p : Place). is_shared p.key.mode)) (sym c.places.ensures) ∙ sym c.has_shared.ensures in
+    subst (λ (m : Seen). RunsAlone m c.args.w c.args.job.now) c.self.view_is (record {
+      x = x;
+      runs = r.1;
+      alone = held ∙ c.if-has_shared.false;
+      other = λ is. on_false c.is_run_of.result _ c.is_run_of.ensures.no c.if-not-is_run_of.true (record { x = x; runs = r.1; own = is });
+    })

@@ -8,4 +8,4 @@ pub returns-clause-reached : goal.returns-clause-reached
 returns-clause-reached c =
     let i = c.self.inside in
     subst (λ (s : Seen). IsReached s.build s.state) c.self.view_is
-    (reached (seen i.build i.start.rows i.stands.items i.desks.items i.caches.rows i.history.list) c.self.invariant.replays)
+    (reached (seen i.vertices i.start.rows i.workers i.history.list) c.self.invariant.replays)
