@@ -1,14 +1,14 @@
 -- A claim: the board does what the table gives, and keeps its invariant.
-use Rattle.std.proofs.Common.{◌≡◌, ℕ, ◌+◌, ◌-◌, ◌<◌, List, [], ◌∷◌, ◌++◌, length, true, Option, Some, refl, sym, ap, subst, ◌∙◌, arith}
+use Rattle.std.proofs.Common.{◌≡◌, ℕ, ◌+◌, ◌-◌, ◌<◌, List, [], ◌∷◌, ◌++◌, length, true, Option, Some, refl, sym, ap, ◌∙◌, arith}
 use Rattle.std.specs.Prelude.{Result, Ok, Err, slice_get, slice_set}
 use Rattle.std.proofs.lemmas.Option.{slice_get_within}
 use Rattle.llb_cache.specs.Caches.{Row}
 use Rattle.llb_loader.specs.declared.graph.Vertex.{Vertex}
 use Rattle.llb_model.specs.ClaimCause.{ClaimCause}
-use Rattle.llb_model.specs.Program.{Build, program_at}
+use Rattle.llb_model.specs.Program.{program_at}
 use Rattle.llb_model.specs.Room.{events_of}
-use Rattle.llb_model.specs.State.{State, Waiting, Running}
-use Rattle.llb_model.specs.Table.{Event, Claim, Reply, Claimed, Job, claim_grant}
+use Rattle.llb_model.specs.State.{Waiting, Running}
+use Rattle.llb_model.specs.Table.{Event, Claim, Reply, claim_grant}
 use Rattle.llb_model.proofs.Events.{Answer, claim_is}
 use Rattle.llb_events.specs.Causes.{faulted, claim_fault}
 use Rattle.llb_events.specs.Faults.{claim_may_want}

@@ -1,5 +1,4 @@
 -- A board may go to another thread, as its parts may.
-use denote.Hole.{as_row}
 use denote.Param.Send.{IsSend, sendable, view_send}
 use denote.Param.SendFields.{as_row_send, declared_send}
 use Rattle.std.proofs.Crossing.{crosses}

@@ -1,6 +1,6 @@
 -- What the board's type keeps, as an event is done.
-use Rattle.std.proofs.Common.{◌≡◌, ℕ, ◌+◌, ◌<◌, ◌≤◌, List, [], ◌∷◌, ◌++◌, length, refl, sym, ap, subst, ◌∙◌, arith, get_or}
-use Rattle.std.specs.Prelude.{Option, Some, None, Result, Ok, Err, option_map, slice_get, slice_set, true}
+use Rattle.std.proofs.Common.{◌≡◌, ℕ, ◌+◌, ◌<◌, ◌≤◌, List, [], ◌∷◌, ◌++◌, length, sym, ap, subst, ◌∙◌, arith, get_or}
+use Rattle.std.specs.Prelude.{Option, Some, None, Result, Ok, option_map, slice_get, slice_set}
 use Rattle.std.proofs.lemmas.List.Sums.{fold-append}
 use Rattle.std.proofs.lemmas.Option.{slice_get_within}
 use Rattle.llb_cache.specs.Caches.{Row}
@@ -16,7 +16,6 @@ use Rattle.llb_model.proofs.Events.{Answer}
 use Rattle.llb_model.proofs.Runs.{run_more}
 use Rattle.llb_model.proofs.Owing.{IsRoomy, room_for_event, event_roomy}
 use Rattle.llb_model.proofs.Cancels.{counts_length, cancels_few}
-use Rattle.llb_events.specs.Causes.{faulted}
 use Rattle.llb_state.specs.Caches.{written, places_at, rows_after}
 use Rattle.llb_state.specs.Vertices.{VerticesValue, IsWhole}
 use Rattle.llb_state.specs.Workers.{WorkersValue, Fits, state_in}
@@ -76,8 +75,8 @@ kept_after vs new first ws us es space e r kept granted stays more after =
     }
 
 -- what is recorded of an event that is granted
-pub recorded_as : {C F : Type 0} (vs : VerticesValue) (new : List Status) (first : List Row) (ws us : WorkersValue) (es : List Event) (e : Event) (fault : C → F)
-    (answer : Result Answer C) (r : Reply)
+pub recorded_as : {C F : Type 0} (vs : VerticesValue) (new : List Status) (first : List Row) (ws us : WorkersValue) (es : List Event) (e : Event)
+    (fault : C → F) (answer : Result Answer C) (r : Reply)
     → answer ≡ Ok (state_in (record vs { statuses = new }) us, r) → length us.workers ≡ length ws.workers
     → us.rows ≡ rows_after ws.rows (state_in (record vs { statuses = new }) us) (worker_of e)
     → recorded (seen vs first ws es) e fault answer ≡ Ok (seen (record vs { statuses = new }) first us (es ++ e ∷ []), r)

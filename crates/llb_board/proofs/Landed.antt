@@ -1,21 +1,20 @@
 -- A landing: the board after the steps that an outcome counts, and the block of these and of the settle.
-use Rattle.std.proofs.Common.{◌≡◌, ◌≢◌, ℕ, zero, suc, ◌+◌, ◌<◌, ◌≤◌, List, [], ◌∷◌, ◌++◌, map, length, inl, inr, refl, sym, ap, subst, ◌∙◌, arith}
+use Rattle.std.proofs.Common.{◌≡◌, ℕ, zero, suc, ◌+◌, ◌<◌, ◌≤◌, List, [], ◌∷◌, ◌++◌, map, length, inl, inr, refl, sym, ap, subst, ◌∙◌, arith}
 use Rattle.std.proofs.Common.{length-append}
-use Rattle.std.specs.Prelude.{Bool, true, false, ◌||◌, Option, Some, None, option_map, Result, Ok, Err, is_ok, is_some, nat_le, slice_get, slice_set, fold}
+use Rattle.std.specs.Prelude.{Bool, true, false, Some, option_map, Result, Ok, Err, is_ok, is_some, slice_get, slice_set, fold}
 use Rattle.std.specs.Prelude.{if◌then◌else◌}
 use Rattle.std.specs.Bool.{OnFalse}
 use Rattle.std.specs.Result.{result_unwrap_or}
 use Rattle.std.proofs.lemmas.List.{length-replicate, append_assoc}
 use Rattle.std.proofs.lemmas.List.Sums.{fold-append}
 use Rattle.std.proofs.lemmas.Option.{slice_get_within}
-use Rattle.llb_cache.specs.declared.key.Key.{Key}
 use Rattle.llb_cache.specs.Caches.{Row, trees_of}
 use Rattle.llb_loader.specs.Graph.{IsGraph}
 use Rattle.llb_tree.specs.Tree.{TreeMap}
-use Rattle.llb_model.specs.Caches.{Place, Store, content, Has, Hold, Distinct, put_all, trees_at}
+use Rattle.llb_model.specs.Caches.{Place, Store, Has, Hold, Distinct, put_all, trees_at}
 use Rattle.llb_model.specs.Laws.{HasDistinctNeeds}
 use Rattle.llb_model.specs.Program.{Build, Left, Need, key_of, needs_of, step_on}
-use Rattle.llb_model.specs.State.{State, Running, At, Idle, Runs, Execution, opening, program_in, is_finished, ending_from, held, places_for, place_for}
+use Rattle.llb_model.specs.State.{State, Running, At, Idle, Runs, Execution, opening, program_in, is_finished, ending_from, held, places_for}
 use Rattle.llb_model.specs.State.{work_of, begin_at}
 use Rattle.llb_model.specs.Kept.{store_of}
 use Rattle.llb_model.specs.Leases.{put_each}
@@ -24,7 +23,7 @@ use Rattle.llb_model.specs.SettleCause.{SettleCause, NotFinished}
 use Rattle.llb_model.specs.Table.{Event, Claim, Step, Settle, Cancel, Reply, Job, settle_with, settled, settle_grant, table, execution_on, with_step}
 use Rattle.llb_model.specs.Run.{run}
 use Rattle.llb_model.specs.Room.{cancels_in}
-use Rattle.llb_model.proofs.Lists.{inside, get_set_same, get_within, got_within, got_set, got_replicate, length_set}
+use Rattle.llb_model.proofs.Lists.{get_set_same, get_within, got_within, got_set, got_replicate, length_set}
 use Rattle.llb_model.proofs.Stores.{hold_all, hold_trees, hold_length}
 use Rattle.llb_model.proofs.Parts.{go_keeps}
 use Rattle.llb_model.proofs.Leases.{writes_alike}
@@ -41,7 +40,7 @@ use Rattle.llb_events.specs.declared.event.Settled.{Settled}
 use Rattle.llb_events.specs.declared.fault.SettleFault.{SettleFault}
 use Rattle.llb_execution.specs.Jobs.{OutcomeValue, IsOutcome, begun_on}
 use Rattle.llb_state.specs.Caches.{written, places_at, rows_after}
-use Rattle.llb_state.specs.Jobs.{has_shared, job_now, IsRunOf}
+use Rattle.llb_state.specs.Jobs.{job_now, IsRunOf}
 use Rattle.llb_state.specs.Vertices.{VerticesValue}
 use Rattle.llb_state.specs.Workers.{WorkersValue, Fits, state_in, RunsJob, steps_left}
 use Rattle.llb_state.proofs.Rewritten.{AreKeysApart, AreWithin, each_within, each_again, each_there}
@@ -50,7 +49,7 @@ use Rattle.llb_board.specs.Seen.{Seen, Replays, seen, opening_with, kept_next, k
 use Rattle.llb_board.specs.Kept.{IsBoard}
 use Rattle.llb_board.specs.History.{Space}
 use Rattle.llb_board.specs.Rules.{settle_of}
-use Rattle.llb_board.specs.Landing.{CanLand, IsThrough, Lands, runs_shared}
+use Rattle.llb_board.specs.Landing.{CanLand, IsThrough, Lands}
 use Rattle.llb_board.proofs.Calls.{settle_done}
 use Rattle.llb_board.proofs.Kept.{kept_more}
 use Rattle.llb_board.proofs.Sound.{consistent, reached}

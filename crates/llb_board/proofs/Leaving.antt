@@ -1,11 +1,10 @@
 -- A settle or a cancel that is granted: the board does what the table gives, and keeps its invariant.
-use Rattle.std.proofs.Common.{◌≡◌, ℕ, ◌+◌, ◌<◌, ◌≤◌, Bool, true, false, List, [], ◌∷◌, ◌++◌, length, Some, refl, sym, ap, ◌∙◌, arith, get_or}
+use Rattle.std.proofs.Common.{◌≡◌, ℕ, ◌+◌, ◌<◌, ◌≤◌, List, [], ◌∷◌, ◌++◌, length, Some, refl, sym, ap, ◌∙◌, arith, get_or}
 use Rattle.std.specs.Prelude.{Ok, slice_get, slice_set, if◌then◌else◌}
 use Rattle.std.proofs.lemmas.Option.{slice_get_within}
 use Rattle.llb_cache.specs.Caches.{Row}
 use Rattle.llb_model.specs.Outcome.{Ending, Done, Failed}
-use Rattle.llb_model.specs.Program.{Build}
-use Rattle.llb_model.specs.State.{Status, Waiting, Running, Settled, Idle, Runs, is_failed}
+use Rattle.llb_model.specs.State.{Status, Waiting, Running, Idle, Runs, is_failed}
 use Rattle.llb_model.specs.Table.{Event, Settle, Cancel, Cancelled, SettledDone, SettledFailed, settle_reply, settle_grant, cancel_grant, after_end}
 use Rattle.llb_state.specs.Rules.{left_at, given_up_at}
 use Rattle.llb_state.specs.Caches.{rows_after}

@@ -1,5 +1,4 @@
 pub mod Crossing
-pub mod Alike
 pub mod Choices
 pub mod Sound
 pub mod Recorded

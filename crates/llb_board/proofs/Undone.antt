@@ -1,6 +1,5 @@
 -- An event is taken back: the board does what the definitions say, and keeps its invariant.
-use Rattle.std.proofs.Common.{◌≡◌, ℕ, ◌+◌, ◌-◌, ◌<◌, ◌≤◌, List, [], ◌∷◌, ◌++◌, map, length, Option, Some, None, refl, sym, ap, subst, ◌∙◌, arith}
-use Rattle.std.proofs.Common.{length-append}
+use Rattle.std.proofs.Common.{◌≡◌, ℕ, ◌+◌, ◌<◌, List, [], ◌∷◌, ◌++◌, map, length, Option, Some, None, refl, sym, ap, subst, ◌∙◌, arith}
 use Rattle.std.specs.Prelude.{slice_get, slice_set}
 use Rattle.std.proofs.lemmas.Option.{slice_get_within}
 use Rattle.llb_cache.specs.Caches.{Row}
@@ -10,26 +9,25 @@ use Rattle.llb_execution.proofs.Stepping.{seen_so}
 use Rattle.llb_loader.specs.declared.graph.Vertex.{Vertex}
 use Rattle.llb_model.specs.Caches.{trees_at}
 use Rattle.llb_model.specs.Kept.{store_of}
-use Rattle.llb_model.specs.Program.{Build, program_at, step_on}
+use Rattle.llb_model.specs.Program.{program_at, step_on}
 use Rattle.llb_model.specs.Room.{events_of, cancel_counts}
 use Rattle.llb_model.specs.Run.{run}
-use Rattle.llb_model.specs.State.{State, opening, Status, Waiting, Running, Execution, At, Idle, Runs, work_of}
+use Rattle.llb_model.specs.State.{State, opening, Status, Running, Execution, At, Idle, Runs, work_of}
 use Rattle.llb_model.specs.Table.{Event, Claim, Step, Settle, Cancel, Reply, Cancelled, with_step, table}
 use Rattle.llb_model.proofs.Cancels.{event_returns}
 use Rattle.llb_model.proofs.Events.{Answer, step_is, cancel_is}
-use Rattle.llb_model.proofs.Lists.{inside, get_set_same, get_within, length_set}
+use Rattle.llb_model.proofs.Lists.{inside, get_set_same, length_set}
 use Rattle.llb_model.proofs.Owing.{IsRoomy}
 use Rattle.llb_model.proofs.Runs.{run_more}
 use Rattle.llb_state.specs.Room.{Supplies, needed, supplies_for}
-use Rattle.llb_state.specs.Undo.{Back, Unclaim, Unstep, Resume, Displaced, end_of, workers_before, with_view_back, step_before, rows_before, supplies_before}
+use Rattle.llb_state.specs.Undo.{Back, Unclaim, Unstep, Resume, Displaced, workers_before, with_view_back, step_before, rows_before, supplies_before}
 use Rattle.llb_state.specs.Undo.{change_in, IsBehind, CanPutBack}
 use Rattle.llb_state.specs.Undoing.{Before}
 use Rattle.llb_state.specs.Vertices.{VerticesValue, IsWhole}
-use Rattle.llb_state.specs.Workers.{WorkersValue, Fits, state_in}
-use Rattle.llb_state.specs.declared.workers.undoing.End.{End}
+use Rattle.llb_state.specs.Workers.{WorkersValue}
 use Rattle.llb_state.specs.declared.workers.undoing.End.TheVariants as end
 use Rattle.llb_state.proofs.Lists.{map_set, set_same, get_map}
-use Rattle.llb_board.specs.Seen.{Seen, Replays, opening_with, kept_along, seen}
+use Rattle.llb_board.specs.Seen.{Seen, Replays, opening_with, seen}
 use Rattle.llb_board.specs.Kept.{IsBoard}
 use Rattle.llb_board.specs.History.{Space, front, last_of, space_back}
 use Rattle.llb_board.specs.Undo.{statuses_before, store_before, undone, event_before, CanUndo}

@@ -1,10 +1,9 @@
 -- An event that is granted, and the board before it: the event's undo leads back there, and can be done.
-use Rattle.std.proofs.Common.{◌≡◌, ℕ, ◌+◌, ◌-◌, Bool, true, false, ◌||◌, List, [], ◌∷◌, ◌++◌, map, length, Option, Some, None, is_some, refl, sym, ap}
+use Rattle.std.proofs.Common.{◌≡◌, ℕ, ◌+◌, ◌-◌, Bool, ◌||◌, List, [], ◌∷◌, ◌++◌, length, Option, Some, None, is_some, refl, sym, ap}
 use Rattle.std.proofs.Common.{subst, ◌∙◌, arith}
-use Rattle.std.specs.Prelude.{Result, Ok, Err, slice_get, slice_set, nat_le, not, ◌==◌, if◌then◌else◌}
-use Rattle.std.proofs.lemmas.Bool.{eqb-true}
+use Rattle.std.specs.Prelude.{Result, Ok, Err, slice_get, slice_set, nat_le, if◌then◌else◌}
 use Rattle.llb_cache.specs.Caches.{Row}
-use Rattle.llb_execution.specs.Marks.{Mark, mark_of}
+use Rattle.llb_execution.specs.Marks.{mark_of}
 use Rattle.llb_execution.specs.Parts.{mounts_in}
 use Rattle.llb_execution.proofs.Marks.{puts_back}
 use Rattle.llb_loader.specs.declared.graph.Vertex.{Vertex}
@@ -13,7 +12,7 @@ use Rattle.llb_model.specs.Caches.{Store, put_all, trees_at}
 use Rattle.llb_model.specs.Program.{Build, MicroStep, needs_of, step_on}
 use Rattle.llb_model.specs.State.{Status, Waiting, Running, Settled, Execution, At, Idle, Runs, State, program_in, work_of, next_step, ending_from, held}
 use Rattle.llb_model.specs.State.{places_for, begin_at}
-use Rattle.llb_model.specs.Table.{Event, Claim, Step, Settle, Cancel, worker_of, with_step, step_by, stepped, settled, cancelled, after_end, table}
+use Rattle.llb_model.specs.Table.{Event, Claim, Step, Settle, Cancel, worker_of, with_step, step_by, after_end, table}
 use Rattle.llb_model.specs.Kept.{store_of}
 use Rattle.llb_model.specs.Leases.{AreLeased}
 use Rattle.llb_model.proofs.Events.{Answer, IsStep, claim_places, claim_is, step_is, settle_is, cancel_is}
@@ -22,12 +21,12 @@ use Rattle.llb_events.specs.Causes.{faulted, claim_fault, step_fault, settle_fau
 use Rattle.llb_events.specs.declared.fault.WalkFault.{WalkFault}
 use Rattle.llb_events.specs.declared.fault.WalkFault.TheVariants as walk
 use Rattle.llb_state.specs.Caches.{written, places_at, rows_after}
-use Rattle.llb_state.specs.Room.{supplies_for, mounts_at, needs_at}
+use Rattle.llb_state.specs.Room.{needs_at}
 use Rattle.llb_state.specs.Undo.{Back, Unclaim, Unstep, Resume, Displaced, walk_in, end_of, workers_before, with_view_back, step_before, rows_before}
 use Rattle.llb_state.specs.Undo.{HasNoPlaces, FitsLeases, KeepsWhere, MarksClaim, MarksStep, MarksEnd, MarksIn}
 use Rattle.llb_state.specs.Undoing.{Before}
 use Rattle.llb_state.specs.Vertices.{VerticesValue}
-use Rattle.llb_state.specs.Workers.{WorkersValue, state_in}
+use Rattle.llb_state.specs.Workers.{WorkersValue}
 use Rattle.llb_state.specs.declared.workers.undoing.End.{End}
 use Rattle.llb_state.specs.declared.workers.undoing.End.TheVariants as end
 use Rattle.llb_state.proofs.Lists.{set_back, front_again}
@@ -189,7 +188,8 @@ module _ (vs : VerticesValue) (first : List Row) (ws : WorkersValue) (es : List 
         replays = subst Replays (sym is) here;
         last = last_of u b k a grants same is;
         stands = subst (λ (x : Back). StandsBehind x n) (sym same) stands;
-        leased = fits_leases shown u.back ws n.state.workers u.caches (ap (λ (m : Seen). m.state.workers) is) keeps (λ e. subst HasNoPlaces (sym same) (none e));
+        leased = fits_leases shown u.back ws n.state.workers u.caches (ap (λ (m : Seen). m.state.workers) is) keeps
+            (λ e. subst HasNoPlaces (sym same) (none e));
       }
 
   -- ---- of a claim
@@ -204,7 +204,8 @@ module _ (vs : VerticesValue) (first : List Row) (ws : WorkersValue) (es : List 
       let z : Execution = record { vertex = v; done = 0; fault = None; own = work.own; places = ps } in
       let none : needs_at (slice_get b.build.graph.vertices v) ≡ [] → ps ≡ []
       = λ e. ap (places_for (held s.workers)) (needs_are c.start.vertex _ c.begins.there e) in
-      let runs : slice_get a.0.workers w ≡ Some (Runs z) = ap (λ (t : Answer). slice_get t.0.workers w) c.gives ∙ get_set_same s.workers w (Runs z) Idle c.idle in
+      let runs : slice_get a.0.workers w ≡ Some (Runs z)
+      = ap (λ (t : Answer). slice_get t.0.workers w) c.gives ∙ get_set_same s.workers w (Runs z) Idle c.idle in
       let is = leads_back u b (Claim w v) a.0 (record {
         statuses = ap (λ k. statuses_before k a.0.statuses) marks.back
             ∙ ap (λ (t : Answer). slice_set t.0.statuses v Waiting) c.gives ∙ set_back s.statuses v (Running w) Waiting c.begins.waits;

@@ -1,10 +1,9 @@
-use Rattle.std.proofs.Common.{◌≡◌, ◌∙◌, ◌+◌, ◌++◌, ◌∷◌, [], true, false, sym, ap, subst, rules}
+use Rattle.std.proofs.Common.{◌≡◌, ◌∙◌, ◌+◌, ◌++◌, ◌∷◌, [], true, false, sym, ap, rules}
 use Rattle.std.specs.Prelude.{Ok, Err, slice_get}
 use Rattle.llb_model.specs.Table.{Claim, claim_grant}
 use Rattle.llb_events.specs.Causes.{claim_fault}
 use Rattle.llb_events.specs.Faults.{claim_memory, claim_may_want}
 use Rattle.llb_events.specs.Views.{claim_reply}
-use Rattle.llb_state.specs.Vertices.{with_status}
 use Rattle.llb_state.specs.Workers.{state_in}
 use Rattle.llb_board.specs.Seen.{Seen, seen}
 use Rattle.llb_board.specs.Rules.{claim_of}
@@ -71,7 +70,8 @@ record-requires c =
     let e = c.in-Ok.ensures in
     let new = c.start.new.self in
     let grants = granted_at b.vertices b.workers new c.args.w c.args.v c.in_ok-begun.begun.job.worker c.in_ok-begun.begun.job.vertex _ a.0 a.1 e.grants in
-    rw (c.in_ok-reserve.ensures.list, c.in_ok-reserve.ensures.ok) (room b.vertices b.start.rows b.workers new b.history.list b.history.space c.args.w c.args.v c.steps.result (claim_reply c.in_ok-begun.begun.job)
+    rw (c.in_ok-reserve.ensures.list, c.in_ok-reserve.ensures.ok)
+    (room b.vertices b.start.rows b.workers new b.history.list b.history.space c.args.w c.args.v c.steps.result (claim_reply c.in_ok-begun.begun.job)
     c.self.invariant grants c.steps.ensures.all)
 
 pub invariant_of-self-2 : goal.invariant_of-self-2

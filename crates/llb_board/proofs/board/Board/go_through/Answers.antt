@@ -1,6 +1,5 @@
-use Rattle.std.proofs.Common.{◌≡◌, ◌++◌, sym, ap, subst}
+use Rattle.std.proofs.Common.{sym, subst}
 use Rattle.llb_loader.specs.Graph.{IsGraph}
-use Rattle.llb_model.specs.Landing.{steps_by}
 use Rattle.llb_board.specs.Seen.{Seen, seen}
 use Rattle.llb_board.specs.Landing.{CanLand, IsThrough}
 use Rattle.llb_board.proofs.Landed.{runs_job, keeps, room, through}
@@ -18,7 +17,8 @@ record_steps-requires c =
     let b = c.self.inside in
     let can : CanLand (seen b.vertices b.start.rows b.workers b.history.list) c.args.w c.args.outcome.job
     = subst (λ (m : Seen). CanLand m c.args.w c.args.outcome.job) (sym c.self.view_is) c.requires in
-    rw c.count-count.ensures (room b.vertices b.start.rows b.workers c.land.new.self b.history.list b.history.space c.args.w can.x c.args.outcome c.self.invariant
+    rw c.count-count.ensures
+    (room b.vertices b.start.rows b.workers c.land.new.self b.history.list b.history.space c.args.w can.x c.args.outcome c.self.invariant
     (subst IsGraph c.graph.ensures c.vertices.ensures.graph) can.runs can.own c.is_whole.ensures c.land.ensures.workers c.land.ensures.rows)
 
 pub invariant_of-self : goal.invariant_of-self

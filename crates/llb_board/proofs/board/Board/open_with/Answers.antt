@@ -1,5 +1,4 @@
 use Rattle.std.proofs.Common.{◌≡◌, ◌∙◌, true, ap, sym}
-use Rattle.llb_model.specs.Program.{Build}
 use Rattle.llb_state.specs.Vertices.{VerticesValue, all_waiting}
 use Rattle.llb_board.specs.Opening.{may_work}
 use Rattle.llb_board.proofs.Opened.{some_work, few_work, opens, open_last, open_back}

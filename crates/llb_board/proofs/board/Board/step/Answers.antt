@@ -1,4 +1,4 @@
-use Rattle.std.proofs.Common.{◌≡◌, ◌++◌, ◌∷◌, [], refl, arith}
+use Rattle.std.proofs.Common.{◌≡◌, refl, arith}
 use Rattle.std.specs.Prelude.{Ok}
 use Rattle.llb_model.specs.Table.{Step, step_grant}
 use Rattle.llb_events.specs.Causes.{step_fault}

@@ -1,12 +1,11 @@
-use Rattle.std.proofs.Common.{◌≡◌, ◌∙◌, ◌+◌, Option, Some, None, ℕ, sym, ap, subst}
-use Rattle.std.specs.Prelude.{slice_get, slice_set, option_map}
-use Rattle.llb_model.specs.State.{Status}
+use Rattle.std.proofs.Common.{◌≡◌, ◌∙◌, Some, None, sym, ap, subst}
+use Rattle.std.specs.Prelude.{slice_set, option_map}
 use Rattle.llb_state.specs.Undo.{change_in, change_of}
 use Rattle.llb_state.specs.Vertices.{status_of}
 use Rattle.llb_board.specs.Seen.{Seen, seen}
-use Rattle.llb_board.specs.Undo.{undone, CanUndo}
+use Rattle.llb_board.specs.Undo.{CanUndo}
 use Rattle.llb_board.proofs.Undone.{can_put_back, changed, unchanged, change_whole, change_low, ends_with, space_changed, space_unchanged}
-use Rattle.llb_board.proofs.Undone.{Leaves, undo_keeps, undone_is}
+use Rattle.llb_board.proofs.Undone.{Leaves, undo_keeps}
 use Rattle.llb_board.proofs.board.Board.undo.Goals as goal
 
 pub put_back-requires : goal.put_back-requires

@@ -1,9 +1,9 @@
-use Rattle.std.proofs.Common.{◌≡◌, ◌∙◌, false, sym, ap, subst, rules}
+use Rattle.std.proofs.Common.{◌≡◌, ◌∙◌, false, sym, ap, rules}
 use Rattle.std.specs.Prelude.{Err}
 use Rattle.llb_events.specs.Views.{event_of}
 use Rattle.llb_state.specs.Undo.{walk_memory}
 use Rattle.llb_board.specs.Seen.{Seen}
-use Rattle.llb_board.specs.Undo.{walk_of, undone, CanUndo}
+use Rattle.llb_board.specs.Undo.{walk_of}
 use Rattle.llb_board.proofs.Walks.{walk_back, walk_can, walk_refused}
 use Rattle.llb_board.proofs.board.Board.walk.Goals as goal
 
