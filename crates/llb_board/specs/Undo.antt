@@ -110,4 +110,3 @@ pub record CanUndo (u : Displaced) (b : Seen) : Type 0 where
   pub last : IsLast u b
   pub stands : StandsBehind u.back b
   pub leased : FitsLeases u.back b.state.workers u.caches
-

@@ -180,4 +180,3 @@ granted_by ds w (Err e) = Err e
 
 abbrev pub left_if : Build → Execution → Bool → Result (ℕ × Status) SettleFault
 left_if b x f = if f then Ok (x.vertex, Settled (ending_from (program_in b x) x)) else Err NotFinished
-

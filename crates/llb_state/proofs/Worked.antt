@@ -128,7 +128,7 @@ module _ (vs : VerticesValue) (ds : List Desk) (rows : List Row) (out : Leases) 
   vertex_stays y after q (Some m) is =
       let left = step_on x.done (Some m) (work_with x.view (trees_at (store_of rows) x.places.items)) in
       let whole : ◌≡◌ {A = Written}
-          (with_step (execution_of x) left, put_each rows x.places.items left.work.trees, step_reply x.done m x.view left) (execution_of y, after, q)
+      (with_step (execution_of x) left, put_each rows x.places.items left.work.trees, step_reply x.done m x.view left) (execution_of y, after, q)
       = inside_ok is in
       sym (ap (λ (p : Written). p.0.vertex) whole)
 

@@ -42,7 +42,11 @@ pub(crate) struct Taking {
 
 /// Returns the caches that a vertex shows, in the order of the mounts, or fails with 135 with the first locked key that a lease has: then
 /// memory is taken for that key alone. Fails with 141 where memory is refused.
-pub(crate) fn wanted_by(alloc: Global, caches: &Caches, vertex: &Vertex) -> Result<Vec<Wanted>, ClaimFault>
+pub(crate) fn wanted_by(
+    alloc: Global,
+    caches: &Caches,
+    vertex: &Vertex,
+) -> Result<Vec<Wanted>, ClaimFault>
     requires seeds { HasEdges vertex.now }
     requires few { length (kind_mounts vertex.now.op.kind) < 2 ^ 32 }
     ensures gives { GivesClaim (λ ws. map need_of ws.items) result (unless_shut (needs_of vertex.now) (shut_key caches.now.out (needs_of vertex.now))) }

@@ -1,6 +1,5 @@
 //! What each worker runs, with what that needs until its end.
 
-
 use llb_applet::Setting;
 use llb_cache::{Lease, Place};
 use llb_execution::View;

@@ -15,9 +15,6 @@ mod leaving;
 mod stepping;
 mod undoing;
 
-pub use claiming::Begun;
-pub use undoing::{Change, End, Undo};
-
 use crate::copying::copied_desks;
 use crate::fresh::idle;
 use crate::instances::give_all_back;
@@ -25,10 +22,12 @@ use crate::same::same_desks;
 use crate::stand::Desk;
 use crate::step::{desk_at, is_finished};
 use crate::vertices::Vertices;
+pub use claiming::Begun;
 use llb_cache::{Caches, Place};
 use llb_events::{At, Memory};
 use std::alloc::Global;
 use std::marker::Model;
+pub use undoing::{Change, End, Undo};
 
 /// The workers of a board, and the caches whose instances they hold. Contracts see what each worker does, the lists of instances, and what
 /// each worker is supplied with.
@@ -70,9 +69,9 @@ impl Workers {
         requires count { (0 < count) × (count ≤ 64) }
         requires free { leases caches.out ≡ 0 }
         ensures ok { IfOk result (λ s. s ≡ record {
-            workers = replicate count Idle;
-            rows = caches.rows;
-            supplies = replicate count (supplies_for None);
+          workers = replicate count Idle;
+          rows = caches.rows;
+          supplies = replicate count (supplies_for None);
         }) }
         ensures back { IfErr result (λ c. c ≡ caches) }
     {

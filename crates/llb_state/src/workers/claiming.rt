@@ -18,6 +18,7 @@ ghost use Rattle.llb_state.specs.Views.{execution_of};
 ghost use Rattle.llb_state.specs.Workers.{IsBegunOn, Fits, claim_in, reply_of, state_in, rule_of};
 
 use crate::instances::lease_for;
+use crate::needs::{Wanted, mount_numbers, taking_for, wanted_by};
 use crate::stand::{Desk, Execution};
 use crate::step::{desk_at, outfit_for};
 use crate::vertices::Vertices;
@@ -26,7 +27,6 @@ use llb_cache::{Caches, Need};
 use llb_events::ClaimFault;
 use llb_execution::{Job, View};
 use llb_loader::Vertex;
-use crate::needs::{Wanted, mount_numbers, taking_for, wanted_by};
 use llb_wire::Many;
 use std::alloc::Global;
 use std::marker::Model;

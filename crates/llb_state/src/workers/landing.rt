@@ -17,8 +17,7 @@ ghost use Rattle.llb_state.specs.Workers.{Fits, RunsJob, steps_left};
 
 use crate::instances::write_back;
 use crate::landing::{has_numbers, has_trees, is_begun, put_left};
-use crate::stand::Desk;
-use crate::stand::Execution;
+use crate::stand::{Desk, Execution};
 use crate::step::desk_at;
 use crate::vertices::Vertices;
 use crate::workers::Workers;
@@ -36,9 +35,7 @@ impl Workers {
     {
         self.caches.is_exclusive();
         match desk_at(&self.seats, w) {
-            Some(Desk::Runs(_, execution)) => {
-                is_left(vertices, &self.caches, w, execution, job)
-            }
+            Some(Desk::Runs(_, execution)) => { is_left(vertices, &self.caches, w, execution, job) }
             _ => false,
         }
     }
@@ -60,13 +57,7 @@ impl Workers {
 }
 
 // Returns whether a job is what an execution has left to do, with the caches as they are now.
-fn is_left(
-    vertices: &Vertices,
-    caches: &Caches,
-    w: u32,
-    execution: &Execution,
-    job: &Job,
-) -> bool
+fn is_left(vertices: &Vertices, caches: &Caches, w: u32, execution: &Execution, job: &Job) -> bool
     requires vertex { is_some (slice_get vertices.now.build.graph.vertices execution.now.vertex) ≡ true }
     requires within { (p : model.Place) → Has execution.now.places.items p → p.number < length (trees_of caches.now.rows p.key) }
     ensures { IsTrue result ↔ IsRunOf vertices.now.build (store_of caches.now.rows) w (execution_of execution.now) job.now }

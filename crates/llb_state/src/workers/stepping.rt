@@ -29,12 +29,7 @@ use std::alloc::Global;
 impl Workers {
     /// Does the next micro-step of what a worker runs on its cache instances as they are, and writes them at once. Fails with 131 `NoWorker`,
     /// 136 `NotRunning`, 137 `NothingLeft` or 141 `Memory`; then nothing has changed.
-    pub fn step(
-        &mut self,
-        alloc: Global,
-        vertices: &Vertices,
-        w: u32,
-    ) -> Result<Stepped, StepFault>
+    pub fn step(&mut self, alloc: Global, vertices: &Vertices, w: u32) -> Result<Stepped, StepFault>
         requires { Fits vertices.now.build self.old }
         ensures gives { GivesStep (λ r. (state_in vertices.now self.new, step_reply r)) result (step_in vertices.now self.old w) }
         ensures last { MemoryLast step_memory result (step_in vertices.now self.old w) }

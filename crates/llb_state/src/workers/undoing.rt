@@ -14,6 +14,7 @@ ghost use Rattle.llb_state.specs.Workers.{Fits};
 
 use crate::copying::{copied, copied_leases};
 use crate::instances::give_back;
+use crate::needs::shows_cache;
 use crate::stand::{Desk, Execution};
 use crate::undoing::{Before, make_idle, put_caches, step_back};
 use crate::vertices::{Stage, Vertices};
@@ -21,7 +22,6 @@ use crate::workers::Workers;
 use llb_cache::Caches;
 use llb_events::{CancelFault, Event, Memory, SettleFault, StepFault, WalkFault};
 use llb_execution::Mark;
-use crate::needs::shows_cache;
 use std::alloc::Global;
 use std::marker::Model;
 

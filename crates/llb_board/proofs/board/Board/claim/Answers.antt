@@ -97,8 +97,11 @@ returns-clause-gives c =
     ap (λ (m : Seen). claim_of m c.args.w c.args.v) (sym c.self.view_is)
     ∙ recorded_as b.vertices _ b.start.rows b.workers new b.history.list (Claim c.args.w c.args.v) claim_fault _ (claim_reply c.in_ok-begun.begun.job)
     grants e.count rows
-    ∙ (λ i. Ok (seen (sym c.set.ensures i) b.start.rows new (sym (c.record.ensures.list ∙ ap (λ es. es ++ Claim c.args.w c.args.v ∷ [])
-    c.in_ok-reserve.ensures.list) i), claim_reply (sym e.job i)))
+    ∙ (λ i. Ok (
+      seen (sym c.set.ensures i) b.start.rows new (sym (c.record.ensures.list ∙ ap (λ es. es ++ Claim c.args.w c.args.v ∷ [])
+          c.in_ok-reserve.ensures.list) i),
+      claim_reply (sym e.job i),
+    ))
 
 -- if memory for the lease is refused, the board is as it was
 pub invariant_of-self-in_default : goal.invariant_of-self-in_default

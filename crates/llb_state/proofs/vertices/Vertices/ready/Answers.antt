@@ -25,7 +25,7 @@ is_there (Some start) is = refl
 -- what the vertex begins with is there where it is Ready
 starts : (c : After-is_ready)
     → is_some (start_from (map status_of c.self.inside.stages.items) (slice_get (map status_of c.self.inside.stages.items) c.args.v)
-      (Some c.in-Some.vertex.now)) ≡ c.is_ready.result
+    (Some c.in-Some.vertex.now)) ≡ c.is_ready.result
 starts c =
     let b = c.self.inside in
     let S = map status_of b.stages.items in
