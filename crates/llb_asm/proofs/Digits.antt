@@ -9,7 +9,9 @@ use Rattle.std.proofs.lemmas.Bool.{cases_lt, and_parts, and_from, lt-ltb, le-ltb
 use Rattle.std.proofs.lemmas.List.Folds.{list_all_more}
 use Rattle.std.proofs.lemmas.Int.Digits.{digits_value_more}
 use Rattle.std.proofs.lemmas.Str.{digit_value_digit}
-use Rattle.llb_asm.specs.Values.{capped, is_digit, magnitude, signed_in, below, negated, then_in, where_so}
+use Rattle.llb_asm.specs.Values.{signed_in, negated}
+use Rattle.llb_wire.specs.Decimal.{capped, is_digit, magnitude, below}
+use Rattle.llb_wire.specs.Texts.{then_in, where_so}
 use Prim.Native.Nat.{min}
 
 pub capped_low : (n : ℕ) → n < 2 ^ 64 → capped n ≡ n

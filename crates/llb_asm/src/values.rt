@@ -3,7 +3,8 @@
 ghost use Rattle.std.specs.Prelude.{◌≡◌, ◌==◌, ◌||◌, ◌^◌, ◌≤◌, ◌++◌, nat_lt, IfOk, OnOk};
 ghost use Rattle.std.specs.Option.{option_map};
 ghost use Rattle.llb_wire.specs.Hexadecimal.{hex_text};
-ghost use Rattle.llb_asm.specs.Values.{capped, magnitude, signed_in, flag_in, number_in, string_in, bytes_spelled, label_in, number_text};
+ghost use Rattle.llb_asm.specs.Values.{signed_in, flag_in, number_in, string_in, bytes_spelled, label_in, number_text};
+ghost use Rattle.llb_wire.specs.Decimal.{capped, magnitude};
 ghost use Rattle.llb_asm.specs.Values.{string_text, label_text, escaped, escape_of, lower_digit, Leads, Continues, string_from, closed, backslash};
 ghost use Rattle.llb_asm.specs.Values.{first, signed_text, flag_text, ValuesAreReadBack, ValuesAreSolid};
 ghost use Rattle.std.specs.Fmt.{decimal};

@@ -17,7 +17,7 @@ use Rattle.llb_model.proofs.Lists.{length_set}
 use Rattle.llb_model.proofs.Needs.{graph_distinct}
 use Rattle.llb_state.specs.Events.{Space, claimed as room_claimed}
 use Rattle.llb_state.specs.Caches.{lease_if, rows_after}
-use Rattle.llb_needs.specs.Needs.{shut_key, unless_shut, places_taken}
+use Rattle.llb_needs.specs.Needs.{first_held_key, unless_held, places_taken}
 use Rattle.llb_state.specs.Room.{supplies_of, supplies_for}
 use Rattle.llb_state.specs.Rules.{Begun, begun}
 use Rattle.llb_state.specs.Views.{status_of, at_of, leased_by, execution_of}
@@ -78,7 +78,7 @@ module _ (b : Build) (first : List Row) (ss : List Stand) (ds : List Desk) (c : 
 
   -- if the needs are admitted and leased, the claim is granted, and the board keeps its invariant
   pub did : (l : Option ℕ) (own : own.Execution) (new : CachesValue) (ns : List Need)
-      → unless_shut (needs_of x) (shut_key c.out (needs_of x)) ≡ Ok ns → execution_of own ≡ g.execution
+      → unless_held (needs_of x) (first_held_key c.out (needs_of x)) ≡ Ok ns → execution_of own ≡ g.execution
       → lease_if c g.needs ≡ Ok (l, new) → supplies_of own ≡ supplies_for (Some x) → Did l own g.reply new
   did l own new ns admitted same leases supplies =
       let d = data_of ss ds c stop_marks in

@@ -7,7 +7,7 @@ use Rattle.llb_model.specs.Leases.{AreLeased}
 use Rattle.llb_model.specs.Program.{Build}
 use Rattle.llb_model.specs.Room.{owed}
 use Rattle.llb_model.specs.Table.{Event}
-use Rattle.llb_state.specs.Board.{Seen, opening_with}
+use Rattle.llb_state.specs.Board.{BoardValue, opening_with}
 use Rattle.llb_links.specs.Links.{Linked, IsLinked}
 use Rattle.llb_state.specs.OpenInputs.{done_in}
 use Rattle.llb_state.specs.Events.{Space}
@@ -28,7 +28,7 @@ pub record Parts : Type 0 where
   pub marks : List Bool
   pub links : Linked
 
-abbrev pub seen_in : Parts → Seen
+abbrev pub seen_in : Parts → BoardValue
 seen_in p = seen p.build p.first p.stands p.desks p.caches.rows p.events
 
 -- the parts are the same, as far as contracts see them
@@ -74,8 +74,8 @@ tracked_same p q space more n same alike tracked =
       stop_marks_are = same.marks ∙ tracked.kept.stop_marks_are;
     } in
     record {
-      kept = subst (λ (s : Seen). IsKept s q.desks q.caches.out q.marks more) is kept;
-      over = subst (λ (s : Seen). AreOver s.build s.state.statuses n) is tracked.over;
+      kept = subst (λ (s : BoardValue). IsKept s q.desks q.caches.out q.marks more) is kept;
+      over = subst (λ (s : BoardValue). AreOver s.build s.state.statuses n) is tracked.over;
       linked = subst (IsLinked q.build.graph.vertices (done_in (map status_of q.stands))) (sym same.links)
-          (subst (λ (s : Seen). IsLinked s.build.graph.vertices (done_in s.state.statuses) p.links) is tracked.linked);
+          (subst (λ (s : BoardValue). IsLinked s.build.graph.vertices (done_in s.state.statuses) p.links) is tracked.linked);
     }

@@ -3,7 +3,7 @@ use denote.Hole.{as_row}
 use denote.Param.Send.{IsSend, sendable, view_send}
 use denote.Param.SendFields.{as_row_send, declared_send}
 use Rattle.std.proofs.Crossing.{crosses}
-use Rattle.llb_cache.proofs.need.Place.TheSendSync as place_crosses
+use Rattle.llb_cache.proofs.need.Instance.TheSendSync as place_crosses
 use Rattle.llb_cache.specs.contracts.caches.Caches as caches
 use Rattle.llb_execution.proofs.Crossing.{tree_send}
 use Rattle.llb_links.specs.contracts.links.Links as links

@@ -9,9 +9,9 @@ use Rattle.std.proofs.lemmas.List.Sums.{fold-append}
 use Rattle.llb_cache.specs.Caches.{Row, Leases, AreApart, AreThere as AreAllThere}
 use Rattle.llb_loader.specs.Graph.{IsGraph}
 use Rattle.llb_tree.specs.Tree.{TreeMap}
-use Rattle.llb_model.specs.Caches.{Place, Store, Hold, Distinct, put_all, trees_at}
+use Rattle.llb_model.specs.Caches.{Instance, Store, Hold, Distinct, put_all, trees_at}
 use Rattle.llb_model.specs.Program.{Build, Left, key_of}
-use Rattle.llb_model.specs.State.{State, Running, At, Runs, Execution, opening, program_in, is_finished, ending_from}
+use Rattle.llb_model.specs.State.{State, Running, WorkerStatus, Runs, Execution, opening, program_in, is_finished, ending_from}
 use Rattle.llb_model.specs.Kept.{store_of}
 use Rattle.llb_model.specs.Leases.{put_each}
 use Rattle.llb_model.specs.Landing.{steps_by, further, AreThere, AreLeft, left_so_far, with_steps, after_steps}
@@ -30,7 +30,7 @@ use Rattle.llb_model.proofs.Cancels.{steps_no_cancel, steps_counts, steps_roomy,
 use Rattle.llb_model.proofs.Runs.{run_none, run_one, run_on}
 use Rattle.llb_model.proofs.Landing.{first_step, steps_as_block, after_again, further_keeps}
 use Rattle.llb_state.specs.Events.{Space}
-use Rattle.llb_state.specs.Board.{Seen, Replays, kept_next, kept_along, opening_with, after_event, recorded}
+use Rattle.llb_state.specs.Board.{BoardValue, Replays, kept_next, kept_along, opening_with, after_event, recorded}
 use Rattle.llb_state.specs.Caches.{written, places_at, rows_after, leased_places}
 use Rattle.llb_execution.specs.Jobs.{OutcomeValue, IsOutcome, begun_on}
 use Rattle.llb_board.specs.Landing.{CanLand, IsThrough, Lands}
@@ -231,7 +231,7 @@ module _ (b : Build) (first : List Row) (d : Data) (es : List Event) (space : Sp
   pub few_trees : length o.left.work.trees < 2 ^ 32
   few_trees =
       let many : length own.places.items ≡ length (needs_at (slice_get b.graph.vertices own.vertex))
-      = sym (length_map (λ (p : Place). p.key) own.places.items) ∙ ap (λ (s : Supplies). length s.keys) (made_enough b d.desks w l own kept.supplies at)
+      = sym (length_map (λ (p : Instance). p.key) own.places.items) ∙ ap (λ (s : Supplies). length s.keys) (made_enough b d.desks w l own kept.supplies at)
       ∙ length_map key_of (needs_at (slice_get b.graph.vertices own.vertex)) in
       let count = trees_count in
       omega (arith, many, count, few_needs b.graph own.vertex graph)
@@ -256,7 +256,7 @@ module _ (b : Build) (first : List Row) (d : Data) (es : List Event) (space : Sp
       };
     };
     finished = settles_if b (state_as later) w (execution_of after)
-        (ap (λ (ws : List At). slice_get ws w) (map_set at_of d.desks w (desk.Runs l after))
+        (ap (λ (ws : List WorkerStatus). slice_get ws w) (map_set at_of d.desks w (desk.Runs l after))
         ∙ get_set_same (map at_of d.desks) w (Runs (execution_of after)) (Runs (execution_of own)) runs)
         (ap (λ (f : Left). is_finished (program_in b (execution_of own)).steps (with_steps (execution_of own) o.count f)) leaves ∙ all.over);
   }
@@ -284,7 +284,7 @@ module _ (b : Build) (first : List Row) (d : Data) (es : List Event) (space : Sp
 -- ---- the worker's desk
 
 -- the vertex that a worker runs is there
-pub runs_vertex : (b : Seen) → Replays b → (w : ℕ) (x : Execution) → slice_get b.state.workers w ≡ Some (Runs x)
+pub runs_vertex : (b : BoardValue) → Replays b → (w : ℕ) (x : Execution) → slice_get b.state.workers w ≡ Some (Runs x)
     → is_some (slice_get b.build.graph.vertices x.vertex) ≡ true
 runs_vertex b here w x runs =
     let c = consistent b here in
@@ -302,7 +302,7 @@ pub record HasDesk (b : Build) (d : Data) (w : ℕ) (job : Job) : Type 0 where
 pub has_desk : (b : Build) (first : List Row) (d : Data) (es : List Event) (w : ℕ) (job : Job) → CanLand (seen_as b first d es) w job → HasDesk b d w job
 has_desk b first d es w job can = by_desk (slice_get d.desks w) refl (sym (slice_get-map at_of d.desks w) ∙ can.runs)
   where
-    inside_at : {x y : Execution} → ◌≡◌ {A = Option At} (Some (Runs x)) (Some (Runs y)) → x ≡ y
+    inside_at : {x y : Execution} → ◌≡◌ {A = Option WorkerStatus} (Some (Runs x)) (Some (Runs y)) → x ≡ y
     inside_at e = cc
 
     by_desk : (k : Option Desk) → slice_get d.desks w ≡ k → option_map at_of k ≡ Some (Runs can.x) → HasDesk b d w job
@@ -336,7 +336,7 @@ inside_ok : {A E : Type 0} {x y : A} → ◌≡◌ {A = Result A E} (Ok x) (Ok y
 inside_ok e = cc
 
 -- a settle after the steps completes the landing
-pub settles : (b n m : Seen) (w : ℕ) (o : OutcomeValue) (reply : Reply) → CanLand b w o.job → IsThrough b w o.count n → settle_of n w ≡ Ok (m, reply)
+pub settles : (b n m : BoardValue) (w : ℕ) (o : OutcomeValue) (reply : Reply) → CanLand b w o.job → IsThrough b w o.count n → settle_of n w ≡ Ok (m, reply)
     → Lands b w o m reply
 settles b n m w o reply can through is = by_grant (settle_grant n.build n.state w) refl is
   where
@@ -345,9 +345,9 @@ settles b n m w o reply can through is = by_grant (settle_grant n.build n.state 
     by_grant (Err cause) grants is = absurd cc
     by_grant (Ok (t, q)) grants is =
         let steps = through.steps in
-        let same : ◌≡◌ {A = Seen × Reply} (after_event n (Settle w) t, q) (m, reply) = inside_ok is in
+        let same : ◌≡◌ {A = BoardValue × Reply} (after_event n (Settle w) t, q) (m, reply) = inside_ok is in
         let given : table b.build n.state (Settle w) ≡ Some (t, q)
-        = ap (λ (c : Build). table c n.state (Settle w)) (sym (ap (λ (k : Seen). k.build) steps.recorded)) ∙ settle_done n.build n.state w (t, q) grants in
+        = ap (λ (c : Build). table c n.state (Settle w)) (sym (ap (λ (k : BoardValue). k.build) steps.recorded)) ∙ settle_done n.build n.state w (t, q) grants in
         record {
           can = can;
           replies = steps.replies;
@@ -356,7 +356,7 @@ settles b n m w o reply can through is = by_grant (settle_grant n.build n.state 
               ∙ (λ i. Some ((same i).0.state, steps.replies ++ (same i).1 ∷ []));
           rows = kept_more b.build b.state b.rows n.rows n.state t (steps_by w o.count) (Settle w) q steps.rows given
               ∙ (λ i. Some ((same i).0.state, (same i).0.rows));
-          recorded = sym (ap (λ (a : Seen × Reply). a.0) same)
+          recorded = sym (ap (λ (a : BoardValue × Reply). a.0) same)
               ∙ (λ i. record {
                 build = (steps.recorded i).build;
                 opening = (steps.recorded i).opening;
@@ -369,7 +369,7 @@ settles b n m w o reply can through is = by_grant (settle_grant n.build n.state 
         }
 
 -- the settle after the steps is not refused
-pub not_refused : (b n : Seen) (w count : ℕ) (e : SettleFault) → IsThrough b w count n → settle_of n w ≡ Err e → ⊥
+pub not_refused : (b n : BoardValue) (w count : ℕ) (e : SettleFault) → IsThrough b w count n → settle_of n w ≡ Err e → ⊥
 not_refused b n w count e through is = by_grant (settle_grant n.build n.state w) through.finished is
   where
     by_grant : (r : Result (State × Reply) SettleCause) → is_ok r ≡ true → recorded n (Settle w) settle_fault r ≡ Err e → ⊥
@@ -377,7 +377,7 @@ not_refused b n w count e through is = by_grant (settle_grant n.build n.state w)
     by_grant (Err cause) ok is = cc
 
 -- the steps and what the settle returns are the landing of the outcome
-pub lands : (b n m : Seen) (w : ℕ) (o : OutcomeValue) (r : Result Settled SettleFault) (other : Settled) → CanLand b w o.job → IsThrough b w o.count n
+pub lands : (b n m : BoardValue) (w : ℕ) (o : OutcomeValue) (r : Result Settled SettleFault) (other : Settled) → CanLand b w o.job → IsThrough b w o.count n
     → GivesSettle (λ s. (m, settle_reply s)) r (settle_of n w) → Lands b w o m (settle_reply (result_unwrap_or r other))
 lands b n m w o (Ok s) other can through gives = settles b n m w o (settle_reply s) can through gives
 lands b n m w o (Err e) other can through gives = absurd (not_refused b n w o.count e through (gives refl))

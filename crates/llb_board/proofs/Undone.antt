@@ -18,7 +18,7 @@ use Rattle.llb_model.specs.Kept.{store_of}
 use Rattle.llb_model.specs.Leases.{AreLeased}
 use Rattle.llb_model.specs.Program.{Build}
 use Rattle.llb_model.specs.Run.{is_settled}
-use Rattle.llb_model.specs.State.{State, opening, Status, Waiting, Running, Execution, At, Idle, Runs, is_waiting, is_failed, ending_of, ending_at}
+use Rattle.llb_model.specs.State.{State, opening, Status, Waiting, Running, Execution, WorkerStatus, Idle, Runs, is_waiting, is_failed, ending_of, ending_at}
 use Rattle.llb_model.specs.State.{next_stopped}
 use Rattle.llb_model.specs.State.{stopped, is_stopped}
 use Rattle.llb_model.specs.Room.{cancel_counts, room_taken}
@@ -29,7 +29,7 @@ use Rattle.llb_model.proofs.Owing.{IsRoomy}
 use Rattle.llb_model.proofs.Runs.{run_more}
 use Rattle.llb_model.proofs.Lists.{inside, get_set_same, get_set_other, get_within, length_set}
 use Rattle.llb_state.specs.Events.{Space}
-use Rattle.llb_state.specs.Board.{Seen, Replays, opening_with, kept_along}
+use Rattle.llb_state.specs.Board.{BoardValue, Replays, opening_with, kept_along}
 use Rattle.llb_state.specs.Room.{AreOver, IsKept, Supplies, supplies_for, ready_made, needed}
 use Rattle.llb_board.specs.Undo.{Back, Unclaim, Unstep, Resume, Displaced}
 use Rattle.llb_state.specs.Undoing.{Before, Left, left_in, caches_in}
@@ -108,7 +108,7 @@ pub record Leaves (b : Build) (d d' : Data) (u : Displaced) : Type 0 where
   pub supplies : map ready_made d'.desks ≡ map (needed b) (map at_of d'.desks)
   pub marks : d'.stop_marks ≡ stopped b (map status_of d'.stands)
 
-as_many : (k : Back) (workers : List At) → length (workers_before k workers) ≡ length workers
+as_many : (k : Back) (workers : List WorkerStatus) → length (workers_before k workers) ≡ length workers
 as_many (Unclaim w v) workers = length_set workers w Idle
 as_many (Unstep w mark) workers = length_set workers w (step_before mark (slice_get workers w))
 as_many (Resume e w left) workers = length_set workers w (Runs left.execution)
@@ -188,13 +188,13 @@ undo_keeps b first d d' es space old u kept ends before leaves =
       replays = replays;
       room = subst (IsRoomy b n.state ends.replies) (sym before.room) returned.1;
       counted = before.counted;
-      leased = subst (λ (ws : List At). AreLeased d'.out ws (map leased_by d'.desks)) leaves.workers leaves.leased;
+      leased = subst (λ (ws : List WorkerStatus). AreLeased d'.out ws (map leased_by d'.desks)) leaves.workers leaves.leased;
       supplies = leaves.supplies ∙ ap (map (needed b)) leaves.workers;
       some = omega (arith, length_map at_of d.desks, many, some);
       few = omega (arith, length_map at_of d.desks, many, few);
       stop_marks_are = leaves.marks ∙ ap (stopped b) leaves.statuses;
     } in
-    subst (λ (s : Seen). IsKept s d'.desks d'.out d'.stop_marks old) (sym (undone_is b first d d' es u leaves)) here
+    subst (λ (s : BoardValue). IsKept s d'.desks d'.out d'.stop_marks old) (sym (undone_is b first d d' es u leaves)) here
 
 -- the room that the event took is there to be given back
 pub room_returns : (b : Build) (first : List Row) (d : Data) (es : List Event) (space : Space) (u : Displaced) (ends : EndsWith b first d es space u)
@@ -207,10 +207,10 @@ room_returns b first d es space u ends =
 -- ---- caches that are put back
 
 -- each lease has a worker that runs
-pub place_for : (out : Leases) (workers : List At) (ls : List (Option ℕ)) → AreLeased out workers ls → HasPlaceFor ls workers
+pub place_for : (out : Leases) (workers : List WorkerStatus) (ls : List (Option ℕ)) → AreLeased out workers ls → HasPlaceFor ls workers
 place_for out workers ls leased = record { count = leased.count; idle = λ w at. by_lease w at (slice_get ls w) refl }
   where
-    apart : (x : Execution) → ◌≡◌ {A = Option At} (Some (Runs x)) (Some Idle) → ⊥
+    apart : (x : Execution) → ◌≡◌ {A = Option WorkerStatus} (Some (Runs x)) (Some Idle) → ⊥
     apart x e = cc
 
     by_lease : (w : ℕ) → slice_get workers w ≡ Some Idle → (o : Option (Option ℕ)) → slice_get ls w ≡ o → slice_get ls w ≡ Some None
@@ -223,12 +223,12 @@ place_for out workers ls leased = record { count = leased.count; idle = λ w at.
     by_lease w at (Some (Some l)) is = let r = leased.runs w l is in absurd (apart r.0 (sym r.1 ∙ at))
 
 -- if caches are put back, their leases fit; otherwise those that are there do
-abbrev pub LeasedSo : Option Before → List At → Leases → List (Option ℕ) → Type 0
+abbrev pub LeasedSo : Option Before → List WorkerStatus → Leases → List (Option ℕ) → Type 0
 LeasedSo (Some c) workers out ls = AreLeased c.caches.out workers c.leases
 LeasedSo None workers out ls = AreLeased out workers ls
 
 -- after an undo the leases fit: those of the caches that are put back, or else those that are there
-pub leased_so : (u : Displaced) (n : Seen) (o : Option Before) (workers : List At) (out : Leases) (ls : List (Option ℕ)) → FitsLeases u n o → workers
+pub leased_so : (u : Displaced) (n : BoardValue) (o : Option Before) (workers : List WorkerStatus) (out : Leases) (ls : List (Option ℕ)) → FitsLeases u n o → workers
     ≡ (undone u n).state.workers
     → (HasNoPlaces u.back → AreLeased out workers ls) → LeasedSo o workers out ls
 leased_so u n (Some c) workers out ls fits same else = subst (λ ws. AreLeased c.caches.out ws c.leases) (sym same) fits
@@ -251,7 +251,7 @@ rows_put (Some k) c c' rows same caches = ap (λ (x : CachesValue). x.rows) cach
 rows_put None c c' rows same caches = ap (λ (x : CachesValue). x.rows) caches ∙ same
 
 -- the caches that are to be put back have a lease for each worker that runs
-pub places_put : (u : Displaced) (n : Seen) (o : Option before.Before) (workers : List At) → FitsLeases u n (caches_in o) → workers ≡ (undone u n).state.workers
+pub places_put : (u : Displaced) (n : BoardValue) (o : Option before.Before) (workers : List WorkerStatus) → FitsLeases u n (caches_in o) → workers ≡ (undone u n).state.workers
     → ForSome o (λ c. HasPlaceFor c.leases.items workers)
 places_put u n o workers fits same c is =
     place_for c.caches.out workers c.leases.items
@@ -266,12 +266,12 @@ desk_at [] w x at = absurd cc
 desk_at (desk.Idle ∷ ds) zero x at = absurd cc
 desk_at (desk.Runs l y ∷ ds) zero x at = (l, y, refl, runs_inside at)
   where
-    runs_inside : {x y : Execution} → ◌≡◌ {A = Option At} (Some (Runs x)) (Some (Runs y)) → x ≡ y
+    runs_inside : {x y : Execution} → ◌≡◌ {A = Option WorkerStatus} (Some (Runs x)) (Some (Runs y)) → x ≡ y
     runs_inside e = cc
 desk_at (d ∷ ds) (suc w) x at = desk_at ds w x at
 
 -- the worker whose claim is taken back runs something
-pub runs_there : (n : Seen) (w v : ℕ) → Replays n → IsBegun n w v → (x : Execution) × (slice_get n.state.workers w ≡ Some (Runs x))
+pub runs_there : (n : BoardValue) (w v : ℕ) → Replays n → IsBegun n w v → (x : Execution) × (slice_get n.state.workers w ≡ Some (Runs x))
 runs_there n w v here begun = let r = (consistent n here).running v w begun.runs in (r.0, r.1)
 
 -- a worker whose claim is taken back is idle
@@ -343,7 +343,7 @@ pub resumed_workers : (ds : List Desk) (e : End) (w : ℕ) (l : Option ℕ) (x :
 resumed_workers ds e w l x = map_set at_of ds w (desk.Runs l x)
 
 -- the vertex that a worker runs again is one of the graph's
-pub resumed_there : (u : Displaced) (n : Seen) (e : End) (w : ℕ) (left : Left) → u.back ≡ Resume e w left → Replays (undone u n)
+pub resumed_there : (u : Displaced) (n : BoardValue) (e : End) (w : ℕ) (left : Left) → u.back ≡ Resume e w left → Replays (undone u n)
     → slice_get n.state.workers w ≡ Some Idle
     → left.execution.vertex < length n.state.statuses
 resumed_there u n e w left is here idle =

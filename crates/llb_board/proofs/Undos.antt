@@ -9,13 +9,13 @@ use Rattle.llb_model.specs.Leases.{AreLeased}
 use Rattle.llb_loader.specs.declared.graph.Vertex.{Vertex}
 use Rattle.llb_model.specs.Program.{Build, program_at}
 use Rattle.llb_model.specs.Room.{events_of, cancel_counts}
-use Rattle.llb_model.specs.State.{State, Running, Execution, At, Idle, Runs, is_failed, ending_of, stopped}
+use Rattle.llb_model.specs.State.{State, Running, Execution, WorkerStatus, Idle, Runs, is_failed, ending_of, stopped}
 use Rattle.llb_model.specs.Table.{Event, Claim, Step, Settle, Reply, Cancelled, table}
 use Rattle.llb_model.proofs.Cancels.{counts_length}
 use Rattle.llb_model.proofs.Events.{Answer, cancel_is}
 use Rattle.llb_model.proofs.Lists.{get_within, get_set_same}
 use Rattle.llb_state.specs.Events.{Space, taken_by, unclaimed}
-use Rattle.llb_state.specs.Board.{Seen}
+use Rattle.llb_state.specs.Board.{BoardValue}
 use Rattle.llb_state.specs.Caches.{IsOutIf, given_back}
 use Rattle.llb_links.specs.Links.{Linked, IsLinked}
 use Rattle.llb_state.specs.OpenInputs.{done_in}
@@ -50,7 +50,7 @@ pub record PutsCaches (o : Option before.Before) (ds ds' : List Desk) (c c' : Ca
   pub leases : map leased_by ds' ≡ leases_before (caches_in o) (map leased_by ds)
   pub caches : c' ≡ caches_before (caches_in o) c
 
-runs_inside : {x y : Execution} → ◌≡◌ {A = Option At} (Some (Runs x)) (Some (Runs y)) → x ≡ y
+runs_inside : {x y : Execution} → ◌≡◌ {A = Option WorkerStatus} (Some (Runs x)) (Some (Runs y)) → x ≡ y
 runs_inside e = cc
 
 -- before a worker left a vertex, by the event
@@ -67,7 +67,7 @@ ended_space b s end.Cancel w x y a rs space there runs given counted =
 module _ (b : Build) (first : List Row) (ss : List Stand) (ds : List Desk) (c : CachesValue) (stop_marks : List Bool) (es : List Event) (space : Space)
     (kept : Keeps b first (data_of ss ds c stop_marks) es space) where
   -- the board before
-  abbrev pub board : Seen
+  abbrev pub board : BoardValue
   board = seen_as b first (data_of ss ds c stop_marks) es
 
   -- the record before

@@ -11,13 +11,13 @@ use Rattle.llb_loader.specs.declared.graph.Vertex.{Vertex}
 use Rattle.llb_model.specs.declared.fault.VertexFault.{VertexFault}
 use Rattle.llb_model.specs.Caches.{Store, put_all, trees_at}
 use Rattle.llb_model.specs.Program.{Build, MicroStep, needs_of, step_on}
-use Rattle.llb_model.specs.State.{Status, Waiting, Running, Settled, Execution, At, Idle, Runs, State, program_in, work_of, next_step, ending_from, held}
+use Rattle.llb_model.specs.State.{Status, Waiting, Running, Settled, Execution, WorkerStatus, Idle, Runs, State, program_in, work_of, next_step, ending_from, held}
 use Rattle.llb_model.specs.State.{places_for, begin_at}
 use Rattle.llb_model.specs.Table.{Event, Claim, Step, Settle, Cancel, worker_of, with_step, step_by, stepped, settled, cancelled, after_end, table}
 use Rattle.llb_model.specs.Leases.{AreLeased}
 use Rattle.llb_model.proofs.Events.{Answer, IsStep, claim_places, claim_is, step_is, settle_is, cancel_is}
 use Rattle.llb_model.proofs.Lists.{get_set_same}
-use Rattle.llb_state.specs.Board.{Seen, Replays, after_event, recorded}
+use Rattle.llb_state.specs.Board.{BoardValue, Replays, after_event, recorded}
 use Rattle.llb_state.specs.Caches.{written, places_at, rows_after}
 use Rattle.llb_state.specs.Room.{Supplies, supplies_for, ready_made, needed, mounts_at, needs_at}
 use Rattle.llb_events.specs.Causes.{claim_fault, step_fault, settle_fault, cancel_fault}
@@ -44,22 +44,22 @@ use Rattle.llb_state.proofs.Sound.{consistent}
 
 -- ---- what `walk` returns
 
-told_inside : {x y : Seen × replied.Reply} → ◌≡◌ {A = Result (Seen × replied.Reply) WalkFault} (Ok x) (Ok y) → x ≡ y
+told_inside : {x y : BoardValue × replied.Reply} → ◌≡◌ {A = Result (BoardValue × replied.Reply) WalkFault} (Ok x) (Ok y) → x ≡ y
 told_inside e = cc
 
 -- an event that is granted, with what it gives
-pub record Granted (b n : Seen) (e : Event) : Type 0 where
+pub record Granted (b n : BoardValue) (e : Event) : Type 0 where
   pub answer : Answer
   pub grants : table b.build b.state e ≡ Some answer
   pub is : n ≡ after_event b e answer.0
 
-told_of : {C F : Type 0} (b n : Seen) (e : Event) (fault : C → F) (wrap : F → WalkFault) (answer : Result Answer C) (r : replied.Reply)
+told_of : {C F : Type 0} (b n : BoardValue) (e : Event) (fault : C → F) (wrap : F → WalkFault) (answer : Result Answer C) (r : replied.Reply)
     → ((a : Answer) → answer ≡ Ok a → table b.build b.state e ≡ Some a)
     → told_as wrap (recorded b e fault answer) ≡ Ok (n, r) → Granted b n e
 told_of b n e fault wrap (Ok (s, reply)) r done is = record { answer = (s, reply); grants = done (s, reply) refl; is = ap (λ p. p.0) (sym (told_inside is)) }
 told_of b n e fault wrap (Err cause) r done is = absurd cc
 
-pub granted : (b n : Seen) (e : Event) (r : replied.Reply) → walk_of b e ≡ Ok (n, r) → Granted b n e
+pub granted : (b n : BoardValue) (e : Event) (r : replied.Reply) → walk_of b e ≡ Ok (n, r) → Granted b n e
 granted b n (Claim w v) r is = told_of b n (Claim w v) claim_fault walk.Claim _ r (claim_done b.build b.state w v) is
 granted b n (Step w) r is = told_of b n (Step w) step_fault walk.Step _ r (step_done b.build b.state w) is
 granted b n (Settle w) r is = told_of b n (Settle w) settle_fault walk.Settle _ r (settle_done b.build b.state w) is
@@ -68,13 +68,13 @@ granted b n (Cancel w) r is = told_of b n (Cancel w) cancel_fault walk.Cancel _ 
 -- ---- back to the board before
 
 -- the parts of the state are those before the event
-record LeadsBack (u : Displaced) (b : Seen) (e : Event) (s : State) : Type 0 where
+record LeadsBack (u : Displaced) (b : BoardValue) (e : Event) (s : State) : Type 0 where
   statuses : statuses_before u.back s.statuses ≡ b.state.statuses
   workers : workers_before u.back s.workers ≡ b.state.workers
   store : store_before u.caches s.store ≡ b.state.store
   rows : rows_before u.caches (rows_after b.rows s (worker_of e)) ≡ b.rows
 
-leads_back : (u : Displaced) (b : Seen) (e : Event) (s : State) → LeadsBack u b e s → undone u (after_event b e s) ≡ b
+leads_back : (u : Displaced) (b : BoardValue) (e : Event) (s : State) → LeadsBack u b e s → undone u (after_event b e s) ≡ b
 leads_back u b e s to = λ i. record {
   build = b.build;
   opening = b.opening;
@@ -85,24 +85,24 @@ leads_back u b e s to = λ i. record {
 }
 
 -- the caches are those that were kept, or nothing of them has changed
-store_back : {A : Type 0} (shown : List A) (b : Seen) (o : Option Before) (store : Store) → KeepsWhere shown b o → (shown ≡ [] → store ≡ b.state.store)
+store_back : {A : Type 0} (shown : List A) (b : BoardValue) (o : Option Before) (store : Store) → KeepsWhere shown b o → (shown ≡ [] → store ≡ b.state.store)
     → store_before o store ≡ b.state.store
 store_back shown b (Some c) store keeps stays = keeps.store
 store_back shown b None store keeps stays = stays keeps
 
-rows_back : {A : Type 0} (shown : List A) (b : Seen) (o : Option Before) (rows : List Row) → KeepsWhere shown b o → (shown ≡ [] → rows ≡ b.rows)
+rows_back : {A : Type 0} (shown : List A) (b : BoardValue) (o : Option Before) (rows : List Row) → KeepsWhere shown b o → (shown ≡ [] → rows ≡ b.rows)
     → rows_before o rows ≡ b.rows
 rows_back shown b (Some c) rows keeps stays = keeps.rows
 rows_back shown b None rows keeps stays = stays keeps
 
-fits_leases : {A : Type 0} (shown : List A) (u : Displaced) (b n : Seen) (o : Option Before) → undone u n ≡ b → KeepsWhere shown b o → (shown ≡ []
+fits_leases : {A : Type 0} (shown : List A) (u : Displaced) (b n : BoardValue) (o : Option Before) → undone u n ≡ b → KeepsWhere shown b o → (shown ≡ []
     → HasNoPlaces u.back)
     → FitsLeases u n o
-fits_leases shown u b n (Some c) is keeps none = subst (λ (m : Seen). AreLeased c.caches.out m.state.workers c.leases) (sym is) keeps.leased
+fits_leases shown u b n (Some c) is keeps none = subst (λ (m : BoardValue). AreLeased c.caches.out m.state.workers c.leases) (sym is) keeps.leased
 fits_leases shown u b n None is keeps none = none keeps
 
 -- an event that is granted is the last of the record after it
-last_of : (u : Displaced) (b : Seen) (k : Back) (a : Answer) → table b.build b.state (event_before k) ≡ Some a → u.back ≡ k
+last_of : (u : Displaced) (b : BoardValue) (k : Back) (a : Answer) → table b.build b.state (event_before k) ≡ Some a → u.back ≡ k
     → undone u (after_event b (event_before k) a.0) ≡ b → IsLast u (after_event b (event_before k) a.0)
 last_of u b k a grants same is = record {
   reply = a.1;
@@ -110,7 +110,7 @@ last_of u b k a grants same is = record {
   events = λ i. (sym is i).events ++ event_before (sym same i) ∷ [];
 }
 
-can_undo : {A : Type 0} (shown : List A) (u : Displaced) (b : Seen) (k : Back) (a : Answer) → Replays b → table b.build b.state (event_before k) ≡ Some a
+can_undo : {A : Type 0} (shown : List A) (u : Displaced) (b : BoardValue) (k : Back) (a : Answer) → Replays b → table b.build b.state (event_before k) ≡ Some a
     → undone u (after_event b (event_before k) a.0) ≡ b → u.back ≡ k → StandsBehind k (after_event b (event_before k) a.0)
     → KeepsWhere shown b u.caches
     → (shown ≡ [] → HasNoPlaces k) → CanUndo u (after_event b (event_before k) a.0)
@@ -124,7 +124,7 @@ can_undo shown u b k a here grants is same stands keeps none =
     }
 
 -- what an undo of an event does
-pub record Undoes (b : Seen) (e : Event) (s : State) (u : Displaced) : Type 0 where
+pub record Undoes (b : BoardValue) (e : Event) (s : State) (u : Displaced) : Type 0 where
   pub back : undone u (after_event b e s) ≡ b
   pub can : CanUndo u (after_event b e s)
 
@@ -133,7 +133,7 @@ pub record Undoes (b : Seen) (e : Event) (s : State) (u : Displaced) : Type 0 wh
 needs_are : (vertex : Vertex) (o : Option Vertex) → o ≡ Some vertex → needs_at o ≡ [] → needs_of vertex ≡ []
 needs_are vertex o there none = ap needs_at (sym there) ∙ none
 
-claim_back : (b : Seen) (w v : ℕ) (a : Answer) (u : Displaced) → Replays b → table b.build b.state (Claim w v) ≡ Some a → MarksClaim b w v u
+claim_back : (b : BoardValue) (w v : ℕ) (a : Answer) (u : Displaced) → Replays b → table b.build b.state (Claim w v) ≡ Some a → MarksClaim b w v u
     → Undoes b (Claim w v) a.0 u
 claim_back b w v a u here grants marks =
     let c = claim_is b.build b.state w v a grants in
@@ -169,7 +169,7 @@ record StepsBy (b : Build) (s : State) (w : ℕ) (a : Answer) (x : Execution) : 
   next : next_step (program_in b x).steps x ≡ Some step
   gives : a ≡ step_by s w x step (step_on x.done (Some step) (work_of s x))
 
-runs_inside : {x y : Execution} → ◌≡◌ {A = Option At} (Some (Runs x)) (Some (Runs y)) → x ≡ y
+runs_inside : {x y : Execution} → ◌≡◌ {A = Option WorkerStatus} (Some (Runs x)) (Some (Runs y)) → x ≡ y
 runs_inside e = cc
 
 steps_by : (b : Build) (s : State) (w : ℕ) (a : Answer) (x : Execution) → slice_get s.workers w ≡ Some (Runs x) → IsStep b s w a → StepsBy b s w a x
@@ -197,7 +197,7 @@ view_back s x m none =
       places = x.places;
     }
 
-step_back : (b : Seen) (w : ℕ) (a : Answer) (u : Displaced) → Replays b → table b.build b.state (Step w) ≡ Some a → MarksStep b w u → Undoes b (Step w) a.0 u
+step_back : (b : BoardValue) (w : ℕ) (a : Answer) (u : Displaced) → Replays b → table b.build b.state (Step w) ≡ Some a → MarksStep b w u → Undoes b (Step w) a.0 u
 step_back b w a u here grants marks =
     let s = b.state in
     let x = marks.x in
@@ -251,7 +251,7 @@ worker_ends : (e : End) (w : ℕ) → worker_of (end_of e w) ≡ w
 worker_ends end.Settle w = refl
 worker_ends end.Cancel w = refl
 
-end_back : (b : Seen) (e : End) (w : ℕ) (a : Answer) (u : Displaced) → Replays b → table b.build b.state (end_of e w) ≡ Some a → MarksEnd b e w u
+end_back : (b : BoardValue) (e : End) (w : ℕ) (a : Answer) (u : Displaced) → Replays b → table b.build b.state (end_of e w) ≡ Some a → MarksEnd b e w u
     → Undoes b (end_of e w) a.0 u
 end_back b e w a u here grants marks =
     let s = b.state in
@@ -278,40 +278,40 @@ end_back b e w a u here grants marks =
 
 -- ---- of any event
 
-undoes : (b : Seen) (e : Event) (a : Answer) (u : Displaced) → Replays b → table b.build b.state e ≡ Some a → Marks b e u → Undoes b e a.0 u
+undoes : (b : BoardValue) (e : Event) (a : Answer) (u : Displaced) → Replays b → table b.build b.state e ≡ Some a → Marks b e u → Undoes b e a.0 u
 undoes b (Claim w v) a u here grants marks = claim_back b w v a u here grants marks
 undoes b (Step w) a u here grants marks = step_back b w a u here grants marks
 undoes b (Settle w) a u here grants marks = end_back b end.Settle w a u here grants marks
 undoes b (Cancel w) a u here grants marks = end_back b end.Cancel w a u here grants marks
 
 -- what was kept before a granted event leads back from the board after it to the one before
-pub walk_back : (b n : Seen) (e : Event) (r : replied.Reply) (u : Displaced) → Replays b → walk_of b e ≡ Ok (n, r) → Marks b e u → undone u n ≡ b
+pub walk_back : (b n : BoardValue) (e : Event) (r : replied.Reply) (u : Displaced) → Replays b → walk_of b e ≡ Ok (n, r) → Marks b e u → undone u n ≡ b
 walk_back b n e r u here is marks =
     let g = granted b n e r is in
     ap (undone u) g.is ∙ (undoes b e g.answer u here g.grants marks).back
 
 -- and it can be undone: the board before replays its record, and worker and vertex are as the event left them
-pub walk_can : (b n : Seen) (e : Event) (r : replied.Reply) (u : Displaced) → Replays b → walk_of b e ≡ Ok (n, r) → Marks b e u → CanUndo u n
+pub walk_can : (b n : BoardValue) (e : Event) (r : replied.Reply) (u : Displaced) → Replays b → walk_of b e ≡ Ok (n, r) → Marks b e u → CanUndo u n
 walk_can b n e r u here is marks =
     let g = granted b n e r is in
     subst (CanUndo u) (sym g.is) (undoes b e g.answer u here g.grants marks).can
 
 -- ---- what is kept before an event
 
-pub keeps_where : {A : Type 0} (xs : List A) (n : Seen) (asked : Bool) (o : Option Before) → KeepsIf asked n o → (asked ≡ false → xs ≡ []) → KeepsWhere xs n o
+pub keeps_where : {A : Type 0} (xs : List A) (n : BoardValue) (asked : Bool) (o : Option Before) → KeepsIf asked n o → (asked ≡ false → xs ≡ []) → KeepsWhere xs n o
 keeps_where xs n asked (Some c) keeps none = keeps
 keeps_where xs n true None keeps none = absurd keeps
 keeps_where xs n false None keeps none = none refl
 
 -- what a running worker has
-pub record IsAt (n : Seen) (b : Build) (ds : List Desk) (w : ℕ) (l : Option ℕ) (x : own.Execution) : Type 0 where
+pub record IsAt (n : BoardValue) (b : Build) (ds : List Desk) (w : ℕ) (l : Option ℕ) (x : own.Execution) : Type 0 where
   pub build : n.build ≡ b
   pub workers : n.state.workers ≡ map at_of ds
   pub supplies : map ready_made ds ≡ map (needed b) (map at_of ds)
   pub there : slice_get ds w ≡ Some (desk.Runs l x)
 
 -- before a step, the mark of the worker's view and, where asked for, the caches are all that the step can displace
-pub marks_step : (n : Seen) (b : Build) (ds : List Desk) (w : ℕ) (l : Option ℕ) (x : own.Execution) (m : Mark) (o : Option Before) (asked : Bool)
+pub marks_step : (n : BoardValue) (b : Build) (ds : List Desk) (w : ℕ) (l : Option ℕ) (x : own.Execution) (m : Mark) (o : Option Before) (asked : Bool)
     → IsAt n b ds w l x
     → m ≡ mark_of x.view → KeepsIf asked n o → (asked ≡ false → x.places.items ≡ []) → MarksStep n w (record { back = Unstep w m; caches = o })
 marks_step n b ds w l x m o asked at is keeps none =
@@ -325,7 +325,7 @@ marks_step n b ds w l x m o asked at is keeps none =
     }
 
 -- before a settle or a cancel, the worker's execution and, where asked for, the caches are all that it can displace
-pub marks_end : (n : Seen) (e : End) (b : Build) (ds : List Desk) (w : ℕ) (l : Option ℕ) (x y : own.Execution) (o : Option Before) (asked : Bool)
+pub marks_end : (n : BoardValue) (e : End) (b : Build) (ds : List Desk) (w : ℕ) (l : Option ℕ) (x y : own.Execution) (o : Option Before) (asked : Bool)
     → IsAt n b ds w l x → left_in y ≡ left_in x → KeepsIf asked n o → (asked ≡ false → x.places.items ≡ [])
     → MarksEnd n e w (record { back = Resume e w (left_in y); caches = o })
 marks_end n e b ds w l x y o asked at is keeps none =
@@ -340,17 +340,17 @@ marks_end n e b ds w l x y o asked at is keeps none =
 
 -- ---- a worker that runs nothing
 
-pub step_none : (n : Seen) (w : ℕ) → slice_get n.state.workers w ≡ None → walk_of n (Step w) ≡ Err (walk.Step no_step.NoWorker)
+pub step_none : (n : BoardValue) (w : ℕ) → slice_get n.state.workers w ≡ None → walk_of n (Step w) ≡ Err (walk.Step no_step.NoWorker)
 step_none n w at = ap (λ o. told_as walk.Step (recorded n (Step w) step_fault (stepped n.build n.state w o))) at
 
-pub step_idle : (n : Seen) (w : ℕ) → slice_get n.state.workers w ≡ Some Idle → walk_of n (Step w) ≡ Err (walk.Step no_step.NotRunning)
+pub step_idle : (n : BoardValue) (w : ℕ) → slice_get n.state.workers w ≡ Some Idle → walk_of n (Step w) ≡ Err (walk.Step no_step.NotRunning)
 step_idle n w at = ap (λ o. told_as walk.Step (recorded n (Step w) step_fault (stepped n.build n.state w o))) at
 
-pub end_none : (n : Seen) (e : End) (w : ℕ) → slice_get n.state.workers w ≡ None → walk_of n (end_of e w) ≡ Err (no_worker e)
+pub end_none : (n : BoardValue) (e : End) (w : ℕ) → slice_get n.state.workers w ≡ None → walk_of n (end_of e w) ≡ Err (no_worker e)
 end_none n end.Settle w at = ap (λ o. told_as walk.Settle (recorded n (Settle w) settle_fault (settled n.build n.state w o))) at
 end_none n end.Cancel w at = ap (λ o. told_as walk.Cancel (recorded n (Cancel w) cancel_fault (cancelled n.state w o))) at
 
-pub end_idle : (n : Seen) (e : End) (w : ℕ) → slice_get n.state.workers w ≡ Some Idle → walk_of n (end_of e w) ≡ Err (not_running e)
+pub end_idle : (n : BoardValue) (e : End) (w : ℕ) → slice_get n.state.workers w ≡ Some Idle → walk_of n (end_of e w) ≡ Err (not_running e)
 end_idle n end.Settle w at = ap (λ o. told_as walk.Settle (recorded n (Settle w) settle_fault (settled n.build n.state w o))) at
 end_idle n end.Cancel w at = ap (λ o. told_as walk.Cancel (recorded n (Cancel w) cancel_fault (cancelled n.state w o))) at
 

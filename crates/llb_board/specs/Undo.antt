@@ -7,9 +7,9 @@ use Rattle.llb_execution.specs.Parts.{mounts_in}
 use Rattle.llb_model.specs.Caches.{Store}
 use Rattle.llb_model.specs.Kept.{store_of}
 use Rattle.llb_model.specs.Leases.{AreLeased}
-use Rattle.llb_model.specs.State.{Status, Waiting, Running, Execution, At, Idle, Runs}
+use Rattle.llb_model.specs.State.{Status, Waiting, Running, Execution, WorkerStatus, Idle, Runs}
 use Rattle.llb_model.specs.Table as table
-use Rattle.llb_state.specs.Board.{Seen, Replays}
+use Rattle.llb_state.specs.Board.{BoardValue, Replays}
 use Rattle.llb_state.specs.Room.{supplies_for, mounts_at, needs_at}
 use Rattle.llb_state.specs.Events.{Space, uncancelled}
 use Rattle.llb_state.specs.Rules.{claim_of, step_of, settle_of, cancel_of}
@@ -42,12 +42,12 @@ told (table.SettledDone v) = reply.Settled (settled.Done v)
 told (table.SettledFailed v) = reply.Settled (settled.Failed v)
 told (table.Cancelled v k) = reply.Cancelled (record { vertex = v; done = k })
 
-abbrev pub told_as : {F : Type 0} → (F → WalkFault) → Result (Seen × table.Reply) F → Result (Seen × Reply) WalkFault
+abbrev pub told_as : {F : Type 0} → (F → WalkFault) → Result (BoardValue × table.Reply) F → Result (BoardValue × Reply) WalkFault
 told_as fault (Ok (b, r)) = Ok (b, told r)
 told_as fault (Err e) = Err (fault e)
 
 -- the result of a claim, a step, a settle or a cancel
-abbrev pub walk_of : Seen → table.Event → Result (Seen × Reply) WalkFault
+abbrev pub walk_of : BoardValue → table.Event → Result (BoardValue × Reply) WalkFault
 walk_of b (table.Claim w v) = told_as walk.Claim (claim_of b w v)
 walk_of b (table.Step w) = told_as walk.Step (step_of b w)
 walk_of b (table.Settle w) = told_as walk.Settle (settle_of b w)
@@ -105,12 +105,12 @@ statuses_before (Resume e w left) statuses = slice_set statuses left.execution.v
 abbrev pub with_view_back : Mark → Execution → Execution
 with_view_back mark x = record x { done = x.done - 1; fault = None; own = put_back mark x.own }
 
-abbrev pub step_before : Mark → Option At → At
+abbrev pub step_before : Mark → Option WorkerStatus → WorkerStatus
 step_before mark (Some (Runs x)) = Runs (with_view_back mark x)
 step_before mark (Some Idle) = Idle
 step_before mark None = Idle
 
-abbrev pub workers_before : Back → List At → List At
+abbrev pub workers_before : Back → List WorkerStatus → List WorkerStatus
 workers_before (Unclaim w v) workers = slice_set workers w Idle
 workers_before (Unstep w mark) workers = slice_set workers w (step_before mark (slice_get workers w))
 workers_before (Resume e w left) workers = slice_set workers w (Runs left.execution)
@@ -124,7 +124,7 @@ store_before (Some c) store = store_of c.caches.rows
 store_before None store = store
 
 -- the board after an undo
-abbrev pub undone : Displaced → Seen → Seen
+abbrev pub undone : Displaced → BoardValue → BoardValue
 undone u b = record b {
   state = record {
     statuses = statuses_before u.back b.state.statuses;
@@ -149,25 +149,25 @@ event_before (Unstep w mark) = table.Step w
 event_before (Resume e w left) = end_of e w
 
 -- the event that is taken back is the last of the record
-pub record IsLast (u : Displaced) (b : Seen) : Type 0 where
+pub record IsLast (u : Displaced) (b : BoardValue) : Type 0 where
   pub reply : table.Reply
   pub gives : table.table b.build (undone u b).state (event_before u.back) ≡ Some (b.state, reply)
   pub events : b.events ≡ (undone u b).events ++ event_before u.back ∷ []
 
 -- the worker and its vertex are as the event left them, and what is put back has the supplies that the build asks for
-pub record IsBegun (b : Seen) (w v : ℕ) : Type 0 where
+pub record IsBegun (b : BoardValue) (w v : ℕ) : Type 0 where
   pub runs : slice_get b.state.statuses v ≡ Some (Running w)
 
-pub record IsStepped (b : Seen) (w : ℕ) (mark : Mark) : Type 0 where
+pub record IsStepped (b : BoardValue) (w : ℕ) (mark : Mark) : Type 0 where
   pub x : Execution
   pub runs : slice_get b.state.workers w ≡ Some (Runs x)
   pub mounts : mounts_in (put_back mark x.own) ≡ length (mounts_at (slice_get b.build.graph.vertices x.vertex))
 
-pub record IsLeft (b : Seen) (w : ℕ) (left : Left) : Type 0 where
+pub record IsLeft (b : BoardValue) (w : ℕ) (left : Left) : Type 0 where
   pub idle : slice_get b.state.workers w ≡ Some Idle
   pub supplies : left.supplies ≡ supplies_for (slice_get b.build.graph.vertices left.execution.vertex)
 
-abbrev pub StandsBehind : Back → Seen → Type 0
+abbrev pub StandsBehind : Back → BoardValue → Type 0
 StandsBehind (Unclaim w v) b = IsBegun b w v
 StandsBehind (Unstep w mark) b = IsStepped b w mark
 StandsBehind (Resume e w left) b = IsLeft b w left
@@ -179,12 +179,12 @@ HasNoPlaces (Unstep w mark) = Unit {0}
 HasNoPlaces (Resume e w left) = left.execution.places ≡ []
 
 -- in the caches that are put back, the workers' instances are leased, by these leases
-abbrev pub FitsLeases : Displaced → Seen → Option Before → Type 0
+abbrev pub FitsLeases : Displaced → BoardValue → Option Before → Type 0
 FitsLeases u b (Some c) = AreLeased c.caches.out (undone u b).state.workers c.leases
 FitsLeases u b None = HasNoPlaces u.back
 
 -- the board that an undo leaves is one that events lead to, and whose parts fit
-pub record CanUndo (u : Displaced) (b : Seen) : Type 0 where
+pub record CanUndo (u : Displaced) (b : BoardValue) : Type 0 where
   pub replays : Replays (undone u b)
   pub last : IsLast u b
   pub stands : StandsBehind u.back b
@@ -193,28 +193,28 @@ pub record CanUndo (u : Displaced) (b : Seen) : Type 0 where
 -- ---- what is kept of a board before an event
 
 -- the board's caches, and the leases of its workers
-pub record KeepsCaches (b : Seen) (c : Before) : Type 0 where
+pub record KeepsCaches (b : BoardValue) (c : Before) : Type 0 where
   pub rows : c.caches.rows ≡ b.rows
   pub store : store_of c.caches.rows ≡ b.state.store
   pub leased : AreLeased c.caches.out b.state.workers c.leases
 
 -- the caches are kept, or nothing is shown or held
-abbrev pub KeepsWhere : {A : Type 0} → List A → Seen → Option Before → Type 0
+abbrev pub KeepsWhere : {A : Type 0} → List A → BoardValue → Option Before → Type 0
 KeepsWhere shown b (Some c) = KeepsCaches b c
 KeepsWhere shown b None = shown ≡ []
 
-pub record MarksClaim (b : Seen) (w v : ℕ) (u : Displaced) : Type 0 where
+pub record MarksClaim (b : BoardValue) (w v : ℕ) (u : Displaced) : Type 0 where
   pub back : u.back ≡ Unclaim w v
   pub caches : KeepsWhere (needs_at (slice_get b.build.graph.vertices v)) b u.caches
 
-pub record MarksStep (b : Seen) (w : ℕ) (u : Displaced) : Type 0 where
+pub record MarksStep (b : BoardValue) (w : ℕ) (u : Displaced) : Type 0 where
   pub x : Execution
   pub runs : slice_get b.state.workers w ≡ Some (Runs x)
   pub back : u.back ≡ Unstep w (mark_of x.own)
   pub mounts : mounts_in x.own ≡ length (mounts_at (slice_get b.build.graph.vertices x.vertex))
   pub caches : KeepsWhere x.places b u.caches
 
-pub record MarksEnd (b : Seen) (e : End) (w : ℕ) (u : Displaced) : Type 0 where
+pub record MarksEnd (b : BoardValue) (e : End) (w : ℕ) (u : Displaced) : Type 0 where
   pub left : Left
   pub runs : slice_get b.state.workers w ≡ Some (Runs left.execution)
   pub back : u.back ≡ Resume e w left
@@ -222,7 +222,7 @@ pub record MarksEnd (b : Seen) (e : End) (w : ℕ) (u : Displaced) : Type 0 wher
   pub caches : KeepsWhere left.execution.places b u.caches
 
 -- an undo that is made before an event has what the event can displace
-abbrev pub Marks : Seen → table.Event → Displaced → Type 0
+abbrev pub Marks : BoardValue → table.Event → Displaced → Type 0
 Marks b (table.Claim w v) u = MarksClaim b w v u
 Marks b (table.Step w) u = MarksStep b w u
 Marks b (table.Settle w) u = MarksEnd b end.Settle w u

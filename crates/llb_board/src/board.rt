@@ -4,12 +4,13 @@
 
 ghost use Rattle.std.specs.Prelude.{◌≡◌, ◌<◌, ◌≤◌, ◌+◌, [], length, true, is_some, option_map, OnErr, IfErr, IfOk};
 ghost use Rattle.llb_model.specs.Outcome.{output_in};
-ghost use Rattle.llb_model.specs.State.{ending_at, missing_local};
+ghost use Rattle.llb_model.specs.State.{ending_at};
+ghost use Rattle.llb_loader.specs.Missing.{missing_local};
 ghost use Rattle.llb_model.specs.Room.{most_events, owed, still_to_come};
 ghost use Rattle.llb_model.specs.Run.{chosen, is_complete};
 ghost use Rattle.llb_model.specs.Laws.{IsReached};
 ghost use Rattle.llb_loader.specs.Graph.{IsGraph};
-ghost use Rattle.llb_state.specs.Board.{Seen, Replays, replies_in};
+ghost use Rattle.llb_state.specs.Board.{BoardValue, Replays, replies_in};
 ghost use Rattle.llb_links.specs.Links.{users_of};
 ghost use Rattle.llb_wire.specs.Answer.{MemoryLast};
 ghost use Rattle.llb_cache.specs.Caches.{leases};
@@ -28,7 +29,7 @@ ghost use Rattle.llb_state.specs.Views.{status_of};
 use crate::fault::OpenFault;
 use llb_cache::Caches;
 use llb_events::{
-    At, CancelFault, Cancelled, ClaimFault, Event, SettleFault, Settled, Status, StepFault, Stepped,
+    WorkerStatus, CancelFault, Cancelled, ClaimFault, Event, SettleFault, Settled, Status, StepFault, Stepped,
 };
 use llb_execution::Job;
 use llb_links::Links;
@@ -78,12 +79,12 @@ impl Drop for Board {
 
 impl Model for Board {
     ghost use Rattle.std.specs.Coded.{codes};
-    ghost use Rattle.llb_tree.specs.Tree.{coded_tree};
+    ghost use Rattle.llb_tree.specs.Coded.{coded_tree};
     ghost use Rattle.llb_board.specs.Store.{coded_store};
-    ghost use Rattle.llb_state.specs.Board.{Seen};
+    ghost use Rattle.llb_state.specs.Board.{BoardValue};
     ghost use Rattle.llb_state.specs.Room.{seen, IsTracked};
 
-    ghost Value = { Seen };
+    ghost Value = { BoardValue };
 
     ghost coded = { Prim.hlevel (codes, coded_tree, coded_store) };
 
@@ -276,14 +277,14 @@ impl Board {
     }
 
     /// Returns what a worker does; `None` past the last worker. Does not allocate.
-    pub fn worker(&self, w: u32) -> Option<At>
+    pub fn worker(&self, w: u32) -> Option<WorkerStatus>
         ensures { result ≡ worker_look self.now.build self.now.state w }
     {
         match desk_at(&self.desks, w)? {
-            Desk::Idle => Some(At::Idle),
+            Desk::Idle => Some(WorkerStatus::Idle),
             Desk::Runs(_, execution) => {
                 let finished = is_finished(execution, self.build.steps(execution.vertex));
-                Some(At::Runs(execution.vertex, execution.done, finished))
+                Some(WorkerStatus::Runs(execution.vertex, execution.done, finished))
             }
         }
     }

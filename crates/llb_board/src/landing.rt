@@ -9,7 +9,7 @@ ghost use Rattle.llb_events.specs.Views.{settle_reply};
 use crate::board::Board;
 use crate::fault::LandFault;
 use crate::laws::begun_are_plain;
-use llb_cache::Place;
+use llb_cache::Instance;
 use llb_events::Settled;
 use llb_execution::{Job, Outcome};
 use llb_state::{Desk, desk_at, has_shared, is_run_of, put_left, write_back};
@@ -65,7 +65,7 @@ impl Board {
     }
 
     /// Returns the instances of caches that a worker has; none where it runs nothing, or there is no such worker. Does not allocate.
-    pub fn places(&self, w: u32) -> &[Place]
+    pub fn places(&self, w: u32) -> &[Instance]
         ensures { result.now ≡ places_had (slice_get self.now.state.workers w) }
     {
         match desk_at(&self.desks, w) {

@@ -41,7 +41,7 @@ pub(crate) enum End {
 
 impl Model for Undo {
     ghost use Rattle.std.specs.Coded.{codes};
-    ghost use Rattle.llb_tree.specs.Tree.{coded_tree};
+    ghost use Rattle.llb_tree.specs.Coded.{coded_tree};
     ghost use Rattle.llb_board.specs.Undo.{Displaced, back_in};
     ghost use Rattle.llb_state.specs.Undoing.{caches_in};
 

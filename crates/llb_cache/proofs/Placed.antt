@@ -12,7 +12,8 @@ use Rattle.std.proofs.lemmas.List.Edits.{length-insert, get_or-insert_below, get
 use Rattle.std.proofs.lemmas.Map.Keys.{IsDistinct-push, IsDistinct-head, IsDistinct-tail}
 use Rattle.llb_tree.specs.Tree.{TreeMap}
 use Rattle.llb_cache.specs.declared.key.Key.{Key}
-use Rattle.llb_cache.specs.Key.{same_key, same_keys, key_equiv}
+use Rattle.llb_cache.specs.Key.{same_key}
+use Rattle.llb_cache.specs.LawsOfKeys.{same_keys, key_equiv}
 use Rattle.llb_cache.specs.Order.{key_cmp, key_cmp-IsTotalOrder, tie_is_same}
 use Rattle.llb_cache.specs.Caches.{Row}
 use Rattle.llb_cache.specs.Firsts.{IsAbsent, IsFirst, keys_long, place_first, place_absent, first_trees, first_found, absent_trees}

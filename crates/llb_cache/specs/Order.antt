@@ -8,7 +8,8 @@ use Rattle.std.specs.Option.{option_cmp}
 use Rattle.std.specs.Cmp.{IsTotalOrder, on_total, then_total, nat_cmp_total, eq_by_cmp_equiv}
 use Rattle.std.specs.Cmp.Lexicographic.{slice_cmp, nat_list_cmp_total, options_total}
 use Rattle.std.specs.FinMap.{IsAntisymmetric, slice_cmp-IsAntisymmetric, nat_cmp-IsAntisymmetric}
-use Rattle.llb_cache.specs.Key.{same_key, same_keys, key_itself}
+use Rattle.llb_cache.specs.Key.{same_key}
+use Rattle.llb_cache.specs.LawsOfKeys.{same_keys, key_itself}
 use Rattle.llb_cache.specs.declared.key.Key.{Key}
 use Rattle.llb_cache.specs.declared.key.Seed.{Seed}
 use Rattle.llb_cache.specs.declared.key.Mode.{Mode}

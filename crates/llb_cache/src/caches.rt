@@ -13,7 +13,7 @@ use crate::growing::{make_all, places_at, places_for, set_at, take_back, take_le
 use crate::key::Key;
 use crate::key_ref::KeyRef;
 use crate::marks::Marks;
-use crate::need::{Need, Place};
+use crate::need::{Need, Instance};
 use crate::rows::{Rows, no_rows, reserve, trees_at, trees_with};
 use crate::search::{count, keys_differ};
 use llb_tree::Tree;
@@ -51,7 +51,7 @@ pub struct Caches {
     pub(crate) rows: Rows,
     // For each row the marks of the instances that leases have: those of locked and private keys are exact.
     pub(crate) marks: Vec<Marks>,
-    pub(crate) out: Vec<Option<Many<Place>>>,
+    pub(crate) out: Vec<Option<Many<Instance>>>,
 }
 
 // Written out, so that the crates above drop one by this one function.
@@ -67,7 +67,7 @@ impl Drop for Caches {
 
 impl Model for Caches {
     ghost use Rattle.std.specs.Coded.{codes};
-    ghost use Rattle.llb_tree.specs.Tree.{coded_tree};
+    ghost use Rattle.llb_tree.specs.Coded.{coded_tree};
     ghost use Rattle.llb_cache.specs.Caches.{CachesValue};
     ghost use Rattle.llb_cache.specs.Marks.{IsMarked};
     ghost use Rattle.llb_cache.specs.Ordered.{AreOrdered};

@@ -6,7 +6,7 @@ ghost use Rattle.llb_cache.specs.Ordered.{AreOrdered};
 use crate::fault::Memory;
 use crate::key::Key;
 use crate::marks::Marks;
-use crate::need::Place;
+use crate::need::Instance;
 use crate::rows::Rows;
 use crate::trees::Trees;
 use llb_wire::{Many, Same};
@@ -32,7 +32,7 @@ fn copied_entries(entries: &Vec<(Key, Trees)>) -> Result<Vec<(Key, Trees)>, Memo
     Ok(copies)
 }
 
-fn copied_places(alloc: Global, places: &[Place]) -> Result<Many<Place>, Memory>
+fn copied_places(alloc: Global, places: &[Instance]) -> Result<Many<Instance>, Memory>
     ensures { IfOk result (λ ps. ps ≡ places.now) }
 {
     let mut copies = Vec::new(alloc);
@@ -42,7 +42,7 @@ fn copied_places(alloc: Global, places: &[Place]) -> Result<Many<Place>, Memory>
     Ok(Many::new(copies))
 }
 
-fn copied_lease(alloc: Global, lease: &Option<Many<Place>>) -> Result<Option<Many<Place>>, Memory>
+fn copied_lease(alloc: Global, lease: &Option<Many<Instance>>) -> Result<Option<Many<Instance>>, Memory>
     ensures { IfOk result (λ l. l ≡ lease.now) }
 {
     match lease {
@@ -52,8 +52,8 @@ fn copied_lease(alloc: Global, lease: &Option<Many<Place>>) -> Result<Option<Man
 }
 
 pub(crate) fn copied_leases(
-    out: &Vec<Option<Many<Place>>>,
-) -> Result<Vec<Option<Many<Place>>>, Memory>
+    out: &Vec<Option<Many<Instance>>>,
+) -> Result<Vec<Option<Many<Instance>>>, Memory>
     ensures { IfOk result (λ o. o.items ≡ out.now.items) }
 {
     let alloc = *out.allocator();
@@ -89,8 +89,8 @@ pub(crate) fn same_rows(rows: &[(Key, Trees)], others: &[(Key, Trees)]) -> bool
     true
 }
 
-impl Same for Place {
-    fn same(&self, other: &Place) -> bool {
+impl Same for Instance {
+    fn same(&self, other: &Instance) -> bool {
         self.number == other.number && self.key.same(&other.key)
     }
 }

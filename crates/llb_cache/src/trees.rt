@@ -24,7 +24,8 @@ impl Drop for Trees {
 impl Model for Trees {
     ghost use Rattle.std.specs.Prelude.{List};
     ghost use Rattle.std.specs.Coded.{codes};
-    ghost use Rattle.llb_tree.specs.Tree.{TreeMap, coded_tree};
+    ghost use Rattle.llb_tree.specs.Tree.{TreeMap};
+    ghost use Rattle.llb_tree.specs.Coded.{coded_tree};
 
     ghost Value = { List TreeMap };
 

@@ -103,9 +103,9 @@ named (Some p) = p.0
 abbrev pub local_words : List Row → List Text
 local_words rows = unwrap_or (all_of (codes "local") rows) []
 
-abbrev pub given : Option (Text × List Row) → List Text
-given None = []
-given (Some p) = local_words p.1
+abbrev pub named_local_words : Option (Text × List Row) → List Text
+named_local_words None = []
+named_local_words (Some p) = local_words p.1
 
 -- the number that a text is read as, where it is one of 32 bits: digits, after a plus or none
 abbrev pub number_of : Text → Option ℕ
@@ -157,10 +157,10 @@ RefusesWord words (Words (Some w)) = IsUnsplit words w.now
 RefusesWord words Memory = Unit {0}
 
 -- the program's fault for a refusal by `clap`
-abbrev pub StandsFor : ErrorKind → WordsFault → Type 0
-StandsFor kind (Words None) = kind ≢ OutOfMemory
-StandsFor kind (Words (Some w)) = ⊥
-StandsFor kind Memory = kind ≡ OutOfMemory
+abbrev pub IsFaultOfKind : ErrorKind → WordsFault → Type 0
+IsFaultOfKind kind (Words None) = kind ≢ OutOfMemory
+IsFaultOfKind kind (Words (Some w)) = ⊥
+IsFaultOfKind kind Memory = kind ≡ OutOfMemory
 
 -- the text after the word `fault`
 abbrev pub words_text : WordsFault → List ℕ

@@ -8,13 +8,13 @@ use Rattle.std.proofs.lemmas.Option.{slice_get_within}
 use Rattle.llb_model.specs.declared.fault.VertexFault.{VertexFault}
 use Rattle.llb_tree.specs.Tree.{TreeMap}
 use Rattle.llb_model.specs.Caches.{Distinct}
-use Rattle.llb_model.specs.Program.{MicroStep, View, Left, step_on, go_on}
+use Rattle.llb_model.specs.Program.{MicroStep, Workspace, Left, step_on, go_on}
 use Rattle.llb_model.specs.Landing.{AreThere, AreLeft, further, is_over}
 use Rattle.llb_model.proofs.Landing.{further_last, one_more_there, go_clean}
 use Rattle.llb_execution.specs.Parts.{left_with, work_with, mounts_in, shown_in}
 
 -- the micro-steps before number k are done, and none has faulted
-pub record AreDone (steps : List MicroStep) (done : ℕ) (first : View) (trees : List TreeMap) (k : ℕ) (view : View) (now : List TreeMap) : Type 0 where
+pub record AreDone (steps : List MicroStep) (done : ℕ) (first : Workspace) (trees : List TreeMap) (k : ℕ) (view : Workspace) (now : List TreeMap) : Type 0 where
   pub low : done ≤ k
   pub there : AreThere steps done (left_with first trees None) (k - done)
   pub left : left_with view now None ≡ further steps done (left_with first trees None) (k - done)
@@ -22,7 +22,7 @@ pub record AreDone (steps : List MicroStep) (done : ℕ) (first : View) (trees :
   pub shown : shown_in view ≡ shown_in first
   pub count : length now ≡ length (shown_in first)
 
-pub none_done : (steps : List MicroStep) (done : ℕ) (first : View) (trees : List TreeMap) → length trees ≡ length (shown_in first)
+pub none_done : (steps : List MicroStep) (done : ℕ) (first : Workspace) (trees : List TreeMap) → length trees ≡ length (shown_in first)
     → AreDone steps done first trees done first trees
 none_done steps done first trees count =
     let none : zero ≡ done - done = omega arith in
@@ -36,11 +36,11 @@ none_done steps done first trees count =
     }
 
 -- what a view is to be like for a micro-step
-pub record Fits (view : View) : Type 0 where
+pub record Fits (view : Workspace) : Type 0 where
   pub apart : Distinct (shown_in view)
   pub within : All (λ n. n < mounts_in view) (shown_in view)
 
-pub still_fits : (first view : View) → Fits first → mounts_in view ≡ mounts_in first → shown_in view ≡ shown_in first → Fits view
+pub still_fits : (first view : Workspace) → Fits first → mounts_in view ≡ mounts_in first → shown_in view ≡ shown_in first → Fits view
 still_fits first view fits mounts shown = record {
   apart = subst Distinct (sym shown) fits.apart;
   within = subst (λ (n : ℕ). All (λ m. m < n) (shown_in view)) (sym mounts)
@@ -57,7 +57,7 @@ within_not n k low = go (nat_le n k) refl
     go false is = refl
     go true is = let le : n ≤ k = leb-true n k is in absurd (omega (arith, le, low))
 
-module _ (steps : List MicroStep) (done : ℕ) (first : View) (trees : List TreeMap) (k : ℕ) (view : View) (now : List TreeMap)
+module _ (steps : List MicroStep) (done : ℕ) (first : Workspace) (trees : List TreeMap) (k : ℕ) (view : Workspace) (now : List TreeMap)
     (are : AreDone steps done first trees k view now) where
   begun : Left
   begun = left_with first trees None
@@ -72,7 +72,7 @@ module _ (steps : List MicroStep) (done : ℕ) (first : View) (trees : List Tree
     over = ap (λ (l : Left). is_over steps (done + (k - done)) l) (sym are.left) ∙ le-leb (length steps) (done + (k - done)) (omega (arith, place, past));
   }
 
-  module _ (m : MicroStep) (at : slice_get steps k ≡ Some m) (view' : View) (now' : List TreeMap) (fault : Option VertexFault)
+  module _ (m : MicroStep) (at : slice_get steps k ≡ Some m) (view' : Workspace) (now' : List TreeMap) (fault : Option VertexFault)
       (does : left_with view' now' fault ≡ step_on k (Some m) (work_with view now)) where
     next : suc (k - done) ≡ k + 1 - done
     next = omega (arith, are.low)

@@ -9,30 +9,30 @@ use Rattle.llb_mount.specs.declared.shown.Shown.{Shown}
 use Rattle.llb_applet.specs.declared.join.Joined.{Joined}
 use Rattle.llb_applet.specs.declared.setting.Setting.{Setting}
 use Rattle.llb_applet.specs.Commands.{run}
-use Rattle.llb_model.specs.Program.{ReadLocal, Act, LayInput, Run, View, LocalTree, Files, Layers, Mounted, micro_step, tried}
+use Rattle.llb_model.specs.Program.{ReadLocal, Act, LayInput, Run, Workspace, LocalTree, Files, Layers, Mounted, micro_step, tried}
 use Rattle.llb_model.specs.Program.{trees_in, with_tree, act_among, with_result, lay_on, filled, is_run, no_fault, ran, run_on}
 use Rattle.llb_execution.specs.Parts.{work_with, shown_in}
 use Rattle.llb_execution.specs.Marks.{Mark, Nothing, Results, Laid, Mounts, mark_of, put_back, PutsBack}
 
 -- what has not changed
-same_back : (view : View) → put_back (mark_of view) view ≡ view
+same_back : (view : Workspace) → put_back (mark_of view) view ≡ view
 same_back (LocalTree t) = refl
 same_back (Files inputs results) = ap (Files inputs) (take_all (length results) results (omega arith))
 same_back (Layers inputs t) = refl
 same_back (Mounted mounts caches last) = refl
 
-tree_back : (view : View) (t : TreeMap) → put_back (mark_of view) (with_tree view t) ≡ view
+tree_back : (view : Workspace) (t : TreeMap) → put_back (mark_of view) (with_tree view t) ≡ view
 tree_back (LocalTree own) t = refl
 tree_back (Files inputs results) t = ap (Files inputs) (take-append_seam results (t ∷ []))
 tree_back (Layers inputs laid) t = refl
 tree_back (Mounted mounts caches last) t = refl
 
-acted_back : (k : ℕ) (view : View) (trees : List TreeMap) (r : Result TreeMap ActFault)
+acted_back : (k : ℕ) (view : Workspace) (trees : List TreeMap) (r : Result TreeMap ActFault)
     → put_back (mark_of view) (tried (work_with view trees) (with_result k view r)).work.own ≡ view
 acted_back k view trees (Ok t) = tree_back view t
 acted_back k view trees (Err e) = same_back view
 
-laid_back : (i : ℤ) (view : View) → put_back (mark_of view) (lay_on i view) ≡ view
+laid_back : (i : ℤ) (view : Workspace) → put_back (mark_of view) (lay_on i view) ≡ view
 laid_back i (LocalTree own) = refl
 laid_back i (Files inputs results) = same_back (Files inputs results)
 laid_back i (Layers inputs laid) = refl
@@ -53,7 +53,7 @@ run_back k s m ends mounts caches last trees = by_run (is_run m.join last)
     by_run false = refl
 
 -- whatever micro-step is done on a view, its mark from before puts it back
-pub puts_back : (view : View) → PutsBack view (mark_of view)
+pub puts_back : (view : Workspace) → PutsBack view (mark_of view)
 unfolding micro_step
 puts_back view k None trees = same_back view
 puts_back view k (Some ReadLocal) trees = same_back view
@@ -65,7 +65,7 @@ puts_back (Layers inputs t) k (Some (Run s m ends)) trees = refl
 puts_back (Mounted mounts caches last) k (Some (Run s m ends)) trees = run_back k s m ends mounts caches last trees
 
 -- a view that is put back shows the same caches
-pub shown_back : (m : Mark) (view : View) → shown_in (put_back m view) ≡ shown_in view
+pub shown_back : (m : Mark) (view : Workspace) → shown_in (put_back m view) ≡ shown_in view
 shown_back Nothing view = refl
 shown_back (Results n) (LocalTree t) = refl
 shown_back (Results n) (Files inputs results) = refl

@@ -4,7 +4,7 @@ use Rattle.std.specs.Prelude.{Some, None, is_some, true, false, slice_get, if◌
 use Rattle.std.proofs.lemmas.List.{drop_all}
 use Rattle.llb_loader.specs.declared.graph.Vertex.{Vertex}
 use Rattle.llb_loader.specs.Locals.{Local, local_name, tree_of_local}
-use Rattle.llb_model.specs.State.{lacks, missing_local, first_of}
+use Rattle.llb_loader.specs.Missing.{lacks, missing_local, first_of}
 use Rattle.llb_execution.proofs.Lists.{drop_at}
 
 -- none of the vertices so far lacks one

@@ -7,7 +7,7 @@ ghost use Rattle.llb_model.specs.Landing.{AreLeft, further};
 ghost use Rattle.llb_execution.specs.Parts.{left_with, mounts_in, shown_in};
 
 use crate::program::Program;
-use crate::view::View;
+use crate::workspace::Workspace;
 use llb_model::VertexFault;
 use llb_tree::Tree;
 use llb_wire::Memory;
@@ -27,7 +27,7 @@ pub fn do_further(
     alloc: Global,
     program: &Program,
     done: u32,
-    view: &mut View,
+    view: &mut Workspace,
     trees: &mut Vec<Tree>,
 ) -> Result<Further, Memory>
     requires few { length program.now.steps < 2 ^ 32 }

@@ -6,7 +6,7 @@ ghost use Rattle.llb_execution.specs.Jobs.{IsWorkable};
 ghost use Rattle.llb_execution.specs.Parts.{work_with};
 
 use crate::program::Program;
-use crate::view::View;
+use crate::workspace::Workspace;
 use llb_tree::Tree;
 use llb_wire::Many;
 use std::marker::Model;
@@ -17,7 +17,7 @@ pub struct Job {
     pub(crate) vertex: u32,
     pub(crate) program: Program,
     pub(crate) done: u32,
-    pub(crate) view: View,
+    pub(crate) view: Workspace,
     pub(crate) trees: Many<Tree>,
     instances: Many<u32>,
 }
@@ -39,7 +39,7 @@ impl Drop for Job {
 
 impl Model for Job {
     ghost use Rattle.std.specs.Coded.{codes};
-    ghost use Rattle.llb_tree.specs.Tree.{coded_tree};
+    ghost use Rattle.llb_tree.specs.Coded.{coded_tree};
     ghost use Rattle.llb_execution.specs.Parts.{work_with};
     ghost use Rattle.llb_model.specs.Table as table;
     ghost use Rattle.llb_execution.specs.Jobs.{IsWorkable};
@@ -67,7 +67,7 @@ impl Job {
         worker: u32,
         vertex: u32,
         program: Program,
-        view: View,
+        view: Workspace,
         trees: Many<Tree>,
         instances: Many<u32>,
     ) -> Job
@@ -121,7 +121,7 @@ impl Job {
     }
 
     /// Returns the view that it works on, in which the mounts of caches are empty.
-    pub fn view(&self) -> &View
+    pub fn view(&self) -> &Workspace
         ensures { result.now ≡ self.now.work.own }
     {
         &self.view

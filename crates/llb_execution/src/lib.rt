@@ -31,4 +31,4 @@ pub use missing::missing_local;
 pub use mounting::{input_tree, mounts_of, setting_of};
 pub use outcome::{Outcome, work};
 pub use program::Program;
-pub use view::View;
+pub use view::Workspace;

@@ -28,7 +28,7 @@ pub(crate) enum Was {
 
 impl Model for Mark {
     ghost use Rattle.std.specs.Coded.{codes};
-    ghost use Rattle.llb_tree.specs.Tree.{coded_tree};
+    ghost use Rattle.llb_tree.specs.Coded.{coded_tree};
     ghost use Rattle.llb_execution.specs.Marks.{Mark as MarkValue, mark_in};
 
     ghost Value = { MarkValue };

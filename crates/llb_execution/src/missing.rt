@@ -1,7 +1,7 @@
 //! The local trees that a graph names and that are not given.
 
 ghost use Rattle.std.specs.Prelude.{◌≡◌, option_map};
-ghost use Rattle.llb_model.specs.State.{missing_local};
+ghost use Rattle.llb_loader.specs.Missing.{missing_local};
 
 use llb_loader::{Graph, Locals};
 

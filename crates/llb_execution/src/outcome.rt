@@ -9,7 +9,7 @@ use crate::fault::WorkFault;
 use crate::further::{Further, do_further};
 use crate::gate::Gate;
 use crate::job::Job;
-use crate::view::{View, tree_copies};
+use crate::workspace::{Workspace, tree_copies};
 use llb_model::VertexFault;
 use llb_tree::Tree;
 use llb_wire::Memory;
@@ -22,14 +22,14 @@ use std::marker::Model;
 pub struct Outcome {
     job: Job,
     count: u32,
-    view: View,
+    view: Workspace,
     trees: Vec<Tree>,
     fault: Option<VertexFault>,
 }
 
 impl Model for Outcome {
     ghost use Rattle.std.specs.Coded.{codes};
-    ghost use Rattle.llb_tree.specs.Tree.{coded_tree};
+    ghost use Rattle.llb_tree.specs.Coded.{coded_tree};
     ghost use Rattle.llb_execution.specs.Parts.{left_with};
     ghost use Rattle.llb_execution.specs.Jobs.{OutcomeValue, IsOutcome};
 
@@ -72,7 +72,7 @@ impl Outcome {
     }
 
     /// Returns how many micro-steps the job had left, and what they leave: the view, the trees of the cache instances, and the fault of the last.
-    pub fn into_left(self) -> (u32, View, Vec<Tree>, Option<VertexFault>)
+    pub fn into_left(self) -> (u32, Workspace, Vec<Tree>, Option<VertexFault>)
         ensures count { result.0 ≡ self.count }
         ensures left { left_with result.1 result.2.items result.3 ≡ self.left }
     {

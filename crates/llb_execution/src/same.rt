@@ -10,15 +10,15 @@ ghost use Rattle.llb_execution.specs.Parts.{steps_in, own_of};
 use crate::micro_step::commands_of;
 use crate::mounting::mounts_of;
 use crate::program::{Program, Steps};
-use crate::view::{Own, View};
+use crate::workspace::{Own, Workspace};
 use llb_applet::{Joined, Script, Setting};
 use llb_loader::Vertex;
 use llb_ops::{Action, Kind, MergeInput, Meta, Mount};
 use llb_tree::Path;
 use llb_wire::{Same, Text, all_same};
 
-impl Same for View {
-    fn same(&self, other: &View) -> bool {
+impl Same for Workspace {
+    fn same(&self, other: &Workspace) -> bool {
         same_own(&self.own, &other.own)
     }
 }

@@ -9,7 +9,7 @@ ghost use Rattle.llb_fileop.specs.Faults.{Gives};
 ghost use Rattle.llb_fileop.specs.declared.fault.ActFault.{ActFault};
 ghost use Rattle.llb_loader.specs.Graph.{IsVertexOf};
 ghost use Rattle.llb_model.specs.Caches.{Distinct};
-ghost use Rattle.llb_model.specs.Program.{program_of, view_on, local_tree, mount_of, needs_of, trees_in, base_in, with_tree, with_result, tried};
+ghost use Rattle.llb_model.specs.Program.{program_of, workspace_on, local_tree, mount_of, needs_of, trees_in, base_in, with_tree, with_result, tried};
 ghost use Rattle.llb_model.specs.Program.{tree_fault_number, fault_number, is_and, all_and, is_run, exit_of, last_of, lay_on, run_on, step_on, outputs_of};
 ghost use Rattle.llb_execution.specs.Marks.{put_back, Results, Laid};
 ghost use Rattle.llb_execution.specs.Marks as marks;
@@ -35,14 +35,14 @@ use std::marker::Model;
 /// What a program works on: for a source its local tree, for a file op the trees of its inputs and the results so far, for a
 /// merge the trees of its inputs and what is laid so far, for an exec its mounts, of which those that show caches are empty, and
 /// the status of the last command that ran.
-pub struct View {
+pub struct Workspace {
     pub(crate) own: Own,
 }
 
 // Written out, so that the crates above drop one by this one function.
-impl Drop for View {
+impl Drop for Workspace {
     fn drop(self) {
-        let View { own: _ } = self;
+        let Workspace { own: _ } = self;
     }
 }
 
@@ -54,20 +54,20 @@ pub(crate) enum Own {
     Mounted(Mounts, Vec<u32>, u32),
 }
 
-impl Model for View {
+impl Model for Workspace {
     ghost use Rattle.std.specs.Coded.{codes};
-    ghost use Rattle.llb_tree.specs.Tree.{coded_tree};
+    ghost use Rattle.llb_tree.specs.Coded.{coded_tree};
     ghost use Rattle.llb_model.specs.Program as model;
     ghost use Rattle.llb_execution.specs.Parts.{own_of};
 
-    ghost Value = { model.View };
+    ghost Value = { model.Workspace };
 
     ghost coded = { Prim.hlevel (codes, coded_tree) };
 
     ghost view = { λ v. own_of v.own };
 }
 
-impl View {
+impl Workspace {
     /// Makes the view before the first micro-step of a vertex: on the trees of its inputs, with the numbers of the mounts that show caches, in
     /// the order of the needs. Fails with `Memory` alone.
     pub fn on(
@@ -76,21 +76,21 @@ impl View {
         vertex: &Vertex,
         inputs: Vec<Tree>,
         caches: Vec<u32>,
-    ) -> Result<View, Memory>
+    ) -> Result<Workspace, Memory>
         requires kind { IsVertexOf vertex.now vertex.now.op.kind }
         requires caches { caches.items ≡ map mount_of (needs_of vertex.now) }
-        ensures { IfOk result (λ v. v ≡ view_on locals.now vertex.now vertex.now.op.kind inputs.items) }
+        ensures { IfOk result (λ v. v ≡ workspace_on locals.now vertex.now vertex.now.op.kind inputs.items) }
     {
         let own = own_on(alloc, locals, vertex, inputs, caches)?;
-        Ok(View { own })
+        Ok(Workspace { own })
     }
 
     /// Returns an equal second owner, whose trees are shared. Fails with `Memory` alone.
-    pub fn copy(&self) -> Result<View, Memory>
+    pub fn copy(&self) -> Result<Workspace, Memory>
         ensures { IfOk result (λ v. v ≡ self.now) }
     {
         let own = copy_of(&self.own)?;
-        Ok(View { own })
+        Ok(Workspace { own })
     }
 
     /// Returns the status of the last command that ran, 0 before one has. Does not allocate.
@@ -160,7 +160,7 @@ impl View {
         requires { outputs.items ≡ replicate vertex.now.outputs empty_tree }
         ensures { result.items ≡ outputs_of (program_of vertex.now) self }
     {
-        let View { own } = self;
+        let Workspace { own } = self;
         outputs_of(own, outputs, vertex)
     }
 
@@ -336,7 +336,7 @@ fn own_on(
 ) -> Result<Own, NoMemory>
     requires kind { IsVertexOf vertex.now vertex.now.op.kind }
     requires caches { caches.items ≡ map mount_of (needs_of vertex.now) }
-    ensures { IfOk result (λ own. own_of own ≡ view_on locals.now vertex.now vertex.now.op.kind inputs.items) }
+    ensures { IfOk result (λ own. own_of own ≡ workspace_on locals.now vertex.now vertex.now.op.kind inputs.items) }
 {
     match &vertex.op.kind {
         Some(Kind::Source(_)) => Ok(Own::Local(local_tree(alloc, locals, vertex)?)),

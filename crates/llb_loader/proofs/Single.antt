@@ -23,7 +23,7 @@ use Rattle.llb_loader.specs.Features.{feature_of}
 use Rattle.llb_loader.specs.Rules.{MeetsAll, Breaks, BreaksFirst, rules_on}
 use Rattle.llb_loader.specs.Graph.{Numbered}
 use Rattle.llb_loader.specs.Linking.{Plan, plan_of, op_at, links_in, input_row, Foremost, IsApart, HasResult, IsStarted, IsNamed, IsOrdered}
-use Rattle.llb_loader.specs.Linking.{IsTaken, IsValid, IsWhole, IsUnknown, IsBadIndex, IsUnsupported, IsInvalid, Refuses, Refused, GraphOf}
+use Rattle.llb_loader.specs.Linking.{IsSupported, IsValid, IsWhole, IsUnknown, IsBadIndex, IsUnsupported, IsInvalid, Refuses, Refused, GraphOf}
 use Rattle.llb_loader.specs.Linking.{numbered_of}
 use Rattle.llb_loader.specs.Reading.{AreOps, IsUnread, RefusesRow}
 use Rattle.llb_loader.specs.Link.{IsGraphOf, IsRefusalOf}
@@ -70,7 +70,7 @@ module _ (p : Plan) where
   Passes (suc (suc (suc zero))) = IsStarted p
   Passes (suc (suc (suc (suc zero)))) = IsNamed p
   Passes (suc (suc (suc (suc (suc zero))))) = (order : List ℕ) × IsOrdered p order
-  Passes (suc (suc (suc (suc (suc (suc zero)))))) = (order : List ℕ) × IsTaken p order
+  Passes (suc (suc (suc (suc (suc (suc zero)))))) = (order : List ℕ) × IsSupported p order
   Passes (suc (suc (suc (suc (suc (suc (suc zero))))))) = (order : List ℕ) × IsValid p order
   Passes (suc (suc (suc (suc (suc (suc (suc (suc n)))))))) = (order : List ℕ) × IsWhole p order
 
@@ -84,7 +84,7 @@ module _ (p : Plan) where
   Stops (suc (suc (suc (suc (suc zero))))) e = (e ≡ Cycle) × IsNamed p × HasCycle (links_in p) p.start
   Stops (suc (suc (suc (suc (suc (suc zero)))))) e = (order : List ℕ) × (k : ℕ) × (f : Feature) × (e ≡ Unsupported k f) × IsOrdered p order
       × IsUnsupported p k f
-  Stops (suc (suc (suc (suc (suc (suc (suc zero))))))) e = (order : List ℕ) × (k : ℕ) × (r : Rule) × (e ≡ Invalid k r) × IsTaken p order × IsInvalid p k r
+  Stops (suc (suc (suc (suc (suc (suc (suc zero))))))) e = (order : List ℕ) × (k : ℕ) × (r : Rule) × (e ≡ Invalid k r) × IsSupported p order × IsInvalid p k r
   Stops (suc (suc (suc (suc (suc (suc (suc (suc zero)))))))) e = (order : List ℕ) × (k : ℕ) × (i : ℕ) × (e ≡ BadIndex k i)
       × IsValid p order × Foremost (IsBadIndex p) k i
   Stops (suc (suc (suc (suc (suc (suc (suc (suc (suc n))))))))) e = ⊥

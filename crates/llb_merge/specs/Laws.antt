@@ -9,7 +9,7 @@ use Rattle.std.specs.FinMap.Entries.{where_key, find-where_key}
 use Rattle.llb_tree.specs.Meta.{new_dir_meta}
 use Rattle.llb_tree.specs.Path.{path_cmp}
 use Rattle.llb_tree.specs.PathOrder.{path_cmp-IsTotalOrder, path_cmp-IsAntisymmetric}
-use Rattle.llb_tree.specs.Tree.{Entry, Dir, File, TreeMap, Look, parents, all_dirs, walk, IsDirAt, CanStand, IsTree, empty_tree}
+use Rattle.llb_tree.specs.Tree.{Entry, Dir, File, TreeMap, Look, parents, all_dirs, walk, IsDirAt, IsAllowedAt, IsTree, empty_tree}
 use Rattle.llb_tree.specs.Overlay.{WayValue, way_of, laid_over, over_at}
 use Rattle.llb_merge.specs.Laying.{is_file, below_file, or_else, lay_at, lay}
 
@@ -151,7 +151,7 @@ module _ (a b : TreeMap) (lower : IsTree a) (upper : IsTree b) where
     root = (upper.root.0, get-lay a b [] ∙ (dir_over (finite.get a) (finite.get b) [] upper.root).1);
     closed = λ p there. let some = some_is (finite.get (lay a b) p) there in looks p ∙ closed p some.0 (sym (get-lay a b p) ∙ some.1);
     stands = λ p e is.
-        laid_cases (CanStand p e) (finite.get a) (finite.get b) p e (upper.stands p e) (λ none clear there. lower.stands p e there) (sym (get-lay a b p) ∙ is);
+        laid_cases (IsAllowedAt p e) (finite.get a) (finite.get b) p e (upper.stands p e) (λ none clear there. lower.stands p e there) (sym (get-lay a b p) ∙ is);
   }
 
 -- ---- the empty tree, and a tree over itself

@@ -1,6 +1,6 @@
 -- The claim order: each claimed vertex is run at its claim, one after the other: whole, or as far as it came where the claim was cancelled.
 use Rattle.std.specs.Prelude.{◌≡◌, ℕ, ◌==◌, List, [], ◌∷◌, length, Option, Some, None, slice_get, slice_set, replicate, if◌then◌else◌}
-use Rattle.llb_model.specs.Caches.{Place, Store, content, put_all}
+use Rattle.llb_model.specs.Caches.{Instance, Store, content, put_all}
 use Rattle.llb_model.specs.Program.{Build, MicroStep, Program, Work, Left, Start, program_of, needs_of, part, whole}
 use Rattle.llb_model.specs.Outcome.{Ending, ending}
 use Rattle.llb_model.specs.State.{Status, Waiting, Settled, State, ready, IsFree, begin_at, places_by}
@@ -52,11 +52,11 @@ stands_after (Some k) p left = Waiting
 -- ---- the order
 
 -- the vertex gets that status, and the trees are written back
-abbrev pub left_by : Order → ℕ → List Place → Program → Option ℕ → Left → Order
+abbrev pub left_by : Order → ℕ → List Instance → Program → Option ℕ → Left → Order
 left_by o v ps p cut left = record { statuses = slice_set o.statuses v (stands_after cut p left); store = put_all o.store ps left.work.trees }
 
 -- what the claim does, on the trees of the inputs and those at the places
-abbrev pub whole_at : Build → Order → ℕ → Start → List Place → Option ℕ → Order
+abbrev pub whole_at : Build → Order → ℕ → Start → List Instance → Option ℕ → Order
 whole_at b o v start ps cut =
     left_by o v ps (program_of start.vertex) cut (done_of cut (program_of start.vertex).steps (begin_at b o.store start ps))
 
@@ -88,4 +88,4 @@ claims_in (Cancelled v k ∷ rs) = claims_in rs
 -- settled vertices and free instances are those of an order
 pub record StandsIn (s : State) (o : Order) : Type 0 where
   pub endings : (v : ℕ) (e : Ending) → slice_get s.statuses v ≡ Some (Settled e) → slice_get o.statuses v ≡ Some (Settled e)
-  pub contents : (p : Place) → IsFree s.workers p → content s.store p ≡ content o.store p
+  pub contents : (p : Instance) → IsFree s.workers p → content s.store p ≡ content o.store p

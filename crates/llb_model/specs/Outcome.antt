@@ -6,7 +6,7 @@ use Rattle.llb_loader.specs.declared.graph.Vertex.{Vertex}
 use Rattle.llb_tree.specs.Tree.{TreeMap}
 use Rattle.llb_model.specs.declared.fault.VertexFault.{VertexFault}
 use Rattle.llb_model.specs.ByNumber.{by_number}
-use Rattle.llb_model.specs.Program.{Build, Program, View, Left, start_with, program_of, begin, whole, outputs_of, has_cache}
+use Rattle.llb_model.specs.Program.{Build, Program, Workspace, Left, start_with, program_of, begin, whole, outputs_of, has_cache}
 
 -- how a vertex ends: with its outputs, or with its first fault
 pub data Ending : Type 0 where
@@ -19,7 +19,7 @@ pub data Outcome : Type 0 where
   Blocked : Outcome
 
 -- how a program ends: with the outputs of its view, or with the fault
-abbrev pub ended : Program → View → Option VertexFault → Ending
+abbrev pub ended : Program → Workspace → Option VertexFault → Ending
 ended p view None = Done (outputs_of p view)
 ended p view (Some f) = Failed f
 

@@ -2,7 +2,7 @@
 use Rattle.std.specs.Prelude.{ℕ, zero, suc, ◌+◌, ◌-◌, ◌*◌, ◌==◌, Bool, false, List, [], ◌∷◌, length, count_by, Option, Some, None, slice_get}
 use Rattle.llb_loader.specs.declared.graph.Vertex.{Vertex}
 use Rattle.llb_model.specs.Program.{Build, program_of}
-use Rattle.llb_model.specs.State.{Status, Waiting, Running, Settled, At, Idle, Runs, State, program_in}
+use Rattle.llb_model.specs.State.{Status, Waiting, Running, Settled, WorkerStatus, Idle, Runs, State, program_in}
 use Rattle.llb_model.specs.Table.{Event, Claim, Step, Settle, Cancel, Reply, Claimed, HasRead, Acted, HasMerged, HasRun}
 use Rattle.llb_model.specs.Table.{Skipped, Faulted, SettledDone, SettledFailed, Cancelled}
 
@@ -54,11 +54,11 @@ all_to_come (v ∷ vs) [] = 0
 all_to_come (v ∷ vs) (s ∷ statuses) = to_come v s + all_to_come vs statuses
 
 -- the most events still to come for a worker: the rest of its micro-steps, and its settle
-abbrev pub left_by : Build → At → ℕ
+abbrev pub left_by : Build → WorkerStatus → ℕ
 left_by b Idle = 0
 left_by b (Runs x) = (length (program_in b x).steps - x.done) + 1
 
-abbrev pub all_left : Build → List At → ℕ
+abbrev pub all_left : Build → List WorkerStatus → ℕ
 all_left b [] = 0
 all_left b (a ∷ workers) = left_by b a + all_left b workers
 

@@ -5,7 +5,7 @@ use Rattle.std.proofs.lemmas.Option.{slice_get-map}
 use Rattle.llb_loader.specs.declared.graph.Vertex.{Vertex}
 use Rattle.llb_loader.specs.Rules.{kind_mounts}
 use Rattle.llb_tree.specs.Tree.{TreeMap}
-use Rattle.llb_model.specs.Caches.{Place, Store, content}
+use Rattle.llb_model.specs.Caches.{Instance, Store, content}
 use Rattle.llb_model.specs.Program.{Need, base_in, needs_from}
 use Rattle.llb_model.specs.State.{first_trees}
 use Rattle.llb_needs.specs.declared.needs.Wanted.{Wanted}
@@ -23,7 +23,7 @@ map_take zero ws = refl
 map_take (suc i) [] = refl
 map_take (suc i) (w ∷ ws) = ap (λ ns. need_of w ∷ ns) (map_take i ws)
 
-first_suc : (s : Store) (inputs : List TreeMap) (i : ℕ) (ps : List Place) (ns : List Need) (p : Place) (n : Need) → slice_get ps i ≡ Some p
+first_suc : (s : Store) (inputs : List TreeMap) (i : ℕ) (ps : List Instance) (ns : List Need) (p : Instance) (n : Need) → slice_get ps i ≡ Some p
     → slice_get ns i ≡ Some n
     → first_trees s inputs (take i ps) (take i ns) ++ unwrap_or (content s p) (base_in n.input inputs) ∷ []
     ≡ first_trees s inputs (take (suc i) ps) (take (suc i) ns)
@@ -37,7 +37,7 @@ first_suc s inputs (suc i) (q ∷ ps) (m ∷ ns) p n at need =
     ap (λ ts. unwrap_or (content s q) (base_in m.input inputs) ∷ ts) (first_suc s inputs i ps ns p n at need)
 
 -- one place more begins with the tree that is there, or else with the one that its need takes from the inputs
-pub first_more : (s : Store) (inputs : List TreeMap) (i : ℕ) (ps : List Place) (ws : List Wanted) (p : Place) (w : Wanted)
+pub first_more : (s : Store) (inputs : List TreeMap) (i : ℕ) (ps : List Instance) (ws : List Wanted) (p : Instance) (w : Wanted)
     → slice_get ps i ≡ Some p → slice_get ws i ≡ Some w
     → first_trees s inputs (take i ps) (map need_of (take i ws)) ++ unwrap_or (content s p) (base_in w.input inputs) ∷ []
     ≡ first_trees s inputs (take (i + 1) ps) (map need_of (take (i + 1) ws))

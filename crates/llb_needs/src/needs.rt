@@ -9,11 +9,11 @@ ghost use Rattle.llb_model.specs.Kept.{store_of};
 ghost use Rattle.llb_model.specs.Leases.{asked};
 ghost use Rattle.llb_model.specs.Program.{needs_of, mount_of, base_in, mode_of, key_as, seed_as};
 ghost use Rattle.llb_model.specs.State.{first_trees};
-ghost use Rattle.llb_needs.specs.Needs.{need_of, shut_key, unless_shut, places_taken, number_of, taken_with, HasEdges};
+ghost use Rattle.llb_needs.specs.Needs.{need_of, first_held_key, unless_held, places_taken, number_of, taken_with, HasEdges};
 ghost use Rattle.llb_cache.specs.Key.{seed_by};
 ghost use Rattle.llb_events.specs.Faults.{GivesClaim, claim_memory, claim_may_want};
 
-use llb_cache::{Caches, Key, KeyRef, Mode, Need, Place};
+use llb_cache::{Caches, Key, KeyRef, Mode, Need, Instance};
 use llb_events::ClaimFault;
 use llb_execution::{input_tree, mounts_of};
 use llb_loader::{Vertex, cache_in};
@@ -32,7 +32,7 @@ pub struct Wanted {
 /// What a claim takes, made before anything changes.
 #[derive(Drop)]
 pub struct Taking {
-    pub places: Vec<Place>,
+    pub places: Vec<Instance>,
     /// The numbers of the instances.
     pub instances: Vec<u32>,
     /// The trees that they begin with.
@@ -45,9 +45,9 @@ pub struct Taking {
 pub fn wanted_by(alloc: Global, caches: &Caches, vertex: &Vertex) -> Result<Vec<Wanted>, ClaimFault>
     requires seeds { HasEdges vertex.now }
     requires few { length (kind_mounts vertex.now.op.kind) < 2 ^ 32 }
-    ensures gives { GivesClaim (λ ws. map need_of ws.items) result (unless_shut (needs_of vertex.now) (shut_key caches.now.out (needs_of vertex.now))) }
+    ensures gives { GivesClaim (λ ws. map need_of ws.items) result (unless_held (needs_of vertex.now) (first_held_key caches.now.out (needs_of vertex.now))) }
     ensures last { IfErr result (λ e. claim_memory e ≡ true
-        → claim_may_want (unless_shut (needs_of vertex.now) (shut_key caches.now.out (needs_of vertex.now))) ≡ true) }
+        → claim_may_want (unless_held (needs_of vertex.now) (first_held_key caches.now.out (needs_of vertex.now))) ≡ true) }
 {
     match first_shut(caches, vertex) {
         Some(key) => Err(ClaimFault::Held(key.to_key(alloc)?)),
@@ -71,11 +71,11 @@ pub fn shows_cache(vertex: &Vertex) -> bool
 // The first locked key that a vertex shows and a lease has. Does not allocate.
 fn first_shut<'a>(caches: &Caches, vertex: &'a Vertex) -> Option<KeyRef<'a>>
     requires { HasEdges vertex.now }
-    ensures { result ≡ shut_key caches.now.out (needs_of vertex.now) }
+    ensures { result ≡ first_held_key caches.now.out (needs_of vertex.now) }
 {
     for mount in mounts_of(&vertex.op.kind) {
         if let Some(key) = key_shown(vertex, mount) {
-            if caches.is_shut(&key) {
+            if caches.is_locked_and_held(&key) {
                 return Some(key);
             }
         }
@@ -170,19 +170,19 @@ pub fn taking_for(
 }
 
 // The instances that a lease of these caches would have now.
-fn places_taken(alloc: Global, caches: &Caches, wanted: &[Wanted]) -> Result<Vec<Place>, ClaimFault>
+fn places_taken(alloc: Global, caches: &Caches, wanted: &[Wanted]) -> Result<Vec<Instance>, ClaimFault>
     ensures { GivesClaim (λ ps. ps.items) result (Ok (places_taken caches.now.out (map need_of wanted.now))) }
 {
     let mut places = Vec::new(alloc);
     for want in wanted {
         let key = want.key.copy()?;
         let number = caches.next_instance(&key);
-        places.push(Place { key, number })?;
+        places.push(Instance { key, number })?;
     }
     Ok(places)
 }
 
-fn instance_numbers(alloc: Global, places: &[Place]) -> Result<Vec<u32>, ClaimFault>
+fn instance_numbers(alloc: Global, places: &[Instance]) -> Result<Vec<u32>, ClaimFault>
     ensures { GivesClaim (λ ns. ns.items) result (Ok (map number_of places.now)) }
 {
     let mut numbers = Vec::new(alloc);
@@ -197,7 +197,7 @@ fn first_trees(
     alloc: Global,
     caches: &Caches,
     inputs: &[Tree],
-    places: &[Place],
+    places: &[Instance],
     wanted: &[Wanted],
 ) -> Result<Vec<Tree>, ClaimFault>
     requires { length places.now ≡ length wanted.now }
@@ -216,7 +216,7 @@ fn first_tree(
     alloc: Global,
     caches: &Caches,
     inputs: &[Tree],
-    place: &Place,
+    place: &Instance,
     input: i64,
 ) -> Result<Tree, ClaimFault>
     ensures { GivesClaim (λ t. t) result (Ok (unwrap_or (content (store_of caches.now.rows) place.now) (base_in input inputs.now))) }

@@ -3,19 +3,19 @@ use Rattle.std.proofs.Common.{◌≡◌, ℕ, suc, ◌+◌, ◌<◌, List, [], �
 use Rattle.std.specs.Prelude.{Some, None, slice_get}
 use Rattle.llb_tree.specs.Tree.{TreeMap}
 use Rattle.llb_model.specs.declared.fault.VertexFault.{VertexFault}
-use Rattle.llb_model.specs.Program.{MicroStep, View, step_on, go_on, part, whole}
+use Rattle.llb_model.specs.Program.{MicroStep, Workspace, step_on, go_on, part, whole}
 use Rattle.llb_model.proofs.Lists.{get_within}
 use Rattle.llb_model.proofs.Parts.{is_over_at, finished_whole}
 use Rattle.llb_execution.specs.Parts.{left_with, shown_in, work_with}
 
 -- the view that the first k micro-steps leave, of which none has faulted, and no trees of caches
-pub record Leaves (steps : List MicroStep) (start : View) (k : ℕ) (view : View) (trees : List TreeMap) : Type 0 where
+pub record Leaves (steps : List MicroStep) (start : Workspace) (k : ℕ) (view : Workspace) (trees : List TreeMap) : Type 0 where
   pub left : part steps (work_with start []) k ≡ left_with view [] None
   pub shown : shown_in view ≡ []
   pub none : trees ≡ []
 
 -- before the first micro-step the view is the one begun with, and nothing has faulted
-pub none_yet : (steps : List MicroStep) (start : View) (trees : List TreeMap) → shown_in start ≡ [] → trees ≡ [] → Leaves steps start 0 start trees
+pub none_yet : (steps : List MicroStep) (start : Workspace) (trees : List TreeMap) → shown_in start ≡ [] → trees ≡ [] → Leaves steps start 0 start trees
 unfolding part
 none_yet steps start trees bare none = record { left = refl; shown = bare; none = none }
 
@@ -30,7 +30,7 @@ as_many old new none same = empty_of new (same ∙ ap length none)
 pub there : (steps : List MicroStep) (k : ℕ) → slice_get steps k ≡ None → k < length steps → ⊥
 there steps k none low = let g = get_within steps k low in cc (none, g.1)
 
-module _ (steps : List MicroStep) (start : View) (k : ℕ) (view : View) (trees : List TreeMap) (here : Leaves steps start k view trees) where
+module _ (steps : List MicroStep) (start : Workspace) (k : ℕ) (view : Workspace) (trees : List TreeMap) (here : Leaves steps start k view trees) where
   one_more : (m : MicroStep) → slice_get steps k ≡ Some m → part steps (work_with start []) (k + 1) ≡ step_on k (Some m) (work_with view [])
   unfolding part
   one_more m at = ap (part steps (work_with start [])) (add_one k) ∙ ap (go_on steps k) here.left ∙ ap (λ o. step_on k o (work_with view [])) at
@@ -39,7 +39,7 @@ module _ (steps : List MicroStep) (start : View) (k : ℕ) (view : View) (trees 
       add_one n = omega arith
 
   -- the next one leaves another view
-  pub goes_on : (m : MicroStep) (after : View) (more : List TreeMap) → slice_get steps k ≡ Some m → length more ≡ length trees → shown_in after ≡ shown_in view
+  pub goes_on : (m : MicroStep) (after : Workspace) (more : List TreeMap) → slice_get steps k ≡ Some m → length more ≡ length trees → shown_in after ≡ shown_in view
       → left_with after more None ≡ step_on k (Some m) (work_with view trees) → Leaves steps start (k + 1) after more
   goes_on m after more at same shows is =
       let none = as_many trees more here.none same in
@@ -50,7 +50,7 @@ module _ (steps : List MicroStep) (start : View) (k : ℕ) (view : View) (trees 
       }
 
   -- the next one faults, and no more are done
-  pub faults : (m : MicroStep) (after : View) (more : List TreeMap) (f : VertexFault) → slice_get steps k ≡ Some m → length more ≡ length trees
+  pub faults : (m : MicroStep) (after : Workspace) (more : List TreeMap) (f : VertexFault) → slice_get steps k ≡ Some m → length more ≡ length trees
       → left_with after more (Some f) ≡ step_on k (Some m) (work_with view trees) → whole steps (work_with start []) ≡ left_with after [] (Some f)
   faults m after more f at same is =
       let none = as_many trees more here.none same in

@@ -11,7 +11,7 @@ ghost use Rattle.llb_plain.specs.Faults.{Gives};
 use crate::fault::PlainFault;
 use crate::outcome::Outcome;
 use llb_applet::Setting;
-use llb_execution::{View, empty_trees, setting_of, step_count, step_of};
+use llb_execution::{Workspace, empty_trees, setting_of, step_count, step_of};
 use llb_loader::{Locals, Vertex};
 use llb_model::VertexFault;
 use llb_tree::Tree;
@@ -31,7 +31,7 @@ pub(crate) fn run(
         (Ok (outcome_on (record { graph = graph; locals = locals.now }) vertex.now (Some inputs.items))) }
 {
     let setting = setting_of(alloc, vertex)?;
-    let mut view = View::on(alloc, locals, vertex, inputs, Vec::new(alloc))?;
+    let mut view = Workspace::on(alloc, locals, vertex, inputs, Vec::new(alloc))?;
     if let Some(fault) = run_all(alloc, vertex, &setting, &mut view)? {
         return Ok(Outcome::Failed(fault));
     }
@@ -45,7 +45,7 @@ fn run_all(
     alloc: Global,
     vertex: &Vertex,
     setting: &Setting,
-    view: &mut View,
+    view: &mut Workspace,
 ) -> Result<Option<VertexFault>, PlainFault>
     requires kind { IsVertexOf vertex.now vertex.now.op.kind }
     requires setting { setting.now ≡ kind_setting vertex.now.op.kind }

@@ -19,7 +19,7 @@ use Rattle.llb_model.proofs.Lists.{Some_of, Each_of, any_true, true_any, some_wi
 use Rattle.llb_model.proofs.Outcomes.{each_below, inputs_there}
 use Rattle.llb_model.proofs.Ready.{ready_by_inputs}
 use Rattle.llb_model.proofs.Stopped.{stopped_is, stopped_cases, stopped_there, stopped_length, any_stopped, done_count}
-use Rattle.llb_state.specs.Board.{Seen, Replays}
+use Rattle.llb_state.specs.Board.{BoardValue, Replays}
 use Rattle.llb_links.specs.Links.{leads, users_from, users_of, users_at, waits_for, open_inputs, AreLowered, AreRaised, AreBelow, Linked, IsLinked}
 use Rattle.llb_state.specs.OpenInputs.{done_in}
 use Rattle.llb_links.specs.Links.{has_inputs, is_marked, IsClosed, Spreads}
@@ -75,7 +75,7 @@ below b graph v x at =
     (graph.down v x (slice_get_within b.graph.vertices v x at)))
 
 -- the counts decide which inputs are there
-pub tells : (n : Seen) (l : Linked) → IsGraph n.build.graph → Replays n → IsLinked n.build.graph.vertices (done_in n.state.statuses) l
+pub tells : (n : BoardValue) (l : Linked) → IsGraph n.build.graph → Replays n → IsLinked n.build.graph.vertices (done_in n.state.statuses) l
     → TellsInputs n.build n.state.statuses l
 tells n l graph replays so v x at =
     let vs = n.build.graph.vertices in

@@ -6,14 +6,14 @@ use Rattle.std.specs.List.{find}
 use Rattle.llb_cache.specs.declared.key.Key.{Key}
 use Rattle.llb_cache.specs.declared.need.Need as cache_need
 use Rattle.llb_cache.specs.declared.fault.LeaseFault.{LeaseFault}
-use Rattle.llb_cache.specs.Caches.{CachesValue, Row, Leases, Taken, taken, place_for, free_lease, with_lease, made_all, is_shut, lease_by}
+use Rattle.llb_cache.specs.Caches.{CachesValue, Row, Leases, Taken, taken, place_for, free_lease, with_lease, made_all, is_locked_and_held, lease_by}
 use Rattle.llb_cache.specs.Caches.{trees_of, AreApart, AreThere}
 use Rattle.llb_loader.specs.declared.graph.Vertex.{Vertex}
 use Rattle.llb_tree.specs.Tree.{TreeMap}
-use Rattle.llb_model.specs.Caches.{Place, Has, Distinct, put_all, trees_at}
+use Rattle.llb_model.specs.Caches.{Instance, Has, Distinct, put_all, trees_at}
 use Rattle.llb_model.specs.Program.{Build, MicroStep, Start, start_with, Need, key_of, needs_of, step_on}
 use Rattle.llb_model.specs.Outcome.{Ending, inputs_from}
-use Rattle.llb_model.specs.State.{Status, Waiting, Running, Settled, Execution, At, Idle, Runs, State, ending_at, program_in, is_finished, next_step}
+use Rattle.llb_model.specs.State.{Status, Waiting, Running, Settled, Execution, WorkerStatus, Idle, Runs, State, ending_at, program_in, is_finished, next_step}
 use Rattle.llb_model.specs.State.{start_from, ending_from, held, held_key, places_for, first_trees}
 use Rattle.llb_model.specs.Kept.{store_of}
 use Rattle.llb_model.specs.Leases.{HoldsAs, asked}
@@ -29,8 +29,8 @@ use Rattle.llb_model.proofs.Events.{Answer, ready_is}
 use Rattle.llb_model.proofs.Leases.{refuses_alike, takes_alike, makes_alike, writes_alike}
 use Rattle.llb_execution.specs.Parts.{work_with}
 use Rattle.llb_state.specs.Caches.{some_lease, lease_if, written}
-use Rattle.llb_needs.specs.Needs.{shut_key, unless_shut, places_taken}
-use Rattle.llb_state.specs.Board.{Seen, recorded}
+use Rattle.llb_needs.specs.Needs.{first_held_key, unless_held, places_taken}
+use Rattle.llb_state.specs.Board.{BoardValue, recorded}
 use Rattle.llb_events.specs.Causes.{faulted, claim_fault, step_fault}
 use Rattle.llb_state.specs.Rules.{claim_of, Begun, begun_at, begun, Written, written_by}
 use Rattle.llb_events.specs.Faults.{claim_may_want}
@@ -118,48 +118,48 @@ can_claim b s w v x ok there =
     by_ready idle None is ok = absurd cc
     by_ready idle (Some start) is ok = begun_with idle start is
 
-    by_worker : (o : Option At) → slice_get s.workers w ≡ o → is_ok (claim_start s.statuses v o (Some x)) ≡ true → CanClaim b s w v x
+    by_worker : (o : Option WorkerStatus) → slice_get s.workers w ≡ o → is_ok (claim_start s.statuses v o (Some x)) ≡ true → CanClaim b s w v x
     by_worker None is ok = absurd cc
     by_worker (Some (Runs y)) is ok = absurd cc
     by_worker (Some Idle) is ok = by_ready is (start_from s.statuses (slice_get s.statuses v) (Some x)) refl ok
 
 -- what keys leases have shut, and what the running workers have
-pub shut_as_held : (c : CachesValue) (workers : List At) (inputs : List TreeMap) (x : Vertex) → HoldsAs c.out workers
-    → shut_key c.out (needs_of x) ≡ held_key (held workers) (needs_of x)
+pub shut_as_held : (c : CachesValue) (workers : List WorkerStatus) (inputs : List TreeMap) (x : Vertex) → HoldsAs c.out workers
+    → first_held_key c.out (needs_of x) ≡ held_key (held workers) (needs_of x)
 shut_as_held c workers inputs x same = sym (shut_first c.out inputs (needs_of x)) ∙ refuses_alike c.out workers inputs (needs_of x) same
 
 -- the first key that is shut is the fault
-shut_is : (needs : List Need) (o : Option Key) (e : ClaimFault) → unless_shut needs o ≡ Err e → (k : Key) × (o ≡ Some k) × (e ≡ claim.Held k)
+shut_is : (needs : List Need) (o : Option Key) (e : ClaimFault) → unless_held needs o ≡ Err e → (k : Key) × (o ≡ Some k) × (e ≡ claim.Held k)
 shut_is needs None e is = absurd cc
 shut_is needs (Some k) e is = (k, refl, sym (fault_inside is))
   where
     fault_inside : ◌≡◌ {A = Result (List Need) ClaimFault} (Err (claim.Held k)) (Err e) → claim.Held k ≡ e
     fault_inside e = cc
 
-open_is : (needs ns : List Need) (o : Option Key) → unless_shut needs o ≡ Ok ns → (o ≡ None) × (ns ≡ needs)
+open_is : (needs ns : List Need) (o : Option Key) → unless_held needs o ≡ Ok ns → (o ≡ None) × (ns ≡ needs)
 open_is needs ns None is = (refl, sym (inside_ok is))
 open_is needs ns (Some k) is = absurd cc
 
 -- a claim is refused for that key
-pub claim_held : (n : Seen) (w v : ℕ) (x : Vertex) (c : CachesValue) (e : ClaimFault) → CanClaim n.build n.state w v x → HoldsAs c.out n.state.workers
-    → unless_shut (needs_of x) (shut_key c.out (needs_of x)) ≡ Err e → claim_of n w v ≡ Err e
+pub claim_held : (n : BoardValue) (w v : ℕ) (x : Vertex) (c : CachesValue) (e : ClaimFault) → CanClaim n.build n.state w v x → HoldsAs c.out n.state.workers
+    → unless_held (needs_of x) (first_held_key c.out (needs_of x)) ≡ Err e → claim_of n w v ≡ Err e
 claim_held n w v x c e can same is =
-    let h = shut_is (needs_of x) (shut_key c.out (needs_of x)) e is in
+    let h = shut_is (needs_of x) (first_held_key c.out (needs_of x)) e is in
     ap (recorded n (Claim w v) claim_fault) can.grants
     ∙ ap (λ o. recorded n (Claim w v) claim_fault (claim_unless n.build n.state w v (start_with x can.trees) o))
     (sym (shut_as_held c n.state.workers can.trees x same) ∙ h.1)
     ∙ ap (λ f. Err f) (sym h.2)
 
 -- memory may be wanted of a claim where it may be of the look at its keys
-pub claim_wants : (n : Seen) (w v : ℕ) (x : Vertex) (c : CachesValue) → CanClaim n.build n.state w v x → HoldsAs c.out n.state.workers
-    → claim_may_want (claim_of n w v) ≡ claim_may_want (unless_shut (needs_of x) (shut_key c.out (needs_of x)))
+pub claim_wants : (n : BoardValue) (w v : ℕ) (x : Vertex) (c : CachesValue) → CanClaim n.build n.state w v x → HoldsAs c.out n.state.workers
+    → claim_may_want (claim_of n w v) ≡ claim_may_want (unless_held (needs_of x) (first_held_key c.out (needs_of x)))
 claim_wants n w v x c can same =
     ap (λ r. claim_may_want (recorded n (Claim w v) claim_fault r)) can.grants ∙ by_key (held_key (held n.state.workers) (needs_of x))
-    ∙ ap (λ o. claim_may_want (unless_shut (needs_of x) o)) (sym (shut_as_held c n.state.workers can.trees x same))
+    ∙ ap (λ o. claim_may_want (unless_held (needs_of x) o)) (sym (shut_as_held c n.state.workers can.trees x same))
   where
     by_key : (o : Option Key)
         → claim_may_want (recorded n (Claim w v) claim_fault (claim_unless n.build n.state w v (start_with x can.trees) o))
-        ≡ claim_may_want (unless_shut (needs_of x) o)
+        ≡ claim_may_want (unless_held (needs_of x) o)
     by_key None = refl
     by_key (Some k) = refl
 
@@ -170,17 +170,17 @@ taken_places out inputs [] = refl
 taken_places out inputs (n ∷ needs) = ap (λ ps. place_for out n.key ∷ ps) (taken_places out inputs needs)
 
 -- what leases and workers agree on, and what holds of leases
-pub record Leased (c : CachesValue) (workers : List At) : Type 0 where
+pub record Leased (c : CachesValue) (workers : List WorkerStatus) : Type 0 where
   pub same : HoldsAs c.out workers
   pub apart : AreApart c.out
   pub there : AreThere c.rows c.out
 
-pub places_alike : (c : CachesValue) (workers : List At) (inputs : List TreeMap) (needs : List Need) → Leased c workers
+pub places_alike : (c : CachesValue) (workers : List WorkerStatus) (inputs : List TreeMap) (needs : List Need) → Leased c workers
     → places_taken c.out needs ≡ places_for (held workers) needs
 places_alike c workers inputs needs l = sym (taken_places c.out inputs needs) ∙ takes_alike c.out workers inputs needs l.same l.apart
 
 -- what a lease of these instances leaves: it, where there are some
-abbrev pub LeasedNew : Leases → Option ℕ → List Place → Leases → Type 0
+abbrev pub LeasedNew : Leases → Option ℕ → List Instance → Leases → Type 0
 LeasedNew out l ps new = ((l ≡ Some (free_lease out)) × (new ≡ with_lease out (free_lease out) ps)) ⊎ ((l ≡ None) × (ps ≡ []) × (new ≡ out))
 
 -- the lease of what a vertex needs, and the caches after it
@@ -205,7 +205,7 @@ granted_of c new x trees l [] are is =
         ap (λ p. p.1.out) (sym same),
       );
     }
-granted_of c new x trees l (n ∷ ns) are is = by_key (find (is_shut c.out) (n ∷ ns)) is
+granted_of c new x trees l (n ∷ ns) are is = by_key (find (is_locked_and_held c.out) (n ∷ ns)) is
   where
     by_key : (o : Option cache_need.Need) → some_lease (lease_by c (n ∷ ns) o) ≡ Ok (l, new) → Granted c x trees l new
     by_key (Some m) is = absurd cc
@@ -249,7 +249,7 @@ needs_asked b c w v x trees o begun_so there is = ap (λ (g : Begun). g.needs) (
 -- where no locked key is held, the table's claim has the execution and the reply that were begun, and the contents that were leased
 pub claims : (b : Build) (s : State) (w v : ℕ) (x : Vertex) (c new : CachesValue) (l : Option ℕ) (begun_so : Begun) (ns : List Need)
     (can : CanClaim b s w v x) → s.store ≡ store_of c.rows → Leased c s.workers
-    → Distinct (map key_of (needs_of x)) → unless_shut (needs_of x) (shut_key c.out (needs_of x)) ≡ Ok ns
+    → Distinct (map key_of (needs_of x)) → unless_held (needs_of x) (first_held_key c.out (needs_of x)) ≡ Ok ns
     → begun b c w v x (inputs_from (ending_at s.statuses) x.inputs) ≡ Ok begun_so
     → Granted c x can.trees l new → Claims b s w v x c new begun_so.execution begun_so.reply
 claims b s w v x c new l begun_so ns can contents leased apart admitted begins granted =
@@ -257,7 +257,7 @@ claims b s w v x c new l begun_so ns can contents leased apart admitted begins g
     let ps = places_for (held s.workers) needs in
     let alike = places_alike c s.workers can.trees needs leased in
     let begun_with = begun_is b c w v x can.trees (inputs_from (ending_at s.statuses) x.inputs) begun_so can.inputs begins in
-    let free = sym (shut_as_held c s.workers can.trees x leased.same) ∙ (open_is needs ns (shut_key c.out needs) admitted).0 in
+    let free = sym (shut_as_held c s.workers can.trees x leased.same) ∙ (open_is needs ns (first_held_key c.out needs) admitted).0 in
     let firsts = first_trees (store_of c.rows) can.trees ps needs in
     let stands : store_of new.rows ≡ put_all (store_of c.rows) ps firsts
     = ap store_of granted.rows ∙ makes_alike c.rows c.out s.workers can.trees needs leased.same leased.apart leased.there apart in
@@ -296,7 +296,7 @@ step_alone b s w = by_worker (slice_get s.workers w)
     by_next x None = refl
     by_next x (Some m) = refl
 
-    by_worker : (o : Option At) → stepped b s w o ≡ with_statuses s.statuses (stepped b (record s { statuses = [] }) w o)
+    by_worker : (o : Option WorkerStatus) → stepped b s w o ≡ with_statuses s.statuses (stepped b (record s { statuses = [] }) w o)
     by_worker None = refl
     by_worker (Some Idle) = refl
     by_worker (Some (Runs x)) = by_next x (next_step (program_in b x).steps x)
@@ -315,7 +315,7 @@ granted_by ds w (Err e) = Err e
 
 -- the table's step is a micro-step over the lists of instances, where those of the worker are there
 pub stepped_as : (b : Build) (ds : List Desk) (rows : List Row) (w : ℕ) (x : Execution)
-    → slice_get (map at_of ds) w ≡ Some (Runs x) → ((p : Place) → Has x.places p → p.number < length (trees_of rows p.key))
+    → slice_get (map at_of ds) w ≡ Some (Runs x) → ((p : Instance) → Has x.places p → p.number < length (trees_of rows p.key))
     → faulted step_fault (step_grant b (state_of [] ds rows) w) ≡ granted_by ds w (worked_in b rows x)
 stepped_as b ds rows w x there within =
     ap (λ o. faulted step_fault (stepped b (state_of [] ds rows) w o)) there ∙ by_next (next_step (program_in b x).steps x)
@@ -370,7 +370,7 @@ can_settle b s w v stands is = by_worker (slice_get s.workers w) refl is
               ∙ (λ i. Ok (settle_with s w (same i).0 (ending_from (program_in b x) x)));
         }
 
-    by_worker : (o : Option At) → slice_get s.workers w ≡ o → left_at b o ≡ Ok (v, stands) → CanSettle b s w v stands
+    by_worker : (o : Option WorkerStatus) → slice_get s.workers w ≡ o → left_at b o ≡ Ok (v, stands) → CanSettle b s w v stands
     by_worker None there is = absurd cc
     by_worker (Some Idle) there is = absurd cc
     by_worker (Some (Runs x)) there is = by_test x there (is_finished (program_in b x).steps x) refl is
@@ -387,7 +387,7 @@ pub record CanCancel (s : State) (w v n : ℕ) : Type 0 where
 pub can_cancel : (s : State) (w v n : ℕ) → given_up_at (slice_get s.workers w) ≡ Ok (v, n) → CanCancel s w v n
 can_cancel s w v n is = by_worker (slice_get s.workers w) refl is
   where
-    by_worker : (o : Option At) → slice_get s.workers w ≡ o → given_up_at o ≡ Ok (v, n) → CanCancel s w v n
+    by_worker : (o : Option WorkerStatus) → slice_get s.workers w ≡ o → given_up_at o ≡ Ok (v, n) → CanCancel s w v n
     by_worker None there is = absurd cc
     by_worker (Some Idle) there is = absurd cc
     by_worker (Some (Runs x)) there is =

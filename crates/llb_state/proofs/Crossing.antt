@@ -9,12 +9,12 @@ use Rattle.std.specs.contracts.vec.Vec as vec
 use Rattle.llb_wire.proofs.many.Many.TheSendSync as many_crosses
 use Rattle.llb_tree.specs.contracts.tree.Tree as tree
 use Rattle.llb_execution.proofs.Crossing.{tree_send, trees_send, view_crosses}
-use Rattle.llb_execution.specs.contracts.view.View as view
+use Rattle.llb_execution.specs.contracts.workspace.Workspace as view
 use Rattle.llb_applet.proofs.setting.Setting.TheSendSync as setting_crosses
 use Rattle.llb_applet.specs.contracts.setting.Setting as setting
 use Rattle.llb_cache.proofs.caches.Lease.TheSendSync as lease_crosses
-use Rattle.llb_cache.proofs.need.Place.TheSendSync as place_crosses
-use Rattle.llb_cache.specs.contracts.need.Place as place
+use Rattle.llb_cache.proofs.need.Instance.TheSendSync as place_crosses
+use Rattle.llb_cache.specs.contracts.need.Instance as place
 use Rattle.llb_loader.proofs.graph.Graph.TheSendSync as graph_crosses
 use Rattle.llb_loader.specs.contracts.graph.Graph as graph
 use Rattle.llb_loader.specs.contracts.locals.Locals as locals

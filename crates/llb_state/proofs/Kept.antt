@@ -8,7 +8,7 @@ use Rattle.llb_tree.specs.Tree.{empty_tree}
 use Rattle.llb_loader.specs.declared.graph.Vertex.{Vertex}
 use Rattle.llb_loader.specs.Graph.{IsGraph}
 use Rattle.llb_model.specs.Program.{Build, program_at, step_on}
-use Rattle.llb_model.specs.State.{Status, Waiting, Running, Settled, At, Idle, Runs, State, opening, program_in, work_of, is_finished, stopped}
+use Rattle.llb_model.specs.State.{Status, Waiting, Running, Settled, WorkerStatus, Idle, Runs, State, opening, program_in, work_of, is_finished, stopped}
 use Rattle.llb_model.specs.State.{is_failed, ending_of}
 use Rattle.llb_model.specs.Kept.{store_of}
 use Rattle.llb_model.specs.Leases.{AreLeased}
@@ -23,11 +23,11 @@ use Rattle.llb_model.specs.Room.{room_taken}
 use Rattle.llb_model.proofs.Owing.{IsRoomy, room_for_event, event_roomy}
 use Rattle.llb_model.proofs.Alone.{over_after}
 use Rattle.llb_model.proofs.Leasing.{claim_leases, claim_without}
-use Rattle.llb_model.specs.Caches.{Place}
+use Rattle.llb_model.specs.Caches.{Instance}
 use Rattle.llb_state.specs.Caches.{written, places_at, rows_after}
 use Rattle.llb_state.specs.Events.{Space}
 use Rattle.llb_state.specs.Views.{status_of, at_of, leased_by, execution_of, state_of}
-use Rattle.llb_state.specs.Board.{Seen, Replays, opening_with, kept_next, kept_along, recorded}
+use Rattle.llb_state.specs.Board.{BoardValue, Replays, opening_with, kept_next, kept_along, recorded}
 use Rattle.llb_events.specs.Causes.{faulted, step_fault}
 use Rattle.llb_state.specs.Rules.{left_at}
 use Rattle.llb_state.specs.Room.{IsKept, AreOver, Supplies, supplies_of, supplies_for, seen, ready_made, needed}
@@ -50,7 +50,7 @@ pub record Data : Type 0 where
   pub out : Leases
   pub stop_marks : List Bool
 
-abbrev pub seen_as : Build → List Row → Data → List Event → Seen
+abbrev pub seen_as : Build → List Row → Data → List Event → BoardValue
 seen_as b first d es = seen b first d.stands d.desks d.rows es
 
 abbrev pub state_as : Data → State
@@ -60,7 +60,7 @@ abbrev pub Keeps : Build → List Row → Data → List Event → Space → Type
 Keeps b first d es space = IsKept (seen_as b first d es) d.desks d.out d.stop_marks space
 
 -- there is room for an event that is granted, where it takes its own
-pub has_room : (b : Seen) (desks : List Desk) (out : Leases) (stop_marks : List Bool) (space : Space) (e : Event) (a : Answer)
+pub has_room : (b : BoardValue) (desks : List Desk) (out : Leases) (stop_marks : List Bool) (space : Space) (e : Event) (a : Answer)
     → (kept : IsKept b desks out stop_marks space)
     → table b.build b.state e ≡ Some a → length b.events < space.room + room_taken b.build kept.replays.replies e
 has_room b desks out stop_marks space e a kept granted =
@@ -182,15 +182,15 @@ pub claim_rows : (b : Build) (d : Data) (w v : ℕ) (l : Option ℕ) (x : Vertex
 claim_rows b d w v l x c new own r idle same claims =
     claims.rows
     ∙ (λ i. written (store_of new.rows) (sym same i) (places_at (sym (set_there (map at_of d.desks) w Idle (Runs (execution_of own)) idle) i)))
-    ∙ ap (λ (ws : List At). written (store_of new.rows) d.rows (places_at (slice_get ws w))) (sym (map_set at_of d.desks w (desk.Runs l own)))
+    ∙ ap (λ (ws : List WorkerStatus). written (store_of new.rows) d.rows (places_at (slice_get ws w))) (sym (map_set at_of d.desks w (desk.Runs l own)))
 
 -- after a claim each running worker has a lease of its own: the new one, or none where it has no instances
-pub leased_claimed : (d : Data) (w : ℕ) (l : Option ℕ) (own : own.Execution) (ps : List Place) (new : Leases)
+pub leased_claimed : (d : Data) (w : ℕ) (l : Option ℕ) (own : own.Execution) (ps : List Instance) (new : Leases)
     → AreLeased d.out (map at_of d.desks) (map leased_by d.desks)
     → slice_get (map at_of d.desks) w ≡ Some Idle → own.places.items ≡ ps → LeasedNew d.out l ps new
     → AreLeased new (map at_of (slice_set d.desks w (desk.Runs l own))) (map leased_by (slice_set d.desks w (desk.Runs l own)))
 leased_claimed d w l own ps new leased idle same is =
-    subst (λ (ws : List At). AreLeased new ws (map leased_by (slice_set d.desks w (desk.Runs l own)))) (sym (map_set at_of d.desks w (desk.Runs l own)))
+    subst (λ (ws : List WorkerStatus). AreLeased new ws (map leased_by (slice_set d.desks w (desk.Runs l own)))) (sym (map_set at_of d.desks w (desk.Runs l own)))
     (subst (AreLeased new (slice_set (map at_of d.desks) w (Runs (execution_of own)))) (sym (map_set leased_by d.desks w (desk.Runs l own))) (elim is [
       | inl h ↦
           let out : new ≡ with_lease d.out (free_lease d.out) own.places.items = h.1 ∙ ap (with_lease d.out (free_lease d.out)) (sym same) in
@@ -314,14 +314,14 @@ cancel_does d w v n out can =
     can.grants ∙ (λ i. Ok (sym (state_settled d w v stand.Waiting out d.stop_marks Waiting refl) i, Cancelled v n))
 
 -- a worker that is idle has no instances
-pub settle_rows : (d : Data) (w v : ℕ) (s : Stand) (out : Leases) (stop_marks : List Bool) (x : At) → slice_get (map at_of d.desks) w ≡ Some x
+pub settle_rows : (d : Data) (w v : ℕ) (s : Stand) (out : Leases) (stop_marks : List Bool) (x : WorkerStatus) → slice_get (map at_of d.desks) w ≡ Some x
     → d.rows ≡ rows_after d.rows (state_as (settled d w v s out stop_marks)) w
 settle_rows d w v s out stop_marks x at =
     (λ i. written (store_of d.rows) d.rows (places_at (sym (set_there (map at_of d.desks) w x Idle at) i)))
-    ∙ ap (λ (ws : List At). written (store_of d.rows) d.rows (places_at (slice_get ws w))) (sym (map_set at_of d.desks w desk.Idle))
+    ∙ ap (λ (ws : List WorkerStatus). written (store_of d.rows) d.rows (places_at (slice_get ws w))) (sym (map_set at_of d.desks w desk.Idle))
 
 -- the vertex that a worker leaves was Running by it
-pub leaves_running : (b : Seen) (w v : ℕ) (stands : Status) → Replays b → CanSettle b.build b.state w v stands → slice_get b.state.statuses v ≡ Some (Running w)
+pub leaves_running : (b : BoardValue) (w v : ℕ) (stands : Status) → Replays b → CanSettle b.build b.state w v stands → slice_get b.state.statuses v ≡ Some (Running w)
 leaves_running b w v stands here can = ap (slice_get b.state.statuses) (sym can.vertex) ∙ (consistent b here).working w can.x can.there
 
 -- after a settle each worker has what its vertex needs, and the one that is idle needs nothing

@@ -4,7 +4,7 @@ use Rattle.std.proofs.Common.{Some, refl, sym, ap, ◌∙◌, arith}
 use Rattle.std.specs.Prelude.{slice_get, slice_set}
 use Rattle.std.proofs.lemmas.List.{map-append, take_all}
 use Rattle.std.proofs.lemmas.Option.{slice_get_within}
-use Rattle.llb_model.specs.State.{At}
+use Rattle.llb_model.specs.State.{WorkerStatus}
 use Rattle.llb_state.specs.Room.{ready_made}
 use Rattle.llb_state.specs.Undoing.{desk_leased, HasPlaceFor}
 use Rattle.llb_state.specs.Views.{at_of, leased_by}
@@ -39,7 +39,7 @@ made_leased : (l : Option ℕ) (d : Desk) → ready_made (desk_leased l d) ≡ r
 made_leased l desk.Idle = refl
 made_leased l (desk.Runs k x) = refl
 
-lease_put : (ls : List (Option ℕ)) (workers : List At) (n : ℕ) (l : Option ℕ) (d : Desk) → HasPlaceFor ls workers → slice_get ls n ≡ Some l
+lease_put : (ls : List (Option ℕ)) (workers : List WorkerStatus) (n : ℕ) (l : Option ℕ) (d : Desk) → HasPlaceFor ls workers → slice_get ls n ≡ Some l
     → slice_get workers n ≡ Some (at_of d)
     → leased_by (desk_leased l d) ≡ l
 lease_put ls workers n l desk.Idle place at there = lease_inside (sym (place.idle n there) ∙ at)

@@ -12,10 +12,10 @@ use Rattle.llb_cache.specs.Caches as cache
 use Rattle.llb_cache.specs.Caches.{Row, trees_of}
 use Rattle.llb_tree.specs.Tree.{TreeMap, empty_tree}
 use Rattle.llb_model.specs.declared.fault.VertexFault.{VertexFault}
-use Rattle.llb_model.specs.Caches.{Place, Has, content, trees_at}
+use Rattle.llb_model.specs.Caches.{Instance, Has, content, trees_at}
 use Rattle.llb_model.specs.Kept.{store_of}
 use Rattle.llb_model.specs.Leases.{put_each}
-use Rattle.llb_model.specs.Program.{MicroStep, ReadLocal, Act, LayInput, Run, View, Left, last_of, is_run}
+use Rattle.llb_model.specs.Program.{MicroStep, ReadLocal, Act, LayInput, Run, Workspace, Left, last_of, is_run}
 use Rattle.llb_model.specs.State.{Execution}
 use Rattle.llb_model.specs.Table as table
 use Rattle.llb_model.proofs.Kept.{shows_instances}
@@ -45,7 +45,7 @@ kept_rows (r ∷ rows) k some = go (same_key k r.0) refl (kept_rows rows k)
         ap (λ (b : Bool). cond b ((r.0, own b) ∷ rows) (r ∷ cache.with_trees rows k (own b))) is
         ∙ ap (λ (rs : List Row). r ∷ rs) (rest (subst (λ (b : Bool). 0 < length (own b)) is some))
 
-put_same : (rows : List Row) (p : Place) → p.number < length (trees_of rows p.key)
+put_same : (rows : List Row) (p : Instance) → p.number < length (trees_of rows p.key)
     → cache.put rows p (unwrap_or (content (store_of rows) p) empty_tree) ≡ rows
 put_same rows p within =
     let t = get_within (trees_of rows p.key) p.number within in
@@ -55,7 +55,7 @@ put_same rows p within =
     ∙ kept_rows rows p.key (omega (arith, within))
 
 -- the trees of instances that are there, written again, leave the rows
-pub put_each_same : (rows : List Row) (ps : List Place) → ((p : Place) → Has ps p → p.number < length (trees_of rows p.key))
+pub put_each_same : (rows : List Row) (ps : List Instance) → ((p : Instance) → Has ps p → p.number < length (trees_of rows p.key))
     → put_each rows ps (trees_at (store_of rows) ps) ≡ rows
 put_each_same rows [] within = refl
 put_each_same rows (p ∷ ps) within =
@@ -73,7 +73,7 @@ not_false true e = refl
 not_false false e = absurd (false≢true (sym e))
 
 -- what is skipped says so
-pub skip_reply : (k : ℕ) (m : MicroStep) (before : View) (left : Left) → is_skipped m before ≡ true → table.Skipped k ≡ table.step_reply k m before left
+pub skip_reply : (k : ℕ) (m : MicroStep) (before : Workspace) (left : Left) → is_skipped m before ≡ true → table.Skipped k ≡ table.step_reply k m before left
 skip_reply k ReadLocal before left skips = absurd (false≢true skips)
 skip_reply k (Act action) before left skips = absurd (false≢true skips)
 skip_reply k (LayInput i) before left skips = absurd (false≢true skips)
@@ -81,7 +81,7 @@ skip_reply k (Run s c ends) before left skips =
     sym (ap (λ b. cond b (table.HasRun k (last_of left.work.own)) (table.Skipped k)) (not_true (is_run c.join (last_of before)) skips))
 
 -- and the reply to what ran is its status
-pub run_reply : (k : ℕ) (s : Setting) (c : Joined) (ends : Bool) (before : View) (left : Left) (last : ℕ) → is_skipped (Run s c ends) before ≡ false
+pub run_reply : (k : ℕ) (s : Setting) (c : Joined) (ends : Bool) (before : Workspace) (left : Left) (last : ℕ) → is_skipped (Run s c ends) before ≡ false
     → last_of left.work.own ≡ last → table.HasRun k last ≡ table.step_reply k (Run s c ends) before left
 run_reply k s c ends before left last runs is =
     ap (table.HasRun k) (sym is)

@@ -9,15 +9,15 @@ use Rattle.llb_cache.specs.declared.key.Key.{Key}
 use Rattle.llb_cache.specs.Caches.{Row, Leases}
 use Rattle.llb_ops.specs.declared.exec.Mount.{Mount}
 use Rattle.llb_loader.specs.Rules.{kind_mounts}
-use Rattle.llb_model.specs.Caches.{Place}
+use Rattle.llb_model.specs.Caches.{Instance}
 use Rattle.llb_model.specs.Program.{Build, Need, key_of, mount_of, needs_of, program_at, setting_of}
 use Rattle.llb_model.specs.Leases.{AreLeased}
-use Rattle.llb_model.specs.State.{Status, At, Idle, Runs, stopped, is_blocked}
+use Rattle.llb_model.specs.State.{Status, WorkerStatus, Idle, Runs, stopped, is_blocked}
 use Rattle.llb_model.specs.Run.{is_settled}
 use Rattle.llb_model.specs.Table.{Event}
 use Rattle.llb_model.specs.Room.{most_events, owed, cancel_counts}
 use Rattle.llb_state.specs.Events.{Space}
-use Rattle.llb_state.specs.Board.{Seen, Replays, opening_with}
+use Rattle.llb_state.specs.Board.{BoardValue, Replays, opening_with}
 use Rattle.llb_execution.specs.Parts.{kind_setting, mounts_in, shown_in}
 use Rattle.llb_links.specs.Links.{Linked, IsLinked}
 use Rattle.llb_state.specs.OpenInputs.{done_in}
@@ -42,7 +42,7 @@ supplies_of x = record {
   setting = x.setting;
   mounts = mounts_in x.view;
   shown = shown_in x.view;
-  keys = map (λ (p : Place). p.key) x.places.items;
+  keys = map (λ (p : Instance). p.key) x.places.items;
 }
 
 -- the mounts that a vertex shows, and the caches that it needs
@@ -73,12 +73,12 @@ abbrev pub ready_made : Desk → Supplies
 ready_made desk.Idle = supplies_for None
 ready_made (desk.Runs l x) = supplies_of x
 
-abbrev pub needed : Build → At → Supplies
+abbrev pub needed : Build → WorkerStatus → Supplies
 needed b Idle = supplies_for None
 needed b (Runs x) = supplies_for (slice_get b.graph.vertices x.vertex)
 
 -- a board as contracts see it, over a build and the caches that were handed in
-abbrev pub seen : Build → List Row → List Stand → List Desk → List Row → List Event → Seen
+abbrev pub seen : Build → List Row → List Stand → List Desk → List Row → List Event → BoardValue
 seen b first stands desks rows events = record {
   build = b;
   opening = opening_with (length desks) first;
@@ -88,7 +88,7 @@ seen b first stands desks rows events = record {
   events = events;
 }
 
-pub record IsKept (b : Seen) (desks : List Desk) (out : Leases) (stop_marks : List Bool) (space : Space) : Type 0 where
+pub record IsKept (b : BoardValue) (desks : List Desk) (out : Leases) (stop_marks : List Bool) (space : Space) : Type 0 where
   pub replays : Replays b
   pub room : space.room + owed b.build b.state.statuses replays.replies ≡ most_events b.build replays.replies
   pub counted : space.cancels ≡ cancel_counts b.build replays.replies
@@ -103,7 +103,7 @@ abbrev pub AreOver : Build → List Status → ℕ → Type 0
 AreOver b statuses n = (v : ℕ) → v < n → (is_settled (slice_get statuses v) || is_blocked b statuses v) ≡ true
 
 -- from where a Ready vertex is looked for, how many inputs of each are open, and what else a board keeps
-pub record IsTracked (b : Seen) (desks : List Desk) (out : Leases) (stop_marks : List Bool) (links : Linked) (space : Space) (first_open : ℕ) : Type 0 where
+pub record IsTracked (b : BoardValue) (desks : List Desk) (out : Leases) (stop_marks : List Bool) (links : Linked) (space : Space) (first_open : ℕ) : Type 0 where
   pub kept : IsKept b desks out stop_marks space
   pub over : AreOver b.build b.state.statuses first_open
   pub linked : IsLinked b.build.graph.vertices (done_in b.state.statuses) links

@@ -4,14 +4,14 @@ use Rattle.llb_loader.specs.declared.graph.Vertex.{Vertex}
 use Rattle.llb_tree.specs.Tree.{TreeMap}
 use Rattle.llb_cache.specs.declared.need.Need as cache_need
 use Rattle.llb_cache.specs.Caches.{CachesValue, Row}
-use Rattle.llb_model.specs.Caches.{Place, trees_at}
+use Rattle.llb_model.specs.Caches.{Instance, trees_at}
 use Rattle.llb_model.specs.Kept.{store_of}
 use Rattle.llb_model.specs.Leases.{asked, put_each}
 use Rattle.llb_model.specs.Program.{Build, MicroStep, Left, needs_of, start_with, step_on}
-use Rattle.llb_model.specs.State.{Status, Settled, At, Idle, Runs, Execution, program_in, is_finished, next_step, ending_from, begin_at}
+use Rattle.llb_model.specs.State.{Status, Settled, WorkerStatus, Idle, Runs, Execution, program_in, is_finished, next_step, ending_from, begin_at}
 use Rattle.llb_model.specs.Table.{Claim, Step, Settle, Cancel, Reply, Claimed, claim_grant, step_grant, settle_grant, cancel_grant, execution_on, job_on}
 use Rattle.llb_model.specs.Table.{with_step, step_reply}
-use Rattle.llb_state.specs.Board.{Seen, recorded}
+use Rattle.llb_state.specs.Board.{BoardValue, recorded}
 use Rattle.llb_execution.specs.Parts.{work_with}
 use Rattle.llb_needs.specs.Needs.{places_taken}
 use Rattle.llb_events.specs.Causes.{claim_fault, step_fault, settle_fault, cancel_fault}
@@ -26,7 +26,7 @@ use Rattle.llb_events.specs.declared.fault.CancelFault.TheVariants as cancel
 
 -- ---- the result of a claim, and what it begins
 
-abbrev pub claim_of : Seen → ℕ → ℕ → Result (Seen × Reply) ClaimFault
+abbrev pub claim_of : BoardValue → ℕ → ℕ → Result (BoardValue × Reply) ClaimFault
 claim_of b w v = recorded b (Claim w v) claim_fault (claim_grant b.build b.state w v)
 
 -- inputs that are not all there are refused as `NotReady`
@@ -41,7 +41,7 @@ pub record Begun : Type 0 where
   pub needs : List cache_need.Need
 
 -- what a claim begins on the trees of the inputs, and these instances
-abbrev pub begun_at : Build → CachesValue → ℕ → ℕ → Vertex → List TreeMap → List Place → Begun
+abbrev pub begun_at : Build → CachesValue → ℕ → ℕ → Vertex → List TreeMap → List Instance → Begun
 begun_at b c w v vertex trees ps = record {
   execution = execution_on v (begin_at b (store_of c.rows) (start_with vertex trees) ps) ps;
   reply = Claimed (job_on w v vertex (begin_at b (store_of c.rows) (start_with vertex trees) ps) ps);
@@ -54,7 +54,7 @@ begun b c w v vertex None = Err claim.NotReady
 
 -- ---- the result of a step, and what its micro-step leaves
 
-abbrev pub step_of : Seen → ℕ → Result (Seen × Reply) StepFault
+abbrev pub step_of : BoardValue → ℕ → Result (BoardValue × Reply) StepFault
 step_of b w = recorded b (Step w) step_fault (step_grant b.build b.state w)
 
 -- what a micro-step leaves: the execution, the trees of its instances, and the reply
@@ -78,7 +78,7 @@ worked steps x trees = worked_by x trees (next_step steps x)
 abbrev pub Written : Type 0
 Written = Execution × List Row × Reply
 
-abbrev pub written_by : List Row → List Place → Result Worked StepFault → Result Written StepFault
+abbrev pub written_by : List Row → List Instance → Result Worked StepFault → Result Written StepFault
 written_by rows ps (Ok w) = Ok (w.execution, put_each rows ps w.trees, w.reply)
 written_by rows ps (Err e) = Err e
 
@@ -87,22 +87,22 @@ worked_in b rows x = written_by rows x.places (worked (program_in b x).steps x (
 
 -- ---- the result of a settle, and what it leaves
 
-abbrev pub settle_of : Seen → ℕ → Result (Seen × Reply) SettleFault
+abbrev pub settle_of : BoardValue → ℕ → Result (BoardValue × Reply) SettleFault
 settle_of b w = recorded b (Settle w) settle_fault (settle_grant b.build b.state w)
 
 -- the vertex that a worker leaves, and its status then
-abbrev pub left_at : Build → Option At → Result (ℕ × Status) SettleFault
+abbrev pub left_at : Build → Option WorkerStatus → Result (ℕ × Status) SettleFault
 left_at b None = Err settle.NoWorker
 left_at b (Some Idle) = Err settle.NotRunning
 left_at b (Some (Runs x)) = if is_finished (program_in b x).steps x then Ok (x.vertex, Settled (ending_from (program_in b x) x)) else Err settle.NotFinished
 
 -- ---- the result of a cancel, and what it leaves
 
-abbrev pub cancel_of : Seen → ℕ → Result (Seen × Reply) CancelFault
+abbrev pub cancel_of : BoardValue → ℕ → Result (BoardValue × Reply) CancelFault
 cancel_of b w = recorded b (Cancel w) cancel_fault (cancel_grant b.state w)
 
 -- the vertex that a worker gives up, and how many of its micro-steps were done
-abbrev pub given_up_at : Option At → Result (ℕ × ℕ) CancelFault
+abbrev pub given_up_at : Option WorkerStatus → Result (ℕ × ℕ) CancelFault
 given_up_at None = Err cancel.NoWorker
 given_up_at (Some Idle) = Err cancel.NotRunning
 given_up_at (Some (Runs x)) = Ok (x.vertex, x.done)

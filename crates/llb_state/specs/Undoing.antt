@@ -2,7 +2,7 @@
 use Rattle.std.specs.Prelude.{◌≡◌, ℕ, ◌-◌, List, length, take, Option, Some, None, slice_get}
 use Rattle.llb_cache.specs.Caches.{CachesValue}
 use Rattle.llb_execution.specs.Marks.{Mark, put_back}
-use Rattle.llb_model.specs.State.{Execution, At, Idle}
+use Rattle.llb_model.specs.State.{Execution, WorkerStatus, Idle}
 use Rattle.llb_state.specs.Room.{Supplies, supplies_of}
 use Rattle.llb_state.specs.Views.{execution_of}
 use Rattle.llb_state.specs.declared.stand.Desk.{Desk}
@@ -58,6 +58,6 @@ caches_before (Some c) now = c.caches
 caches_before None now = now
 
 -- there is one slot per worker; only a running worker's slot holds a lease
-pub record HasPlaceFor (ls : List (Option ℕ)) (workers : List At) : Type 0 where
+pub record HasPlaceFor (ls : List (Option ℕ)) (workers : List WorkerStatus) : Type 0 where
   pub count : length ls ≡ length workers
   pub idle : (w : ℕ) → slice_get workers w ≡ Some Idle → slice_get ls w ≡ Some None

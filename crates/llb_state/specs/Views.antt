@@ -21,7 +21,7 @@ abbrev pub execution_of : Execution → model.Execution
 execution_of x = record { vertex = x.vertex; done = x.done; fault = x.fault; own = x.view; places = x.places.items }
 
 -- what a worker does
-abbrev pub at_of : Desk → model.At
+abbrev pub at_of : Desk → model.WorkerStatus
 at_of desk.Idle = model.Idle
 at_of (desk.Runs l x) = model.Runs (execution_of x)
 

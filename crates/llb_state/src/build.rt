@@ -3,7 +3,7 @@
 ghost use Rattle.std.specs.Prelude.{◌≡◌, ◌<◌, ◌^◌, length, option_map, slice_get, IfOk};
 ghost use Rattle.llb_loader.specs.Graph.{IsGraph};
 ghost use Rattle.llb_model.specs.Program.{program_at};
-ghost use Rattle.llb_model.specs.State.{missing_local};
+ghost use Rattle.llb_loader.specs.Missing.{missing_local};
 
 use llb_execution::missing_local;
 use llb_loader::{Graph, Locals, Memory, Vertex};
@@ -19,7 +19,7 @@ pub struct Build {
 
 impl Model for Build {
     ghost use Rattle.std.specs.Coded.{codes};
-    ghost use Rattle.llb_tree.specs.Tree.{coded_tree};
+    ghost use Rattle.llb_tree.specs.Coded.{coded_tree};
     ghost use Rattle.llb_model.specs.Program as model;
 
     ghost Value = { model.Build };

@@ -6,7 +6,7 @@ ghost use Rattle.llb_state.specs.Undoing.{left_in};
 ghost use Rattle.llb_state.specs.Views.{at_of, leased_by};
 
 use crate::stand::{Desk, Execution, Stand};
-use llb_cache::{Lease, Place};
+use llb_cache::{Lease, Instance};
 use llb_events::Memory;
 use llb_tree::Tree;
 use llb_wire::Many;
@@ -87,14 +87,14 @@ pub fn copied(alloc: Global, execution: &Execution) -> Result<Execution, Memory>
     })
 }
 
-fn copied_places(alloc: Global, places: &[Place]) -> Result<Vec<Place>, Memory>
+fn copied_places(alloc: Global, places: &[Instance]) -> Result<Vec<Instance>, Memory>
     ensures { IfOk result (λ p. p.items ≡ places.now) }
 {
     let mut copies = Vec::new(alloc);
     for place in places {
         let key = place.key.copy()?;
         let number = place.number;
-        copies.push(Place { key, number })?;
+        copies.push(Instance { key, number })?;
     }
     Ok(copies)
 }

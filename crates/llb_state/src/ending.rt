@@ -8,7 +8,7 @@ ghost use Rattle.llb_model.specs.State.{Settled};
 ghost use Rattle.llb_state.specs.Views.{status_of};
 
 use crate::stand::{Execution, Stand};
-use llb_execution::View;
+use llb_execution::Workspace;
 use llb_loader::Vertex;
 use llb_tree::Tree;
 use llb_wire::Many;
@@ -28,7 +28,7 @@ pub fn end(execution: Execution, vertex: Option<&Vertex>) -> Stand
 }
 
 // Returns the outputs, read from the view that the micro-steps left. Without a vertex there are none.
-fn outputs(view: View, outputs: Vec<Tree>, vertex: Option<&Vertex>) -> Vec<Tree>
+fn outputs(view: Workspace, outputs: Vec<Tree>, vertex: Option<&Vertex>) -> Vec<Tree>
     requires { outputs.items ≡ replicate (program_at (option_map (λ v. v.now) vertex)).outputs empty_tree }
     ensures { result.items ≡ outputs_of (program_at (option_map (λ v. v.now) vertex.entry)) view }
 {

@@ -15,14 +15,14 @@ ghost use Rattle.llb_events.specs.Causes.{step_memory};
 
 use crate::history::History;
 use crate::stand::Desk;
-use llb_cache::{Caches, Lease, LeaseFault, Need, Place};
+use llb_cache::{Caches, Lease, LeaseFault, Need, Instance};
 use llb_events::{ClaimFault, StepFault};
 use llb_tree::Tree;
 use llb_wire::Many;
 use std::alloc::Global;
 
 /// Returns copies of the trees of instances; an instance that is not there has the empty tree. Fails with 141 `Memory` alone.
-pub fn contents(alloc: Global, caches: &Caches, places: &[Place]) -> Result<Vec<Tree>, StepFault>
+pub fn contents(alloc: Global, caches: &Caches, places: &[Instance]) -> Result<Vec<Tree>, StepFault>
     ensures trees { IfOk result (λ ts. ts.items ≡ trees_at (store_of caches.now.rows) places.now) }
     ensures memory { IfErr result (λ e. step_memory e ≡ true) }
 {
@@ -33,7 +33,7 @@ pub fn contents(alloc: Global, caches: &Caches, places: &[Place]) -> Result<Vec<
     Ok(trees)
 }
 
-fn content(alloc: Global, caches: &Caches, place: &Place) -> Result<Tree, StepFault>
+fn content(alloc: Global, caches: &Caches, place: &Instance) -> Result<Tree, StepFault>
     ensures tree { IfOk result (λ t. t ≡ tree_of (store_of caches.now.rows) place.now) }
     ensures memory { IfErr result (λ e. step_memory e ≡ true) }
 {

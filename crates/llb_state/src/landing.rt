@@ -17,15 +17,15 @@ ghost use Rattle.llb_state.specs.Views.{leased_by, execution_of};
 use crate::build::Build;
 use crate::copying::lease_of;
 use crate::stand::{Desk, Execution};
-use llb_cache::{Caches, Lease, Mode, Place};
-use llb_execution::{Job, Program, View};
+use llb_cache::{Caches, Lease, Mode, Instance};
+use llb_execution::{Job, Program, Workspace};
 use llb_model::VertexFault;
 use llb_tree::Tree;
 use llb_wire::Same;
 
 /// Returns whether one of the instances belongs to a shared cache. Does not allocate.
-pub fn has_shared(places: &[Place]) -> bool
-    ensures { result ≡ list_any (λ (p : model.Place). is_shared p.key.mode) places.now }
+pub fn has_shared(places: &[Instance]) -> bool
+    ensures { result ≡ list_any (λ (p : model.Instance). is_shared p.key.mode) places.now }
 {
     for place in places {
         if let Mode::Shared = place.key.mode {
@@ -38,12 +38,12 @@ pub fn has_shared(places: &[Place]) -> bool
 /// Returns whether a job is what a worker's execution has left to do, with the caches as they are now. Does not allocate.
 pub fn is_run_of(build: &Build, caches: &Caches, w: u32, execution: &Execution, job: &Job) -> bool
     requires vertex { is_some (slice_get build.now.graph.vertices execution.now.vertex) ≡ true }
-    requires within { (p : model.Place) → Has execution.now.places.items p → p.number < length (trees_of caches.now.rows p.key) }
+    requires within { (p : model.Instance) → Has execution.now.places.items p → p.number < length (trees_of caches.now.rows p.key) }
     ensures { IsTrue result ↔ IsRunOf build.now (store_of caches.now.rows) w (execution_of execution.now) job.now }
 {
     is_begun(w, execution, job)
         && has_program(build, execution.vertex, job.program())
-        && job.view().same(&execution.view)
+        && job.workspace().same(&execution.view)
         && has_trees(caches, &execution.places, job.trees())
         && has_numbers(&execution.places, job.instances())
 }
@@ -70,8 +70,8 @@ fn has_program(build: &Build, v: u32, program: &Program) -> bool
 }
 
 // Returns whether instances, which are there, have these trees.
-fn has_trees(caches: &Caches, places: &[Place], trees: &[Tree]) -> bool
-    requires { (p : model.Place) → Has places.now p → p.number < length (trees_of caches.now.rows p.key) }
+fn has_trees(caches: &Caches, places: &[Instance], trees: &[Tree]) -> bool
+    requires { (p : model.Instance) → Has places.now p → p.number < length (trees_of caches.now.rows p.key) }
     ensures { IsTrue result ↔ (trees.now ≡ trees_at (store_of caches.now.rows) places.now) }
 {
     if trees.len() != places.len() {
@@ -86,7 +86,7 @@ fn has_trees(caches: &Caches, places: &[Place], trees: &[Tree]) -> bool
 }
 
 // Returns whether an instance, which is there, has this tree.
-fn has_tree(caches: &Caches, place: &Place, tree: &Tree) -> bool
+fn has_tree(caches: &Caches, place: &Instance, tree: &Tree) -> bool
     requires { place.now.number < length (trees_of caches.now.rows place.now.key) }
     ensures { IsTrue result ↔ (tree.now ≡ tree_of (store_of caches.now.rows) place.now) }
 {
@@ -97,7 +97,7 @@ fn has_tree(caches: &Caches, place: &Place, tree: &Tree) -> bool
 }
 
 // Returns whether instances have these numbers.
-fn has_numbers(places: &[Place], numbers: &[u32]) -> bool
+fn has_numbers(places: &[Instance], numbers: &[u32]) -> bool
     ensures { IsTrue result ↔ (numbers.now ≡ map number_of places.now) }
 {
     if numbers.len() != places.len() {
@@ -117,7 +117,7 @@ pub fn put_left(
     desks: &mut Vec<Desk>,
     w: u32,
     done: (u32, Option<VertexFault>),
-    view: View,
+    view: Workspace,
 ) -> Option<Lease>
     requires low { w < length desks.old.items }
     requires few { (l : Option ℕ) (x : own.Execution) → slice_get desks.old.items w ≡ Some (desk.Runs l x) → x.done + done.0 < 2 ^ 32 }

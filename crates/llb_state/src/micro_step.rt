@@ -131,7 +131,7 @@ fn told(
     last: u32,
     fault: Option<VertexFault>,
 ) -> Stepped
-    ensures { (before : model.View) (left : Left) → is_skipped (step_in step.entry) before ≡ skipped → last_of left.work.own ≡ last
+    ensures { (before : model.Workspace) (left : Left) → is_skipped (step_in step.entry) before ≡ skipped → last_of left.work.own ≡ last
         → left.fault ≡ fault → step_reply result ≡ table.step_reply done (step_in step.entry) before left }
 {
     match step {

@@ -5,8 +5,8 @@ ghost use Rattle.llb_model.specs.State.{ending_of, is_done, is_failed};
 ghost use Rattle.llb_state.specs.Views.{status_of};
 
 use llb_applet::Setting;
-use llb_cache::{Lease, Place};
-use llb_execution::View;
+use llb_cache::{Lease, Instance};
+use llb_execution::Workspace;
 use llb_model::VertexFault;
 use llb_tree::Tree;
 use llb_wire::Many;
@@ -58,8 +58,8 @@ pub struct Execution {
     /// How many micro-steps are done; one that faults is counted.
     pub done: u32,
     pub fault: Option<VertexFault>,
-    pub view: View,
-    pub places: Vec<Place>,
+    pub view: Workspace,
+    pub places: Vec<Instance>,
     pub outputs: Vec<Tree>,
     pub setting: Setting,
 }

@@ -32,7 +32,7 @@ use crate::stand::{Desk, Execution, Stand};
 use llb_applet::Setting;
 use llb_cache::{Caches, Lease, Need};
 use llb_events::{CancelFault, Cancelled, ClaimFault, SettleFault, StepFault, Stepped};
-use llb_execution::{Job, Program, View, empty_trees, setting_of};
+use llb_execution::{Job, Program, Workspace, empty_trees, setting_of};
 use llb_links::Links;
 use llb_loader::Vertex;
 use llb_needs::{Wanted, mount_numbers, taking_for};
@@ -146,7 +146,7 @@ pub fn begin(
     let numbers = mount_numbers(alloc, &wanted)?;
     let taking = taking_for(alloc, caches, &inputs, wanted)?;
     let outfit = outfit_for(alloc, vertex)?;
-    let view = View::on(alloc, build.locals(), vertex, inputs, numbers)?;
+    let view = Workspace::on(alloc, build.locals(), vertex, inputs, numbers)?;
     let own = view.copy()?;
     let trees = Many::new(taking.trees);
     let instances = Many::new(taking.instances);

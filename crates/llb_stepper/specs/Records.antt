@@ -10,7 +10,7 @@ use Rattle.llb_model.specs.State.{State, opening}
 use Rattle.llb_model.specs.Run.{run}
 use Rattle.llb_model.specs.Table.{Event, Claim, Step, Settle, Cancel, Reply, Claimed, HasRead, Acted, HasMerged, HasRun, Skipped, Faulted}
 use Rattle.llb_model.specs.Table.{SettledDone, SettledFailed, Cancelled}
-use Rattle.llb_state.specs.Board.{Seen}
+use Rattle.llb_state.specs.Board.{BoardValue}
 use Rattle.llb_stepper.specs.Stepping.{Stepping, answered}
 
 -- the kind of an op; no graph has an op of the last two, or of none
@@ -77,10 +77,10 @@ abbrev pub record_text : List Vertex → ℕ → Event × Reply → List ℕ
 record_text vertices number p = decimal number ++ (codes " " ++ (event_text p.0 ++ (codes " -> " ++ reply_text vertices p.0 p.1)))
 
 -- an event on a board, with its reply, if there are both and the event is granted
-abbrev pub replied : Option Seen → Option Event → Option (Event × Reply)
+abbrev pub replied : Option BoardValue → Option Event → Option (Event × Reply)
 replied None e = None
 replied (Some b) None = None
-replied (Some b) (Some e) = option_map (λ (p : Seen × Reply). (e, p.1)) (answered b e)
+replied (Some b) (Some e) = option_map (λ (p : BoardValue × Reply). (e, p.1)) (answered b e)
 
 -- event i of the board's record, counted from 1, with its reply; none for an event that the board already had when the stepper was made
 abbrev pub record_at : Stepping → ℕ → Option (Event × Reply)

@@ -2,7 +2,8 @@
 
 ghost use Rattle.std.specs.Prelude.{◌≡◌, IfOk, option_map, string_bytes};
 ghost use Rattle.llb_events.specs.Views.{event_of};
-ghost use Rattle.llb_stepper.specs.Records.{kind_text, event_text, claimed_text, pair_text, fault_text, vertex_of};
+ghost use Rattle.llb_stepper.specs.Records.{event_text, claimed_text, pair_text, fault_text, vertex_of};
+ghost use Rattle.llb_ops.specs.Kinds.{kind_text};
 ghost use Rattle.llb_stepper.specs.Told.{step_text, settle_text, told_text, line_text};
 
 use llb_board::{Cancelled, Event, Reply, Settled, Stepped};

@@ -170,7 +170,7 @@ HasBytes (Dir m) = Unit {0}
 HasBytes (File m content) = AreBytes content
 
 -- an entry that is allowed at a path: this is a path, at most 128 names, the entry has a mode and owners, and bytes as content
-pub record CanStand (p : List (List ℕ)) (e : Entry) : Type 0 where
+pub record IsAllowedAt (p : List (List ℕ)) (e : Entry) : Type 0 where
   pub path : IsPath p
   pub meta : IsMeta (meta_in e)
   pub bytes : HasBytes e
@@ -179,4 +179,4 @@ pub record CanStand (p : List (List ℕ)) (e : Entry) : Type 0 where
 pub record IsTree (t : TreeMap) : Type 0 where
   pub root : IsDirAt (finite.get t) []
   pub closed : (p : List (List ℕ)) → IsSome (finite.get t p) → walk (finite.get t) p ≡ Ok tt
-  pub stands : (p : List (List ℕ)) (e : Entry) → finite.get t p ≡ Some e → CanStand p e
+  pub stands : (p : List (List ℕ)) (e : Entry) → finite.get t p ≡ Some e → IsAllowedAt p e

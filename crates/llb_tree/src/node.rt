@@ -54,7 +54,8 @@ pub struct Child {
 }
 
 impl Model for Node {
-    ghost use Rattle.llb_tree.specs.Tree.{TreeMap, coded_tree, height};
+    ghost use Rattle.llb_tree.specs.Tree.{TreeMap, height};
+    ghost use Rattle.llb_tree.specs.Coded.{coded_tree};
 
     ghost Value = { TreeMap };
 

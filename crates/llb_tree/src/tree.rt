@@ -37,7 +37,8 @@ impl Drop for Tree {
 }
 
 impl Model for Tree {
-    ghost use Rattle.llb_tree.specs.Tree.{TreeMap, coded_tree};
+    ghost use Rattle.llb_tree.specs.Tree.{TreeMap};
+    ghost use Rattle.llb_tree.specs.Coded.{coded_tree};
     ghost use Rattle.llb_tree.specs.Nodes.{IsWhole};
 
     ghost Value = { TreeMap };

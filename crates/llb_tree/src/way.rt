@@ -3,7 +3,7 @@
 ghost use Rattle.std.specs.Prelude.{◌≡◌, IsTrue, Some};
 ghost use Rattle.llb_tree.specs.Tree.{Dir};
 ghost use Rattle.llb_tree.specs.Meta.{MetaValue};
-ghost use Rattle.llb_tree.specs.Overlay.{way_of, given, over};
+ghost use Rattle.llb_tree.specs.Overlay.{way_of, laid_meta, over};
 ghost use Rattle.llb_tree.specs.Laying.{IsWay, TakesWhole, owner_fits};
 
 use crate::meta::Meta;
@@ -53,7 +53,7 @@ impl Way {
 
     // The mode and the owner of what is laid, by its own.
     pub(crate) fn given(&self, own: Meta) -> Meta
-        ensures { result ≡ given self.now own }
+        ensures { result ≡ laid_meta self.now own }
     {
         let mode = self.mode.unwrap_or(own.mode());
         let uid = self.uid.unwrap_or(own.uid());
@@ -63,7 +63,7 @@ impl Way {
 
     // Whether each keeps its own mode and owner.
     pub(crate) fn gives_nothing(&self) -> bool
-        ensures { IsTrue result → (own : MetaValue) → given self.now own ≡ own }
+        ensures { IsTrue result → (own : MetaValue) → laid_meta self.now own ≡ own }
     {
         self.mode.is_none() && self.uid.is_none() && self.gid.is_none()
     }

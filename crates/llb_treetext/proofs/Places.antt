@@ -8,7 +8,7 @@ use Rattle.std.specs.Ordering.{is_lt}
 use Rattle.std.specs.FinMap as finite
 use Rattle.llb_tree.specs.Path.{is_name, IsPath, path_cmp}
 use Rattle.llb_tree.specs.Meta.{MetaValue, IsMeta, new_dir_meta}
-use Rattle.llb_tree.specs.Tree.{Entry, Dir, File, Look, TreeMap, parents, all_dirs, walk, IsDirAt, CanStand, IsTree, empty_tree}
+use Rattle.llb_tree.specs.Tree.{Entry, Dir, File, Look, TreeMap, parents, all_dirs, walk, IsDirAt, IsAllowedAt, IsTree, empty_tree}
 use Rattle.llb_tree.specs.Within.{between, within_split}
 use Rattle.llb_treetext.specs.TreeText.{names_text, path_text, line_of}
 use Rattle.llb_treetext.specs.Reading.{IsRow, IsFault, comes_next}
@@ -270,12 +270,12 @@ module _ (m : MetaValue) (is : IsMeta m) where
       by_look q None at some = absurd (true≢false (sym some))
       by_look q (Some e) at some = ap (walk (finite.get (root_of m))) (only_root q e at)
 
-      by_path : (q : List (List ℕ)) (e : Entry) → q ≡ [] → finite.get (root_of m) q ≡ Some e → CanStand q e
+      by_path : (q : List (List ℕ)) (e : Entry) → q ≡ [] → finite.get (root_of m) q ≡ Some e → IsAllowedAt q e
       by_path q e root at =
           let same : ◌≡◌ {A = Option Entry} (Some (Dir m)) (Some e) = sym root_there ∙ ap (finite.get (root_of m)) (sym root) ∙ at in
           let own : Dir m ≡ e = cc in
-          subst (λ p. CanStand p e) (sym root)
-          (subst (CanStand []) own (record {
+          subst (λ p. IsAllowedAt p e) (sym root)
+          (subst (IsAllowedAt []) own (record {
             path = record { short = omega arith; named = All-nil (λ name. is_name name ≡ true) };
             meta = is;
             bytes = tt;

@@ -13,7 +13,7 @@ use Rattle.std.specs.FinMap.Entries.{by_order}
 use Rattle.llb_tree.specs.Path.{path_cmp}
 use Rattle.llb_tree.specs.PathOrder.{path_cmp-IsTotalOrder, path_cmp-IsAntisymmetric}
 use Rattle.llb_tree.specs.Meta.{MetaValue, new_dir_meta}
-use Rattle.llb_tree.specs.Tree.{Entry, Dir, File, Look, TreeMap, parents, all_dirs, walk, dir_fits, file_fits, IsDirAt, CanStand, IsTree, empty_tree}
+use Rattle.llb_tree.specs.Tree.{Entry, Dir, File, Look, TreeMap, parents, all_dirs, walk, dir_fits, file_fits, IsDirAt, IsAllowedAt, IsTree, empty_tree}
 use Rattle.llb_tree.specs.declared.fault.TreeFault.{TreeFault}
 use Rattle.llb_wire.specs.Answer.{◌>>=◌}
 use Rattle.llb_treetext.specs.TreeText.{row_text, line_of, lines_of, tree_text}
@@ -144,8 +144,8 @@ module _ (t : TreeMap) (tree : IsTree t) (row : Pair) (is : IsRow row) (next : c
     closed = λ q there. walk_more (finite.get t) (finite.get (finite.insert t row.0 row.1)) more q
         (get-insert_cases (λ o. IsSome o → walk (finite.get t) q ≡ Ok tt) t row.0 row.1 q
         (λ same some. ap (walk (finite.get t)) same ∙ walks) (tree.closed q) there);
-    stands = λ q d. get-insert_cases (λ o. o ≡ Some d → CanStand q d) t row.0 row.1 q
-        (λ same own. let one : row.1 ≡ d = cc in subst (λ x. CanStand x d) (sym same) (subst (CanStand row.0) one is.stands)) (tree.stands q d);
+    stands = λ q d. get-insert_cases (λ o. o ≡ Some d → IsAllowedAt q d) t row.0 row.1 q
+        (λ same own. let one : row.1 ≡ d = cc in subst (λ x. IsAllowedAt x d) (sym same) (subst (IsAllowedAt row.0) one is.stands)) (tree.stands q d);
   }
     where
       more : (q : List (List ℕ)) → IsDirAt (finite.get t) q → IsDirAt (finite.get (finite.insert t row.0 row.1)) q

@@ -5,7 +5,7 @@
 ghost use Rattle.std.specs.Prelude.{◌≡◌, ◌+◌, ℕ, length, true, Some, IfOk};
 ghost use Rattle.std.specs.Bool.{OnTrue};
 ghost use Rattle.std.specs.Coded.{codes};
-ghost use Rattle.llb_tree.specs.Tree.{coded_tree};
+ghost use Rattle.llb_tree.specs.Coded.{coded_tree};
 ghost use Rattle.llb_board.specs.Begun.{IsKnown};
 ghost use Rattle.llb_board.specs.Store.{coded_store};
 ghost use Rattle.llb_work.specs.Crew.{IsAfter};
@@ -17,7 +17,7 @@ use crate::granted;
 use crate::held::Held;
 use crate::noted::{Gated, Noted, Tally, count};
 use llb_board::{
-    At, Board, ClaimFault, Job, LandFault, Outcome, SettleFault, Settled, Status, StepFault,
+    WorkerStatus, Board, ClaimFault, Job, LandFault, Outcome, SettleFault, Settled, Status, StepFault,
     Stepped,
 };
 use llb_cache::Key;
@@ -126,7 +126,7 @@ impl<S: Gated> SharedBoard<S> {
         ensures { OnTrue result (IsKnown self.now.board w job.now) }
     {
         match self.board.worker(w) {
-            Some(At::Runs(v, 0, _)) => v == job.vertex() && is_marked(&self.plain, v),
+            Some(WorkerStatus::Runs(v, 0, _)) => v == job.vertex() && is_marked(&self.plain, v),
             _ => false,
         }
     }
@@ -193,20 +193,20 @@ impl<S: Gated> SharedBoard<S> {
     {
         match self.board.worker(w) {
             None => Turn::End,
-            Some(At::Runs(_, _, true)) => {
+            Some(WorkerStatus::Runs(_, _, true)) => {
                 self.release(w, news);
                 let settled = self.settle(w, mine);
                 self.left(settled.ok(), news)
             }
-            Some(At::Runs(_, _, false)) => match self.step(w, mine) {
+            Some(WorkerStatus::Runs(_, _, false)) => match self.step(w, mine) {
                 Err(StepFault::Memory) => {
                     self.give_up(w, Noted::Memory, mine);
                     Turn::End
                 }
                 _ => Turn::Again,
             },
-            Some(At::Idle) if self.is_over() => Turn::End,
-            Some(At::Idle) => Turn::Next,
+            Some(WorkerStatus::Idle) if self.is_over() => Turn::End,
+            Some(WorkerStatus::Idle) => Turn::Next,
         }
     }
 

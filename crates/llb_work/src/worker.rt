@@ -2,7 +2,7 @@
 //! takes numbers from the queue.
 
 ghost use Rattle.std.specs.Prelude.{◌≡◌, ℕ, true, IsTrue, IfSome};
-ghost use Rattle.llb_state.specs.Board.{Seen};
+ghost use Rattle.llb_state.specs.Board.{BoardValue};
 ghost use Rattle.llb_work.specs.Passes.{IsPassFor};
 ghost use Rattle.llb_work.specs.RunEnds.{is_of};
 ghost use Rattle.llb_work.specs.Turns.{IsBrought, IsClaimed, IsHere};
@@ -78,7 +78,7 @@ impl<'x, S: Gated, G: Gate, R: Wait> Crew<'x, S, G, R> {
     fn taken(self, w: u32, kit: &mut WorkerKit<S>) -> Option<Brought>
         requires { IsPassFor self.queue.now w kit.old.pass }
         ensures pass { IsPassFor self.entry.queue.now w kit.new.pass }
-        ensures brought { (b : Seen) → IfSome result (IsBrought b w) }
+        ensures brought { (b : BoardValue) → IfSome result (IsBrought b w) }
     {
         let backoff = Backoff::new();
         for _i in self.rt.forever() {

@@ -1,5 +1,5 @@
 use Rattle.std.proofs.Common.{◌≡◌, ◌<◌, length, true, sym, ◌∙◌, arith, get_or}
-use Rattle.llb_asm.specs.Values.{is_digit}
+use Rattle.llb_wire.specs.Decimal.{is_digit}
 use Rattle.llb_asm.proofs.Digits.{digits_more, value_more}
 use Rattle.llb_asm.proofs.values.magnitude.Goals as goal
 

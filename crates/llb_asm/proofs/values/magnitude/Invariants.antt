@@ -1,7 +1,7 @@
 use Rattle.std.proofs.Common.{◌≡◌, true, take}
 use Rattle.std.specs.List.{list_all}
 use Rattle.std.specs.Str.Parse.{digits_value}
-use Rattle.llb_asm.specs.Values.{capped, is_digit}
+use Rattle.llb_wire.specs.Decimal.{capped, is_digit}
 use Rattle.llb_asm.proofs.values.magnitude.Given as goal
 
 abbrev pub invariant-loop-byte : goal.invariant-loop-byte

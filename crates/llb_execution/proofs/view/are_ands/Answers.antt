@@ -1,6 +1,6 @@
 use Rattle.std.proofs.Common.{◌≡◌, ◌+◌, suc, true, ◌&&◌, ◌∷◌, drop, sym, ap, ◌∙◌, add-one, drop-cons}
 use Rattle.llb_model.specs.Program.{is_and, all_and}
-use Rattle.llb_execution.proofs.view.are_ands.Goals as goal
+use Rattle.llb_execution.proofs.workspace.are_ands.Goals as goal
 
 pub loop-command-preserved : goal.loop-command-preserved
 loop-command-preserved c =

@@ -2,7 +2,7 @@ use Rattle.std.proofs.Common.{◌≡◌, List, map, sym, ap, ◌∙◌}
 use Rattle.std.specs.Prelude.{Result, Ok}
 use Rattle.llb_loader.specs.declared.graph.Edge.{Edge}
 use Rattle.llb_model.specs.Outcome.{inputs_from}
-use Rattle.llb_model.specs.Program.{view_on}
+use Rattle.llb_model.specs.Program.{workspace_on}
 use Rattle.llb_model.specs.State.{ending_at}
 use Rattle.llb_model.specs.Table.{Job, Claimed}
 use Rattle.llb_needs.specs.Needs.{taken_with}
@@ -34,8 +34,8 @@ are_parts : (c : goal.After-new-instances) → AreParts c.args.build.now c.args.
 unfolding parts
 are_parts c =
     let x = c.args.claim.vertex.now in
-    let view : view_on c.args.build.now.locals x x.op.kind c.in_ok-inputs.inputs.items ≡ c.in_ok-view.view
-    = ap (λ locals. view_on locals x x.op.kind c.in_ok-inputs.inputs.items) (sym c.locals.ensures) ∙ sym c.in_ok-view.ensures in
+    let view : workspace_on c.args.build.now.locals x x.op.kind c.in_ok-inputs.inputs.items ≡ c.in_ok-view.view
+    = ap (λ locals. workspace_on locals x x.op.kind c.in_ok-inputs.inputs.items) (sym c.locals.ensures) ∙ sym c.in_ok-view.ensures in
     record {
       view = view;
       own = view ∙ sym c.in_ok-own.ensures;

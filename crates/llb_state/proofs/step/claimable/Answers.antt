@@ -1,7 +1,7 @@
 use Rattle.std.proofs.Common.{◌≡◌, ◌∙◌, map, refl, sym, ap}
 use Rattle.std.specs.Prelude.{true, false, Option, Some, None, Err, is_ok, is_some, slice_get}
 use Rattle.llb_model.specs.Program.{Start}
-use Rattle.llb_model.specs.State.{At, Idle}
+use Rattle.llb_model.specs.State.{WorkerStatus, Idle}
 use Rattle.llb_model.specs.Table.{claim_start}
 use Rattle.llb_model.specs.Table as table
 use Rattle.llb_state.specs.Views.{status_of, at_of}
@@ -21,12 +21,12 @@ is_there (Some start) is = refl
 
 pub returns-in-None-clause-first : goal.returns-in-None-clause-first
 returns-in-None-clause-first c =
-    ap (λ (o : Option At). faulted claim_fault
+    ap (λ (o : Option WorkerStatus). faulted claim_fault
     (claim_start (map status_of c.args.stands.now) c.args.v o (slice_get c.args.build.now.graph.vertices c.args.v))) (sym c.in-None.ensures)
 
 pub returns-in-Some-Runs-clause-first : goal.returns-in-Some-Runs-clause-first
 returns-in-Some-Runs-clause-first c =
-    ap (λ (o : Option At). faulted claim_fault (claim_start (map status_of c.args.stands.now) c.args.v o (slice_get c.args.build.now.graph.vertices c.args.v)))
+    ap (λ (o : Option WorkerStatus). faulted claim_fault (claim_start (map status_of c.args.stands.now) c.args.v o (slice_get c.args.build.now.graph.vertices c.args.v)))
     (sym c.in-Some-Runs.ensures ∙ ap (λ d. Some (at_of d)) c.in-Some-Runs.field-0-is)
 
 pub returns-in_default-clause-first : goal.returns-in_default-clause-first

@@ -2,7 +2,7 @@ use Rattle.std.proofs.Common.{◌≡◌, ◌∙◌, List, [], map, ap, sym, subs
 use Rattle.std.specs.Prelude.{Some, slice_get, slice_set}
 use Rattle.std.proofs.lemmas.Option.{slice_get-get_or}
 use Rattle.llb_model.specs.Kept.{store_of}
-use Rattle.llb_model.specs.State.{At}
+use Rattle.llb_model.specs.State.{WorkerStatus}
 use Rattle.llb_model.specs.Table.{stepped, step_grant}
 use Rattle.llb_state.specs.Caches.{written}
 use Rattle.llb_state.specs.Room.{ready_made, supplies_of}
@@ -51,7 +51,7 @@ returns-in-Runs-clause-gives c =
     let h = holding rows c.args.caches.now.out ds w c.in-Runs.lease x c.is_exclusive.ensures.apart c.is_exclusive.ensures.there c.requires.leased at in
     let after = c.step_of.new.caches.rows in
     let whole = faulted step_fault (step_grant b (state_of [] ds rows) w) in
-    subst (λ (ws : List At). GivesStep (λ r. (record { statuses = []; workers = ws; store = store_of after }, step_reply r)) c.step_of.result whole)
+    subst (λ (ws : List WorkerStatus). GivesStep (λ r. (record { statuses = []; workers = ws; store = store_of after }, step_reply r)) c.step_of.result whole)
     (sym (map_set at_of ds w (desk.Runs c.in-Runs.lease c.step_of.new.execution)))
     (gives_through ds w c.step_of.result (λ r. (execution_of c.step_of.new.execution, after, step_reply r)) (worked_in b rows (execution_of x)) whole
     (stepped_as b ds rows w (execution_of x) (get_map at_of ds w (desk.Runs c.in-Runs.lease x) at) h.within) c.step_of.ensures.gives)

@@ -1,7 +1,7 @@
 use Rattle.std.proofs.Common.{◌≡◌, ◌∙◌, List, length, ap, sym, arith}
 use Rattle.std.specs.Prelude.{Some, Ok, is_some, nat_le, ◌||◌, false, slice_get}
 use Rattle.llb_cache.specs.Caches.{Row}
-use Rattle.llb_model.specs.Caches.{Place, trees_at}
+use Rattle.llb_model.specs.Caches.{Instance, trees_at}
 use Rattle.llb_model.specs.Kept.{store_of}
 use Rattle.llb_model.specs.Program.{key_of, program_at}
 use Rattle.llb_model.specs.State.{program_in, is_finished}
@@ -43,7 +43,7 @@ write_back-requires-clause-few c =
     ∙ trees_count (store_of c.args.caches.now.rows) c.deref.result.now c.in_ok-trees.trees.items c.in_ok-trees.ensures.trees
     ∙ ap length c.deref.ensures.value ∙ places in
     let keys : length x.places.items ≡ length (needs_at (slice_get b.graph.vertices x.vertex))
-    = sym (length_map (λ (p : Place). p.key) x.places.items) ∙ ap (λ (s : Supplies). length s.keys) c.requires.supplies
+    = sym (length_map (λ (p : Instance). p.key) x.places.items) ∙ ap (λ (s : Supplies). length s.keys) c.requires.supplies
     ∙ length_map key_of (needs_at (slice_get b.graph.vertices x.vertex)) in
     omega (arith, count, keys, few_needs b.graph x.vertex c.vertex-vertex.ensures.graph)
 

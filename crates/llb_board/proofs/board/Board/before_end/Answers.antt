@@ -1,6 +1,6 @@
 use Rattle.std.proofs.Common.{◌≡◌, Some, length, ap, sym, rules, vec_len}
 use Rattle.std.specs.Prelude.{not, slice_get}
-use Rattle.llb_state.specs.Board.{Seen}
+use Rattle.llb_state.specs.Board.{BoardValue}
 use Rattle.llb_state.specs.Undoing.{caches_in}
 use Rattle.llb_state.specs.declared.stand.Desk.TheVariants as desk
 use Rattle.llb_board.proofs.Walks.{IsAt, marks_end, unasked}
@@ -13,8 +13,8 @@ returns-in_ok-caches-in-Some-Runs-clause-marks c =
     let x = c.in-Some-Runs.execution in
     let there : slice_get b.desks.items c.args.w ≡ Some (desk.Runs l x) = search rules in
     let at : IsAt c.args.self.now b.build b.desks.items c.args.w l x = record {
-      build = ap (λ (s : Seen). s.build) (sym c.self.view_is);
-      workers = ap (λ (s : Seen). s.state.workers) (sym c.self.view_is);
+      build = ap (λ (s : BoardValue). s.build) (sym c.self.view_is);
+      workers = ap (λ (s : BoardValue). s.state.workers) (sym c.self.view_is);
       supplies = c.self.invariant.kept.supplies;
       there = there;
     } in

@@ -1,7 +1,7 @@
 use Rattle.std.proofs.Common.{◌≡◌, ◌∙◌, List, map, refl, sym, ap, subst, rules}
 use Rattle.std.specs.Prelude.{Bool, false, Some, IsTrue, slice_get}
 use Rattle.llb_model.specs.State.{Runs}
-use Rattle.llb_state.specs.Board.{Seen}
+use Rattle.llb_state.specs.Board.{BoardValue}
 use Rattle.llb_board.specs.Landing.{CanLand, RunsAlone}
 use Rattle.llb_state.specs.Jobs.{has_shared}
 use Rattle.llb_state.specs.Room.{seen}
@@ -41,7 +41,7 @@ returns-then-not-is_run_of-clause-err c =
     = ap (λ (ds : List Desk). slice_get (map at_of ds) c.args.w) (sym c.deref.ensures.value) ∙ sym c.in-Some-Runs.ensures
     ∙ ap (λ d. Some (at_of d)) c.in-Some-Runs.field-0-is in
     let alone : has_shared x ≡ false = search rules in
-    subst (λ (m : Seen). RunsAlone m c.args.w c.args.job.now) c.self.view_is (record {
+    subst (λ (m : BoardValue). RunsAlone m c.args.w c.args.job.now) c.self.view_is (record {
       x = x;
       runs = runs;
       alone = alone;
@@ -56,7 +56,7 @@ returns-else-not-is_run_of-clause-ok c =
     = ap (λ (ds : List Desk). slice_get (map at_of ds) c.args.w) (sym c.deref.ensures.value) ∙ sym c.in-Some-Runs.ensures
     ∙ ap (λ d. Some (at_of d)) c.in-Some-Runs.field-0-is in
     let alone : has_shared x ≡ false = search rules in
-    subst (λ (m : Seen). CanLand m c.args.w c.args.job.now) c.self.view_is (record {
+    subst (λ (m : BoardValue). CanLand m c.args.w c.args.job.now) c.self.view_is (record {
       x = x;
       runs = runs;
       alone = alone;

@@ -3,7 +3,7 @@ use Rattle.std.specs.Prelude.{Ok, Some, slice_get, slice_set}
 use Rattle.llb_model.specs.State.{Running}
 use Rattle.llb_model.specs.Table.{Cancel, Cancelled}
 use Rattle.llb_model.proofs.Lists.{length_set}
-use Rattle.llb_state.specs.Board.{Seen}
+use Rattle.llb_state.specs.Board.{BoardValue}
 use Rattle.llb_events.specs.Causes.{cancel_fault}
 use Rattle.llb_state.specs.Rules.{cancel_of, given_up_at}
 use Rattle.llb_state.specs.Room.{seen}
@@ -96,7 +96,7 @@ returns-clause-gives c =
     let b = c.self.inside in
     let v = c.in_ok-cancelled.cancelled.vertex in
     let n = c.in_ok-cancelled.cancelled.done in
-    ap (λ (m : Seen). cancel_of m c.args.w) (sym c.self.view_is)
+    ap (λ (m : BoardValue). cancel_of m c.args.w) (sym c.self.view_is)
     ∙ recorded_as b.build b.start.rows (data_of b.stands.items b.desks.items b.caches b.stop_marks.items)
     (after b.build b.start.rows b.stands.items b.desks.items b.caches b.stop_marks.items b.history.list b.history.space c.args.w v n
     c.in_ok-cancelled.lease c.self.invariant.kept (given p) (leased p)) b.history.list

@@ -10,10 +10,10 @@ use Rattle.llb_model.specs.State.{Waiting, ending_at}
 use Rattle.llb_model.specs.Table.{Claim}
 use Rattle.llb_model.proofs.Lists.{length_set}
 use Rattle.llb_state.specs.Begun.{begun_as}
-use Rattle.llb_needs.specs.Needs.{shut_key, unless_shut}
+use Rattle.llb_needs.specs.Needs.{first_held_key, unless_held}
 use Rattle.llb_state.specs.Views.{status_of, state_of}
 use Rattle.llb_events.specs.Views.{claim_reply}
-use Rattle.llb_state.specs.Board.{Seen}
+use Rattle.llb_state.specs.Board.{BoardValue}
 use Rattle.llb_state.specs.Rules.{begun, claim_of}
 use Rattle.llb_events.specs.Causes.{claim_fault}
 use Rattle.llb_events.specs.Faults.{claim_memory, claim_may_want}
@@ -41,11 +41,11 @@ can c =
 
 -- whether the claim may want memory is whether the look at the vertex's keys may
 wants : (c : In_ok-vertex) → claim_may_want (claim_of c.args.self.now c.args.w c.args.v)
-    ≡ claim_may_want (unless_shut (needs_of c.in_ok-vertex.vertex.now) (shut_key c.self.inside.caches.out (needs_of c.in_ok-vertex.vertex.now)))
+    ≡ claim_may_want (unless_held (needs_of c.in_ok-vertex.vertex.now) (first_held_key c.self.inside.caches.out (needs_of c.in_ok-vertex.vertex.now)))
 wants c =
     let b = c.self.inside in
     let same = same_held b.build b.start.rows b.stands.items b.desks.items b.caches b.stop_marks.items b.history.list b.history.space c.self.invariant.kept in
-    ap (λ (n : Seen). claim_may_want (claim_of n c.args.w c.args.v)) (sym c.self.view_is)
+    ap (λ (n : BoardValue). claim_may_want (claim_of n c.args.w c.args.v)) (sym c.self.view_is)
     ∙ claim_wants (seen b.build b.start.rows b.stands.items b.desks.items b.caches.rows b.history.list) c.args.w c.args.v c.in_ok-vertex.vertex.now b.caches
     (can c) same
 
@@ -66,7 +66,7 @@ returns-in_err-wanted-clause-gives c =
     let e = c.in_err-wanted.field-0.0 in
     let same = same_held b.build b.start.rows b.stands.items b.desks.items b.caches b.stop_marks.items b.history.list b.history.space c.self.invariant.kept in
     let refused : claim_memory e ≡ false → claim_of c.args.self.now c.args.w c.args.v ≡ Err e
-    = λ known. ap (λ (n : Seen). claim_of n c.args.w c.args.v) (sym c.self.view_is)
+    = λ known. ap (λ (n : BoardValue). claim_of n c.args.w c.args.v) (sym c.self.view_is)
     ∙ claim_held (seen b.build b.start.rows b.stands.items b.desks.items b.caches.rows b.history.list) c.args.w c.args.v c.in_ok-vertex.vertex.now b.caches e
     (can p) same
     (c.in_err-wanted.ensures.gives known) in
@@ -239,7 +239,7 @@ returns-clause-gives c =
     }) in
     let new = after path.In_ok-lease in
     let r = claim_reply c.in_ok-begun.begun.job in
-    ap (λ (n : Seen). claim_of n c.args.w c.args.v) (sym c.self.view_is)
+    ap (λ (n : BoardValue). claim_of n c.args.w c.args.v) (sym c.self.view_is)
     ∙ recorded_as b.build b.start.rows (data_of b.stands.items b.desks.items b.caches b.stop_marks.items) new b.history.list (Claim c.args.w c.args.v)
     claim_fault
     _ r d.grants

@@ -1,7 +1,7 @@
 use Rattle.std.proofs.Common.{◌≡◌, ◌++◌, sym, subst, arith}
 use Rattle.llb_execution.specs.Parts.{left_with}
 use Rattle.llb_model.specs.Landing.{steps_by}
-use Rattle.llb_state.specs.Board.{Seen}
+use Rattle.llb_state.specs.Board.{BoardValue}
 use Rattle.llb_execution.specs.Jobs.{OutcomeValue, IsOutcome}
 use Rattle.llb_board.specs.Landing.{CanLand, IsThrough}
 use Rattle.llb_state.specs.Room.{seen}
@@ -34,14 +34,14 @@ unfolding before
 desk_so c =
     let b = c.self.inside in
     has_desk b.build b.start.rows (before c) b.history.list c.args.w c.args.outcome.job
-    (subst (λ (m : Seen). CanLand m c.args.w c.args.outcome.job) (sym c.self.view_is) c.requires)
+    (subst (λ (m : BoardValue). CanLand m c.args.w c.args.outcome.job) (sym c.self.view_is) c.requires)
 
 pub put_left-lease-requires-clause-few : goal.put_left-lease-requires-clause-few
 put_left-lease-requires-clause-few c =
     λ l x at.
     let b = c.self.inside in
     let few = few_steps b.build b.start.rows (data_of b.stands.items b.desks.items b.caches b.stop_marks.items) b.history.list c.args.w c.args.outcome l x
-    (subst (λ (m : Seen). CanLand m c.args.w c.args.outcome.job) (sym c.self.view_is) c.requires) c.is_whole.ensures at in
+    (subst (λ (m : BoardValue). CanLand m c.args.w c.args.outcome.job) (sym c.self.view_is) c.requires) c.is_whole.ensures at in
     let count = c.into_left-count.ensures.count in
     omega (arith, few, count)
 
@@ -107,11 +107,11 @@ returns c =
     c.vertices.ensures.graph k.run (whole p) c.put_left-lease.result c.put_left-lease.new.desks.items c.write_back.new.caches.rows
     c.write_back.new.caches.out c.put_left-lease.ensures.leased
     c.put_left-lease.ensures.left c.write_back.ensures.rows c.write_back.ensures.out in
-    let new : Seen = seen b.build b.start.rows b.stands.items c.put_left-lease.new.desks.items c.write_back.new.caches.rows c.record_steps.new.self.list in
+    let new : BoardValue = seen b.build b.start.rows b.stands.items c.put_left-lease.new.desks.items c.write_back.new.caches.rows c.record_steps.new.self.list in
     let done = through b.build b.start.rows (before p) b.history.list b.history.space c.args.w k.l k.own (outcome p) c.self.invariant.kept k.at
     c.is_exclusive.ensures.apart c.is_exclusive.ensures.there
     c.vertices.ensures.graph k.run (whole p) in
     subst (λ (v : OutcomeValue). IsThrough c.args.self.now c.args.w v.count new) (outcome_is p)
-    (subst (λ (m : Seen). IsThrough m c.args.w c.into_left-count.result.0 new) c.self.view_is
-    (subst (λ (n : Seen). IsThrough (seen_as b.build b.start.rows (before p) b.history.list) c.args.w c.into_left-count.result.0 n)
+    (subst (λ (m : BoardValue). IsThrough m c.args.w c.into_left-count.result.0 new) c.self.view_is
+    (subst (λ (n : BoardValue). IsThrough (seen_as b.build b.start.rows (before p) b.history.list) c.args.w c.into_left-count.result.0 n)
     (λ i. seen_as b.build b.start.rows (sym is i) (sym c.record_steps.ensures.list i)) done))

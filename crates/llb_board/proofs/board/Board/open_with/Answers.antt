@@ -1,7 +1,7 @@
 use Rattle.std.proofs.Common.{◌≡◌, ◌∙◌, true, ap, sym, subst, map, length, arith}
 use Rattle.std.specs.Prelude.{Bool, Ok, Err, Result, if◌then◌else◌}
 use Rattle.llb_cache.specs.Caches.{CachesValue}
-use Rattle.llb_state.specs.Board.{Seen, opened}
+use Rattle.llb_state.specs.Board.{BoardValue, opened}
 use Rattle.llb_board.specs.Opening.{may_work}
 use Rattle.llb_board.specs.declared.fault.OpenFault.{OpenFault}
 use Rattle.llb_board.specs.declared.fault.OpenFault.TheVariants.{Workers}
@@ -31,8 +31,8 @@ pub returns-in-Ok-clause-gives : goal.returns-in-Ok-clause-gives
 returns-in-Ok-clause-gives c =
     let e = c.in-Ok.ensures in
     let may : may_work c.args.workers ≡ true = sym c.may_work.ensures ∙ c.if-not-may_work.false in
-    let open_is : (b : Bool) → Result Seen OpenFault
+    let open_is : (b : Bool) → Result BoardValue OpenFault
     = λ b. if b then Ok (opened c.args.build c.args.workers c.args.caches.rows) else Err (Workers c.args.build.graph c.args.build.locals c.args.caches) in
     ap open_is may
-    ∙ ap (λ (s : Seen). Ok s) (sym (seen_open c.args.build _ c.args.workers _ _ c.args.caches.rows _ e.stands e.desks e.events (ap (λ (c : CachesValue).
+    ∙ ap (λ (s : BoardValue). Ok s) (sym (seen_open c.args.build _ c.args.workers _ _ c.args.caches.rows _ e.stands e.desks e.events (ap (λ (c : CachesValue).
     c.rows) e.start)))

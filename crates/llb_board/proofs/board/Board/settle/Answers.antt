@@ -7,7 +7,7 @@ use Rattle.llb_model.specs.Table.{Settle, settle_reply, settle_grant}
 use Rattle.llb_model.proofs.Lists.{length_set}
 use Rattle.llb_model.proofs.Stopped.{stopped_length}
 use Rattle.llb_state.specs.Views.{status_of, at_of, leased_by, state_of}
-use Rattle.llb_state.specs.Board.{Seen}
+use Rattle.llb_state.specs.Board.{BoardValue}
 use Rattle.llb_events.specs.Causes.{settle_fault}
 use Rattle.llb_state.specs.Rules.{settle_of, left_at}
 use Rattle.llb_state.specs.Room.{AreOver, seen}
@@ -81,7 +81,7 @@ answered : (c : In_ok-v) → settle_of c.args.self.now c.args.w
     )
 answered c =
     let b = c.self.inside in
-    ap (λ (n : Seen). settle_of n c.args.w) (sym c.self.view_is)
+    ap (λ (n : BoardValue). settle_of n c.args.w) (sym c.self.view_is)
     ∙ recorded_as b.build b.start.rows (data_of b.stands.items b.desks.items b.caches b.stop_marks.items) (data_with c b.stop_marks.items) b.history.list
     (Settle c.args.w) settle_fault _
     (settle_reply c.in_ok-v.v (can c).ending) (granted c) (length_set b.desks.items c.args.w desk.Idle)

@@ -4,7 +4,7 @@ use Rattle.std.proofs.lemmas.Option.{slice_get_within}
 use Rattle.llb_model.specs.Outcome.{Done, Failed}
 use Rattle.llb_model.specs.State.{Status, Waiting, Running, Settled, start_from, is_ready, is_waiting, is_blocked}
 use Rattle.llb_model.proofs.Lists.{get_within}
-use Rattle.llb_state.specs.Board.{Seen}
+use Rattle.llb_state.specs.Board.{BoardValue}
 use Rattle.llb_links.specs.Links.{has_inputs}
 use Rattle.llb_state.specs.Room.{seen}
 use Rattle.llb_state.specs.Views.{status_of}
@@ -21,7 +21,7 @@ look_waiting ready marked (Running w) = refl
 look_waiting ready marked (Settled (Done trees)) = refl
 look_waiting ready marked (Settled (Failed f)) = refl
 
-now : After-look → Seen
+now : After-look → BoardValue
 now c = let b = c.self.inside in seen b.build b.start.rows b.stands.items b.desks.items b.caches.rows b.history.list
 
 stands_so : (c : After-look) → slice_get (map status_of c.self.inside.stands.items) c.args.v ≡ Some (status_of c.in_ok-stand.stand.now)
@@ -50,4 +50,4 @@ returns c =
     && (c.is_marked.ensures ∙ ap (λ ms. unwrap_or (slice_get ms c.args.v) false) (c.deref-3.ensures.value ∙ c.self.invariant.kept.stop_marks_are)) i in
     ap (λ k. Some k) (c.look.ensures ∙ look_waiting c.is_ready-ready.result c.is_marked.result s ∙ (λ i. look (ready_is c i) (blocked i) s))
     ∙ ap (option_map (look (is_ready b.build S c.args.v) (is_blocked b.build S c.args.v))) (sym (stands_so c))
-    ∙ ap (λ (n : Seen). look_at n.build n.state c.args.v) c.self.view_is
+    ∙ ap (λ (n : BoardValue). look_at n.build n.state c.args.v) c.self.view_is

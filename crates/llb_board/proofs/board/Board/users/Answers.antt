@@ -1,5 +1,5 @@
 use Rattle.std.proofs.Common.{◌∙◌, map, ap}
-use Rattle.llb_state.specs.Board.{Seen}
+use Rattle.llb_state.specs.Board.{BoardValue}
 use Rattle.llb_links.specs.Links.{users_of}
 use Rattle.llb_state.specs.OpenInputs.{done_in}
 use Rattle.llb_state.specs.Views.{status_of}
@@ -10,4 +10,4 @@ pub returns : goal.returns
 returns c =
     let b = c.self.inside in
     c.users.ensures ∙ users_told b.build c.vertices.ensures.graph (done_in (map status_of b.stands.items)) b.links c.self.invariant.linked c.args.v
-    ∙ ap (λ (n : Seen). users_of n.build.graph.vertices c.args.v) c.self.view_is
+    ∙ ap (λ (n : BoardValue). users_of n.build.graph.vertices c.args.v) c.self.view_is

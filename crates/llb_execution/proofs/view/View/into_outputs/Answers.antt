@@ -2,7 +2,7 @@ use Rattle.std.proofs.Common.{◌≡◌, length, replicate, sym, ap, ◌∙◌}
 use Rattle.std.proofs.lemmas.List.{length-replicate}
 use Rattle.llb_tree.specs.Tree.{empty_tree}
 use Rattle.llb_model.specs.Program.{program_of, outputs_of}
-use Rattle.llb_execution.proofs.view.View.into_outputs.Goals as goal
+use Rattle.llb_execution.proofs.workspace.Workspace.into_outputs.Goals as goal
 
 pub outputs_of-requires : goal.outputs_of-requires
 outputs_of-requires c =

@@ -1,7 +1,7 @@
 use Rattle.std.proofs.Common.{ap, sym, subst, ◌∙◌}
 use Rattle.llb_execution.specs.Marks.{mark_of, PutsBack}
 use Rattle.llb_execution.proofs.Marks.{puts_back}
-use Rattle.llb_execution.proofs.view.View.mark.Goals as goal
+use Rattle.llb_execution.proofs.workspace.Workspace.mark.Goals as goal
 
 pub returns-clause-back : goal.returns-clause-back
 returns-clause-back c =

@@ -4,7 +4,7 @@ use Rattle.llb_model.specs.declared.fault.VertexFault.TheVariants as fault
 use Rattle.llb_fileop.specs.Faults.{is_memory}
 use Rattle.llb_execution.specs.Parts.{left_with}
 use Rattle.llb_execution.proofs.Stepping.{put_tree, put_fault}
-use Rattle.llb_execution.proofs.view.View.put_result.Goals as goal
+use Rattle.llb_execution.proofs.workspace.Workspace.put_result.Goals as goal
 
 pub returns-in_ok-push-in-Ok-clause-left : goal.returns-in_ok-push-in-Ok-clause-left
 returns-in_ok-push-in-Ok-clause-left c =

@@ -6,8 +6,8 @@ use Rattle.llb_model.specs.Program.{all_and, act_among, trees_in, lay_on, step_o
 use Rattle.llb_execution.specs.Parts.{step_in, work_with, left_with}
 use Rattle.llb_execution.specs.declared.micro_step.MicroStep.{MicroStep}
 use Rattle.llb_execution.proofs.Stepping.{acts_among, has_acted, read, laid, has_run, has_stepped}
-use Rattle.llb_execution.proofs.view.View.step.Goals as goal
-use Rattle.llb_execution.proofs.view.View.step.Goals.{in-Some, in-None+in_ok-empty-in-None}
+use Rattle.llb_execution.proofs.workspace.Workspace.step.Goals as goal
+use Rattle.llb_execution.proofs.workspace.Workspace.step.Goals.{in-Some, in-None+in_ok-empty-in-None}
 
 pub returns-in-ReadLocal-clause-left : goal.returns-in-ReadLocal-clause-left
 returns-in-ReadLocal-clause-left c =
