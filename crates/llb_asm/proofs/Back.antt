@@ -23,7 +23,8 @@ use Rattle.llb_asm.specs.declared.line.Held.TheVariants.{Record, Opens}
 use Rattle.llb_asm.specs.declared.line.Item.{Item}
 use Rattle.llb_asm.specs.Values.{number_text}
 use Rattle.llb_asm.specs.Line.{inside, behind, at_end, has_room, held_in, line_in}
-use Rattle.llb_asm.specs.Reading.{Hand, Items, done, single, nested, record_length, added, item, item_at, beyond, within, lines_of, records_of, IsWhole, AreItems}
+use Rattle.llb_asm.specs.Reading.{Hand, Items, done, single, nested, record_length, added, item, item_at, beyond, within, lines_of, records_of, IsWhole}
+use Rattle.llb_asm.specs.Reading.{AreItems}
 use Rattle.llb_ops.specs.Fields.{one_more_of, AreFew}
 use Rattle.llb_asm.specs.Plain.{held_text, opening, field_lines}
 use Rattle.llb_asm.proofs.Round.{bytes_back}

@@ -144,31 +144,31 @@ payload_bytes : (n : ℕ) (held : List ℕ) → AreBytes (set_bytes n held) → 
 unfolding set_bytes
 payload_bytes n held are = are_bytes-back (varint_text (length held)) held (are_bytes-back (tag_text n wire.Len) (varint_text (length held) ++ held) are)
 
-can_stand : (m : MessageName) (last : ℕ) (set : Bool) (fs : Fields) → AreFields m last set fs → AreBytes (bytes_of fs) → AreSpellable fs
-can_stand m last set (extra more) are bs = bs
-can_stand m last set (number row v rest) are bs =
-    (row_named m row.1.number row are.0.known, are.1, can_stand m _ _ rest are.3 (are_bytes-back (set_number row.1.number v) (bytes_of rest) bs))
-can_stand m last set (bytes row held rest) are bs = (
+are_spellable : (m : MessageName) (last : ℕ) (set : Bool) (fs : Fields) → AreFields m last set fs → AreBytes (bytes_of fs) → AreSpellable fs
+are_spellable m last set (extra more) are bs = bs
+are_spellable m last set (number row v rest) are bs =
+    (row_named m row.1.number row are.0.known, are.1, are_spellable m _ _ rest are.3 (are_bytes-back (set_number row.1.number v) (bytes_of rest) bs))
+are_spellable m last set (bytes row held rest) are bs = (
   row_named m row.1.number row are.0.known,
   are.1,
   payload_bytes row.1.number held (are_bytes-front (set_bytes row.1.number held) (bytes_of rest) bs),
-  can_stand m _ _ rest are.3 (are_bytes-back (set_bytes row.1.number held) (bytes_of rest) bs),
+  are_spellable m _ _ rest are.3 (are_bytes-back (set_bytes row.1.number held) (bytes_of rest) bs),
 )
-can_stand m last set (message row inner rest) are bs = (
+are_spellable m last set (message row inner rest) are bs = (
   row_named m row.1.number row are.0.known,
-  can_stand are.1.0 0 false inner are.1.2
+  are_spellable are.1.0 0 false inner are.1.2
       (payload_bytes row.1.number (bytes_of inner) (are_bytes-front (set_bytes row.1.number (bytes_of inner)) (bytes_of rest) bs)),
-  can_stand m _ _ rest are.2 (are_bytes-back (set_bytes row.1.number (bytes_of inner)) (bytes_of rest) bs),
+  are_spellable m _ _ rest are.2 (are_bytes-back (set_bytes row.1.number (bytes_of inner)) (bytes_of rest) bs),
 )
 
-fewer_stand : (fs : Fields) → AreSpellable fs → AreSpellable (without_empty fs)
-fewer_stand (extra more) can = can
-fewer_stand (number row v rest) can = (can.0, can.1, fewer_stand rest can.2)
-fewer_stand (bytes row held rest) can =
+fewer_spellable : (fs : Fields) → AreSpellable fs → AreSpellable (without_empty fs)
+fewer_spellable (extra more) can = can
+fewer_spellable (number row v rest) can = (can.0, can.1, fewer_spellable rest can.2)
+fewer_spellable (bytes row held rest) can =
     cond_both (row.1.of_entry && (length held == 0)) (without_empty rest) (bytes row held (without_empty rest)) AreSpellable
-    (λ empty. fewer_stand rest can.3)
-    (λ full. (can.0, can.1, can.2, fewer_stand rest can.3))
-fewer_stand (message row inner rest) can = (can.0, fewer_stand inner can.1, fewer_stand rest can.2)
+    (λ empty. fewer_spellable rest can.3)
+    (λ full. (can.0, can.1, can.2, fewer_spellable rest can.3))
+fewer_spellable (message row inner rest) can = (can.0, fewer_spellable inner can.1, fewer_spellable rest can.2)
 
 -- ---- the values
 
@@ -226,10 +226,10 @@ fields_are labels depth (message row inner rest) few can = (
 entry_are : (labels : List (List ℕ)) (entry : List ℕ) (form : Form) → length labels ≤ 2 ^ 64 → AreBytes entry → HasForm entry form
     → AreContents (entry_lines labels entry form)
 entry_are labels entry (structured op has) few are is =
-    let can = can_stand named.Op 0 false has.fields has.are (subst AreBytes (sym is.1 ∙ has.written) are) in (
+    let can = are_spellable named.Op 0 false has.fields has.are (subst AreBytes (sym is.1 ∙ has.written) are) in (
       item_is (codes "op") opening refl opening_solid,
       joined (field_lines labels 1 (without_empty has.fields)) (closing_line 0 ∷ [])
-          (fields_are labels 1 (without_empty has.fields) few (fewer_stand has.fields can)) (closing_is, tt),
+          (fields_are labels 1 (without_empty has.fields) few (fewer_spellable has.fields can)) (closing_is, tt),
     )
 entry_are labels entry raw few are is = (item_is (codes "raw") (hex_text entry) refl (bytes_solid entry are), tt)
 

@@ -347,7 +347,8 @@ settles b n m w o reply can through is = by_grant (settle_grant n.build n.state 
         let steps = through.steps in
         let same : ◌≡◌ {A = BoardValue × Reply} (after_event n (Settle w) t, q) (m, reply) = inside_ok is in
         let given : table b.build n.state (Settle w) ≡ Some (t, q)
-        = ap (λ (c : Build). table c n.state (Settle w)) (sym (ap (λ (k : BoardValue). k.build) steps.recorded)) ∙ settle_done n.build n.state w (t, q) grants in
+        = ap (λ (c : Build). table c n.state (Settle w)) (sym (ap (λ (k : BoardValue). k.build) steps.recorded))
+        ∙ settle_done n.build n.state w (t, q) grants in
         record {
           can = can;
           replies = steps.replies;

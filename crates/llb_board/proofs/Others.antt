@@ -32,7 +32,8 @@ running_by (Running w) = w
 running_by _ = 0
 
 -- the status of a vertex names the worker that runs it, so no two run one
-pub one_each : (b : BoardValue) → Replays b → (u w : ℕ) (x y : Execution) → slice_get b.state.workers u ≡ Some (Runs x) → slice_get b.state.workers w ≡ Some (Runs y)
+pub one_each : (b : BoardValue) → Replays b → (u w : ℕ) (x y : Execution) → slice_get b.state.workers u ≡ Some (Runs x) → slice_get b.state.workers w
+    ≡ Some (Runs y)
     → x.vertex ≡ y.vertex → u ≡ w
 unfolding running_by
 one_each b here u w x y at there same =

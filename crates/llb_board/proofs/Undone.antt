@@ -228,8 +228,8 @@ LeasedSo (Some c) workers out ls = AreLeased c.caches.out workers c.leases
 LeasedSo None workers out ls = AreLeased out workers ls
 
 -- after an undo the leases fit: those of the caches that are put back, or else those that are there
-pub leased_so : (u : Displaced) (n : BoardValue) (o : Option Before) (workers : List WorkerStatus) (out : Leases) (ls : List (Option ℕ)) → FitsLeases u n o → workers
-    ≡ (undone u n).state.workers
+pub leased_so : (u : Displaced) (n : BoardValue) (o : Option Before) (workers : List WorkerStatus) (out : Leases) (ls : List (Option ℕ)) → FitsLeases u n o
+    → workers ≡ (undone u n).state.workers
     → (HasNoPlaces u.back → AreLeased out workers ls) → LeasedSo o workers out ls
 leased_so u n (Some c) workers out ls fits same else = subst (λ ws. AreLeased c.caches.out ws c.leases) (sym same) fits
 leased_so u n None workers out ls fits same else = else fits
@@ -251,7 +251,8 @@ rows_put (Some k) c c' rows same caches = ap (λ (x : CachesValue). x.rows) cach
 rows_put None c c' rows same caches = ap (λ (x : CachesValue). x.rows) caches ∙ same
 
 -- the caches that are to be put back have a lease for each worker that runs
-pub places_put : (u : Displaced) (n : BoardValue) (o : Option before.Before) (workers : List WorkerStatus) → FitsLeases u n (caches_in o) → workers ≡ (undone u n).state.workers
+pub places_put : (u : Displaced) (n : BoardValue) (o : Option before.Before) (workers : List WorkerStatus) → FitsLeases u n (caches_in o) → workers
+    ≡ (undone u n).state.workers
     → ForSome o (λ c. HasPlaceFor c.leases.items workers)
 places_put u n o workers fits same c is =
     place_for c.caches.out workers c.leases.items

@@ -11,7 +11,8 @@ use Rattle.llb_loader.specs.declared.graph.Vertex.{Vertex}
 use Rattle.llb_model.specs.declared.fault.VertexFault.{VertexFault}
 use Rattle.llb_model.specs.Caches.{Store, put_all, trees_at}
 use Rattle.llb_model.specs.Program.{Build, MicroStep, needs_of, step_on}
-use Rattle.llb_model.specs.State.{Status, Waiting, Running, Settled, Execution, WorkerStatus, Idle, Runs, State, program_in, work_of, next_step, ending_from, held}
+use Rattle.llb_model.specs.State.{Status, Waiting, Running, Settled, Execution, WorkerStatus, Idle, Runs, State, program_in, work_of, next_step, ending_from}
+use Rattle.llb_model.specs.State.{held}
 use Rattle.llb_model.specs.State.{places_for, begin_at}
 use Rattle.llb_model.specs.Table.{Event, Claim, Step, Settle, Cancel, worker_of, with_step, step_by, stepped, settled, cancelled, after_end, table}
 use Rattle.llb_model.specs.Leases.{AreLeased}
@@ -197,7 +198,8 @@ view_back s x m none =
       places = x.places;
     }
 
-step_back : (b : BoardValue) (w : ℕ) (a : Answer) (u : Displaced) → Replays b → table b.build b.state (Step w) ≡ Some a → MarksStep b w u → Undoes b (Step w) a.0 u
+step_back : (b : BoardValue) (w : ℕ) (a : Answer) (u : Displaced) → Replays b → table b.build b.state (Step w) ≡ Some a → MarksStep b w u
+    → Undoes b (Step w) a.0 u
 step_back b w a u here grants marks =
     let s = b.state in
     let x = marks.x in
@@ -298,7 +300,8 @@ walk_can b n e r u here is marks =
 
 -- ---- what is kept before an event
 
-pub keeps_where : {A : Type 0} (xs : List A) (n : BoardValue) (asked : Bool) (o : Option Before) → KeepsIf asked n o → (asked ≡ false → xs ≡ []) → KeepsWhere xs n o
+pub keeps_where : {A : Type 0} (xs : List A) (n : BoardValue) (asked : Bool) (o : Option Before) → KeepsIf asked n o → (asked ≡ false → xs ≡ [])
+    → KeepsWhere xs n o
 keeps_where xs n asked (Some c) keeps none = keeps
 keeps_where xs n true None keeps none = absurd keeps
 keeps_where xs n false None keeps none = none refl

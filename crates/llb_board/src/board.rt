@@ -29,7 +29,8 @@ ghost use Rattle.llb_state.specs.Views.{status_of};
 use crate::fault::OpenFault;
 use llb_cache::Caches;
 use llb_events::{
-    WorkerStatus, CancelFault, Cancelled, ClaimFault, Event, SettleFault, Settled, Status, StepFault, Stepped,
+    CancelFault, Cancelled, ClaimFault, Event, SettleFault, Settled, Status, StepFault, Stepped,
+    WorkerStatus,
 };
 use llb_execution::Job;
 use llb_links::Links;

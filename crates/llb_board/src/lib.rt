@@ -14,10 +14,10 @@ mod walk;
 pub use board::Board;
 pub use fault::{LandFault, OpenFault};
 pub use llb_events::{
-    WorkerStatus, CancelFault, Cancelled, ClaimFault, Event, Memory, SettleFault, Settled, Status, StepFault,
-    Stepped, WalkFault,
+    CancelFault, Cancelled, ClaimFault, Event, Memory, SettleFault, Settled, Status, StepFault,
+    Stepped, WalkFault, WorkerStatus,
 };
-pub use llb_execution::{Gate, Job, Outcome, Program, Stopped, Workspace, WorkFault, work};
+pub use llb_execution::{Gate, Job, Outcome, Program, Stopped, WorkFault, Workspace, work};
 pub use llb_state::Events;
 pub use llb_wire::{Bytes, Text};
 pub use undo::Undo;

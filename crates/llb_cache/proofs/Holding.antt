@@ -6,7 +6,8 @@ use Rattle.std.specs.Map.{keys_of}
 use Rattle.llb_tree.specs.Tree.{TreeMap}
 use Rattle.llb_cache.specs.declared.need.Need.{Need}
 use Rattle.llb_cache.specs.declared.need.Instance.{Instance}
-use Rattle.llb_cache.specs.Caches.{CachesValue, Row, Leases, taken, is_locked_and_held, is_held, leases, granted, with_lease, free_lease, put, given_back, trimmed, before}
+use Rattle.llb_cache.specs.Caches.{CachesValue, Row, Leases, taken, is_locked_and_held, is_held, leases, granted, with_lease, free_lease, put, given_back}
+use Rattle.llb_cache.specs.Caches.{trimmed, before}
 use Rattle.llb_cache.specs.Caches.{places_of, IsCaches, IsExclusive, Has}
 use Rattle.llb_cache.specs.Firsts.{keys_long}
 use Rattle.llb_cache.specs.Members.{In, contained_in}

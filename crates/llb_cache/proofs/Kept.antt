@@ -16,9 +16,10 @@ use Rattle.llb_cache.specs.Rows.{IsNext, all_grow, all_there, all_few, put_count
 
 -- ---- what a lease takes
 
-none_shut : (out : Leases) (needs : List Need) → find (is_locked_and_held out) needs ≡ None → (n : Need) → In needs n → is_locked_and_held out n ≡ false
-none_shut out [] e n h = absurd h
-none_shut out (m ∷ needs) e n h = go (is_locked_and_held out m) refl e h (none_shut out needs)
+none_locked_and_held : (out : Leases) (needs : List Need) → find (is_locked_and_held out) needs ≡ None → (n : Need) → In needs n → is_locked_and_held out n
+    ≡ false
+none_locked_and_held out [] e n h = absurd h
+none_locked_and_held out (m ∷ needs) e n h = go (is_locked_and_held out m) refl e h (none_locked_and_held out needs)
   where
     go : (b : Bool) → is_locked_and_held out m ≡ b → cond b (Some m) (find (is_locked_and_held out) needs) ≡ None → In (m ∷ needs) n
         → (find (is_locked_and_held out) needs ≡ None → (n : Need) → In needs n → is_locked_and_held out n ≡ false) → is_locked_and_held out n ≡ false
@@ -45,7 +46,7 @@ taken_free out needs apart none p h alone =
     let n = need_of out needs p h in
     let mode = ap (λ (q : Instance). q.key.mode) n.2 in
     ap (is_held out) n.2
-    ∙ number_free out n.0.key n.0.key.mode apart (none_shut out needs none n.0 n.1) (subst IsExclusive mode alone)
+    ∙ number_free out n.0.key n.0.key.mode apart (none_locked_and_held out needs none n.0 n.1) (subst IsExclusive mode alone)
 
 next_all : (rows : List Row) (out : Leases) (needs : List Need) → AreThere rows out → AllByRecursion (IsNext rows) (taken out needs)
 next_all rows out [] there = tt

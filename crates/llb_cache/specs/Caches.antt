@@ -171,7 +171,7 @@ given_back c lease = record c { out = trimmed (slice_set c.out lease None) }
 
 -- ---- what holds of caches
 
--- a way of sharing in which one lease at a time has an instance
+-- a way of sharing in which one lease at a time, or one execution, has an instance
 abbrev pub IsExclusive : Mode → Type 0
 IsExclusive Shared = ⊥
 IsExclusive Private = Unit {0}
@@ -183,7 +183,8 @@ Has out lease ps = slice_get out lease ≡ Some (Some ps)
 
 -- no two leases have one instance of a private or a locked key
 abbrev pub AreExclusive : Leases → Type 0
-AreExclusive out = (a b : ℕ) (ps qs : List Instance) (p : Instance) → Has out a ps → Has out b qs → Contains ps p → Contains qs p → IsExclusive p.key.mode → a ≡ b
+AreExclusive out = (a b : ℕ) (ps qs : List Instance) (p : Instance) → Has out a ps → Has out b qs → Contains ps p → Contains qs p → IsExclusive p.key.mode
+    → a ≡ b
 
 -- the keys of a lease differ
 abbrev pub AreApart : Leases → Type 0

@@ -8,7 +8,7 @@ use Rattle.std.proofs.lemmas.List.{length-set, take_more}
 use Rattle.std.proofs.lemmas.List.Sums.{prefix_len-le-length, sum_by-cons}
 use Rattle.llb_cache.specs.declared.need.Instance.{Instance}
 use Rattle.llb_cache.specs.Key.{same_key}
-use Rattle.llb_cache.specs.LawsOfKeys.{same_keys, key_itself}
+use Rattle.llb_cache.specs.LawsOfKeys.{same_keys, key_itself, both}
 use Rattle.llb_cache.specs.Caches.{Leases, same_place, has, is_held, leases, free_lease, with_lease, before, trimmed, Has}
 use Rattle.llb_cache.specs.Members.{In}
 
@@ -17,10 +17,6 @@ use Rattle.llb_cache.specs.Members.{In}
 either : (a b : Bool) → (a || b) ≡ true → (a ≡ true) ⊎ (b ≡ true)
 either true b e = inl refl
 either false b e = inr e
-
-both : (a b : Bool) → (a && b) ≡ true → (a ≡ true) × (b ≡ true)
-both true b e = (refl, e)
-both false b e = absurd cc
 
 pub same_places : (p q : Instance) → same_place p q ≡ true → p ≡ q
 same_places p q e =

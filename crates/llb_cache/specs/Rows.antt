@@ -149,7 +149,8 @@ all_grow rows (t ∷ ts) k =
 abbrev pub IsNext : List Row → Taken → Type 0
 IsNext rows t = t.0.number ≤ length (trees_of rows t.0.key)
 
-still_next : (rows : List Row) (p : Instance) (tree : TreeMap) (ts : List Taken) → AllByRecursion (IsNext rows) ts → AllByRecursion (IsNext (made rows p tree)) ts
+still_next : (rows : List Row) (p : Instance) (tree : TreeMap) (ts : List Taken) → AllByRecursion (IsNext rows) ts
+    → AllByRecursion (IsNext (made rows p tree)) ts
 still_next rows p tree [] all = tt
 still_next rows p tree (t ∷ ts) all = (let h = all.0 in let more = (makes rows p tree).grows t.0.key in omega (arith, h, more), still_next rows p tree ts all.1)
 

@@ -12,6 +12,7 @@ use crate::trees::Trees;
 use llb_wire::{Many, Same};
 use std::alloc::Global;
 
+// Equal second owners of all trees, under their keys.
 pub(crate) fn copied_rows(rows: &Rows) -> Result<Rows, Memory>
     requires { AreOrdered rows.now }
     ensures entries { IfOk result (λ r. r.entries.items ≡ rows.now.entries.items) }
@@ -32,6 +33,7 @@ fn copied_entries(entries: &Vec<(Key, Trees)>) -> Result<Vec<(Key, Trees)>, Memo
     Ok(copies)
 }
 
+// An equal second owner of a list of instances.
 fn copied_places(alloc: Global, places: &[Instance]) -> Result<Many<Instance>, Memory>
     ensures { IfOk result (λ ps. ps ≡ places.now) }
 {
@@ -42,7 +44,11 @@ fn copied_places(alloc: Global, places: &[Instance]) -> Result<Many<Instance>, M
     Ok(Many::new(copies))
 }
 
-fn copied_lease(alloc: Global, lease: &Option<Many<Instance>>) -> Result<Option<Many<Instance>>, Memory>
+// An equal second owner of a lease's instances.
+fn copied_lease(
+    alloc: Global,
+    lease: &Option<Many<Instance>>,
+) -> Result<Option<Many<Instance>>, Memory>
     ensures { IfOk result (λ l. l ≡ lease.now) }
 {
     match lease {
@@ -51,6 +57,7 @@ fn copied_lease(alloc: Global, lease: &Option<Many<Instance>>) -> Result<Option<
     }
 }
 
+// Equal second owners of the instances of all leases.
 pub(crate) fn copied_leases(
     out: &Vec<Option<Many<Instance>>>,
 ) -> Result<Vec<Option<Many<Instance>>>, Memory>
@@ -64,6 +71,7 @@ pub(crate) fn copied_leases(
     Ok(copies)
 }
 
+// An equal second owner of the marks.
 pub(crate) fn copied_marks(marks: &Vec<Marks>) -> Result<Vec<Marks>, Memory>
     ensures { IfOk result (λ m. m.items ≡ marks.now.items) }
 {

@@ -49,6 +49,7 @@ impl<'a> KeyRef<'a> {
         Ok(Key { id, seed, mode })
     }
 
+    // How the cache is shared.
     pub(crate) fn mode(&self) -> Mode
         ensures { result ≡ self.now.mode }
     {

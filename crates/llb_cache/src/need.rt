@@ -21,6 +21,7 @@ pub struct Instance {
 }
 
 impl Instance {
+    // An equal second owner.
     pub(crate) fn copy(&self) -> Result<Instance, Memory>
         ensures { IfOk result (λ p. p ≡ self.now) }
     {

@@ -31,6 +31,7 @@ impl Drop for Rows {
     }
 }
 
+// No rows.
 pub(crate) fn no_rows(alloc: Global) -> Rows
     ensures empty { result.entries.items ≡ [] }
     ensures order { AreOrdered result }

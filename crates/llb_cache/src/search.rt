@@ -16,7 +16,7 @@ use crate::growing::Ready;
 use crate::key::Mode;
 use crate::key_ref::KeyRef;
 use crate::marks::Marks;
-use crate::need::{Need, Instance};
+use crate::need::{Instance, Need};
 use crate::rows::{Rows, row_of};
 use crate::trees::Room;
 use llb_wire::Many;
@@ -62,7 +62,7 @@ pub(crate) fn count(out: &[Option<Many<Instance>>]) -> u32
 
 impl Caches {
     // Whether a key is locked, and a lease has its instance.
-    pub(crate) fn has_shut(&self, key: &KeyRef<'_>) -> bool
+    pub(crate) fn holds_locked(&self, key: &KeyRef<'_>) -> bool
         ensures { result ≡ (is_locked key.now.mode && is_held self.now.out (place key.now 0)) }
     {
         match key.mode() {
@@ -84,12 +84,12 @@ impl Caches {
     }
 
     // The first need whose locked key is held.
-    fn first_shut(&self, needs: &[Need]) -> Option<usize>
+    fn first_held(&self, needs: &[Need]) -> Option<usize>
         ensures found { find (is_locked_and_held self.now.out) needs.now ≡ option_and_then (slice_get needs.now) result }
         ensures within { IfSome result (λ i. i < length needs.now) }
     {
         for (i, need) in needs.iter().enumerate() {
-            if self.has_shut(&need.key.by_ref()) {
+            if self.holds_locked(&need.key.by_ref()) {
                 return Some(i);
             }
         }
@@ -101,7 +101,7 @@ impl Caches {
         ensures { MatchResult result (λ ns. (find (is_locked_and_held self.now.out) needs.items ≡ None) × (ns.items ≡ needs.items))
             (IsRefusal (find (is_locked_and_held self.now.out) needs.items)) }
     {
-        match self.first_shut(&needs) {
+        match self.first_held(&needs) {
             Some(i) => {
                 let mut needs = needs;
                 let need = needs.swap_remove(i);

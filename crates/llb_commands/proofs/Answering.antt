@@ -114,7 +114,8 @@ module _ (workers : ℕ) (ls : List Local) (left : Option (List ℕ)) (g : Numbe
   shown output (Err e) s = inr (s.0, answers_part output s.1.0 s.1.1 s.1.2)
 
 -- what is shown of the result is the answer of the run
-pub answers : (workers : ℕ) (ls : List Local) (left : Option (List ℕ)) (b : BoardValue) → IsGraph b.build.graph → Finishes workers ls left (Ok b) → (output : Stream)
+pub answers : (workers : ℕ) (ls : List Local) (left : Option (List ℕ)) (b : BoardValue) → IsGraph b.build.graph → Finishes workers ls left (Ok b)
+    → (output : Stream)
     (r : Result Ended ProgramFault) → Shows b output (result_in b.state b.build.graph) r → Answers workers ls left output r
 answers workers ls left b graph (g, loads, fin) output r shows =
     let same : b.build.graph ≡ g = ap (λ (x : Build). x.graph) fin.build in
@@ -271,7 +272,8 @@ tells_unrun workers ls left g e loads unrun h =
     some_map (λ bytes. IsGraphIn bytes g) (IsNotRun workers ls e) left (λ bytes loaded. inr (g, loaded, unrun h)) loads
 
 -- the board of the graph, or why there is none
-pub opens : (workers : ℕ) (ls : List Local) (left : Option (List ℕ)) (g : Numbered) (r : Result BoardValue ProgramFault) → IfSome left (λ bytes. IsGraphIn bytes g)
+pub opens : (workers : ℕ) (ls : List Local) (left : Option (List ℕ)) (g : Numbered) (r : Result BoardValue ProgramFault)
+    → IfSome left (λ bytes. IsGraphIn bytes g)
     → IfOk r (λ b. b ≡ opened (build_of ls g) workers []) → IfErr r (λ e. IsRefusal e → IsUnopened ls g workers e) → Opens workers ls left r
 opens workers ls left g (Ok b) loads is unopened = (g, loads, is)
 opens workers ls left g (Err e) loads is unopened = tells_unrun workers ls left g e loads unopened

@@ -103,7 +103,8 @@ finishes ls g old new over fresh goes ends plain here =
     }
 
 -- and where one by several workers has
-pub finishes_by : (ls : List Local) (g : Numbered) (workers : ℕ) (old new : BoardValue) → (workers ≡ 1 → ⊥) → old ≡ opened (build_of ls g) workers [] → GoesOn old new
+pub finishes_by : (ls : List Local) (g : Numbered) (workers : ℕ) (old new : BoardValue) → (workers ≡ 1 → ⊥) → old ≡ opened (build_of ls g) workers []
+    → GoesOn old new
     → is_complete new.build new.state ≡ true → IsPlain new.build new.state → IsConsistent new.build new.state → IsFinished workers ls g new
 finishes_by ls g workers old new several fresh goes complete plain here =
     let build = fresh_build ls g workers old new fresh goes.build in

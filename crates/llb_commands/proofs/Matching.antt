@@ -34,7 +34,8 @@ pub words_in_rows : (f : Found) (id : Text) → option_map raw_values (matched_o
 words_in_rows f id = by_entries id f.entries.items
 
 -- the words for local sources are in the rows of the subcommand
-pub own_words : (met : Option (Text × List Row)) (rows : List Row) → Some rows ≡ option_map (λ (p : Text × List Row). p.1) met → local_words rows ≡ named_local_words met
+pub own_words : (met : Option (Text × List Row)) (rows : List Row) → Some rows ≡ option_map (λ (p : Text × List Row). p.1) met → local_words rows
+    ≡ named_local_words met
 own_words None rows is = absurd cc
 own_words (Some p) rows is = let same : rows ≡ p.1 = cc in ap local_words same
 

@@ -91,7 +91,7 @@ module _ (given : MetaValue → MetaValue) (here source t : TreeMap) (goal : Lis
   short q there = by_side (finite.get here q) refl (finite.get source q) refl
     where
       by_side : (o : Option Entry) → finite.get here q ≡ o → (s : Option Entry) → finite.get source q ≡ s → length goal + length q ≤ 128
-      by_side (Some d) is s own = let can = tree.stands (goal ++ q) d (sym (same q) ∙ is) in omega (arith, can.path.short, length-append goal q)
+      by_side (Some d) is s own = let can = tree.allowed (goal ++ q) d (sym (same q) ∙ is) in omega (arith, can.path.short, length-append goal q)
       by_side None is (Some e) own = omega (arith, fits_short (goal ++ q) (lands q e own).fits, length-append goal q)
       by_side None is None own = absurd (true≢false (sym there ∙ ap is_some (get-whole given here source q ∙ (λ i. laid given (is i) (own i)))))
 

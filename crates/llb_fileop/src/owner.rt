@@ -86,7 +86,7 @@ fn group_in(owner: &Option<Boxed<ChownOpt>>) -> Option<u32>
 }
 
 fn id_in(given: &Option<UserOpt>) -> Option<u32>
-    ensures { result ≡ id_in laid_meta.now }
+    ensures { result ≡ id_in given.now }
 {
     match given {
         Some(given) => number_in(&given.user),

@@ -252,4 +252,4 @@ pub refuses_index : (rows : List Row) (ops : List Op) (t s : ℕ) (order : List 
     → RefusesIndex ops (links_in (plan rows ops t s)) (map output_count ops) seen t e → Refuses (plan rows ops t s) e
 refuses_index rows ops t s order seen valid len exact e (k, i, same, h, first, before) =
     subst (λ (x : LoadFault). Refuses (plan rows ops t s) x) (sym same)
-    (order, valid, foremost_bad (plan rows ops t s) seen exact valid.taken.ordered.named len k i first before)
+    (order, valid, foremost_bad (plan rows ops t s) seen exact valid.supported.ordered.named len k i first before)

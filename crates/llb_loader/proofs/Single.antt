@@ -96,7 +96,7 @@ module _ (p : Plan) where
   passed_before (suc (suc (suc zero))) s = s.started
   passed_before (suc (suc (suc (suc zero)))) s = s.1.named
   passed_before (suc (suc (suc (suc (suc zero))))) s = (s.0, s.1.ordered)
-  passed_before (suc (suc (suc (suc (suc (suc zero)))))) s = (s.0, s.1.taken)
+  passed_before (suc (suc (suc (suc (suc (suc zero)))))) s = (s.0, s.1.supported)
   passed_before (suc (suc (suc (suc (suc (suc (suc zero))))))) s = (s.0, s.1.valid)
   passed_before (suc (suc (suc (suc (suc (suc (suc (suc n)))))))) s = s
 
@@ -224,7 +224,7 @@ module _ (p : Plan) where
   whole_not_refused order e w r = let s = refusal_stops e r in not_whole s.0 e s.1 (order, w)
 
   one_order : (xs ys : List ℕ) → IsWhole p xs → IsWhole p ys → xs ≡ ys
-  one_order xs ys a b = one_numbering (links_in p) p.start xs ys a.valid.taken.ordered.numbering b.valid.taken.ordered.numbering
+  one_order xs ys a b = one_numbering (links_in p) p.start xs ys a.valid.supported.ordered.numbering b.valid.supported.ordered.numbering
 
 graph_one : (rows : List Row) (ops : List Op) (g h : Numbered) → GraphOf rows ops g → GraphOf rows ops h → g ≡ h
 graph_one rows ops g h a b =

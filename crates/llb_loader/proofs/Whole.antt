@@ -188,10 +188,10 @@ same_vertex v w a b s c d e =
 
 module _ (p : Plan) (order : List ℕ) (whole : IsWhole p order) (len : length p.ops ≡ length p.rows) (within : All IsWithinLimits p.ops) where
   named_in : IsNamed p
-  named_in = whole.valid.taken.ordered.named
+  named_in = whole.valid.supported.ordered.named
 
   pub row_reached : (k : ℕ) → k < length order → ReachedRow p (get_or order k 0)
-  row_reached k h = (whole.valid.taken.ordered.numbering.each k h).ready.reached
+  row_reached k h = (whole.valid.supported.ordered.numbering.each k h).ready.reached
 
   pub in_ops : (k : ℕ) → ReachedRow p k → k < length p.ops
   in_ops k r = let h = reached_in p named_in.started k r in omega (arith, h, len)
@@ -248,7 +248,7 @@ module _ (p : Plan) (order : List ℕ) (whole : IsWhole p order) (len : length p
   module _ (ranks : List ℕ) (inverse : (i : ℕ) → i < length order → get_or ranks (get_or order i 0) 0 ≡ i) where
     place : (b : ℕ) → ReachedRow p b → (i : ℕ) × (i < length order) × (get_or order i 0 ≡ b) × (get_or ranks b 0 ≡ i)
     place b r =
-        let c = whole.valid.taken.ordered.numbering.whole b r in
+        let c = whole.valid.supported.ordered.numbering.whole b r in
         let e = get_or_default order c.0 0 b c.1 ∙ c.2 in
         (c.0, c.1, e, sym (ap (λ (x : ℕ). get_or ranks x 0) e) ∙ inverse c.0 c.1)
 
@@ -286,7 +286,7 @@ module _ (p : Plan) (order : List ℕ) (whole : IsWhole p order) (len : length p
           let b = get_or (inputs (links_in p) (get_or order k 0)) i 0 in
           let f = full (get_or order k 0) (row_reached k h) in
           let li : i < length (inputs (links_in p) (get_or order k 0)) = omega (arith, l, f) in
-          let c = (whole.valid.taken.ordered.numbering.each k h).ready.inputs_done i 0 li in
+          let c = (whole.valid.supported.ordered.numbering.each k h).ready.inputs_done i 0 li in
           let n = length-take-le k order (omega (arith, h)) in
           let low : c.0 < k = (let m = c.1 in omega (arith, m, n)) in
           let at : get_or order c.0 0 ≡ get_or (inputs (links_in p) (get_or order k 0)) i 0 =
@@ -350,7 +350,7 @@ module _ (p : Plan) (order : List ℕ) (whole : IsWhole p order) (len : length p
           let r = row_reached k h in
           record {
             within = subst (λ (o : Op). IsWithinLimits o) (sym b.op) (within_at (get_or order k 0) r);
-            featureless = ap feature_of b.op ∙ whole.valid.taken.featureless (get_or order k 0) r;
+            featureless = ap feature_of b.op ∙ whole.valid.supported.featureless (get_or order k 0) r;
             valid = subst (λ (o : Op). MeetsRules o) (sym b.op) (whole.valid.valid (get_or order k 0) r);
             script = b.script ∙ sym (ap script_in b.op);
             steps = b.steps ∙ sym (ap step_count b.op);

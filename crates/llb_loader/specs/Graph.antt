@@ -45,7 +45,8 @@ pub record IsEdgeOfInput (vertices : List Vertex) (input : Input) (e : Edge) : T
 -- a vertex has an edge for each input of its op, in their order
 pub record HasInputs (vertices : List Vertex) (v : Vertex) : Type 0 where
   pub len : length v.inputs ≡ length v.op.inputs
-  pub each : (i : ℕ) (input : Input) (e : Edge) → i < length v.inputs → IsEdgeOfInput vertices (slice_index_or v.op.inputs i input) (slice_index_or v.inputs i e)
+  pub each : (i : ℕ) (input : Input) (e : Edge) → i < length v.inputs
+      → IsEdgeOfInput vertices (slice_index_or v.op.inputs i input) (slice_index_or v.inputs i e)
 
 -- a vertex by itself: its op is within the limits, is taken and meets the rules, and its counts, which are small, are those of the op
 pub record IsVertex (v : Vertex) : Type 0 where

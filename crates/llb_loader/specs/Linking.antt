@@ -120,7 +120,7 @@ pub record IsSupported (p : Plan) (order : List ℕ) : Type 0 where
 
 -- The reached rows are numbered and supported, and each of them meets the rules.
 pub record IsValid (p : Plan) (order : List ℕ) : Type 0 where
-  pub taken : IsSupported p order
+  pub supported : IsSupported p order
   pub valid : (k : ℕ) → ReachedRow p k → MeetsRules (op_at p.ops k)
 
 -- No refusal applies: the reached rows are numbered, supported and valid, and each index of an input is that of an output.

@@ -124,9 +124,9 @@ none_held [] none = refl
 none_held (Idle ∷ ws) none = none_held ws (λ u x. none (suc u) x)
 none_held (Runs x ∷ ws) none = absurd (none 0 x refl)
 
-none_shut : (needs : List Need) → held_key [] needs ≡ None
-none_shut [] = refl
-none_shut (n ∷ needs) = ap (λ t. cond t (Some n.key) (held_key [] needs)) (open_key n.key n.key.mode) ∙ none_shut needs
+none_locked_and_held : (needs : List Need) → held_key [] needs ≡ None
+none_locked_and_held [] = refl
+none_locked_and_held (n ∷ needs) = ap (λ t. cond t (Some n.key) (held_key [] needs)) (open_key n.key n.key.mode) ∙ none_locked_and_held needs
   where
     open_key : (k : Key) (m : Mode) → is_locked_and_held [] k m ≡ false
     open_key k Shared = refl
@@ -142,7 +142,7 @@ first_claim b s v Idle there c = by_start (ready b s.statuses v) refl c.least.pa
     by_start (Some start) is some =
         granted_with b s (Claim 0 v) (claim_at b s 0 v start (claim_places s start))
         (claim_granted b s 0 v start there (ready_is b s.statuses v start is)
-        (ap (λ ps. held_key ps (needs_of start.vertex)) (none_held s.workers c.idle) ∙ none_shut (needs_of start.vertex)))
+        (ap (λ ps. held_key ps (needs_of start.vertex)) (none_held s.workers c.idle) ∙ none_locked_and_held (needs_of start.vertex)))
 
 -- the event that is chosen is granted, where there is a worker
 pub chosen_granted : (b : Build) (s : State) (e : Event) (a : WorkerStatus) → slice_get s.workers 0 ≡ Some a → chosen b s ≡ Some e → IsGranted b s e

@@ -31,10 +31,10 @@ free_found ps k n (suc tries) le h = go (is_in ps (place k n)) refl (free_found 
 
 -- ---- the place of a need
 
--- no key of a need is shut
-none_shut : (ps : List Instance) (ns : List Need) (n : Need) → held_key ps ns ≡ None → Has ns n → is_locked_and_held ps n.key n.key.mode ≡ false
-none_shut ps [] n none h = absurd h
-none_shut ps (m ∷ ns) n none h = go (is_locked_and_held ps m.key m.key.mode) refl none h (none_shut ps ns n)
+-- no key of a need is locked and held
+none_locked_and_held : (ps : List Instance) (ns : List Need) (n : Need) → held_key ps ns ≡ None → Has ns n → is_locked_and_held ps n.key n.key.mode ≡ false
+none_locked_and_held ps [] n none h = absurd h
+none_locked_and_held ps (m ∷ ns) n none h = go (is_locked_and_held ps m.key m.key.mode) refl none h (none_locked_and_held ps ns n)
   where
     go : (b : Bool) → is_locked_and_held ps m.key m.key.mode ≡ b → cond b (Some m.key) (held_key ps ns) ≡ None → Has (m ∷ ns) n
         → (held_key ps ns ≡ None → Has ns n → is_locked_and_held ps n.key n.key.mode ≡ false)
@@ -49,10 +49,11 @@ free_by_mode ps k Private alone shut h = free_found ps k 0 (above ps) (omega ari
 free_by_mode ps k Locked alone shut h = let both : true ≡ false = sym (has_in ps (place k 0) h) ∙ shut in cc
 
 -- an instance that a granted claim holds exclusively was held by nobody
-pub places_free : (ps : List Instance) (ns : List Need) → held_key ps ns ≡ None → (p : Instance) → Has (places_for ps ns) p → IsExclusive p.key.mode → Has ps p → ⊥
+pub places_free : (ps : List Instance) (ns : List Need) → held_key ps ns ≡ None → (p : Instance) → Has (places_for ps ns) p → IsExclusive p.key.mode
+    → Has ps p → ⊥
 places_free ps ns granted p h alone there =
     let m = has_map (place_for ps) ns p h in
-    let shut : is_locked_and_held ps m.0.key m.0.key.mode ≡ false = none_shut ps ns m.0 granted m.1 in
+    let shut : is_locked_and_held ps m.0.key m.0.key.mode ≡ false = none_locked_and_held ps ns m.0 granted m.1 in
     let key : p.key ≡ m.0.key = ap (λ (q : Instance). q.key) m.2 in
     free_by_mode ps m.0.key m.0.key.mode (subst (λ (k : Key). IsExclusive k.mode) key alone) shut (subst (Has ps) m.2 there)
 

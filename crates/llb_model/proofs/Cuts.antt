@@ -62,7 +62,8 @@ unless_stays : (b : Build) (o : Order) (f : Option VertexFault) (r : Reply) (rs 
 unless_stays b o None r rs same = same
 unless_stays b o (Some f) r rs same = refl
 
-pub step_stays : (b : Build) (o : Order) (k : ℕ) (m : MicroStep) (own : Workspace) (left : Left) (rs : List Reply) → after_reply b o (step_reply k m own left) rs ≡ o
+pub step_stays : (b : Build) (o : Order) (k : ℕ) (m : MicroStep) (own : Workspace) (left : Left) (rs : List Reply)
+    → after_reply b o (step_reply k m own left) rs ≡ o
 step_stays b o k ReadLocal own left rs = unless_stays b o left.fault HasRead rs refl
 step_stays b o k (Act action) own left rs = unless_stays b o left.fault (Acted k) rs refl
 step_stays b o k (LayInput i) own left rs = unless_stays b o left.fault (HasMerged k) rs refl

@@ -124,7 +124,8 @@ at_end s f ns p h n lt =
     f.there r.0 r.1 (place p.key n) r.2 r.3
 
 -- writes at places of which each has an instance or comes next
-dense_after : (store : Store) (ps : List Instance) (ts : List TreeMap) → IsDense store → ((p : Instance) → Has ps p → IsAtEnd store p) → IsDense (put_all store ps ts)
+dense_after : (store : Store) (ps : List Instance) (ts : List TreeMap) → IsDense store → ((p : Instance) → Has ps p → IsAtEnd store p)
+    → IsDense (put_all store ps ts)
 dense_after store ps ts dense ends k n h = elim (stood store ps ts (place k (n + 1)) h) [
   | inl j ↦ stays store ps ts (place k n) (ends (place k (n + 1)) j n (omega arith))
   | inr j ↦ stays store ps ts (place k n) (dense k n j)
@@ -162,7 +163,8 @@ event_filled b s (Step w) a f given =
         one : (n m : ℕ) → n + suc m ≡ n + m + 1
         one n m = omega arith
 
-    filled_below : (s : State) → IsFilled s → (w : ℕ) (x : Execution) → slice_get s.workers w ≡ Some (Runs x) → (p : Instance) → Has x.places p → IsAtEnd s.store p
+    filled_below : (s : State) → IsFilled s → (w : ℕ) (x : Execution) → slice_get s.workers w ≡ Some (Runs x) → (p : Instance) → Has x.places p
+        → IsAtEnd s.store p
     filled_below s f w x at_w p h n lt =
         let sum = reaches n p.number lt in
         below s.store f.dense p.key sum.0 n (subst (λ j. Stands s.store (place p.key j)) sum.1 (f.there w x p at_w h))

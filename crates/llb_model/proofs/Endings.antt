@@ -26,7 +26,7 @@ use Rattle.llb_model.proofs.Runs.{run_keeps}
 use Rattle.llb_model.proofs.Scripts.{IsPast, IsHere, place, Agree, skips, finished_by, fails_by}
 use Rattle.llb_model.proofs.Vertices.{length_runs}
 
--- an exec's view, and a last status that agrees with the fault
+-- an exec's workspace, and a last status that agrees with the fault
 record IsSo (cs : List Joined) (c k : ℕ) (own : Workspace) (f : Option VertexFault) : Type 0 where
   mounts : List Shown
   caches : List ℕ

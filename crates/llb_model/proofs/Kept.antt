@@ -123,7 +123,8 @@ apart_keys k l apart = go (same_key k l) refl
     go false is = refl
 
 -- a write of an instance that is there
-pub put_stands : (rows : List Row) (p : Instance) (t : TreeMap) → p.number < length (trees_of rows p.key) → store_of (cache.put rows p t) ≡ put (store_of rows) p t
+pub put_stands : (rows : List Row) (p : Instance) (t : TreeMap) → p.number < length (trees_of rows p.key) → store_of (cache.put rows p t)
+    ≡ put (store_of rows) p t
 put_stands rows p t within =
     let own = same_trees rows p.key (slice_set (trees_of rows p.key) p.number t) in
     let old = get_within (trees_of rows p.key) p.number within in

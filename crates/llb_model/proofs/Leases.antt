@@ -52,10 +52,10 @@ module _ (out : Leases) (workers : List WorkerStatus) (same : HoldsAs out worker
   held_same p = same_bool (is_held out p) (is_in (held workers) p) (λ h. has_in (held workers) p (same.running p h))
       (λ h. same.leased p (in_has (held workers) p h))
 
-  shut_same : (k : Key) (m : Mode) → (is_locked m && is_held out (place k 0)) ≡ is_locked_and_held (held workers) k m
-  shut_same k Shared = refl
-  shut_same k Private = refl
-  shut_same k Locked = held_same (place k 0)
+  locked_and_held_same : (k : Key) (m : Mode) → (is_locked m && is_held out (place k 0)) ≡ is_locked_and_held (held workers) k m
+  locked_and_held_same k Shared = refl
+  locked_and_held_same k Private = refl
+  locked_and_held_same k Locked = held_same (place k 0)
 
   -- both are the least that is not held
   number_same : AreApart out → (k : Key) (m : Mode) → cache.number_for out k m ≡ number_for (held workers) k m
@@ -90,7 +90,7 @@ module _ (out : Leases) (workers : List WorkerStatus) (same : HoldsAs out worker
 pub refuses_alike : (out : Leases) (workers : List WorkerStatus) → RefusesAlike out workers
 refuses_alike out workers inputs [] same = refl
 refuses_alike out workers inputs (n ∷ needs) same = go (is_locked_and_held (held workers) n.key n.key.mode)
-    (shut_same out workers same n.key n.key.mode) (refuses_alike out workers inputs needs same)
+    (locked_and_held_same out workers same n.key n.key.mode) (refuses_alike out workers inputs needs same)
   where
     go : (b : Bool) → cache.is_locked_and_held out (record { key = n.key; tree = base_in n.input inputs }) ≡ b
         → option_map (λ (n : cache_need.Need). n.key) (find (cache.is_locked_and_held out) (asked inputs needs)) ≡ held_key (held workers) needs
@@ -103,7 +103,8 @@ refuses_alike out workers inputs (n ∷ needs) same = go (is_locked_and_held (he
         need_with : Key → TreeMap → cache_need.Need
         need_with k t = record { key = k; tree = t }
 
-        by_test : (b : Bool) → option_map (λ (n : cache_need.Need). n.key) (find (cache.is_locked_and_held out) (asked inputs needs)) ≡ held_key (held workers) needs
+        by_test : (b : Bool) → option_map (λ (n : cache_need.Need). n.key) (find (cache.is_locked_and_held out) (asked inputs needs))
+            ≡ held_key (held workers) needs
             → option_map (λ (n : cache_need.Need). n.key) (cond b (Some (need_with n.key (base_in n.input inputs)))
             (find (cache.is_locked_and_held out) (asked inputs needs))) ≡ cond b (Some n.key) (held_key (held workers) needs)
         by_test true rest = refl

@@ -231,11 +231,12 @@ module _ (b : Build) (graph : IsGraph b.graph) where
 
 -- ---- the number of outputs
 
-outputs_count : (p : Program) (view : Workspace) → length (outputs_of p view) ≡ p.outputs
+outputs_count : (p : Program) (workspace : Workspace) → length (outputs_of p workspace) ≡ p.outputs
 unfolding outputs_of
-outputs_count p view = length-map-range_with_len (output_from p view) 0 p.outputs
+outputs_count p workspace = length-map-range_with_len (output_from p workspace) 0 p.outputs
 
 -- what ends done has as many trees as its program has outputs
-pub ended_count : (p : Program) (view : Workspace) (fault : Option VertexFault) (trees : List TreeMap) → ended p view fault ≡ Done trees → length trees ≡ p.outputs
-ended_count p view None trees e = let same : outputs_of p view ≡ trees = cc in ap length (sym same) ∙ outputs_count p view
-ended_count p view (Some f) trees e = absurd cc
+pub ended_count : (p : Program) (workspace : Workspace) (fault : Option VertexFault) (trees : List TreeMap) → ended p workspace fault ≡ Done trees
+    → length trees ≡ p.outputs
+ended_count p workspace None trees e = let same : outputs_of p workspace ≡ trees = cc in ap length (sym same) ∙ outputs_count p workspace
+ended_count p workspace (Some f) trees e = absurd cc

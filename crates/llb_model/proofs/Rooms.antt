@@ -8,7 +8,8 @@ use Rattle.llb_loader.specs.declared.graph.Vertex.{Vertex}
 use Rattle.llb_model.specs.declared.fault.VertexFault.{VertexFault}
 use Rattle.llb_model.specs.Program.{Build, MicroStep, ReadLocal, Act, LayInput, Run, Workspace, Left, last_of, is_run, program_at, step_on}
 use Rattle.llb_model.specs.Outcome.{Ending, Done, Failed}
-use Rattle.llb_model.specs.State.{Status, Waiting, Running, Settled, WorkerStatus, Idle, Runs, State, Opening, opening, program_in, work_of, ending_from, begin_at}
+use Rattle.llb_model.specs.State.{Status, Waiting, Running, Settled, WorkerStatus, Idle, Runs, State, Opening, opening, program_in, work_of, ending_from}
+use Rattle.llb_model.specs.State.{begin_at}
 use Rattle.llb_model.specs.Table.{Event, Claim, Step, Settle, Cancel, Reply, HasRead, Acted, HasMerged, HasRun, Skipped, Cancelled}
 use Rattle.llb_model.specs.Table.{execution_on, with_step, unless_failed, step_reply, settle_reply, table}
 use Rattle.llb_model.specs.Run.{run}

@@ -66,7 +66,7 @@ StepsAsBlock b = (s : State) (w : ℕ) (x : Execution) (trees : List TreeMap) (n
     → AreThere (program_in b x).steps x.done (left_so_far x trees) n
     → (rs : List Reply) × (run b s (steps_by w n) ≡ Some (after_steps s w x n (further (program_in b x).steps x.done (left_so_far x trees) n), rs))
 
--- what was worked out elsewhere on a worker's view and trees as they are now has, landed, the effect of the block
+-- what was worked out elsewhere on a worker's workspace and trees as they are now has, landed, the effect of the block
 abbrev pub LandsAsBlock : Build → Type 0
 LandsAsBlock b = (s : State) (w : ℕ) (x : Execution) (trees : List TreeMap) (n : ℕ) → slice_get s.workers w ≡ Some (Runs x)
     → Distinct x.places → Hold s.store x.places trees

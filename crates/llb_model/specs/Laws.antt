@@ -63,7 +63,7 @@ OthersKeep b = (s t : State) (e : Event) (r : Reply) → IsReached b s → table
     → slice_get s.workers w ≡ Some (Runs x)
     → Has x.places p → IsExclusive p.key.mode → worker_of e ≢ w → content t.store p ≡ content s.store p
 
--- another tree at one place
+-- another tree in one instance
 abbrev pub with_content : Instance → TreeMap → State → State
 with_content p t s = record s { store = put s.store p t }
 

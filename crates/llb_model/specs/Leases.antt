@@ -66,7 +66,8 @@ LeasedHoldsAs = (out : Leases) (workers : List WorkerStatus) (ls : List (Option 
 
 -- a claim leases where it has instances, a step keeps its lease, a settle and a cancel release it
 abbrev pub ClaimLeases : Type 0
-ClaimLeases = (out : Leases) (workers : List WorkerStatus) (ls : List (Option ℕ)) (w : ℕ) (z : Execution) → AreLeased out workers ls → slice_get workers w ≡ Some Idle
+ClaimLeases = (out : Leases) (workers : List WorkerStatus) (ls : List (Option ℕ)) (w : ℕ) (z : Execution) → AreLeased out workers ls → slice_get workers w
+    ≡ Some Idle
     → AreLeased (cache.with_lease out (cache.free_lease out) z.places) (slice_set workers w (Runs z)) (slice_set ls w (Some (cache.free_lease out)))
 
 abbrev pub ClaimWithout : Type 0

@@ -55,7 +55,7 @@ stands_after (Some k) p left = Waiting
 abbrev pub left_by : Order → ℕ → List Instance → Program → Option ℕ → Left → Order
 left_by o v ps p cut left = record { statuses = slice_set o.statuses v (stands_after cut p left); store = put_all o.store ps left.work.trees }
 
--- what the claim does, on the trees of the inputs and those at the places
+-- what the claim does, on the trees of the inputs and those of the instances
 abbrev pub whole_at : Build → Order → ℕ → Start → List Instance → Option ℕ → Order
 whole_at b o v start ps cut =
     left_by o v ps (program_of start.vertex) cut (done_of cut (program_of start.vertex).steps (begin_at b o.store start ps))

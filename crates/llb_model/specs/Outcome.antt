@@ -18,10 +18,10 @@ pub data Outcome : Type 0 where
   Ended : Ending → Outcome
   Blocked : Outcome
 
--- how a program ends: with the outputs of its view, or with the fault
+-- how a program ends: with the outputs of its workspace, or with the fault
 abbrev pub ended : Program → Workspace → Option VertexFault → Ending
-ended p view None = Done (outputs_of p view)
-ended p view (Some f) = Failed f
+ended p workspace None = Done (outputs_of p workspace)
+ended p workspace (Some f) = Failed f
 
 -- how a vertex ends, from what its micro-steps left
 abbrev pub ending : Program → Left → Ending

@@ -54,7 +54,7 @@ pub data MicroStep : Type 0 where
 pub record Program : Type 0 where
   pub steps : List MicroStep
   pub outputs : ℕ
-  pub given : List ℤ
+  pub output_numbers : List ℤ
 
 -- what a program has for itself: for a source its local tree; for a file op the trees of its inputs and the results so far; for a merge the trees of its inputs
 -- and what is laid so far; for an exec its mounts, the numbers of those that show caches, whose trees are empty here, and the status of the last command that
@@ -65,7 +65,7 @@ pub data Workspace : Type 0 where
   Layers : List TreeMap → TreeMap → Workspace
   Mounted : List Shown → List ℕ → ℕ → Workspace
 
--- what micro-steps work on: a view of its own, and the trees of the cache instances that it holds, in the order of the needs
+-- what micro-steps work on: a workspace of its own, and the trees of the cache instances that it holds, in the order of the needs
 pub record Work : Type 0 where
   pub own : Workspace
   pub trees : List TreeMap
@@ -172,12 +172,12 @@ steps_of None script = []
 
 -- the program of a vertex
 abbrev pub program_of : Vertex → Program
-program_of v = record { steps = steps_of v.op.kind v.script; outputs = v.outputs; given = mount_outputs (kind_mounts v.op.kind) }
+program_of v = record { steps = steps_of v.op.kind v.script; outputs = v.outputs; output_numbers = mount_outputs (kind_mounts v.op.kind) }
 
 -- the program of a vertex; one without steps if there is no vertex
 abbrev pub program_at : Option Vertex → Program
 program_at (Some v) = program_of v
-program_at None = record { steps = []; outputs = 0; given = [] }
+program_at None = record { steps = []; outputs = 0; output_numbers = [] }
 
 -- the local tree of a source; the empty tree if its name has none
 abbrev pub local_tree : List Local → Vertex → TreeMap
@@ -196,11 +196,11 @@ tree_shown inputs m = if has_type bind m then base_in m.input inputs else empty_
 abbrev pub selector_of : Mount → List (List ℕ)
 selector_of m = if has_type tmpfs m then [] else path_in m.selector
 
--- a mount as an exec's view has it before the first micro-step
+-- a mount as an exec's workspace has it before the first micro-step
 abbrev pub shown_of : List TreeMap → Mount → Shown
 shown_of inputs m = record { dest = path_in m.dest; selector = selector_of m; readonly = m.readonly; tree = tree_shown inputs m }
 
--- the view of a vertex before its first micro-step, by the kind of its op
+-- the workspace of a vertex before its first micro-step, by the kind of its op
 abbrev pub workspace_on : List Local → Vertex → Option Kind → List TreeMap → Workspace
 workspace_on locals v (Some (kind.Source s)) inputs = LocalTree (local_tree locals v)
 workspace_on locals v (Some (kind.File f)) inputs = Files inputs []
@@ -237,27 +237,27 @@ trees_in (LocalTree t) = []
 trees_in (Layers inputs t) = inputs
 trees_in (Mounted mounts caches last) = []
 
--- the view of a file op with one result more
+-- the workspace of a file op with one result more
 abbrev pub with_tree : Workspace → TreeMap → Workspace
 with_tree (Files inputs results) t = Files inputs (results ++ t ∷ [])
 with_tree (LocalTree own) t = LocalTree own
 with_tree (Layers inputs laid) t = Layers inputs laid
 with_tree (Mounted mounts caches last) t = Mounted mounts caches last
 
--- the view of a file op after action a made this result, or the action's fault as the vertex's
+-- the workspace of a file op after action a made this result, or the action's fault as the vertex's
 abbrev pub with_result : ℕ → Workspace → Result TreeMap ActFault → Result Workspace VertexFault
-with_result a view (Ok t) = Ok (with_tree view t)
-with_result a view (Err f) = Err (fault.Action a (fault_number f))
+with_result a workspace (Ok t) = Ok (with_tree workspace t)
+with_result a workspace (Err f) = Err (fault.Action a (fault_number f))
 
 -- the tree that an action makes of one of the trees so far; a copy reads a second one of them
 abbrev pub act_among : Action → List TreeMap → Result TreeMap ActFault
 act_among action trees = act action.kind (base_in action.input trees) (base_in action.secondary_input trees)
 
--- the view after action a, or its fault
+-- the workspace after action a, or its fault
 abbrev pub act_on : ℕ → Action → Workspace → Result Workspace VertexFault
-act_on a action view = with_result a view (act_among action (trees_in view))
+act_on a action workspace = with_result a workspace (act_among action (trees_in workspace))
 
--- the view after an input is laid over those before it
+-- the workspace after an input is laid over those before it
 abbrev pub lay_on : ℤ → Workspace → Workspace
 lay_on i (Layers inputs t) = Layers inputs (lay t (base_in i inputs))
 lay_on i (LocalTree t) = LocalTree t
@@ -284,7 +284,7 @@ blanked mounts ms trees = filled mounts ms (map (λ t. empty_tree) trees)
 abbrev pub parted : List ℕ → List TreeMap → List Shown → Work
 parted caches trees mounts = record { own = Mounted (blanked mounts caches trees) caches 0; trees = taken mounts caches trees }
 
--- the status of the last command that ran; 0 for a view that is not an exec's
+-- the status of the last command that ran; 0 for a workspace that is not an exec's
 abbrev pub last_of : Workspace → ℕ
 last_of (Mounted mounts caches last) = last
 last_of (LocalTree t) = 0
@@ -323,9 +323,9 @@ run_on c setting command ends (LocalTree t) trees = no_fault (record { own = Loc
 run_on c setting command ends (Files inputs results) trees = no_fault (record { own = Files inputs results; trees = trees })
 run_on c setting command ends (Layers inputs t) trees = no_fault (record { own = Layers inputs t; trees = trees })
 
--- what an action leaves: the new view, or the work unchanged and the fault
+-- what an action leaves: the new workspace, or the work unchanged and the fault
 abbrev pub tried : Work → Result Workspace VertexFault → Left
-tried work (Ok view) = no_fault (record work { own = view })
+tried work (Ok workspace) = no_fault (record work { own = workspace })
 tried work (Err f) = record { work = work; fault = Some f }
 
 -- what micro-step k leaves of a work
@@ -375,19 +375,19 @@ result_for i (Run setting command ends ∷ steps) (t ∷ results) = result_for i
 -- the whole tree of the mount whose output has number i
 abbrev pub tree_for : ℕ → List ℤ → List Shown → TreeMap
 tree_for i [] mounts = empty_tree
-tree_for i (n ∷ given) [] = empty_tree
-tree_for i (n ∷ given) (m ∷ mounts) = if is_output i n then m.tree else tree_for i given mounts
+tree_for i (n ∷ numbers) [] = empty_tree
+tree_for i (n ∷ numbers) (m ∷ mounts) = if is_output i n then m.tree else tree_for i numbers mounts
 
--- output i of a view: for a file op the result of the action with that output number; for a source what is read, and for a merge what is laid, as their one
--- output; for an exec the tree of the mount with that output number
+-- output i of a workspace: for a file op the result of the action with that output number; for a source what is read, and for a merge what is laid, as their
+-- one output; for an exec the tree of the mount with that output number
 abbrev pub output_from : Program → Workspace → ℕ → TreeMap
 output_from p (Files inputs results) i = result_for i p.steps results
 output_from p (LocalTree t) zero = t
 output_from p (LocalTree t) (suc i) = empty_tree
 output_from p (Layers inputs t) zero = t
 output_from p (Layers inputs t) (suc i) = empty_tree
-output_from p (Mounted mounts caches last) i = tree_for i p.given mounts
+output_from p (Mounted mounts caches last) i = tree_for i p.output_numbers mounts
 
--- the outputs of a program, from the view that all micro-steps leave
+-- the outputs of a program, from the workspace that all micro-steps leave
 unfoldable pub outputs_of : Program → Workspace → List TreeMap
-outputs_of p view = map (output_from p view) (range_with_len 0 p.outputs)
+outputs_of p workspace = map (output_from p workspace) (range_with_len 0 p.outputs)

@@ -7,7 +7,6 @@ use Rattle.llb_cache.specs.declared.key.Mode.{Mode}
 use Rattle.llb_cache.specs.declared.key.Mode.TheVariants.{Shared, Private, Locked}
 use Rattle.llb_loader.specs.declared.graph.Edge.{Edge}
 use Rattle.llb_loader.specs.declared.graph.Vertex.{Vertex}
-use Rattle.llb_loader.specs.Locals.{Local, local_name, tree_of_local}
 use Rattle.llb_tree.specs.Tree.{TreeMap}
 use Rattle.llb_model.specs.declared.fault.VertexFault.{VertexFault}
 use Rattle.llb_model.specs.ByNumber.{by_number}
@@ -21,8 +20,8 @@ pub data Status : Type 0 where
   Running : ℕ → Status
   Settled : Ending → Status
 
--- what a running worker holds: its vertex, how many micro-steps it has done (one that faults is counted), their fault if any, its view, and the instances of
--- caches, in the order of the needs
+-- what a running worker holds: its vertex, how many micro-steps it has done (one that faults is counted), their fault if any, its workspace, and the
+-- instances of caches, in the order of the needs
 pub record Execution : Type 0 where
   pub vertex : ℕ
   pub done : ℕ
@@ -45,20 +44,6 @@ pub record State : Type 0 where
 pub record Opening : Type 0 where
   pub workers : ℕ
   pub store : Store
-
--- the name of a source, where it has no local tree
-abbrev pub lacks : List Local → Option (List ℕ) → Option (List ℕ)
-lacks locals None = None
-lacks locals (Some name) = if is_some (tree_of_local locals name) then None else Some name
-
-abbrev pub first_of : {A : Type 0} → Option A → Option A → Option A
-first_of (Some x) later = Some x
-first_of None later = later
-
--- the first name of a local source, by vertex, that has no tree
-abbrev pub missing_local : List Local → List Vertex → Option (List ℕ)
-missing_local locals [] = None
-missing_local locals (v ∷ vs) = first_of (lacks locals (local_name v.op)) (missing_local locals vs)
 
 -- the state at the opening: every vertex waits, every worker is idle, and the caches are as they were handed in
 abbrev pub opening : Build → Opening → State
@@ -166,7 +151,7 @@ abbrev pub above : List Instance → ℕ
 above [] = 0
 above (p ∷ ps) = p.number + 1 + above ps
 
--- the least number at or after n that is not among the places of a key, found in at most this number of tries
+-- the least number at or after n that is not among the instances of a key, found in at most this number of tries
 abbrev pub first_free : List Instance → Key → ℕ → ℕ → ℕ
 first_free ps k n zero = n
 first_free ps k n (suc tries) = if is_in ps (place k n) then first_free ps k (n + 1) tries else n
@@ -177,7 +162,7 @@ number_for ps k Shared = 0
 number_for ps k Locked = 0
 number_for ps k Private = first_free ps k 0 (above ps)
 
--- the instance that a claim takes for a need while these places are held
+-- the instance that a claim takes for a need while these are held
 abbrev pub place_for : List Instance → Need → Instance
 place_for ps n = place n.key (number_for ps n.key n.key.mode)
 
@@ -206,7 +191,7 @@ first_trees s inputs (p ∷ ps) (n ∷ needs) = unwrap_or (content s p) (base_in
 abbrev pub begin_at : Build → Store → Start → List Instance → Work
 begin_at b s start ps = begin b start (first_trees s start.inputs ps (needs_of start.vertex))
 
--- the places of needs, by the numbers of the instances
+-- the instances of needs, by their numbers
 abbrev pub places_by : List Need → List ℕ → List Instance
 places_by [] numbers = []
 places_by (n ∷ needs) [] = []

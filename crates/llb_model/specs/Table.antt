@@ -73,7 +73,8 @@ execution_on v work ps = record { vertex = v; done = 0; fault = None; own = work
 
 -- the job of a claim: nothing of it is done yet
 abbrev pub job_on : ℕ → ℕ → Vertex → Work → List Instance → Job
-job_on w v vertex work ps = record { worker = w; vertex = v; program = program_of vertex; done = 0; work = work; instances = map (λ (p : Instance). p.number) ps }
+job_on w v vertex work ps =
+    record { worker = w; vertex = v; program = program_of vertex; done = 0; work = work; instances = map (λ (p : Instance). p.number) ps }
 
 -- the state after a claim: the vertex and the worker are running, and a new instance is now in the caches
 abbrev pub after_claim : State → ℕ → ℕ → Work → List Instance → State
@@ -116,7 +117,8 @@ abbrev pub unless_failed : Option VertexFault → Reply → Reply
 unless_failed None reply = reply
 unless_failed (Some f) reply = Faulted f
 
--- the reply to micro-step k, from the view before it and what it left; that to a command that ran has the command's status, even if this is the exec's fault
+-- the reply to micro-step k, from the workspace before it and what it left; that to a command that ran has the command's status, even if this is the exec's
+-- fault
 abbrev pub step_reply : ℕ → MicroStep → Workspace → Left → Reply
 step_reply k ReadLocal before left = unless_failed left.fault HasRead
 step_reply k (Act action) before left = unless_failed left.fault (Acted k)

@@ -13,10 +13,10 @@ ghost use Rattle.llb_needs.specs.Needs.{need_of, first_held_key, unless_held, pl
 ghost use Rattle.llb_cache.specs.Key.{seed_by};
 ghost use Rattle.llb_events.specs.Faults.{GivesClaim, claim_memory, claim_may_want};
 
-use llb_cache::{Caches, Key, KeyRef, Mode, Need, Instance};
+use llb_cache::{Caches, Instance, Key, KeyRef, Mode, Need};
 use llb_events::ClaimFault;
-use llb_execution::{input_tree, mounts_of};
-use llb_loader::{Vertex, cache_in};
+use llb_execution::input_tree;
+use llb_loader::{Vertex, cache_in, mounts_of};
 use llb_ops::Mount;
 use llb_tree::Tree;
 use std::alloc::Global;
@@ -49,7 +49,7 @@ pub fn wanted_by(alloc: Global, caches: &Caches, vertex: &Vertex) -> Result<Vec<
     ensures last { IfErr result (λ e. claim_memory e ≡ true
         → claim_may_want (unless_held (needs_of vertex.now) (first_held_key caches.now.out (needs_of vertex.now))) ≡ true) }
 {
-    match first_shut(caches, vertex) {
+    match first_held_key(caches, vertex) {
         Some(key) => Err(ClaimFault::Held(key.to_key(alloc)?)),
         None => wants(alloc, vertex),
     }
@@ -69,7 +69,7 @@ pub fn shows_cache(vertex: &Vertex) -> bool
 }
 
 // The first locked key that a vertex shows and a lease has. Does not allocate.
-fn first_shut<'a>(caches: &Caches, vertex: &'a Vertex) -> Option<KeyRef<'a>>
+fn first_held_key<'a>(caches: &Caches, vertex: &'a Vertex) -> Option<KeyRef<'a>>
     requires { HasEdges vertex.now }
     ensures { result ≡ first_held_key caches.now.out (needs_of vertex.now) }
 {
@@ -170,7 +170,11 @@ pub fn taking_for(
 }
 
 // The instances that a lease of these caches would have now.
-fn places_taken(alloc: Global, caches: &Caches, wanted: &[Wanted]) -> Result<Vec<Instance>, ClaimFault>
+fn places_taken(
+    alloc: Global,
+    caches: &Caches,
+    wanted: &[Wanted],
+) -> Result<Vec<Instance>, ClaimFault>
     ensures { GivesClaim (λ ps. ps.items) result (Ok (places_taken caches.now.out (map need_of wanted.now))) }
 {
     let mut places = Vec::new(alloc);

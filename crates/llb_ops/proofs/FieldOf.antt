@@ -16,7 +16,7 @@ use Rattle.llb_ops.specs.declared.fault.OpFault.TheVariants.{OverLimit, NotUtf8}
 use Rattle.llb_ops.specs.Records.{Shape, form_of, text_fits, texts_fit, parts, records_from, is_member, unnamed}
 use Rattle.llb_ops.proofs.Again.{FitsShape, parts_again, spelled}
 use Rattle.llb_ops.proofs.Kept.{guard_ended, records_fit}
-use Rattle.llb_ops.proofs.Picks.{All-append, All-front, All-behind, All-map, All-filter, filter_passes, filter_all, filter_none}
+use Rattle.llb_ops.proofs.Picks.{All-append, All-front, All-behind, All-map, All-filter, filter_passes, filter_all, filter_none, and_both}
 use Rattle.llb_ops.proofs.Picks.{filter_narrow, mine, has_left, has_right, apart, apart_left, apart_right, are_named, named_of, extras_of}
 use Rattle.llb_ops.proofs.Picks.{unnamed_has}
 
@@ -70,11 +70,6 @@ end = record {
 }
 
 -- ---- a field and others
-
--- where two tests hold together, each does
-pub and_both : (a b : Bool) → a && b ≡ true → (a ≡ true) × (b ≡ true)
-and_both true b e = (refl, e)
-and_both false b e = absurd cc
 
 abbrev pub ok_of : {A : Type 0} → A → Result A OpFault
 ok_of x = Ok x

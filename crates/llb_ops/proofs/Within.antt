@@ -35,8 +35,8 @@ use Rattle.llb_ops.specs.Faults.{Gives}
 use Rattle.llb_ops.specs.Within.{IsFew, IsMetaWithin, IsMetaOptWithin, IsExecWithin, IsCopyWithin, IsActionWithin, IsFileWithin}
 use Rattle.llb_ops.specs.Within.{IsKindWithin, IsWithinLimits, AreWithinLimits}
 use Rattle.llb_ops.proofs.Kept.{guard_ended}
-use Rattle.llb_ops.proofs.FieldOf.{and_both, ok_is}
-use Rattle.llb_ops.proofs.Picks.{All-map}
+use Rattle.llb_ops.proofs.FieldOf.{ok_is}
+use Rattle.llb_ops.proofs.Picks.{All-map, and_both}
 use Rattle.llb_ops.proofs.Settled.{settled_length}
 use Rattle.llb_ops.proofs.Sorts.{IsRead, each_length, each_read}
 use Rattle.llb_ops.proofs.Trips.{ActionRead, action_from, KindRead, kind_from}

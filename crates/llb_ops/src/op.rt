@@ -2,6 +2,7 @@
 
 ghost use Rattle.std.specs.Prelude.{◌≡◌, Ok, IfOk};
 ghost use Rattle.llb_ops.specs.Faults.{Gives};
+ghost use Rattle.llb_ops.specs.Kinds.{kind_text};
 ghost use Rattle.llb_ops.specs.Messages.{op_of};
 ghost use Rattle.llb_ops.specs.Writing.{op_bytes};
 ghost use Rattle.llb_ops.specs.Within.{IsWithinLimits};
@@ -208,6 +209,23 @@ pub fn write_op(alloc: Global, op: &Op) -> Result<Bytes, OpFault>
 {
     let bytes = op.write(alloc)?;
     Ok(Bytes::new(bytes))
+}
+
+/// Returns the name of an op's kind. No graph has an op of the last two, or of none.
+pub fn kind_name(op: &Op) -> &'static str
+    ensures { result.now ≡ kind_text op.now.kind }
+{
+    match &op.kind {
+        Some(kind) => match kind {
+            Kind::Source(_) => "source",
+            Kind::File(_) => "file",
+            Kind::Merge(_) => "merge",
+            Kind::Exec(_) => "exec",
+            Kind::Build(_) => "build",
+            Kind::Diff(_) => "diff",
+        },
+        None => "none",
+    }
 }
 
 /// A law: the records of a message are those that its bytes spell by the grammar of the wire, whatever the

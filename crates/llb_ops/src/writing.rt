@@ -30,6 +30,7 @@ pub fn put_set_bytes(out: &mut Vec<u8>, number: u32, bytes: &[u8]) -> Result<(),
     Ok(())
 }
 
+/// Writes a number, but not 0.
 #[tactic(auto, unfolding(crate::specs::Writing::number_field))]
 fn put_number(out: &mut Vec<u8>, number: u32, value: u64) -> Result<(), Memory>
     requires some { 0 < number }
@@ -42,6 +43,7 @@ fn put_number(out: &mut Vec<u8>, number: u32, value: u64) -> Result<(), Memory>
     Ok(())
 }
 
+/// Writes a signed number, but not 0.
 pub fn put_signed(out: &mut Vec<u8>, number: u32, value: i64) -> Result<(), Memory>
     requires some { 0 < number }
     requires small { number ≤ 536_870_911 }
@@ -50,6 +52,7 @@ pub fn put_signed(out: &mut Vec<u8>, number: u32, value: i64) -> Result<(), Memo
     put_number(out, number, value.cast_unsigned())
 }
 
+/// Writes a flag that is set.
 pub fn put_flag(out: &mut Vec<u8>, number: u32, value: bool) -> Result<(), Memory>
     requires some { 0 < number }
     requires small { number ≤ 536_870_911 }
@@ -58,6 +61,7 @@ pub fn put_flag(out: &mut Vec<u8>, number: u32, value: bool) -> Result<(), Memor
     put_number(out, number, u64::from(value))
 }
 
+/// Writes bytes, where there are some.
 #[tactic(auto, unfolding(crate::specs::Writing::bytes_field))]
 pub fn put_bytes(out: &mut Vec<u8>, number: u32, bytes: &[u8]) -> Result<(), Memory>
     requires some { 0 < number }
@@ -70,6 +74,7 @@ pub fn put_bytes(out: &mut Vec<u8>, number: u32, bytes: &[u8]) -> Result<(), Mem
     Ok(())
 }
 
+/// Writes a message, where there is one.
 #[tactic(auto, unfolding(crate::specs::Writing::message_field))]
 pub fn put_message<M: Message>(
     alloc: Global,
@@ -88,6 +93,7 @@ pub fn put_message<M: Message>(
     Ok(())
 }
 
+/// Writes messages that are repeated.
 pub fn put_messages<M: Message>(
     alloc: Global,
     out: &mut Vec<u8>,
@@ -117,7 +123,7 @@ pub fn put_each_bytes(out: &mut Vec<u8>, number: u32, items: &[Bytes]) -> Result
     Ok(())
 }
 
-/// Texts that are repeated.
+/// Writes texts that are repeated.
 pub fn put_each_text(out: &mut Vec<u8>, number: u32, items: &[Text]) -> Result<(), Memory>
     requires some { 0 < number }
     requires small { number ≤ 536_870_911 }
@@ -129,6 +135,7 @@ pub fn put_each_text(out: &mut Vec<u8>, number: u32, items: &[Text]) -> Result<(
     Ok(())
 }
 
+/// Writes the member that is set, where there is one.
 pub fn put_one_of<M: Member>(
     alloc: Global,
     out: &mut Vec<u8>,

@@ -26,8 +26,9 @@ none_has k (u ∷ vs) i v none at = by_test (has_cache u) refl none i at (none_h
     by_test false is none zero at rest = let same : u ≡ v = cc in ap has_cache (sym same) ∙ is
     by_test false is none (suc j) at rest = rest j v none at
 
--- the view of a vertex without one shows none
-pub bare_on : (locals : List Local) (v : Vertex) (k : Option Kind) (inputs : List TreeMap) → has_cache v ≡ false → shown_in (workspace_on locals v k inputs) ≡ []
+-- the workspace of a vertex without one shows none
+pub bare_on : (locals : List Local) (v : Vertex) (k : Option Kind) (inputs : List TreeMap) → has_cache v ≡ false → shown_in (workspace_on locals v k inputs)
+    ≡ []
 bare_on locals v (Some (kind.Source s)) inputs none = refl
 bare_on locals v (Some (kind.File f)) inputs none = refl
 bare_on locals v (Some (kind.Merge m)) inputs none = refl

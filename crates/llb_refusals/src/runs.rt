@@ -4,7 +4,7 @@ use super::boards::{Open, TWO_FILES, are_same, board_in, board_on};
 use super::growths::{MOST, Row, Trial, are_refused, is_lack, print_count, refuse, was_refused};
 use super::told::{fault_told, is_same, text_told, tree_told};
 use super::written::tree_text;
-use llb_board::{WorkerStatus, Board};
+use llb_board::{Board, WorkerStatus};
 use llb_ready::{ReadyFault, ReadyQueue};
 use llb_stepper::Stepper;
 use llb_work::{RunEnd, run_alone, run_workers};

@@ -42,7 +42,7 @@ use Rattle.llb_events.specs.declared.fault.ClaimFault.TheVariants as claim
 use Rattle.llb_events.specs.declared.fault.StepFault.{StepFault}
 use Rattle.llb_events.specs.declared.fault.SettleFault.{SettleFault}
 use Rattle.llb_events.specs.declared.fault.SettleFault.TheVariants.{NotFinished}
-use Rattle.llb_state.proofs.Wanting.{shut_first}
+use Rattle.llb_state.proofs.Wanting.{first_refused_held}
 use Rattle.llb_state.proofs.Written.{written_made}
 
 abbrev ok_of : {A E : Type 0} → A → Result A E
@@ -123,15 +123,15 @@ can_claim b s w v x ok there =
     by_worker (Some (Runs y)) is ok = absurd cc
     by_worker (Some Idle) is ok = by_ready is (start_from s.statuses (slice_get s.statuses v) (Some x)) refl ok
 
--- what keys leases have shut, and what the running workers have
-pub shut_as_held : (c : CachesValue) (workers : List WorkerStatus) (inputs : List TreeMap) (x : Vertex) → HoldsAs c.out workers
+-- the first locked key that a lease has is the first that the running workers have
+pub leased_as_held : (c : CachesValue) (workers : List WorkerStatus) (inputs : List TreeMap) (x : Vertex) → HoldsAs c.out workers
     → first_held_key c.out (needs_of x) ≡ held_key (held workers) (needs_of x)
-shut_as_held c workers inputs x same = sym (shut_first c.out inputs (needs_of x)) ∙ refuses_alike c.out workers inputs (needs_of x) same
+leased_as_held c workers inputs x same = sym (first_refused_held c.out inputs (needs_of x)) ∙ refuses_alike c.out workers inputs (needs_of x) same
 
--- the first key that is shut is the fault
-shut_is : (needs : List Need) (o : Option Key) (e : ClaimFault) → unless_held needs o ≡ Err e → (k : Key) × (o ≡ Some k) × (e ≡ claim.Held k)
-shut_is needs None e is = absurd cc
-shut_is needs (Some k) e is = (k, refl, sym (fault_inside is))
+-- the first locked key that is held is the fault
+held_is_fault : (needs : List Need) (o : Option Key) (e : ClaimFault) → unless_held needs o ≡ Err e → (k : Key) × (o ≡ Some k) × (e ≡ claim.Held k)
+held_is_fault needs None e is = absurd cc
+held_is_fault needs (Some k) e is = (k, refl, sym (fault_inside is))
   where
     fault_inside : ◌≡◌ {A = Result (List Need) ClaimFault} (Err (claim.Held k)) (Err e) → claim.Held k ≡ e
     fault_inside e = cc
@@ -144,10 +144,10 @@ open_is needs ns (Some k) is = absurd cc
 pub claim_held : (n : BoardValue) (w v : ℕ) (x : Vertex) (c : CachesValue) (e : ClaimFault) → CanClaim n.build n.state w v x → HoldsAs c.out n.state.workers
     → unless_held (needs_of x) (first_held_key c.out (needs_of x)) ≡ Err e → claim_of n w v ≡ Err e
 claim_held n w v x c e can same is =
-    let h = shut_is (needs_of x) (first_held_key c.out (needs_of x)) e is in
+    let h = held_is_fault (needs_of x) (first_held_key c.out (needs_of x)) e is in
     ap (recorded n (Claim w v) claim_fault) can.grants
     ∙ ap (λ o. recorded n (Claim w v) claim_fault (claim_unless n.build n.state w v (start_with x can.trees) o))
-    (sym (shut_as_held c n.state.workers can.trees x same) ∙ h.1)
+    (sym (leased_as_held c n.state.workers can.trees x same) ∙ h.1)
     ∙ ap (λ f. Err f) (sym h.2)
 
 -- memory may be wanted of a claim where it may be of the look at its keys
@@ -155,7 +155,7 @@ pub claim_wants : (n : BoardValue) (w v : ℕ) (x : Vertex) (c : CachesValue) �
     → claim_may_want (claim_of n w v) ≡ claim_may_want (unless_held (needs_of x) (first_held_key c.out (needs_of x)))
 claim_wants n w v x c can same =
     ap (λ r. claim_may_want (recorded n (Claim w v) claim_fault r)) can.grants ∙ by_key (held_key (held n.state.workers) (needs_of x))
-    ∙ ap (λ o. claim_may_want (unless_held (needs_of x) o)) (sym (shut_as_held c n.state.workers can.trees x same))
+    ∙ ap (λ o. claim_may_want (unless_held (needs_of x) o)) (sym (leased_as_held c n.state.workers can.trees x same))
   where
     by_key : (o : Option Key)
         → claim_may_want (recorded n (Claim w v) claim_fault (claim_unless n.build n.state w v (start_with x can.trees) o))
@@ -221,7 +221,7 @@ granted_of c new x trees l (n ∷ ns) are is = by_key (find (is_locked_and_held 
           );
         }
 
--- what is begun where no key is shut is the table's
+-- what is begun where no locked key is held is the table's
 pub record Claims (b : Build) (s : State) (w v : ℕ) (x : Vertex) (c new : CachesValue) (z : Execution) (r : Reply) : Type 0 where
   pub grants : claim_grant b s w v ≡ Ok (
     record {
@@ -257,7 +257,7 @@ claims b s w v x c new l begun_so ns can contents leased apart admitted begins g
     let ps = places_for (held s.workers) needs in
     let alike = places_alike c s.workers can.trees needs leased in
     let begun_with = begun_is b c w v x can.trees (inputs_from (ending_at s.statuses) x.inputs) begun_so can.inputs begins in
-    let free = sym (shut_as_held c s.workers can.trees x leased.same) ∙ (open_is needs ns (first_held_key c.out needs) admitted).0 in
+    let free = sym (leased_as_held c s.workers can.trees x leased.same) ∙ (open_is needs ns (first_held_key c.out needs) admitted).0 in
     let firsts = first_trees (store_of c.rows) can.trees ps needs in
     let stands : store_of new.rows ≡ put_all (store_of c.rows) ps firsts
     = ap store_of granted.rows ∙ makes_alike c.rows c.out s.workers can.trees needs leased.same leased.apart leased.there apart in

@@ -8,8 +8,8 @@ use Rattle.std.specs.contracts.impls.GlobalAllocator.TheImpl.{ghosts}
 use Rattle.std.specs.contracts.vec.Vec as vec
 use Rattle.llb_wire.proofs.many.Many.TheSendSync as many_crosses
 use Rattle.llb_tree.specs.contracts.tree.Tree as tree
-use Rattle.llb_execution.proofs.Crossing.{tree_send, trees_send, view_crosses}
-use Rattle.llb_execution.specs.contracts.workspace.Workspace as view
+use Rattle.llb_execution.proofs.Crossing.{tree_send, trees_send, workspace_crosses}
+use Rattle.llb_execution.specs.contracts.workspace.Workspace as workspace
 use Rattle.llb_applet.proofs.setting.Setting.TheSendSync as setting_crosses
 use Rattle.llb_applet.specs.contracts.setting.Setting as setting
 use Rattle.llb_cache.proofs.caches.Lease.TheSendSync as lease_crosses
@@ -42,7 +42,7 @@ execution_send = declared_send execution.the_type (
     (
       search (crosses, sendable) depth 20,
       (
-        as_row_send view.the_field view_crosses,
+        as_row_send workspace.the_field workspace_crosses,
         (
           places_send,
           (

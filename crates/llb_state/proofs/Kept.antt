@@ -190,7 +190,8 @@ pub leased_claimed : (d : Data) (w : ℕ) (l : Option ℕ) (own : own.Execution)
     → slice_get (map at_of d.desks) w ≡ Some Idle → own.places.items ≡ ps → LeasedNew d.out l ps new
     → AreLeased new (map at_of (slice_set d.desks w (desk.Runs l own))) (map leased_by (slice_set d.desks w (desk.Runs l own)))
 leased_claimed d w l own ps new leased idle same is =
-    subst (λ (ws : List WorkerStatus). AreLeased new ws (map leased_by (slice_set d.desks w (desk.Runs l own)))) (sym (map_set at_of d.desks w (desk.Runs l own)))
+    subst (λ (ws : List WorkerStatus). AreLeased new ws (map leased_by (slice_set d.desks w (desk.Runs l own))))
+    (sym (map_set at_of d.desks w (desk.Runs l own)))
     (subst (AreLeased new (slice_set (map at_of d.desks) w (Runs (execution_of own)))) (sym (map_set leased_by d.desks w (desk.Runs l own))) (elim is [
       | inl h ↦
           let out : new ≡ with_lease d.out (free_lease d.out) own.places.items = h.1 ∙ ap (with_lease d.out (free_lease d.out)) (sym same) in
@@ -321,7 +322,8 @@ settle_rows d w v s out stop_marks x at =
     ∙ ap (λ (ws : List WorkerStatus). written (store_of d.rows) d.rows (places_at (slice_get ws w))) (sym (map_set at_of d.desks w desk.Idle))
 
 -- the vertex that a worker leaves was Running by it
-pub leaves_running : (b : BoardValue) (w v : ℕ) (stands : Status) → Replays b → CanSettle b.build b.state w v stands → slice_get b.state.statuses v ≡ Some (Running w)
+pub leaves_running : (b : BoardValue) (w v : ℕ) (stands : Status) → Replays b → CanSettle b.build b.state w v stands → slice_get b.state.statuses v
+    ≡ Some (Running w)
 leaves_running b w v stands here can = ap (slice_get b.state.statuses) (sym can.vertex) ∙ (consistent b here).working w can.x can.there
 
 -- after a settle each worker has what its vertex needs, and the one that is idle needs nothing

@@ -24,7 +24,8 @@ use Rattle.llb_model.proofs.Vertices.{kind_at}
 -- ---- a view before the first micro-step
 
 -- at first a view has as many mounts as its op
-pub mounts_on : (locals : List Local) (v : Vertex) (k : Option Kind) (inputs : List TreeMap) → mounts_in (workspace_on locals v k inputs) ≡ length (kind_mounts k)
+pub mounts_on : (locals : List Local) (v : Vertex) (k : Option Kind) (inputs : List TreeMap) → mounts_in (workspace_on locals v k inputs)
+    ≡ length (kind_mounts k)
 mounts_on locals v (Some (kind.Source s)) inputs = refl
 mounts_on locals v (Some (kind.File f)) inputs = refl
 mounts_on locals v (Some (kind.Merge m)) inputs = refl

@@ -46,11 +46,11 @@ graph_edges g k v graph there =
 
 -- ---- the needs of a vertex
 
--- a lease is refused for the first key that is shut
-pub shut_first : (out : Leases) (inputs : List TreeMap) (needs : List Need)
+-- a lease is refused for the first locked key that is held
+pub first_refused_held : (out : Leases) (inputs : List TreeMap) (needs : List Need)
     → option_map (λ (n : cache_need.Need). n.key) (find (cache.is_locked_and_held out) (asked inputs needs)) ≡ first_held_key out needs
-shut_first out inputs [] = refl
-shut_first out inputs (n ∷ needs) = go (is_locked_and_held out n.key) (shut_first out inputs needs)
+first_refused_held out inputs [] = refl
+first_refused_held out inputs (n ∷ needs) = go (is_locked_and_held out n.key) (first_refused_held out inputs needs)
   where
     need : cache_need.Need
     need = record { key = n.key; tree = base_in n.input inputs }

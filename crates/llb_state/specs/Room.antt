@@ -103,7 +103,8 @@ abbrev pub AreOver : Build → List Status → ℕ → Type 0
 AreOver b statuses n = (v : ℕ) → v < n → (is_settled (slice_get statuses v) || is_blocked b statuses v) ≡ true
 
 -- from where a Ready vertex is looked for, how many inputs of each are open, and what else a board keeps
-pub record IsTracked (b : BoardValue) (desks : List Desk) (out : Leases) (stop_marks : List Bool) (links : Linked) (space : Space) (first_open : ℕ) : Type 0 where
+pub record IsTracked (b : BoardValue) (desks : List Desk) (out : Leases) (stop_marks : List Bool) (links : Linked) (space : Space)
+    (first_open : ℕ) : Type 0 where
   pub kept : IsKept b desks out stop_marks space
   pub over : AreOver b.build b.state.statuses first_open
   pub linked : IsLinked b.build.graph.vertices (done_in b.state.statuses) links

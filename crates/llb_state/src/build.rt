@@ -5,8 +5,7 @@ ghost use Rattle.llb_loader.specs.Graph.{IsGraph};
 ghost use Rattle.llb_model.specs.Program.{program_at};
 ghost use Rattle.llb_loader.specs.Missing.{missing_local};
 
-use llb_execution::missing_local;
-use llb_loader::{Graph, Locals, Memory, Vertex};
+use llb_loader::{Graph, Locals, Memory, Vertex, missing_local};
 use llb_wire::Same;
 use std::marker::Model;
 

@@ -15,7 +15,7 @@ ghost use Rattle.llb_events.specs.Causes.{step_memory};
 
 use crate::history::History;
 use crate::stand::Desk;
-use llb_cache::{Caches, Lease, LeaseFault, Need, Instance};
+use llb_cache::{Caches, Instance, Lease, LeaseFault, Need};
 use llb_events::{ClaimFault, StepFault};
 use llb_tree::Tree;
 use llb_wire::Many;

@@ -17,7 +17,7 @@ ghost use Rattle.llb_state.specs.Views.{leased_by, execution_of};
 use crate::build::Build;
 use crate::copying::lease_of;
 use crate::stand::{Desk, Execution};
-use llb_cache::{Caches, Lease, Mode, Instance};
+use llb_cache::{Caches, Instance, Lease, Mode};
 use llb_execution::{Job, Program, Workspace};
 use llb_model::VertexFault;
 use llb_tree::Tree;

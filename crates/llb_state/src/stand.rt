@@ -5,7 +5,7 @@ ghost use Rattle.llb_model.specs.State.{ending_of, is_done, is_failed};
 ghost use Rattle.llb_state.specs.Views.{status_of};
 
 use llb_applet::Setting;
-use llb_cache::{Lease, Instance};
+use llb_cache::{Instance, Lease};
 use llb_execution::Workspace;
 use llb_model::VertexFault;
 use llb_tree::Tree;

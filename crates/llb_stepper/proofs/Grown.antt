@@ -33,6 +33,7 @@ shifted [] e es = refl
 shifted (x ∷ xs) e es = ap (λ l. x ∷ l) (shifted xs e es)
 
 -- what goes on from a result that there is
-pub went : (o : Option (BoardValue × Reply)) (go : BoardValue → Option BoardValue) (c : BoardValue) → then_on o go ≡ Some c → (p : BoardValue × Reply) × (o ≡ Some p) × (go p.0 ≡ Some c)
+pub went : (o : Option (BoardValue × Reply)) (go : BoardValue → Option BoardValue) (c : BoardValue) → then_on o go ≡ Some c → (p : BoardValue × Reply)
+    × (o ≡ Some p) × (go p.0 ≡ Some c)
 went None go c e = absurd cc
 went (Some p) go c e = (p, refl, e)

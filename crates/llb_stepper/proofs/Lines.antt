@@ -94,7 +94,8 @@ record Parts (o : Option BoardValue) (p : Option Event) (e : Event) (r : Reply) 
   event : p ≡ Some e
   given : replied o (Some e) ≡ Some (e, r)
 
-same_event : (x e : Event) (r : Reply) (q : Option (BoardValue × Reply)) → option_map {U = Event × Reply} (λ (p : BoardValue × Reply). (x, p.1)) q ≡ Some (e, r) → x ≡ e
+same_event : (x e : Event) (r : Reply) (q : Option (BoardValue × Reply)) → option_map {U = Event × Reply} (λ (p : BoardValue × Reply). (x, p.1)) q
+    ≡ Some (e, r) → x ≡ e
 same_event x e r None is = absurd cc
 same_event x e r (Some p) is = let inner : ◌≡◌ {A = Event × Reply} (x, p.1) (e, r) = cc in ap (λ (q : Event × Reply). q.0) inner
 

@@ -16,6 +16,7 @@ use Rattle.llb_stepper.specs.Records.{record_at, replied}
 use Rattle.llb_stepper.specs.Stepping.{Stepping, answered}
 use Rattle.llb_stepper.specs.Told.{told_pair}
 
+-- what is added at the end is the last item
 pub at_end : {A : Type 0} (xs : List A) (y : A) → slice_get (xs ++ y ∷ []) (length xs) ≡ Some y
 at_end [] y = refl
 at_end (x ∷ xs) y = at_end xs y
@@ -123,7 +124,8 @@ told_here b ws d s i e are board past low high inside at =
     (length x.events - i)) (Some e)) (sym board)
     ∙ subst (λ x. replied (slice_get (past_of b (reverse ws)) k) (Some x) ≡ Some (x, r.reply)) is r.given in
     let here : record_at s i ≡ Some (e, r.reply) =
-    done_here s i e r.reply low (omega (arith, high, ap (λ (x : BoardValue). length x.events) board)) (ap (λ (x : BoardValue). slice_get x.events (i - 1)) (sym board)
+    done_here s i e r.reply low (omega (arith, high, ap (λ (x : BoardValue). length x.events) board))
+    (ap (λ (x : BoardValue). slice_get x.events (i - 1)) (sym board)
     ∙ at) given in
     ap (λ q. Some (e, q)) r.same ∙ sym (ap (option_map told_pair) here)
 

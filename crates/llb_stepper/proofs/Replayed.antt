@@ -30,10 +30,12 @@ later x t rows es = record x { state = t; rows = rows; events = es }
 kept_inside : {x y : Kept} → ◌≡◌ {A = Option Kept} (Some x) (Some y) → x ≡ y
 kept_inside e = cc
 
-one : (x : BoardValue) (e : Event) (es : List Event) (a : State × Reply) → table x.build x.state e ≡ Some a → run_on x (e ∷ es) ≡ run_on (after_event x e a.0) es
+one : (x : BoardValue) (e : Event) (es : List Event) (a : State × Reply) → table x.build x.state e ≡ Some a → run_on x (e ∷ es)
+    ≡ run_on (after_event x e a.0) es
 unfolding run_on
 one x e es a given =
-    ap (λ (o : Option (State × Reply)). then_on (option_map {U = BoardValue × Reply} (λ (q : State × Reply). (after_event x e q.0, q.1)) o) (λ c. run_on c es)) given
+    ap (λ (o : Option (State × Reply)). then_on (option_map {U = BoardValue × Reply} (λ (q : State × Reply). (after_event x e q.0, q.1)) o)
+    (λ c. run_on c es)) given
 
 none : (x : BoardValue) → run_on x [] ≡ Some x
 unfolding run_on

@@ -24,6 +24,7 @@ use Rattle.llb_stepper.specs.Stepping.{Stepping, GoesBack, IsStop, IsGo, PastIsT
 use Rattle.llb_stepper.specs.Stepping.{meets_by, meets_any, meets_at, meets_from, run_on, then_on}
 use Rattle.llb_stepper.proofs.Grown.{went}
 use Rattle.llb_stepper.proofs.Lines.{reached}
+use Rattle.llb_stepper.proofs.Recorded.{at_end}
 
 abbrev Answer : Type 0
 Answer = BoardValue × Reply
@@ -46,7 +47,8 @@ inside : {A : Type 0} {x y : A} → Some x ≡ Some y → x ≡ y
 inside e = cc
 
 -- one event more
-one_on : (b c d : BoardValue) (r : Reply) (es : List Event) (i : ℕ) (e : Event) → run_on b (take i es) ≡ Some c → slice_get es i ≡ Some e → answered c e ≡ Some (d, r)
+one_on : (b c d : BoardValue) (r : Reply) (es : List Event) (i : ℕ) (e : Event) → run_on b (take i es) ≡ Some c → slice_get es i ≡ Some e → answered c e
+    ≡ Some (d, r)
     → run_on b (take (suc i) es) ≡ Some d
 unfolding run_on
 one_on b c d r [] i e leads at given = absurd cc
@@ -210,10 +212,6 @@ take_front (x ∷ xs) ys = ap (λ l. x ∷ l) (take_front xs ys)
 take_whole : {A : Type 0} (xs : List A) → take (length xs) xs ≡ xs
 take_whole [] = refl
 take_whole (x ∷ xs) = ap (λ l. x ∷ l) (take_whole xs)
-
-at_end : {A : Type 0} (xs : List A) (y : A) → slice_get (xs ++ y ∷ []) (length xs) ≡ Some y
-at_end [] y = refl
-at_end (x ∷ xs) y = at_end xs y
 
 same_from : (o : Option Answer) (f g : BoardValue → Bool) → ((c : BoardValue) → f c ≡ g c) → meets_from o f ≡ meets_from o g
 same_from None f g same = refl

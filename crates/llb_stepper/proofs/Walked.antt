@@ -149,7 +149,8 @@ pub chosen_granted : (b : BoardValue) (s : Stepping) (e : Event) → b ≡ s.boa
 chosen_granted b s e same law is = ap (λ (x : BoardValue). is_some (table x.build x.state e)) (sym same) ∙ law e is
 
 -- the chosen event is granted by the table, so it is refused only for want of memory
-pub chosen_done : (b : BoardValue) (s : Stepping) → b ≡ s.board → ChosenIsGranted b → (e : Event) (f : StepperFault) → chosen s.board.build s.board.state ≡ Some e
+pub chosen_done : (b : BoardValue) (s : Stepping) → b ≡ s.board → ChosenIsGranted b → (e : Event) (f : StepperFault) → chosen s.board.build s.board.state
+    ≡ Some e
     → done_of s e ≡ Err f → stepper_memory f ≡ true
 chosen_done b s same law e f is refused =
     memory_alone s e f (chosen_granted b s e same law (ap (λ (x : BoardValue). chosen x.build x.state) same ∙ is)) (λ told. refused)

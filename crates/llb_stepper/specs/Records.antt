@@ -1,8 +1,7 @@
 -- The lines of a record: an event by its number from 1, and its reply.
 use Rattle.std.specs.Prelude.{◌≡◌, ◌≤◌, ◌<◌, ◌+◌, ℕ, ◌-◌, ◌&&◌, nat_le, List, ◌++◌, length, codes, Option, Some, None, option_map, slice_get, if◌then◌else◌}
 use Rattle.std.specs.Fmt.{decimal}
-use Rattle.llb_ops.specs.declared.op.Kind.{Kind}
-use Rattle.llb_ops.specs.declared.op.Kind.TheVariants.{Exec, Source, File, Build, Merge, Diff}
+use Rattle.llb_ops.specs.Kinds.{kind_text}
 use Rattle.llb_loader.specs.declared.graph.Vertex.{Vertex}
 use Rattle.llb_model.specs.declared.fault.VertexFault.{VertexFault}
 use Rattle.llb_model.specs.declared.fault.VertexFault.TheVariants as vertex
@@ -12,16 +11,6 @@ use Rattle.llb_model.specs.Table.{Event, Claim, Step, Settle, Cancel, Reply, Cla
 use Rattle.llb_model.specs.Table.{SettledDone, SettledFailed, Cancelled}
 use Rattle.llb_state.specs.Board.{BoardValue}
 use Rattle.llb_stepper.specs.Stepping.{Stepping, answered}
-
--- the kind of an op; no graph has an op of the last two, or of none
-abbrev pub kind_text : Option Kind → List ℕ
-kind_text (Some (Source s)) = codes "source"
-kind_text (Some (File f)) = codes "file"
-kind_text (Some (Merge m)) = codes "merge"
-kind_text (Some (Exec e)) = codes "exec"
-kind_text (Some (Build b)) = codes "build"
-kind_text (Some (Diff d)) = codes "diff"
-kind_text None = codes "none"
 
 -- an event as it is printed
 abbrev pub event_text : Event → List ℕ

@@ -186,7 +186,7 @@ impl Stepper {
     // Takes `count` events back. Does not allocate.
     fn back_by(&mut self, count: usize)
         requires { count ≤ length self.old.past }
-        ensures line { timeline self.new ≡ drop count (timeline self.old) }
+        ensures timeline { timeline self.new ≡ drop count (timeline self.old) }
         ensures build { self.new.board.build ≡ self.old.board.build }
         ensures breaks { self.new.breaks ≡ self.old.breaks }
     {
@@ -197,7 +197,7 @@ impl Stepper {
 
     /// Takes back `count` of the last events, or all that were done here where they are fewer; breakpoints stay. Does not allocate.
     pub fn back_many(&mut self, count: usize)
-        ensures line { timeline self.new ≡ drop (lesser count (length self.old.past)) (timeline self.old) }
+        ensures timeline { timeline self.new ≡ drop (lesser count (length self.old.past)) (timeline self.old) }
         ensures build { self.new.board.build ≡ self.old.board.build }
         ensures breaks { self.new.breaks ≡ self.old.breaks }
     {

@@ -5,7 +5,7 @@ use super::calls::{are_same, is_event_done, replayed};
 use super::farm::{have_one_tree, merge_on};
 use super::gates::Open;
 use super::told::row_holds;
-use llb_board::{WorkerStatus, Board, Event};
+use llb_board::{Board, Event, WorkerStatus};
 use llb_stepper::{Stepper, Stop};
 use llb_work::run_workers;
 use std::alloc::Global;

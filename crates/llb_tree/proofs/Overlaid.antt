@@ -87,7 +87,8 @@ over_meta w None (File k c) way lower is = given_meta w k way is
 over_meta w (Some (File m b)) (Dir k) way lower is = given_meta w k way is
 over_meta w (Some (File m b)) (File k c) way lower is = given_meta w k way is
 over_meta w (Some (Dir m)) (File k c) way lower is = given_meta w k way is
-over_meta w (Some (Dir m)) (Dir k) way lower is = elim w.keeps as (λ b. IsMeta (cond b m (laid_meta w k))) [ true ↦ lower m refl | false ↦ given_meta w k way is ]
+over_meta w (Some (Dir m)) (Dir k) way lower is = elim w.keeps as
+    (λ b. IsMeta (cond b m (laid_meta w k))) [ true ↦ lower m refl | false ↦ given_meta w k way is ]
 
 over_bytes : (w : WayValue) (there : Option Entry) (d : Entry) → HasBytes d → HasBytes (over w there d)
 over_bytes w None (Dir k) bytes = tt
@@ -123,13 +124,13 @@ module _ (w : WayValue) (a b t : TreeMap) (is : (q : List (List ℕ)) → finite
             (λ d up _. walk_more (finite.get b) (over_at w (finite.get a) (finite.get b)) (dir_over w (finite.get a) (finite.get b)) p
             (upper.closed p (ap is_some up)))
             (λ none clear low. walk_both w (finite.get a) (finite.get b) p (lower.closed p (ap is_some low)) clear) some.1;
-        stands = λ p e. by_entry (IsAllowedAt p e) p e
+        allowed = λ p e. by_entry (IsAllowedAt p e) p e
             (λ d up same.
-            let can = upper.stands p d up in
-            let own = over_meta w (finite.get a p) d way (λ m low. (lower.stands p (Dir m) low).meta) can.meta in
+            let can = upper.allowed p d up in
+            let own = over_meta w (finite.get a p) d way (λ m low. (lower.allowed p (Dir m) low).meta) can.meta in
             let bytes = over_bytes w (finite.get a p) d can.bytes in
             record { path = can.path; meta = subst (λ x. IsMeta (meta_in x)) same own; bytes = subst HasBytes same bytes })
-            (λ none clear low. lower.stands p e low);
+            (λ none clear low. lower.allowed p e low);
       }
 
   -- and it is no higher than the higher of the two

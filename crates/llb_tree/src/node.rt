@@ -31,6 +31,7 @@ pub struct Node {
     pub(crate) kind: Kind,
 }
 
+// A file with its content, or a directory with the pieces of its children; each with its mode and owner.
 #[cycle(node)]
 #[derive(Drop)]
 pub(crate) enum Kind {

@@ -99,20 +99,6 @@ pub(crate) fn dir_at<'a>(root: &'a Node, names: &[Name]) -> Result<&'a Node, Tre
 }
 
 impl Tree {
-    // The root node.
-    pub(crate) fn into_root(self) -> Node
-        ensures { result ≡ self }
-    {
-        let Tree {
-            root,
-            depth: _,
-            alloc: _,
-        } = self;
-        root
-    }
-}
-
-impl Tree {
     /// Makes the tree of a root directory 0755 0:0 alone. Fails with 27 `Memory` alone.
     pub fn empty(alloc: Global) -> Result<Tree, TreeFault>
         ensures { Gives (λ t. t) result (Ok empty_tree) }

@@ -52,7 +52,7 @@ impl Way {
     }
 
     // The mode and the owner of what is laid, by its own.
-    pub(crate) fn given(&self, own: Meta) -> Meta
+    pub(crate) fn laid_meta(&self, own: Meta) -> Meta
         ensures { result ≡ laid_meta self.now own }
     {
         let mode = self.mode.unwrap_or(own.mode());
@@ -79,7 +79,11 @@ impl Way {
     pub(crate) fn met(&self, lower: Meta, upper: Meta) -> Meta
         ensures { Dir result ≡ over self.now (Some (Dir lower)) (Dir upper) }
     {
-        if self.keeps { lower } else { self.given(upper) }
+        if self.keeps {
+            lower
+        } else {
+            self.laid_meta(upper)
+        }
     }
 
     // A law: the mode is at most 4095, and the owners are numbers of 32 bits.

@@ -12,7 +12,7 @@ use Rattle.llb_treetext.specs.declared.fault.TextFault.TheVariants.{BadLine, Ord
 
 -- an entry that has a line: it is allowed at its path, and the root is a directory
 pub record IsRow (row : List (List ℕ) × Entry) : Type 0 where
-  pub stands : IsAllowedAt row.0 row.1
+  pub allowed : IsAllowedAt row.0 row.1
   pub root : row.0 ≡ [] → (m : MetaValue) × (row.1 ≡ Dir m)
 
 -- the bytes are the text of a tree

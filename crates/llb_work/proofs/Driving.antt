@@ -116,7 +116,8 @@ claim_takes reply b n w v (Ok job) gives ok = takes_of b (Claim w v) claim_fault
 claim_takes reply b n w v (Err e) gives ok = absurd cc
 
 -- a step that returns no fault is granted, and is added at the end of the record
-pub step_takes : (b n : BoardValue) (w : ℕ) (r : Result Stepped StepFault) → GivesStep (λ s. (n, step_reply s)) r (step_of b w) → is_ok r ≡ true → Takes b (Step w) n
+pub step_takes : (b n : BoardValue) (w : ℕ) (r : Result Stepped StepFault) → GivesStep (λ s. (n, step_reply s)) r (step_of b w) → is_ok r ≡ true
+    → Takes b (Step w) n
 unfolding table
 step_takes b n w (Ok s) gives ok = takes_of b (Step w) step_fault (step_grant b.build b.state w) n (step_reply s) refl gives
 step_takes b n w (Err e) gives ok = absurd cc

@@ -79,5 +79,6 @@ stops_here may_stop b w v is =
     )
 
 -- a stop at a worker and a vertex of the board, where the gate may stop, may be noted
-pub may_be_here : (may_stop : ℕ → ℕ → Bool) (b : BoardValue) (w v : ℕ) → may_stop w v ≡ true → is_of b w v ≡ true → may_be may_stop b (Some (Stopped w v)) ≡ true
+pub may_be_here : (may_stop : ℕ → ℕ → Bool) (b : BoardValue) (w v : ℕ) → may_stop w v ≡ true → is_of b w v ≡ true → may_be may_stop b (Some (Stopped w v))
+    ≡ true
 may_be_here may_stop b w v may has = both (may_stop w v) (is_of b w v) may has

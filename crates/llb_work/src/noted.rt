@@ -22,13 +22,13 @@ pub(crate) enum Noted {
 pub(crate) trait Gated: Ledger {
     ghost may_stop: { ℕ → ℕ → Bool };
 
-    ghost given: { BoardValue };
+    ghost start: { BoardValue };
 }
 
 impl Gated for Brand {
     ghost may_stop = { λ w v. true };
 
-    ghost given = { nothing };
+    ghost start = { nothing };
 }
 
 /// How many events a worker has made, with its share of the ledger.

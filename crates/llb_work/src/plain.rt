@@ -8,8 +8,7 @@ ghost use Rattle.llb_model.specs.Program.{has_cache};
 ghost use Rattle.llb_work.specs.Supplies.{ArePlain};
 
 use llb_board::Board;
-use llb_execution::mounts_of;
-use llb_loader::{Edge, MountType, Vertex};
+use llb_loader::{Edge, MountType, Vertex, mounts_of};
 use llb_state::is_marked;
 use std::alloc::Global;
 

@@ -42,7 +42,7 @@ taken_is p order seen ops ordered exact same free = record {
 valid_is : (p : Plan) (order : List ℕ) (seen : List Bool) (ops : List Op) → IsSupported p order → ((k : ℕ) → IsMarked seen k ↔ ReachedRow p k) → ops ≡ p.ops
     → ((k : ℕ) → IsMarked seen k → MeetsRules (op_at ops k)) → IsValid p order
 valid_is p order seen ops taken exact same met = record {
-  taken = taken;
+  supported = taken;
   valid = λ k r. subst (λ (xs : List Op). MeetsRules (op_at xs k)) same (met k ((exact k).1 r));
 }
 

@@ -26,7 +26,8 @@ returns-in-None-clause-first c =
 
 pub returns-in-Some-Runs-clause-first : goal.returns-in-Some-Runs-clause-first
 returns-in-Some-Runs-clause-first c =
-    ap (λ (o : Option WorkerStatus). faulted claim_fault (claim_start (map status_of c.args.stands.now) c.args.v o (slice_get c.args.build.now.graph.vertices c.args.v)))
+    ap (λ (o : Option WorkerStatus). faulted claim_fault (claim_start (map status_of c.args.stands.now) c.args.v o
+    (slice_get c.args.build.now.graph.vertices c.args.v)))
     (sym c.in-Some-Runs.ensures ∙ ap (λ d. Some (at_of d)) c.in-Some-Runs.field-0-is)
 
 pub returns-in_default-clause-first : goal.returns-in_default-clause-first

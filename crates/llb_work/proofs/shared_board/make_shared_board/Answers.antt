@@ -7,8 +7,8 @@ use Rattle.llb_work.proofs.shared_board.make_shared_board.Goals as goal
 pub invariant_of-result : goal.invariant_of-result
 invariant_of-result g c = record {
   kept = c.requires.kept;
-  after = after_itself g.S.Gated.given c.args.board (sym c.requires.given);
-  marks = λ v. c.requires.plain v ∙ ap (λ (b : BoardValue). is_plain b.build v) c.requires.given;
-  counted = omega (arith, c.requires.empty, ap (λ (b : BoardValue). length b.events) c.requires.given);
+  after = after_itself g.S.Gated.start c.args.board (sym c.requires.start);
+  marks = λ v. c.requires.plain v ∙ ap (λ (b : BoardValue). is_plain b.build v) c.requires.start;
+  counted = omega (arith, c.requires.empty, ap (λ (b : BoardValue). length b.events) c.requires.start);
   stops = refl;
 }

@@ -107,7 +107,8 @@ returns c =
     c.vertices.ensures.graph k.run (whole p) c.put_left-lease.result c.put_left-lease.new.desks.items c.write_back.new.caches.rows
     c.write_back.new.caches.out c.put_left-lease.ensures.leased
     c.put_left-lease.ensures.left c.write_back.ensures.rows c.write_back.ensures.out in
-    let new : BoardValue = seen b.build b.start.rows b.stands.items c.put_left-lease.new.desks.items c.write_back.new.caches.rows c.record_steps.new.self.list in
+    let new : BoardValue = seen b.build b.start.rows b.stands.items c.put_left-lease.new.desks.items c.write_back.new.caches.rows
+    c.record_steps.new.self.list in
     let done = through b.build b.start.rows (before p) b.history.list b.history.space c.args.w k.l k.own (outcome p) c.self.invariant.kept k.at
     c.is_exclusive.ensures.apart c.is_exclusive.ensures.there
     c.vertices.ensures.graph k.run (whole p) in
