@@ -6,8 +6,8 @@ use Rattle.llb_model.specs.State.{State, Status, Running, Execution, Idle, Runs,
 use Rattle.llb_model.specs.Table.{Event, Claim, Step, Settle, Cancel, worker_of, execution_on, with_step, table}
 use Rattle.llb_model.proofs.Lists.{inside, get_set_other}
 use Rattle.llb_model.proofs.Events.{Answer, claim_places, claim_is, step_is, settle_is, cancel_is}
-use Rattle.llb_state.specs.Board.{BoardValue, Replays}
-use Rattle.llb_state.proofs.Sound.{consistent}
+use Rattle.llb_board.specs.Seen.{BoardValue, Replays}
+use Rattle.llb_board.proofs.Sound.{consistent}
 
 -- an event writes what its own worker does, and no other's
 pub others : (b : Build) (s : State) (e : Event) (a : Answer) → table b s e ≡ Some a → (u : ℕ) → u ≢ worker_of e

@@ -7,7 +7,8 @@ use Rattle.llb_model.specs.Laws.{with_content, with_content_after}
 use Rattle.llb_model.specs.State.{Execution, Runs, State}
 use Rattle.llb_model.specs.Table.{Event, Reply, worker_of, table}
 use Rattle.llb_model.specs.Order.{at_first, order, claims_in, StandsIn}
-use Rattle.llb_state.specs.Board.{BoardValue, Replays, SettledArePlain, replies_in}
+use Rattle.llb_board.specs.Seen.{BoardValue, Replays, replies_in}
+use Rattle.llb_board.specs.Laws.{SettledArePlain}
 
 -- worker w is running, and holds the instance p
 pub record HoldsInstance (b : BoardValue) (w : ℕ) (p : Instance) : Type 0 where

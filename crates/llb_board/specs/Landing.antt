@@ -5,8 +5,9 @@ use Rattle.llb_model.specs.State.{Execution, WorkerStatus, Idle, Runs}
 use Rattle.llb_model.specs.Table.{Job, Reply, settle_grant}
 use Rattle.llb_model.specs.Run.{run}
 use Rattle.llb_model.specs.Landing.{steps_by, landing}
-use Rattle.llb_state.specs.Board.{BoardValue, kept_along}
+use Rattle.llb_board.specs.Seen.{BoardValue, kept_along}
 use Rattle.llb_execution.specs.Jobs.{OutcomeValue}
+use Rattle.llb_state.specs.Caches.{places_at}
 use Rattle.llb_state.specs.Jobs.{has_shared, IsRunOf}
 use Rattle.llb_board.specs.declared.fault.LandFault.{LandFault}
 use Rattle.llb_board.specs.declared.fault.LandFault.TheVariants as fault
@@ -23,9 +24,7 @@ runs_shared None = false
 
 -- the instances of caches that a worker has
 abbrev pub places_had : Option WorkerStatus → List Instance
-places_had (Some (Runs x)) = x.places
-places_had (Some Idle) = []
-places_had None = []
+places_had = places_at
 
 pub record CanLand (b : BoardValue) (w : ℕ) (job : Job) : Type 0 where
   pub x : Execution

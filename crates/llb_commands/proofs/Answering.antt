@@ -13,7 +13,7 @@ use Rattle.llb_loader.specs.Faults.{is_memory}
 use Rattle.llb_loader.specs.Graph.{Numbered, IsGraph}
 use Rattle.llb_loader.specs.Locals.{Local}
 use Rattle.llb_loader.specs.Load.{IsGraphIn, IsRefusalIn}
-use Rattle.llb_state.specs.Board.{BoardValue, opened}
+use Rattle.llb_board.specs.Seen.{BoardValue, opened}
 use Rattle.llb_commands.specs.declared.fault.ProgramFault.{ProgramFault}
 use Rattle.llb_commands.specs.declared.fault.ProgramFault.TheVariants.{Refused, Loading}
 use Rattle.llb_commands.specs.declared.fault.ProgramFault.TheVariants as fault

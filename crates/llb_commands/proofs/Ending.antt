@@ -23,7 +23,7 @@ use Rattle.llb_model.proofs.Outcomes.{each_below, edge_there}
 use Rattle.llb_model.proofs.Consistent.{opening_consistent, run_consistent}
 use Rattle.llb_model.proofs.Stopped.{stopped_there, stopped_cases, done_count}
 use Rattle.llb_model.proofs.Complete.{is_over, over_by, each_true, complete_is_none}
-use Rattle.llb_state.specs.Board.{BoardValue, opened}
+use Rattle.llb_board.specs.Seen.{BoardValue, opened}
 use Rattle.llb_commands.proofs.Reaching.{none_fails}
 use Rattle.llb_work.specs.Alone.{Goes, EndsInClaimOrder}
 use Rattle.llb_work.specs.Crew.{GoesOn}

@@ -7,7 +7,7 @@ use Rattle.llb_loader.specs.Locals.{Local}
 use Rattle.llb_cache.specs.Caches.{CachesValue}
 use Rattle.llb_model.specs.Program.{Build}
 use Rattle.llb_loader.specs.Missing.{missing_local}
-use Rattle.llb_state.specs.Board.{BoardValue, opened}
+use Rattle.llb_board.specs.Seen.{BoardValue, opened}
 use Rattle.llb_board.specs.Opening.{may_work, open_unless, open_of}
 use Rattle.llb_board.specs.declared.fault.OpenFault.{OpenFault}
 use Rattle.llb_board.specs.declared.fault.OpenFault.TheVariants as opening

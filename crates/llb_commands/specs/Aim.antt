@@ -8,7 +8,8 @@ use Rattle.llb_loader.specs.Load.{IsGraphIn}
 use Rattle.llb_model.specs.State.{opening}
 use Rattle.llb_model.specs.Table.{Reply}
 use Rattle.llb_model.specs.Run.{run}
-use Rattle.llb_state.specs.Board.{BoardValue, Replays, SettledArePlain}
+use Rattle.llb_board.specs.Seen.{BoardValue, Replays}
+use Rattle.llb_board.specs.Laws.{SettledArePlain}
 use Rattle.llb_board.specs.Headline.{LockedOnce}
 use Rattle.llb_stepper.specs.Records.{RecordIsTheRun}
 use Rattle.llb_stepper.specs.Stepping.{Stepping, PastIsTheRecords, IsReplayed}

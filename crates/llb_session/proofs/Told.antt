@@ -2,7 +2,7 @@
 use Rattle.std.proofs.Common.{◌≡◌, ◌∙◌, ◌+◌, ◌≤◌, List, length, take, option_map, Some, ap, arith, length-append, length-drop}
 use Rattle.std.proofs.lemmas.List.{length-take}
 use Rattle.llb_model.specs.Table.{Event}
-use Rattle.llb_state.specs.Board.{Replays}
+use Rattle.llb_board.specs.Seen.{Replays}
 use Rattle.llb_stepper.specs.Records.{record_at, record_text}
 use Rattle.llb_stepper.specs.Stepping.{Stepping, timeline}
 use Rattle.llb_stepper.proofs.Lines.{reached, ran_on, is_the_run}

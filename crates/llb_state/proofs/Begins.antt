@@ -12,7 +12,7 @@ use Rattle.llb_model.specs.Kept.{store_of}
 use Rattle.llb_model.specs.Program.{Build, Workspace, Need, mount_of, needs_of, program_of, workspace_on}
 use Rattle.llb_model.specs.Table.{Claimed}
 use Rattle.llb_model.proofs.Claims.{first_length}
-use Rattle.llb_needs.specs.Needs.{Taking, taken_with, places_taken}
+use Rattle.llb_state.specs.Needs.{Taking, taken_with, places_taken}
 use Rattle.llb_execution.specs.Jobs.{IsWorkable}
 use Rattle.llb_execution.specs.Parts.{work_with, mounts_in, shown_in}
 use Rattle.llb_state.specs.Room.{Supplies, supplies_for}

@@ -5,7 +5,7 @@ use Rattle.std.specs.Prelude.{slice_get, slice_set, replicate}
 use Rattle.std.proofs.lemmas.List.{length-replicate}
 use Rattle.std.proofs.lemmas.List.Sums.{sum_by-cons}
 use Rattle.llb_cache.specs.Caches as cache
-use Rattle.llb_cache.specs.Caches.{Leases, leases, before, trimmed}
+use Rattle.llb_cache.specs.Caches.{Leases, leases}
 use Rattle.llb_model.specs.Caches.{Instance}
 use Rattle.llb_model.specs.State.{WorkerStatus, Idle, Runs}
 use Rattle.llb_model.specs.Leases.{AreLeased}

@@ -4,8 +4,6 @@ use Rattle.std.proofs.Common.{sym, ap, subst, ◌∙◌, arith}
 use Rattle.std.specs.Prelude.{Ok, slice_get, slice_set}
 use Rattle.std.specs.Map.{lookup}
 use Rattle.std.proofs.lemmas.Bool.{false≢true}
-use Rattle.llb_applet.specs.declared.join.Joined.{Joined}
-use Rattle.llb_applet.specs.declared.setting.Setting.{Setting}
 use Rattle.llb_cache.specs.Key.{same_key}
 use Rattle.llb_cache.specs.declared.key.Key.{Key}
 use Rattle.llb_cache.specs.Caches as cache
@@ -22,9 +20,8 @@ use Rattle.llb_model.proofs.Kept.{shows_instances}
 use Rattle.llb_model.proofs.Lists.{get_within}
 use Rattle.llb_execution.specs.Parts.{left_with, is_skipped}
 use Rattle.llb_execution.proofs.Stepping.{skip_leaves}
-use Rattle.llb_events.specs.declared.event.Stepped.{Stepped}
 use Rattle.llb_state.specs.Rules.{Worked, worked, worked_to}
-use Rattle.llb_events.specs.Views.{fault_or, step_reply}
+use Rattle.llb_events.specs.Views.{step_reply}
 use Rattle.llb_state.proofs.Lists.{set_same}
 use Rattle.llb_state.proofs.Steps.{goes_to}
 
@@ -68,10 +65,6 @@ not_true : (b : Bool) → not b ≡ true → b ≡ false
 not_true true e = absurd (false≢true e)
 not_true false e = refl
 
-not_false : (b : Bool) → not b ≡ false → b ≡ true
-not_false true e = refl
-not_false false e = absurd (false≢true (sym e))
-
 -- what is skipped says so
 pub skip_reply : (k : ℕ) (m : MicroStep) (before : Workspace) (left : Left) → is_skipped m before ≡ true → table.Skipped k ≡ table.step_reply k m before left
 skip_reply k ReadLocal before left skips = absurd (false≢true skips)
@@ -79,18 +72,6 @@ skip_reply k (Act action) before left skips = absurd (false≢true skips)
 skip_reply k (LayInput i) before left skips = absurd (false≢true skips)
 skip_reply k (Run s c ends) before left skips =
     sym (ap (λ b. cond b (table.HasRun k (last_of left.work.own)) (table.Skipped k)) (not_true (is_run c.join (last_of before)) skips))
-
--- and the reply to what ran is its status
-pub run_reply : (k : ℕ) (s : Setting) (c : Joined) (ends : Bool) (before : Workspace) (left : Left) (last : ℕ) → is_skipped (Run s c ends) before ≡ false
-    → last_of left.work.own ≡ last → table.HasRun k last ≡ table.step_reply k (Run s c ends) before left
-run_reply k s c ends before left last runs is =
-    ap (table.HasRun k) (sym is)
-    ∙ sym (ap (λ b. cond b (table.HasRun k (last_of left.work.own)) (table.Skipped k)) (not_false (is_run c.join (last_of before)) runs))
-
--- for another micro-step the reply is its fault, where it has one
-pub fault_reply : (f : Option VertexFault) (done : Stepped) → step_reply (fault_or f done) ≡ table.unless_failed f (step_reply done)
-fault_reply None done = refl
-fault_reply (Some f) done = refl
 
 -- ---- the execution
 

@@ -10,7 +10,7 @@ use Rattle.llb_cache.specs.Caches.{Row, Leases, places_of, trees_of, AreApart, A
 use Rattle.llb_tree.specs.Tree.{TreeMap}
 use Rattle.llb_model.specs.Caches.{Instance, Store, Has, Distinct, content, trees_at}
 use Rattle.llb_model.specs.Program.{Build, MicroStep, step_on}
-use Rattle.llb_model.specs.State.{Execution, WorkerStatus, Runs, State, program_in, is_finished, next_step}
+use Rattle.llb_model.specs.State.{Execution, WorkerStatus, Runs, program_in, is_finished, next_step}
 use Rattle.llb_model.specs.Kept.{store_of}
 use Rattle.llb_model.specs.Leases.{AreLeased, HasLease, put_each}
 use Rattle.llb_model.specs.Table.{Reply, with_step, step_reply}
@@ -169,23 +169,9 @@ holding rows out ds w l x apart there leased at =
 
 -- ---- from the execution to the worker
 
--- where a call returns the rule's micro-step of a worker, it returns the table's step
-pub gives_through : (ds : List Desk) (w : ℕ) (r : Result Stepped StepFault) (f : Stepped → Written) (rule : Result Written StepFault)
-    (whole : Result (State × Reply) StepFault)
-    → whole ≡ granted_by ds w rule → GivesStep f r rule
-    → GivesStep (λ s. (record { statuses = []; workers = slice_set (map at_of ds) w (Runs (f s).0); store = store_of (f s).1 }, (f s).2)) r whole
-gives_through ds w (Ok s) f rule whole is gives = is ∙ ap (granted_by ds w) gives
-gives_through ds w (Err e) f rule whole is gives = λ memory. is ∙ ap (granted_by ds w) (gives memory)
-
 granted_ok : (ds : List Desk) (w : ℕ) (rule : Result Written StepFault) → is_ok (granted_by ds w rule) ≡ is_ok rule
 granted_ok ds w (Ok p) = refl
 granted_ok ds w (Err e) = refl
-
--- where `Memory` is last by the rule of a micro-step, so it is by the table
-pub last_through : (ds : List Desk) (w : ℕ) (r : Result Stepped StepFault) (rule : Result Written StepFault) (whole : Result (State × Reply) StepFault)
-    → whole ≡ granted_by ds w rule → MemoryLast step_memory r rule → MemoryLast step_memory r whole
-last_through ds w (Ok s) rule whole is last = tt
-last_through ds w (Err e) rule whole is last = λ memory. ap is_ok is ∙ granted_ok ds w rule ∙ last memory
 
 -- what is written back is what the contents have there
 written_back : (rows : List Row) (x z : Execution) (rows' : List Row) (r : Reply) (o : Option MicroStep) → Distinct x.places

@@ -23,7 +23,7 @@ use Rattle.llb_model.proofs.Kept.{shows_instances, made_stands}
 use Rattle.llb_model.proofs.Leases.{takes_alike}
 use Rattle.llb_model.proofs.Others.{first_same}
 use Rattle.llb_state.specs.Caches.{showing, written}
-use Rattle.llb_needs.specs.Needs.{places_taken}
+use Rattle.llb_state.specs.Needs.{places_taken}
 
 -- ---- instances that are there
 

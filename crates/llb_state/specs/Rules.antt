@@ -1,4 +1,4 @@
--- What each call returns: the table's result, or the first cause of its refusal as a fault.
+-- What a claim begins, a micro-step leaves, and a worker leaves or gives up; or the first cause of a refusal as a fault.
 use Rattle.std.specs.Prelude.{ℕ, List, Option, Some, None, Result, Ok, Err, if◌then◌else◌}
 use Rattle.llb_loader.specs.declared.graph.Vertex.{Vertex}
 use Rattle.llb_tree.specs.Tree.{TreeMap}
@@ -9,12 +9,10 @@ use Rattle.llb_model.specs.Kept.{store_of}
 use Rattle.llb_model.specs.Leases.{asked, put_each}
 use Rattle.llb_model.specs.Program.{Build, MicroStep, Left, needs_of, start_with, step_on}
 use Rattle.llb_model.specs.State.{Status, Settled, WorkerStatus, Idle, Runs, Execution, program_in, is_finished, next_step, ending_from, begin_at}
-use Rattle.llb_model.specs.Table.{Claim, Step, Settle, Cancel, Reply, Claimed, claim_grant, step_grant, settle_grant, cancel_grant, execution_on, job_on}
+use Rattle.llb_model.specs.Table.{Reply, Claimed, execution_on, job_on}
 use Rattle.llb_model.specs.Table.{with_step, step_reply}
-use Rattle.llb_state.specs.Board.{BoardValue, recorded}
 use Rattle.llb_execution.specs.Parts.{work_with}
-use Rattle.llb_needs.specs.Needs.{places_taken}
-use Rattle.llb_events.specs.Causes.{claim_fault, step_fault, settle_fault, cancel_fault}
+use Rattle.llb_state.specs.Needs.{places_taken}
 use Rattle.llb_events.specs.declared.fault.ClaimFault.{ClaimFault}
 use Rattle.llb_events.specs.declared.fault.ClaimFault.TheVariants as claim
 use Rattle.llb_events.specs.declared.fault.StepFault.{StepFault}
@@ -25,9 +23,6 @@ use Rattle.llb_events.specs.declared.fault.CancelFault.{CancelFault}
 use Rattle.llb_events.specs.declared.fault.CancelFault.TheVariants as cancel
 
 -- ---- the result of a claim, and what it begins
-
-abbrev pub claim_of : BoardValue → ℕ → ℕ → Result (BoardValue × Reply) ClaimFault
-claim_of b w v = recorded b (Claim w v) claim_fault (claim_grant b.build b.state w v)
 
 -- inputs that are not all there are refused as `NotReady`
 abbrev pub or_not_ready : {A : Type 0} → Option A → Result A ClaimFault
@@ -53,9 +48,6 @@ begun b c w v vertex (Some trees) = Ok (begun_at b c w v vertex trees (places_ta
 begun b c w v vertex None = Err claim.NotReady
 
 -- ---- the result of a step, and what its micro-step leaves
-
-abbrev pub step_of : BoardValue → ℕ → Result (BoardValue × Reply) StepFault
-step_of b w = recorded b (Step w) step_fault (step_grant b.build b.state w)
 
 -- what a micro-step leaves: the execution, the trees of its instances, and the reply
 pub record Worked : Type 0 where
@@ -87,9 +79,6 @@ worked_in b rows x = written_by rows x.places (worked (program_in b x).steps x (
 
 -- ---- the result of a settle, and what it leaves
 
-abbrev pub settle_of : BoardValue → ℕ → Result (BoardValue × Reply) SettleFault
-settle_of b w = recorded b (Settle w) settle_fault (settle_grant b.build b.state w)
-
 -- the vertex that a worker leaves, and its status then
 abbrev pub left_at : Build → Option WorkerStatus → Result (ℕ × Status) SettleFault
 left_at b None = Err settle.NoWorker
@@ -97,9 +86,6 @@ left_at b (Some Idle) = Err settle.NotRunning
 left_at b (Some (Runs x)) = if is_finished (program_in b x).steps x then Ok (x.vertex, Settled (ending_from (program_in b x) x)) else Err settle.NotFinished
 
 -- ---- the result of a cancel, and what it leaves
-
-abbrev pub cancel_of : BoardValue → ℕ → Result (BoardValue × Reply) CancelFault
-cancel_of b w = recorded b (Cancel w) cancel_fault (cancel_grant b.state w)
 
 -- the vertex that a worker gives up, and how many of its micro-steps were done
 abbrev pub given_up_at : Option WorkerStatus → Result (ℕ × ℕ) CancelFault

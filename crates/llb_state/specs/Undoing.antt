@@ -1,5 +1,5 @@
 -- What is kept of a state before an event, and what taking an event back makes of the state's parts: what a worker has, and the leases of all.
-use Rattle.std.specs.Prelude.{◌≡◌, ℕ, ◌-◌, List, length, take, Option, Some, None, slice_get}
+use Rattle.std.specs.Prelude.{◌≡◌, ℕ, ◌-◌, List, length, Option, Some, None, slice_get}
 use Rattle.llb_cache.specs.Caches.{CachesValue}
 use Rattle.llb_execution.specs.Marks.{Mark, put_back}
 use Rattle.llb_model.specs.State.{Execution, WorkerStatus, Idle}
@@ -31,10 +31,6 @@ before_in c = record { caches = c.caches; leases = c.leases.items }
 abbrev pub caches_in : Option before.Before → Option Before
 caches_in (Some c) = Some (before_in c)
 caches_in None = None
-
--- all items of a list but the last
-abbrev pub front : {A : Type 0} → List A → List A
-front xs = take (length xs - 1) xs
 
 -- ---- what is put back
 

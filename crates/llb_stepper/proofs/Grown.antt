@@ -2,7 +2,7 @@
 use Rattle.std.proofs.Common.{◌≡◌, List, [], ◌∷◌, ◌++◌, Option, Some, None, option_map, refl, sym, ap, ◌∙◌}
 use Rattle.llb_model.specs.State.{State}
 use Rattle.llb_model.specs.Table.{Event, Reply, table}
-use Rattle.llb_state.specs.Board.{BoardValue, after_event}
+use Rattle.llb_board.specs.Seen.{BoardValue, after_event}
 use Rattle.llb_stepper.specs.Stepping.{answered, then_on}
 
 pub record Grew (before b : BoardValue) (e : Event) (r : Reply) : Type 0 where

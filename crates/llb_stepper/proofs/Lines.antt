@@ -13,7 +13,7 @@ use Rattle.llb_model.proofs.Events.{Answer}
 use Rattle.llb_model.proofs.Lists.{inside}
 use Rattle.llb_model.proofs.Runs.{run_one, run_first, run_none}
 use Rattle.llb_model.proofs.Runs as runs
-use Rattle.llb_state.specs.Board.{BoardValue, after_event}
+use Rattle.llb_board.specs.Seen.{BoardValue, after_event}
 use Rattle.llb_stepper.specs.Records.{record_at, replied, RecordIsTheRun}
 use Rattle.llb_stepper.specs.Stepping.{Stepping, PastIsTheRecords, answered, at_first, run_on}
 use Rattle.llb_stepper.proofs.Recorded.{done_here}

@@ -7,7 +7,7 @@ use Rattle.std.proofs.lemmas.Option.{slice_get-get_or, slice_get_past, slice_get
 use Rattle.std.specs.Prelude.{slice_get, nat_le}
 use Rattle.llb_model.specs.State.{State}
 use Rattle.llb_model.specs.Table.{Event, Reply, table}
-use Rattle.llb_state.specs.Board.{BoardValue, after_event}
+use Rattle.llb_board.specs.Seen.{BoardValue, after_event}
 use Rattle.llb_board.specs.Undo.{told, undone}
 use Rattle.llb_board.specs.declared.walk.Reply as short
 use Rattle.llb_board.specs.declared.walk.Walked.{Walked}

@@ -9,7 +9,7 @@ use Rattle.llb_model.specs.Table.{Event, Reply, worker_of, table}
 use Rattle.llb_model.specs.Run.{run}
 use Rattle.llb_model.proofs.Runs.{run_first}
 use Rattle.std.specs.Prelude.{fold, take, slice_get}
-use Rattle.llb_state.specs.Board.{BoardValue, Replays, after_event, kept_along, kept_next}
+use Rattle.llb_board.specs.Seen.{BoardValue, Replays, after_event, kept_along, kept_next}
 use Rattle.llb_state.specs.Caches.{rows_after}
 use Rattle.llb_board.specs.Undo.{undone}
 use Rattle.llb_board.specs.declared.walk.Walked.{Walked}

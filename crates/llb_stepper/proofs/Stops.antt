@@ -8,7 +8,7 @@ use Rattle.llb_model.specs.Room.{still_to_come}
 use Rattle.llb_model.specs.State.{State}
 use Rattle.llb_model.specs.Table.{Event, Reply, table}
 use Rattle.llb_model.proofs.Alone.{chosen_comes_nearer}
-use Rattle.llb_state.specs.Board.{BoardValue, after_event}
+use Rattle.llb_board.specs.Seen.{BoardValue, after_event}
 use Rattle.llb_stepper.specs.declared.stop.Break.{Break}
 use Rattle.llb_stepper.specs.declared.stop.Stop.{Stop}
 use Rattle.std.proofs.lemmas.Option.{slice_get-get_or, slice_get-map}

@@ -9,7 +9,8 @@ use Rattle.llb_model.specs.Run.{chosen}
 use Rattle.llb_model.specs.State.{State}
 use Rattle.llb_model.specs.Table.{Event, Claim, Step, Settle, Cancel, Reply, Claimed, HasRead, Acted, HasMerged, HasRun, Skipped, Faulted}
 use Rattle.llb_model.specs.Table.{SettledDone, SettledFailed, Cancelled, claim_grant, step_grant, settle_grant, cancel_grant, table}
-use Rattle.llb_state.specs.Board.{BoardValue, ChosenIsGranted, after_event, recorded}
+use Rattle.llb_board.specs.Seen.{BoardValue, after_event, recorded}
+use Rattle.llb_board.specs.Laws.{ChosenIsGranted}
 use Rattle.llb_events.specs.Causes.{claim_fault, step_fault, settle_fault, cancel_fault}
 use Rattle.llb_board.specs.Undo.{told, told_as, undone, walk_of, CanUndo}
 use Rattle.llb_events.specs.declared.fault.WalkFault.{WalkFault}

@@ -9,7 +9,7 @@ use Rattle.llb_model.specs.State.{State, opening}
 use Rattle.llb_model.specs.Run.{run}
 use Rattle.llb_model.specs.Table.{Event, Claim, Step, Settle, Cancel, Reply, Claimed, HasRead, Acted, HasMerged, HasRun, Skipped, Faulted}
 use Rattle.llb_model.specs.Table.{SettledDone, SettledFailed, Cancelled}
-use Rattle.llb_state.specs.Board.{BoardValue}
+use Rattle.llb_board.specs.Seen.{BoardValue}
 use Rattle.llb_stepper.specs.Stepping.{Stepping, answered}
 
 -- an event as it is printed

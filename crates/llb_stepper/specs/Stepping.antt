@@ -6,7 +6,7 @@ use Rattle.llb_model.specs.Table.{Event, Claim, Step, Settle, Cancel, Reply, Cla
 use Rattle.llb_model.specs.Table.{SettledDone, SettledFailed, Cancelled, table}
 use Rattle.llb_model.specs.State.{State, opening}
 use Rattle.llb_model.specs.Run.{chosen}
-use Rattle.llb_state.specs.Board.{BoardValue, after_event}
+use Rattle.llb_board.specs.Seen.{BoardValue, after_event}
 use Rattle.llb_stepper.specs.declared.stop.Break.{Break}
 use Rattle.llb_stepper.specs.declared.stop.Break.TheVariants as stop
 use Rattle.llb_stepper.specs.declared.stop.Stop.{Stop}

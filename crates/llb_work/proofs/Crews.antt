@@ -2,7 +2,7 @@
 use Rattle.std.proofs.Common.{◌≡◌, ℕ, ◌+◌, ◌≤◌, Bool, false, List, length, sym, ◌∙◌, arith}
 use Rattle.std.proofs.lemmas.Bool.{true≢false}
 use Rattle.std.specs.Prelude.{sum, replicate, IsTrue, ◌↔◌}
-use Rattle.llb_state.specs.Board.{BoardValue}
+use Rattle.llb_board.specs.Seen.{BoardValue}
 use Rattle.llb_work.specs.Crew.{GoesOn, IsAfter, Counts}
 use Rattle.llb_work.specs.RunEnds.{Leads}
 use Rattle.llb_work.proofs.Afters.{goes_from, goes_further, goes_nowhere}

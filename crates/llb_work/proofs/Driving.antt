@@ -23,8 +23,9 @@ use Rattle.llb_model.proofs.Lists.{inside as some_inside}
 use Rattle.llb_model.proofs.Runs.{run_none, run_first, run_more}
 use Rattle.llb_model.specs.Room.{still_to_come}
 use Rattle.llb_model.proofs.Alone.{Ascends, alone_step, chosen_comes_nearer}
-use Rattle.llb_state.specs.Board.{BoardValue, ChosenIsGranted, after_event, recorded}
-use Rattle.llb_state.specs.Rules.{claim_of, step_of, settle_of, cancel_of}
+use Rattle.llb_board.specs.Seen.{BoardValue, after_event, recorded}
+use Rattle.llb_board.specs.Laws.{ChosenIsGranted}
+use Rattle.llb_board.specs.Rules.{claim_of, step_of, settle_of, cancel_of}
 use Rattle.llb_events.specs.Causes.{claim_fault, GivesStep, step_fault, GivesSettle, settle_fault, GivesCancel}
 use Rattle.llb_events.specs.Causes.{cancel_fault}
 use Rattle.llb_events.specs.Faults.{GivesClaim}

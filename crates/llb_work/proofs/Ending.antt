@@ -4,7 +4,7 @@ use Rattle.llb_model.specs.State.{State, opening}
 use Rattle.llb_model.specs.Run.{run, is_complete}
 use Rattle.llb_model.specs.Laws.{IsAtRest, AreChosen, AloneInClaimOrder}
 use Rattle.llb_model.proofs.Runs.{run_none}
-use Rattle.llb_state.specs.Board.{BoardValue, Replays}
+use Rattle.llb_board.specs.Seen.{BoardValue, Replays}
 use Rattle.llb_work.specs.Alone.{Goes, EndsInClaimOrder}
 
 -- a complete run from a board with an empty record ends in the order of its claims

@@ -9,7 +9,7 @@ use Rattle.llb_model.specs.Table.{Event, Job, Reply}
 use Rattle.llb_model.specs.Run.{run}
 use Rattle.llb_model.proofs.Events.{workers_stay}
 use Rattle.llb_model.proofs.Runs.{run_keeps}
-use Rattle.llb_state.specs.Board.{BoardValue}
+use Rattle.llb_board.specs.Seen.{BoardValue}
 use Rattle.llb_events.specs.declared.fault.ClaimFault.{ClaimFault}
 use Rattle.llb_board.specs.Begun.{plain_job}
 use Rattle.llb_work.specs.Crew.{IsAfter}

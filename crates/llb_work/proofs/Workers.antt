@@ -8,11 +8,11 @@ use Rattle.llb_model.specs.Table.{Event, Job, Claimed, claim_grant, table}
 use Rattle.llb_model.proofs.Events.{claim_is}
 use Rattle.llb_model.specs.Table.{Reply, Claim, Step, Settle, Cancel}
 use Rattle.llb_model.specs.Landing.{landing}
-use Rattle.llb_state.specs.Board.{BoardValue, after_event, recorded}
+use Rattle.llb_board.specs.Seen.{BoardValue, after_event, recorded}
 use Rattle.llb_execution.specs.Jobs.{OutcomeValue}
 use Rattle.llb_board.specs.Begun.{ClaimsArePlain}
 use Rattle.llb_board.specs.Landing.{Lands}
-use Rattle.llb_state.specs.Rules.{claim_of, step_of, settle_of, cancel_of}
+use Rattle.llb_board.specs.Rules.{claim_of, step_of, settle_of, cancel_of}
 use Rattle.llb_events.specs.Causes.{claim_fault, GivesStep, GivesSettle, GivesCancel}
 use Rattle.llb_events.specs.Faults.{GivesClaim}
 use Rattle.llb_events.specs.Views.{claim_reply, step_reply, settle_reply, cancel_reply}

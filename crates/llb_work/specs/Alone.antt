@@ -6,7 +6,7 @@ use Rattle.llb_model.specs.Table.{Event, Claim, Step, Settle, Cancel, Reply, tab
 use Rattle.llb_model.specs.Run.{run, events_by, is_complete}
 use Rattle.llb_model.specs.Order.{at_first, order, claims_in}
 use Rattle.llb_model.specs.Laws.{AreChosen}
-use Rattle.llb_state.specs.Board.{BoardValue}
+use Rattle.llb_board.specs.Seen.{BoardValue}
 
 -- one event that the table grants is added at the end of the record
 pub record Takes (old : BoardValue) (e : Event) (new : BoardValue) : Type 0 where

@@ -4,7 +4,7 @@ use Rattle.llb_model.specs.Program.{Build}
 use Rattle.llb_model.specs.State.{State}
 use Rattle.llb_model.specs.Table.{Event, Reply}
 use Rattle.llb_model.specs.Run.{run}
-use Rattle.llb_state.specs.Board.{BoardValue, opened}
+use Rattle.llb_board.specs.Seen.{BoardValue, opened}
 
 -- events that are granted one after another are added at the end of the record
 pub record GoesOn (old new : BoardValue) : Type 0 where

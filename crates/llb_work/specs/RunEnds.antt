@@ -1,6 +1,6 @@
 -- What a run returns.
 use Rattle.std.specs.Prelude.{ℕ, ◌<◌, ◌&&◌, nat_lt, List, length, Bool, true, false, Option, Some, None, IsTrue}
-use Rattle.llb_state.specs.Board.{BoardValue}
+use Rattle.llb_board.specs.Seen.{BoardValue}
 use Rattle.llb_work.specs.Crew.{GoesOn, Counts}
 use Rattle.llb_work.specs.declared.end.RunFault.{RunFault}
 use Rattle.llb_work.specs.declared.end.RunFault.TheVariants.{Memory, Stopped, Thread, Foreign}

@@ -2,7 +2,7 @@
 use Rattle.std.specs.Prelude.{◌≡◌, ℕ, true, Some}
 use Rattle.llb_model.specs.Table.{Job}
 use Rattle.llb_model.specs.Outcome.{is_plain}
-use Rattle.llb_state.specs.Board.{BoardValue}
+use Rattle.llb_board.specs.Seen.{BoardValue}
 use Rattle.llb_board.specs.Begun.{plain_job}
 use Rattle.llb_work.specs.RunEnds.{is_of}
 use Rattle.llb_work.specs.declared.shared_board.Turn.{Turn}

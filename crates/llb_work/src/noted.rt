@@ -1,7 +1,7 @@
 //! What a worker notes under the lock, and the count of the events that it has made.
 
 ghost use Rattle.std.specs.Prelude.{◌≡◌, ◌+◌, ◌≤◌, ℕ, Bool, true};
-ghost use Rattle.llb_state.specs.Board.{BoardValue};
+ghost use Rattle.llb_board.specs.Seen.{BoardValue};
 ghost use Rattle.llb_work.specs.Crew.{nothing};
 
 use std::marker::Brand;

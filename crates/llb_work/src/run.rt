@@ -2,7 +2,7 @@
 
 ghost use Rattle.std.specs.Prelude.{◌≡◌, ◌≤◌, ◌+◌, ◌⊎◌, ℕ, Bool, sum, length, true, false, Some, None};
 ghost use Rattle.llb_model.specs.Run.{is_complete};
-ghost use Rattle.llb_state.specs.Board.{BoardValue};
+ghost use Rattle.llb_board.specs.Seen.{BoardValue};
 ghost use Rattle.llb_work.specs.Crew.{GoesOn, Counts};
 ghost use Rattle.llb_work.specs.RunEnds.{is_foreign, may_be, StopsSomewhere, Leads};
 

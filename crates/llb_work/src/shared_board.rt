@@ -16,12 +16,12 @@ ghost use Rattle.llb_work.specs.Turns.{IsBrought, IsClaimed, IsHere};
 use crate::granted;
 use crate::held::Held;
 use crate::noted::{Gated, Noted, Tally, count};
+use crate::plain::is_marked;
 use llb_board::{
     Board, ClaimFault, Job, LandFault, Outcome, SettleFault, Settled, Status, StepFault, Stepped,
     WorkerStatus,
 };
 use llb_cache::Key;
-use llb_state::is_marked;
 use std::sync::ledger::Book;
 
 /// The board under the lock.

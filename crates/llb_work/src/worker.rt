@@ -2,7 +2,7 @@
 //! takes numbers from the queue.
 
 ghost use Rattle.std.specs.Prelude.{◌≡◌, ℕ, true, IsTrue, IfSome};
-ghost use Rattle.llb_state.specs.Board.{BoardValue};
+ghost use Rattle.llb_board.specs.Seen.{BoardValue};
 ghost use Rattle.llb_work.specs.Passes.{IsPassFor};
 ghost use Rattle.llb_work.specs.RunEnds.{is_of};
 ghost use Rattle.llb_work.specs.Turns.{IsBrought, IsClaimed, IsHere};

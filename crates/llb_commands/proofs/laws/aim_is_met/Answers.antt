@@ -1,6 +1,6 @@
 use Rattle.std.proofs.Common.{ap, subst, ◌∙◌}
 use Rattle.llb_loader.specs.Load.{IsGraphIn}
-use Rattle.llb_state.specs.Board.{BoardValue}
+use Rattle.llb_board.specs.Seen.{BoardValue}
 use Rattle.llb_stepper.specs.Stepping.{Stepping}
 use Rattle.llb_commands.specs.Aim.{IsAccepted}
 use Rattle.llb_commands.proofs.laws.aim_is_met.Goals as goal

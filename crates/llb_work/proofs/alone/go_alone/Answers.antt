@@ -1,7 +1,7 @@
 use Rattle.std.proofs.Common.{sym, subst}
 use Rattle.llb_model.proofs.Alone.{Ascends}
 use Rattle.llb_model.specs.Run.{chosen}
-use Rattle.llb_state.specs.Board.{BoardValue}
+use Rattle.llb_board.specs.Seen.{BoardValue}
 use Rattle.llb_events.specs.Views.{event_of}
 use Rattle.llb_work.specs.Alone.{TakesMemory}
 use Rattle.llb_work.proofs.Driving.{goes_nil, goes_on, ascends_on, nearer, left_over}

@@ -1,5 +1,5 @@
 use Rattle.std.proofs.Common.{arith, ap, length}
-use Rattle.llb_state.specs.Board.{BoardValue}
+use Rattle.llb_board.specs.Seen.{BoardValue}
 use Rattle.llb_work.proofs.crew.run_crew.Goals as goal
 
 pub returns-clause-made : goal.returns-clause-made

@@ -1,6 +1,6 @@
 use Rattle.std.proofs.Common.{ap, arith, length, refl, sym, ◌∙◌}
 use Rattle.llb_model.specs.Outcome.{is_plain}
-use Rattle.llb_state.specs.Board.{BoardValue}
+use Rattle.llb_board.specs.Seen.{BoardValue}
 use Rattle.llb_work.proofs.Afters.{after_itself}
 use Rattle.llb_work.proofs.shared_board.make_shared_board.Goals as goal
 
