@@ -31,8 +31,8 @@ use crate::fault::OpenFault;
 use crate::history::History;
 use llb_cache::Caches;
 use llb_events::{
-    WorkerStatus, CancelFault, Cancelled, ClaimFault, Event, Memory, SettleFault, Settled, Status, StepFault,
-    Stepped,
+    CancelFault, Cancelled, ClaimFault, Event, Memory, SettleFault, Settled, Status, StepFault,
+    Stepped, WorkerStatus,
 };
 use llb_execution::Job;
 use llb_loader::{Graph, Locals, missing_local};

@@ -4,7 +4,7 @@ ghost use Rattle.std.specs.Prelude.{◌≡◌, option_map};
 ghost use Rattle.llb_model.specs.Run.{next_of};
 ghost use Rattle.llb_events.specs.Views.{event_of};
 
-use llb_events::{WorkerStatus, Event};
+use llb_events::{Event, WorkerStatus};
 use llb_state::{Vertices, Workers};
 
 /// Returns the next event of the lowest running worker: a settle if what it runs is finished, else a step. `None` where no worker runs.

@@ -12,8 +12,8 @@ ghost use Rattle.llb_events.specs.Views.{settle_reply};
 use crate::board::Board;
 use crate::fault::LandFault;
 use crate::laws::begun_are_plain;
-use llb_cache::{Mode, Instance};
-use llb_events::{WorkerStatus, Settled};
+use llb_cache::{Instance, Mode};
+use llb_events::{Settled, WorkerStatus};
 use llb_execution::{Job, Outcome};
 
 /// Why an outcome does not land.

@@ -21,7 +21,7 @@ pub use llb_events::{
     CancelFault, Cancelled, ClaimFault, Event, Memory, SettleFault, Settled, Status, StepFault,
     Stepped, WalkFault, WorkerStatus,
 };
-pub use llb_execution::{Gate, Job, Outcome, Program, Stopped, Workspace, WorkFault, work};
+pub use llb_execution::{Gate, Job, Outcome, Program, Stopped, WorkFault, Workspace, work};
 pub use llb_state::Undo;
 pub use llb_wire::{Bytes, Text};
 pub use walk::{Reply, Walked};

@@ -6,7 +6,7 @@ ghost use Rattle.llb_state.specs.Undoing.{left_in};
 ghost use Rattle.llb_state.specs.Views.{at_of, leased_by};
 
 use crate::stand::{Desk, Execution};
-use llb_cache::{Lease, Instance};
+use llb_cache::{Instance, Lease};
 use llb_events::Memory;
 use llb_tree::Tree;
 use std::alloc::Global;

@@ -12,7 +12,7 @@ ghost use Rattle.llb_state.specs.Views.{at_of, leased_by};
 ghost use Rattle.llb_events.specs.Causes.{step_memory};
 
 use crate::stand::Desk;
-use llb_cache::{Caches, Lease, LeaseFault, Need, Instance};
+use llb_cache::{Caches, Instance, Lease, LeaseFault, Need};
 use llb_events::StepFault;
 use llb_tree::Tree;
 use llb_wire::Many;

@@ -14,7 +14,7 @@ ghost use Rattle.llb_state.specs.Views.{leased_by, execution_of};
 
 use crate::copying::lease_of;
 use crate::stand::{Desk, Execution};
-use llb_cache::{Caches, Lease, Instance};
+use llb_cache::{Caches, Instance, Lease};
 use llb_execution::{Job, Workspace};
 use llb_model::VertexFault;
 use llb_tree::Tree;

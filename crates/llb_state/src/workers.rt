@@ -24,7 +24,7 @@ use crate::step::{desk_at, is_finished};
 use crate::vertices::Vertices;
 pub use claiming::Begun;
 use llb_cache::{Caches, Instance};
-use llb_events::{WorkerStatus, Memory};
+use llb_events::{Memory, WorkerStatus};
 use std::alloc::Global;
 use std::marker::Model;
 pub use undoing::{Change, End, Undo};
