@@ -42,7 +42,8 @@ none_at b (Some a) is = absurd cc
 -- ---- the search
 
 -- the workers that are left begin with this one
-next_drop : (b : Build) (ws : List WorkerStatus) (w : ℕ) (a : WorkerStatus) → slice_get ws w ≡ Some a → next_of b w (drop w ws) ≡ next_of b w (a ∷ drop (w + 1) ws)
+next_drop : (b : Build) (ws : List WorkerStatus) (w : ℕ) (a : WorkerStatus) → slice_get ws w ≡ Some a → next_of b w (drop w ws)
+    ≡ next_of b w (a ∷ drop (w + 1) ws)
 next_drop b ws w a at =
     ap (next_of b w) (drop-cons ws w a (slice_get_within ws w a at) ∙ (λ i. get_or_from_slice_get ws w a a at i ∷ drop (sym (add-one w) i) ws))
 

@@ -103,7 +103,8 @@ left_state vs ws us w v t workers rows =
     λ i. record { statuses = slice_set vs.statuses v t; workers = workers i; store = store_of (rows i) }
 
 -- a worker that is idle has no instances
-pub left_rows : (vs : VerticesValue) (ws us : WorkersValue) (w : ℕ) (x : WorkerStatus) → slice_get ws.workers w ≡ Some x → us.workers ≡ slice_set ws.workers w Idle
+pub left_rows : (vs : VerticesValue) (ws us : WorkersValue) (w : ℕ) (x : WorkerStatus) → slice_get ws.workers w ≡ Some x → us.workers
+    ≡ slice_set ws.workers w Idle
     → us.rows ≡ ws.rows → us.rows ≡ rows_after ws.rows (state_in vs us) w
 left_rows vs ws us w x at workers rows =
     let idle : slice_get us.workers w ≡ Some Idle = ap (λ l. slice_get l w) workers ∙ get_set_same ws.workers w Idle x at in

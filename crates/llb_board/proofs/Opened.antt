@@ -72,7 +72,8 @@ pub kept_open : (vs : VerticesValue) (first : List Row) (ws : WorkersValue) (es 
     → IsBoard (seen vs first ws es) ws space
 kept_open vs first ws es n rows space v w e f room cancels =
     subst (λ (us : WorkersValue). IsBoard (seen vs first ws es) us space) (sym w)
-    (subst (λ (s : BoardValue). IsBoard s (idle_on n rows) space) (sym (seen_open vs first ws es n rows v w e f)) (kept_fresh vs.build n rows space room cancels))
+    (subst (λ (s : BoardValue). IsBoard s (idle_on n rows) space) (sym (seen_open vs first ws es n rows v w e f))
+    (kept_fresh vs.build n rows space room cancels))
 
 -- ---- what an opening returns
 

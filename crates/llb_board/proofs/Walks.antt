@@ -91,7 +91,8 @@ rows_back : {A : Type 0} (shown : List A) (ws : WorkersValue) (o : Option Before
 rows_back shown ws (Some c) rows keeps stays = keeps.rows
 rows_back shown ws None rows keeps stays = stays keeps
 
-fits_leases : {A : Type 0} (shown : List A) (k : Back) (ws : WorkersValue) (workers : List WorkerStatus) (o : Option Before) → workers_before k workers ≡ ws.workers
+fits_leases : {A : Type 0} (shown : List A) (k : Back) (ws : WorkersValue) (workers : List WorkerStatus) (o : Option Before) → workers_before k workers
+    ≡ ws.workers
     → KeepsWhere shown ws o → (shown ≡ [] → HasNoPlaces k)
     → FitsLeases k workers o
 fits_leases shown k ws workers (Some c) is keeps none = subst (λ us. AreLeased c.caches.out us c.leases) (sym is) keeps.leased

@@ -13,7 +13,8 @@ use Rattle.llb_model.specs.Kept.{store_of}
 use Rattle.llb_model.specs.Leases.{HoldsAs}
 use Rattle.llb_model.specs.Outcome.{inputs_from}
 use Rattle.llb_model.specs.Program.{Build, Need, Start, key_of, needs_of, start_with}
-use Rattle.llb_model.specs.State.{Status, WorkerStatus, Idle, Runs, State, Running, Execution, ending_at, begin_at, start_from, held, held_key, places_for, first_trees}
+use Rattle.llb_model.specs.State.{Status, WorkerStatus, Idle, Runs, State, Running, Execution, ending_at, begin_at, start_from, held, held_key, places_for}
+use Rattle.llb_model.specs.State.{first_trees}
 use Rattle.llb_model.specs.Table.{Job, Reply, Claimed, claim_start, claim_at, claim_unless, claimed, claim_grant, or_not_ready, execution_on, job_on}
 use Rattle.llb_model.proofs.Leases.{makes_alike}
 use Rattle.llb_model.proofs.Leasing.{leased_holds_as}

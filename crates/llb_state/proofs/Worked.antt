@@ -74,7 +74,8 @@ granted_ok : (S : List Status) (ws : List WorkerStatus) (w : ℕ) (rule : Result
 granted_ok S ws w (Ok p) = refl
 granted_ok S ws w (Err e) = refl
 
-last_by : (S : List Status) (ws : List WorkerStatus) (w : ℕ) (r : Result Stepped StepFault) (rule : Result Written StepFault) (whole : Result (State × Reply) StepFault)
+last_by : (S : List Status) (ws : List WorkerStatus) (w : ℕ) (r : Result Stepped StepFault) (rule : Result Written StepFault)
+    (whole : Result (State × Reply) StepFault)
     → whole ≡ granted_in S ws w rule → MemoryLast step_memory r rule → MemoryLast step_memory r whole
 last_by S ws w (Ok s) rule whole is last = tt
 last_by S ws w (Err e) rule whole is last = λ memory. ap is_ok is ∙ granted_ok S ws w rule ∙ last memory

@@ -37,5 +37,6 @@ returns c =
     = subst (λ (m : BoardValue). CanLand m c.args.w c.args.outcome.job) (sym c.self.view_is) c.requires in
     let done = through b.vertices b.start.rows b.workers c.land.new.self b.history.list b.history.space c.args.w can.x c.args.outcome c.self.invariant
     (subst IsGraph c.graph.ensures c.vertices.ensures.graph) can.runs can.own c.is_whole.ensures c.land.ensures.workers c.land.ensures.rows in
-    subst (λ (m : BoardValue). IsThrough m c.args.w c.args.outcome.count (seen b.vertices b.start.rows c.land.new.self c.record_steps.new.self.list)) c.self.view_is
+    subst (λ (m : BoardValue). IsThrough m c.args.w c.args.outcome.count
+    (seen b.vertices b.start.rows c.land.new.self c.record_steps.new.self.list)) c.self.view_is
     (rw (c.record_steps.ensures.list, c.count-count.ensures) done)

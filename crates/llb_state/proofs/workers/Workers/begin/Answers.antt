@@ -45,7 +45,8 @@ pub returns-in-None-clause-gives : goal.returns-in-None-clause-gives
 returns-in-None-clause-gives c =
     let vs = c.args.vertices.now in
     λ known. ap (λ (s : WorkersValue). reply_of (claim_in vs s c.args.w c.args.v)) (sym c.self.view_is)
-    ∙ ap (λ (o : Option WorkerStatus). reply_of (faulted claim_fault (claimed vs.build (state_in vs (seen_of c.self.inside.seats.items c.self.inside.caches.rows))
+    ∙ ap (λ (o : Option WorkerStatus). reply_of (faulted claim_fault
+    (claimed vs.build (state_in vs (seen_of c.self.inside.seats.items c.self.inside.caches.rows))
     c.args.w c.args.v (claim_start vs.statuses c.args.v o (slice_get vs.build.graph.vertices c.args.v)))))
     (ap (λ (ds : List Desk). slice_get (map at_of ds) c.args.w) (sym c.deref.ensures.value) ∙ sym c.in-None.ensures)
 
@@ -53,7 +54,8 @@ pub returns-in-Some-Runs-clause-gives : goal.returns-in-Some-Runs-clause-gives
 returns-in-Some-Runs-clause-gives c =
     let vs = c.args.vertices.now in
     λ known. ap (λ (s : WorkersValue). reply_of (claim_in vs s c.args.w c.args.v)) (sym c.self.view_is)
-    ∙ ap (λ (o : Option WorkerStatus). reply_of (faulted claim_fault (claimed vs.build (state_in vs (seen_of c.self.inside.seats.items c.self.inside.caches.rows))
+    ∙ ap (λ (o : Option WorkerStatus). reply_of (faulted claim_fault
+    (claimed vs.build (state_in vs (seen_of c.self.inside.seats.items c.self.inside.caches.rows))
     c.args.w c.args.v (claim_start vs.statuses c.args.v o (slice_get vs.build.graph.vertices c.args.v)))))
     (ap (λ (ds : List Desk). slice_get (map at_of ds) c.args.w) (sym c.deref.ensures.value) ∙ sym c.in-Some-Runs.ensures
     ∙ ap (λ d. Some (at_of d)) c.in-Some-Runs.field-0-is)

@@ -55,7 +55,8 @@ returns-in-Idle-clause-gives c =
     let at : slice_get ds c.args.w ≡ Some desk.Idle
     = slice_get-get_or ds c.args.w c.index_mut.result.now low ∙ ap (λ d. Some d) (sym c.index_mut.ensures.value ∙ c.in-Idle.is) in
     λ known. ap (λ (v : WorkersValue). step_in vs v c.args.w) (sym c.self.view_is)
-    ∙ ap (λ (o : Option WorkerStatus). faulted step_fault (stepped vs.build (state_in vs (seen_of ds s.caches.rows)) c.args.w o)) (get_map at_of ds c.args.w desk.Idle at)
+    ∙ ap (λ (o : Option WorkerStatus). faulted step_fault (stepped vs.build (state_in vs (seen_of ds s.caches.rows)) c.args.w o))
+    (get_map at_of ds c.args.w desk.Idle at)
 
 pub returns-in-Runs-clause-gives : goal.returns-in-Runs-clause-gives
 returns-in-Runs-clause-gives c =
