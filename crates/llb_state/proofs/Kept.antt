@@ -31,10 +31,10 @@ leased_claimed out ds w l own ps new leased idle same is =
     subst (λ (ws : List WorkerStatus). AreLeased new ws (map leased_by (slice_set ds w (desk.Runs l own)))) (sym (map_set at_of ds w (desk.Runs l own)))
     (subst (AreLeased new (slice_set (map at_of ds) w (Runs (execution_of own)))) (sym (map_set leased_by ds w (desk.Runs l own))) (elim is [
       | inl h ↦
-          let out : new ≡ with_lease out (free_lease out) own.places.items = h.1 ∙ ap (with_lease out (free_lease out)) (sym same) in
+          let grown : new ≡ with_lease out (free_lease out) own.places.items = h.1 ∙ ap (with_lease out (free_lease out)) (sym same) in
           subst (λ (n : Option ℕ). AreLeased new (slice_set (map at_of ds) w (Runs (execution_of own))) (slice_set (map leased_by ds) w n)) (sym h.0)
           (subst (λ (o : Leases). AreLeased o (slice_set (map at_of ds) w (Runs (execution_of own)))
-          (slice_set (map leased_by ds) w (Some (free_lease out)))) (sym out)
+          (slice_set (map leased_by ds) w (Some (free_lease out)))) (sym grown)
           (claim_leases out (map at_of ds) (map leased_by ds) w (execution_of own) leased idle))
       | inr h ↦
           subst (λ (n : Option ℕ). AreLeased new (slice_set (map at_of ds) w (Runs (execution_of own))) (slice_set (map leased_by ds) w n)) (sym h.0)
