@@ -1,6 +1,6 @@
 //! Fields in their canonical bytes, one after the other.
 
-ghost use Rattle.std.specs.Prelude.{◌≡◌, ◌<◌, ◌++◌, ◌≤◌, OnOk};
+ghost use Rattle.std.specs.Prelude.{◌≡◌, ◌<◌, ◌++◌, ◌≤◌, IfOk, OnOk};
 ghost use Rattle.llb_ops.specs.Writing.{set_number, set_bytes, number_field, bytes_field, signed_field, flag_field, message_field};
 ghost use Rattle.llb_ops.specs.Writing.{messages_field, each_field, one_of_field};
 
@@ -28,6 +28,31 @@ pub fn put_set_bytes(out: &mut Vec<u8>, number: u32, bytes: &[u8]) -> Result<(),
 {
     write_record(number, Wire::Len, 0, bytes, out)?;
     Ok(())
+}
+
+/// Returns the record of a field with these bytes, also where there are none.
+pub fn bytes_record(alloc: Global, number: u32, bytes: &[u8]) -> Result<Vec<u8>, Memory>
+    requires some { 0 < number }
+    requires small { number ≤ 536_870_911 }
+    ensures { IfOk result (λ v. v.items ≡ set_bytes number bytes.now) }
+{
+    let mut out = Vec::new(alloc);
+    put_set_bytes(&mut out, number, bytes)?;
+    Ok(out)
+}
+
+/// Returns the record of a field with a message.
+pub fn message_record<M: Message>(
+    alloc: Global,
+    number: u32,
+    message: &M,
+) -> Result<Vec<u8>, Memory>
+    requires some { 0 < number }
+    requires small { number ≤ 536_870_911 }
+    ensures { IfOk result (λ v. v.items ≡ set_bytes number (M.writing message.now)) }
+{
+    let bytes = message.write(alloc)?;
+    bytes_record(alloc, number, &bytes)
 }
 
 /// Writes a number, but not 0.
