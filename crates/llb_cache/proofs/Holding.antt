@@ -9,7 +9,7 @@ use Rattle.llb_cache.specs.declared.need.Instance.{Instance}
 use Rattle.llb_cache.specs.Caches.{CachesValue, Row, Leases, taken, is_locked_and_held, is_held, leases, granted, with_lease, free_lease, put, given_back}
 use Rattle.llb_cache.specs.Caches.{trimmed, before}
 use Rattle.llb_cache.specs.Caches.{places_of, IsCaches, IsExclusive, Has}
-use Rattle.llb_cache.specs.Firsts.{keys_long}
+use Rattle.llb_cache.specs.LawsOfFirstRows.{keys_long}
 use Rattle.llb_cache.specs.Members.{In, contained_in}
 use Rattle.llb_cache.specs.Leased.{held_by, holder, in_any, in_place, lease_cases, lease_has, back_cases, trimmed_has}
 use Rattle.llb_cache.specs.Marks.{marked, Remarks, is_one_of, IsMarked}

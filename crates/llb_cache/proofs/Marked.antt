@@ -9,7 +9,8 @@ use Rattle.llb_cache.specs.declared.need.Instance.{Instance}
 use Rattle.llb_cache.specs.Key.{same_key}
 use Rattle.llb_cache.specs.LawsOfKeys.{same_keys, key_equiv}
 use Rattle.llb_cache.specs.Caches.{Row, same_place, with_trees}
-use Rattle.llb_cache.specs.Firsts.{IsAbsent, IsFirst, set_trees, first_placed, absent_found}
+use Rattle.llb_cache.specs.FirstRows.{IsAbsent, IsFirst, set_trees}
+use Rattle.llb_cache.specs.LawsOfFirstRows.{first_placed, absent_found}
 use Rattle.llb_cache.specs.Leased.{same_places}
 use Rattle.llb_cache.specs.Marks.{marked, Remarks}
 

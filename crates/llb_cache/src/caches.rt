@@ -70,7 +70,7 @@ impl Model for Caches {
     ghost use Rattle.llb_tree.specs.Coded.{coded_tree};
     ghost use Rattle.llb_cache.specs.Caches.{CachesValue};
     ghost use Rattle.llb_cache.specs.Marks.{IsMarked};
-    ghost use Rattle.llb_cache.specs.Ordered.{AreOrdered};
+    ghost use Rattle.llb_cache.specs.RowOrder.{AreOrdered};
 
     ghost Value = { CachesValue };
 

@@ -1,7 +1,7 @@
 //! Equal second owners of caches and of leases, and whether two are the same.
 
 ghost use Rattle.std.specs.Prelude.{◌≡◌, ◌↔◌, IsTrue, IfOk};
-ghost use Rattle.llb_cache.specs.Ordered.{AreOrdered};
+ghost use Rattle.llb_cache.specs.RowOrder.{AreOrdered};
 
 use crate::fault::Memory;
 use crate::key::Key;

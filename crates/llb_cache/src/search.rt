@@ -8,7 +8,7 @@ ghost use Rattle.llb_cache.specs.Key.{same_key};
 ghost use Rattle.llb_cache.specs.Caches.{place, is_held, leases, taken, number_for, is_locked, is_locked_and_held, free_lease};
 ghost use Rattle.llb_cache.specs.Growing.{shown, FitsIn, IsRefusal};
 ghost use Rattle.llb_cache.specs.Marks.{marked};
-ghost use Rattle.llb_cache.specs.Ordered.{AreOrdered};
+ghost use Rattle.llb_cache.specs.RowOrder.{AreOrdered};
 
 use crate::caches::Caches;
 use crate::fault::{LeaseFault, Memory};

@@ -5,7 +5,7 @@ use Rattle.std.specs.Prelude.{if◌then◌else◌}
 use Rattle.llb_cache.specs.declared.need.Instance.{Instance}
 use Rattle.llb_cache.specs.Caches.{made_all}
 use Rattle.llb_cache.specs.Growing.{shown, FitsIn}
-use Rattle.llb_cache.specs.Ordered.{AreOrdered, HasRoom}
+use Rattle.llb_cache.specs.RowOrder.{AreOrdered, HasRoom}
 use Rattle.llb_cache.specs.Marks.{marked, is_one_of}
 use Rattle.llb_cache.proofs.growing.make_all.Given as goal
 

@@ -8,7 +8,7 @@ use Rattle.llb_cache.specs.declared.key.Mode.TheVariants.{Shared}
 use Rattle.llb_cache.specs.declared.rows.Rows.{Rows}
 use Rattle.llb_cache.specs.Caches.{Row}
 use Rattle.llb_cache.specs.Key.{same_key}
-use Rattle.llb_cache.specs.Order.{key_cmp}
+use Rattle.llb_cache.specs.KeyOrder.{key_cmp}
 
 -- the key of a row; past the last row the empty one
 abbrev pub no_key : Key
