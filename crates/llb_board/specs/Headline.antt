@@ -39,6 +39,7 @@ OthersIgnore b = (w : ℕ) (p : Instance) → HoldsInstance b w p → IsExclusiv
 abbrev pub StandsInClaimOrder : BoardValue → Type 0
 StandsInClaimOrder b = StandsIn b.state (order b.build (at_first b.build b.opening.store) (claims_in (replies_in b)))
 
+-- what stands of every board
 pub record Headline (b : BoardValue) : Type 0 where
   -- after every interleaving of events the state and the replies are the written table's on the recorded events
   pub replays : Replays b

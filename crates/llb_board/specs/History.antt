@@ -12,6 +12,7 @@ pub record Space : Type 0 where
   pub room : ℕ
   pub cancels : List ℕ
 
+-- the events, the first first, and the room for events to come
 pub record HistoryValue : Type 0 where
   pub list : List Event
   pub space : Space
@@ -21,6 +22,7 @@ abbrev pub taken : ℕ → ℕ → ℕ
 taken events zero = 0
 taken events (suc n) = events
 
+-- the room that a claim of vertex v takes which is to have so many events
 abbrev pub taken_by : ℕ → ℕ → Space → ℕ
 taken_by v events s = taken events (get_or s.cancels v 0)
 
@@ -28,6 +30,7 @@ taken_by v events s = taken events (get_or s.cancels v 0)
 abbrev pub claimed : ℕ → ℕ → Space → Space
 claimed v events s = record s { room = s.room + taken_by v events s }
 
+-- the room without what such a claim took
 abbrev pub unclaimed : ℕ → ℕ → Space → Space
 unclaimed v events s = record s { room = s.room - taken_by v events s }
 
@@ -35,6 +38,7 @@ unclaimed v events s = record s { room = s.room - taken_by v events s }
 abbrev pub cancelled : ℕ → Space → Space
 cancelled v s = record s { cancels = slice_set s.cancels v (get_or s.cancels v 0 + 1) }
 
+-- the room where vertex v was cancelled once less
 abbrev pub uncancelled : ℕ → Space → Space
 uncancelled v s = record s { cancels = slice_set s.cancels v (get_or s.cancels v 0 - 1) }
 
@@ -44,6 +48,7 @@ uncancelled v s = record s { cancels = slice_set s.cancels v (get_or s.cancels v
 abbrev pub front : {A : Type 0} → List A → List A
 front xs = take (length xs - 1) xs
 
+-- the last item of a list
 abbrev pub last_of : {A : Type 0} → List A → Option A
 last_of xs = slice_get xs (length xs - 1)
 

@@ -26,6 +26,7 @@ runs_shared None = false
 abbrev pub places_had : Option WorkerStatus → List Instance
 places_had = places_at
 
+-- job is what worker w has left to do, on no instance that is shared
 pub record CanLand (b : BoardValue) (w : ℕ) (job : Job) : Type 0 where
   pub x : Execution
   pub runs : slice_get b.state.workers w ≡ Some (Runs x)
@@ -39,6 +40,7 @@ pub record RunsAlone (b : BoardValue) (w : ℕ) (job : Job) : Type 0 where
   pub alone : has_shared x ≡ false
   pub other : IsRunOf b.build b.state.store w x job → ⊥
 
+-- worker w runs on an instance that is shared
 pub record RunsShared (b : BoardValue) (w : ℕ) : Type 0 where
   pub x : Execution
   pub runs : slice_get b.state.workers w ≡ Some (Runs x)
@@ -58,6 +60,7 @@ land_fault cause.NotRunning o = fault.NotRunning o
 land_fault cause.HasShared o = fault.HasShared o
 land_fault cause.Stranger o = fault.Stranger o
 
+-- the refusal e of an outcome says the first cause that stands in its way
 pub record IsRefused (b : BoardValue) (w : ℕ) (o : OutcomeValue) (e : LandFault) : Type 0 where
   pub cause : LandCause
   pub stands : StandsInWay b w o.job cause

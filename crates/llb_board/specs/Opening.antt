@@ -12,6 +12,7 @@ use Rattle.llb_board.specs.declared.fault.OpenFault.TheVariants as opening
 abbrev pub may_work : ℕ → Bool
 may_work workers = nat_le 1 workers && nat_le workers 64
 
+-- a board opened on these caches, or the refusal of the number of workers
 abbrev pub open_with : Build → CachesValue → ℕ → Result BoardValue OpenFault
 open_with b c workers = if may_work workers then Ok (opened b workers c.rows) else Err (opening.Workers b.graph b.locals c)
 
@@ -20,6 +21,7 @@ abbrev pub open_unless : Option (List ℕ) → Build → CachesValue → ℕ →
 open_unless (Some name) b c workers = Err (opening.MissingLocal name b.graph b.locals c)
 open_unless None b c workers = open_with b c workers
 
+-- the rule of opening: a local tree that is missing is told first
 abbrev pub open_of : Build → CachesValue → ℕ → Result BoardValue OpenFault
 open_of b c workers = open_unless (missing_local b.locals b.graph.vertices) b c workers
 
@@ -36,10 +38,12 @@ returned (opening.Memory g ts c) = (record { graph = g; locals = ts }, c)
 returned (opening.Workers g ts c) = (record { graph = g; locals = ts }, c)
 returned (opening.MissingLocal name g ts c) = (record { graph = g; locals = ts }, c)
 
+-- whether a refusal of opening is that of memory
 abbrev pub open_memory : OpenFault → Bool
 open_memory (opening.Memory g ts c) = true
 open_memory (opening.Workers g ts c) = false
 open_memory (opening.MissingLocal name g ts c) = false
 
+-- a result of opening is what the rule returns, but for want of memory
 abbrev pub GivesOpen : {X Y : Type 0} → (X → Y) → Result X OpenFault → Result Y OpenFault → Type 0
 GivesOpen = answer.Gives open_memory

@@ -8,14 +8,18 @@ use Rattle.llb_events.specs.declared.fault.SettleFault.{SettleFault}
 use Rattle.llb_events.specs.declared.fault.CancelFault.{CancelFault}
 use Rattle.llb_board.specs.Seen.{BoardValue, recorded}
 
+-- the table's answer to a claim, recorded
 abbrev pub claim_of : BoardValue → ℕ → ℕ → Result (BoardValue × Reply) ClaimFault
 claim_of b w v = recorded b (Claim w v) claim_fault (claim_grant b.build b.state w v)
 
+-- the table's answer to a step, recorded
 abbrev pub step_of : BoardValue → ℕ → Result (BoardValue × Reply) StepFault
 step_of b w = recorded b (Step w) step_fault (step_grant b.build b.state w)
 
+-- the table's answer to a settle, recorded
 abbrev pub settle_of : BoardValue → ℕ → Result (BoardValue × Reply) SettleFault
 settle_of b w = recorded b (Settle w) settle_fault (settle_grant b.build b.state w)
 
+-- the table's answer to a cancel, recorded
 abbrev pub cancel_of : BoardValue → ℕ → Result (BoardValue × Reply) CancelFault
 cancel_of b w = recorded b (Cancel w) cancel_fault (cancel_grant b.state w)

@@ -35,6 +35,7 @@ told (table.SettledDone v) = reply.Settled (settled.Done v)
 told (table.SettledFailed v) = reply.Settled (settled.Failed v)
 told (table.Cancelled v k) = reply.Cancelled (record { vertex = v; done = k })
 
+-- an event's result, its refusal as that of a walk
 abbrev pub told_as : {F : Type 0} → (F → WalkFault) → Result (BoardValue × table.Reply) F → Result (BoardValue × Reply) WalkFault
 told_as fault (Ok (b, r)) = Ok (b, told r)
 told_as fault (Err e) = Err (fault e)
@@ -46,16 +47,19 @@ walk_of b (table.Step w) = told_as walk.Step (step_of b w)
 walk_of b (table.Settle w) = told_as walk.Settle (settle_of b w)
 walk_of b (table.Cancel w) = told_as walk.Cancel (cancel_of b w)
 
+-- a result of a walk is what the rule returns, but for want of memory
 abbrev pub GivesWalk : {X Y : Type 0} → (X → Y) → Result X WalkFault → Result Y WalkFault → Type 0
 GivesWalk = answer.Gives walk_memory
 
 -- ---- the event taken back
 
+-- the statuses of the vertices before the event
 abbrev pub statuses_before : Back → List Status → List Status
 statuses_before (Unclaim w v) statuses = slice_set statuses v Waiting
 statuses_before (Unstep w mark) statuses = statuses
 statuses_before (Resume e w left) statuses = slice_set statuses left.execution.vertex (Running w)
 
+-- the instances of the caches before the event: those that were kept, or else as they are
 abbrev pub store_before : Option Before → Store → Store
 store_before (Some c) store = store_of c.caches.rows
 store_before None store = store
@@ -90,15 +94,18 @@ pub record IsLast (u : Displaced) (b : BoardValue) : Type 0 where
 pub record IsBegun (b : BoardValue) (w v : ℕ) : Type 0 where
   pub runs : slice_get b.state.statuses v ≡ Some (Running w)
 
+-- worker w runs, and the mark fits what it runs
 pub record IsStepped (b : BoardValue) (w : ℕ) (mark : Mark) : Type 0 where
   pub x : Execution
   pub runs : slice_get b.state.workers w ≡ Some (Runs x)
   pub mounts : mounts_in (put_back mark x.own) ≡ length (mounts_at (slice_get b.build.graph.vertices x.vertex))
 
+-- worker w is idle, and has left this
 pub record IsLeft (b : BoardValue) (w : ℕ) (left : Left) : Type 0 where
   pub idle : slice_get b.state.workers w ≡ Some Idle
   pub supplies : left.supplies ≡ supplies_for (slice_get b.build.graph.vertices left.execution.vertex)
 
+-- a board is as an event leaves it that displaced this
 abbrev pub StandsBehind : Back → BoardValue → Type 0
 StandsBehind (Unclaim w v) b = IsBegun b w v
 StandsBehind (Unstep w mark) b = IsStepped b w mark

@@ -13,8 +13,10 @@ pub record Outfitted : Type 0 where
   pub outputs : List TreeMap
   pub setting : Setting
 
+-- an outfit as contracts see it
 abbrev pub outfit_as : Outfit → Outfitted
 outfit_as o = record { program = o.program; outputs = o.outputs.items; setting = o.setting }
 
+-- what an execution of a vertex is made with: its program, an empty tree for each output, and where its commands run
 abbrev pub outfit_of : Vertex → Outfitted
 outfit_of v = record { program = model.program_of v; outputs = replicate v.outputs empty_tree; setting = kind_setting v.op.kind }

@@ -36,6 +36,7 @@ out_without out None = out
 abbrev pub given_back : cache.CachesValue → Option ℕ → cache.CachesValue
 given_back c l = record c { out = out_without c.out l }
 
+-- the result of a lease, the lease as an optional one
 abbrev pub some_lease : Result (ℕ × cache.CachesValue) LeaseFault → Result (Option ℕ × cache.CachesValue) LeaseFault
 some_lease (Ok (l, c)) = Ok (Some l, c)
 some_lease (Err e) = Err e

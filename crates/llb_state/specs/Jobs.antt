@@ -12,6 +12,7 @@ use Rattle.llb_execution.specs.Parts.{work_with}
 use Rattle.llb_state.specs.declared.stand.Desk.{Desk}
 use Rattle.llb_state.specs.declared.stand.Desk.TheVariants as desk
 
+-- whether several leases can have one instance at once
 abbrev pub is_shared : Mode → Bool
 is_shared Shared = true
 is_shared Private = false

@@ -39,6 +39,7 @@ places_taken out needs = map (λ (n : Need). cache.place_for out n.key) needs
 abbrev pub need_of : Wanted → Need
 need_of w = record { mount = w.mount; key = w.key; input = w.input }
 
+-- the number of an instance among those of its key
 abbrev pub number_of : Instance → ℕ
 number_of p = p.number
 
@@ -50,6 +51,7 @@ HasEdges v = (i : ℕ) (input : Input) → slice_get v.op.inputs i ≡ Some inpu
 abbrev pub Taking : Type 0
 Taking = List Instance × List ℕ × List TreeMap × List cache_need.Need
 
+-- what a claim with these needs takes: instances, their numbers, the trees that they begin with, and what the lease is asked for
 abbrev pub taken_with : cache.CachesValue → List TreeMap → List Need → Taking
 taken_with c inputs needs = (
   places_taken c.out needs,

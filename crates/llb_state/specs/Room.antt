@@ -23,6 +23,7 @@ pub record Supplies : Type 0 where
   pub shown : List ℕ
   pub keys : List Key
 
+-- the supplies that an execution has
 abbrev pub supplies_of : own.Execution → Supplies
 supplies_of x = record {
   outputs = x.outputs.items;
@@ -37,6 +38,7 @@ abbrev pub mounts_at : Option Vertex → List Mount
 mounts_at (Some v) = kind_mounts v.op.kind
 mounts_at None = []
 
+-- the cache needs of a vertex; none where there is no vertex
 abbrev pub needs_at : Option Vertex → List Need
 needs_at (Some v) = needs_of v
 needs_at None = []
@@ -46,6 +48,7 @@ abbrev pub setting_at : Option Vertex → Setting
 setting_at (Some v) = kind_setting v.op.kind
 setting_at None = setting_of None
 
+-- the supplies that an execution of a vertex begins with
 abbrev pub supplies_for : Option Vertex → Supplies
 supplies_for o = record {
   outputs = replicate (program_at o).outputs empty_tree;
@@ -60,6 +63,7 @@ abbrev pub ready_made : Desk → Supplies
 ready_made desk.Idle = supplies_for None
 ready_made (desk.Runs l x) = supplies_of x
 
+-- the supplies that a worker has to have for what it does
 abbrev pub needed : Build → WorkerStatus → Supplies
 needed b Idle = supplies_for None
 needed b (Runs x) = supplies_for (slice_get b.graph.vertices x.vertex)

@@ -43,6 +43,7 @@ begun_at b c w v vertex trees ps = record {
   needs = asked trees (needs_of vertex);
 }
 
+-- what a claim begins with, or that an input tree is not there
 abbrev pub begun : Build → CachesValue → ℕ → ℕ → Vertex → Option (List TreeMap) → Result Begun ClaimFault
 begun b c w v vertex (Some trees) = Ok (begun_at b c w v vertex trees (places_taken c.out (needs_of vertex)))
 begun b c w v vertex None = Err claim.NotReady
@@ -55,9 +56,11 @@ pub record Worked : Type 0 where
   pub trees : List TreeMap
   pub reply : Reply
 
+-- an execution after a micro-step that left this, with the trees of its instances and the reply
 abbrev pub worked_to : Execution → MicroStep → Left → Worked
 worked_to x m left = record { execution = with_step x left; trees = left.work.trees; reply = step_reply x.done m x.own left }
 
+-- an execution after a micro-step on the trees of its instances, or that nothing is left to do
 abbrev pub worked_by : Execution → List TreeMap → Option MicroStep → Result Worked StepFault
 worked_by x trees None = Err step.NothingLeft
 worked_by x trees (Some m) = Ok (worked_to x m (step_on x.done (Some m) (work_with x.own trees)))
@@ -70,10 +73,12 @@ worked steps x trees = worked_by x trees (next_step steps x)
 abbrev pub Written : Type 0
 Written = Execution × List Row × Reply
 
+-- the same with the trees written to the rows of the caches
 abbrev pub written_by : List Row → List Instance → Result Worked StepFault → Result Written StepFault
 written_by rows ps (Ok w) = Ok (w.execution, put_each rows ps w.trees, w.reply)
 written_by rows ps (Err e) = Err e
 
+-- the next micro-step of an execution on its instances as they are in the rows, which it writes
 abbrev pub worked_in : Build → List Row → Execution → Result Written StepFault
 worked_in b rows x = written_by rows x.places (worked (program_in b x).steps x (trees_at (store_of rows) x.places))
 

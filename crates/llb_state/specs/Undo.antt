@@ -23,12 +23,14 @@ use Rattle.llb_state.specs.declared.workers.undoing.End.TheVariants as end
 
 -- ---- the result of an event
 
+-- the table's answer to an event on this state, its refusals as those of a walk
 abbrev pub walk_in : VerticesValue → WorkersValue → table.Event → Result (State × table.Reply) WalkFault
 walk_in vs ws (table.Claim w v) = faulted walk.Claim (claim_in vs ws w v)
 walk_in vs ws (table.Step w) = faulted walk.Step (step_in vs ws w)
 walk_in vs ws (table.Settle w) = faulted walk.Settle (faulted settle_fault (table.settle_grant vs.build (state_in vs ws) w))
 walk_in vs ws (table.Cancel w) = faulted walk.Cancel (faulted cancel_fault (table.cancel_grant (state_in vs ws) w))
 
+-- whether a refusal of a walk is that of memory
 abbrev pub walk_memory : WalkFault → Bool
 walk_memory walk.Memory = true
 walk_memory (walk.Claim e) = false
@@ -41,10 +43,12 @@ abbrev pub end_of : End → ℕ → table.Event
 end_of end.Settle w = table.Settle w
 end_of end.Cancel w = table.Cancel w
 
+-- the refusal of an end by a worker that is not there
 abbrev pub no_worker : End → WalkFault
 no_worker end.Settle = walk.Settle no_settle.NoWorker
 no_worker end.Cancel = walk.Cancel no_cancel.NoWorker
 
+-- the refusal of an end by an idle worker
 abbrev pub not_running : End → WalkFault
 not_running end.Settle = walk.Settle no_settle.NotRunning
 not_running end.Cancel = walk.Cancel no_cancel.NotRunning
@@ -62,6 +66,7 @@ pub record Displaced : Type 0 where
   pub back : Back
   pub caches : Option Before
 
+-- what an event displaced, as contracts see it
 abbrev pub back_in : undo.Back → Back
 back_in (back.Unclaim w v) = Unclaim w v
 back_in (back.Unstep w mark) = Unstep w mark
@@ -73,21 +78,25 @@ back_in (back.Resume e w x) = Resume e w (left_in x)
 abbrev pub with_view_back : Mark → Execution → Execution
 with_view_back mark x = record x { done = x.done - 1; fault = None; own = put_back mark x.own }
 
+-- what a worker did before its last micro-step
 abbrev pub step_before : Mark → Option WorkerStatus → WorkerStatus
 step_before mark (Some (Runs x)) = Runs (with_view_back mark x)
 step_before mark (Some Idle) = Idle
 step_before mark None = Idle
 
+-- what the workers did before the event
 abbrev pub workers_before : Back → List WorkerStatus → List WorkerStatus
 workers_before (Unclaim w v) workers = slice_set workers w Idle
 workers_before (Unstep w mark) workers = slice_set workers w (step_before mark (slice_get workers w))
 workers_before (Resume e w left) workers = slice_set workers w (Runs left.execution)
 
+-- the supplies of the workers before the event
 abbrev pub supplies_before : Back → List Supplies → List Supplies
 supplies_before (Unclaim w v) supplies = slice_set supplies w (supplies_for None)
 supplies_before (Unstep w mark) supplies = supplies
 supplies_before (Resume e w left) supplies = slice_set supplies w left.supplies
 
+-- the rows of the caches before the event: those that were kept, or else as they are
 abbrev pub rows_before : Option Before → List Row → List Row
 rows_before (Some c) rows = c.caches.rows
 rows_before None rows = rows
@@ -98,6 +107,7 @@ change_in (Unclaim w v) = Some (v, Waiting)
 change_in (Unstep w mark) = None
 change_in (Resume e w left) = Some (left.execution.vertex, Running w)
 
+-- a vertex and the status that it goes back to
 abbrev pub change_of : change.Change → ℕ × Status
 change_of c = (c.vertex, status_of c.stage)
 
@@ -126,6 +136,7 @@ abbrev pub FitsLeases : Back → List WorkerStatus → Option Before → Type 0
 FitsLeases k workers (Some c) = AreLeased c.caches.out (workers_before k workers) c.leases
 FitsLeases k workers None = HasNoPlaces k
 
+-- what was displaced fits what the workers do and the instances that they hold
 pub record CanPutBack (u : Displaced) (ws : WorkersValue) : Type 0 where
   pub behind : IsBehind u.back ws.workers
   pub leased : FitsLeases u.back ws.workers u.caches
@@ -148,10 +159,12 @@ abbrev pub KeepsWhere : {A : Type 0} → List A → WorkersValue → Option Befo
 KeepsWhere shown ws (Some c) = KeepsCaches ws c
 KeepsWhere shown ws None = shown ≡ []
 
+-- this undoes a claim of vertex v by worker w
 pub record MarksClaim (vs : VerticesValue) (ws : WorkersValue) (w v : ℕ) (u : Displaced) : Type 0 where
   pub back : u.back ≡ Unclaim w v
   pub caches : KeepsWhere (needs_at (slice_get vs.build.graph.vertices v)) ws u.caches
 
+-- this undoes a micro-step of worker w
 pub record MarksStep (vs : VerticesValue) (ws : WorkersValue) (w : ℕ) (u : Displaced) : Type 0 where
   pub x : Execution
   pub runs : slice_get ws.workers w ≡ Some (Runs x)
@@ -159,6 +172,7 @@ pub record MarksStep (vs : VerticesValue) (ws : WorkersValue) (w : ℕ) (u : Dis
   pub mounts : mounts_in x.own ≡ length (mounts_at (slice_get vs.build.graph.vertices x.vertex))
   pub caches : KeepsWhere x.places ws u.caches
 
+-- this undoes the end of what worker w runs
 pub record MarksEnd (vs : VerticesValue) (ws : WorkersValue) (e : End) (w : ℕ) (u : Displaced) : Type 0 where
   pub left : Left
   pub runs : slice_get ws.workers w ≡ Some (Runs left.execution)

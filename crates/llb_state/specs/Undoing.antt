@@ -22,12 +22,15 @@ pub record Before : Type 0 where
   pub caches : CachesValue
   pub leases : List (Option ℕ)
 
+-- an execution that was left, with its supplies
 abbrev pub left_in : own.Execution → Left
 left_in x = record { execution = execution_of x; supplies = supplies_of x }
 
+-- caches and leases that were kept, as contracts see them
 abbrev pub before_in : before.Before → Before
 before_in c = record { caches = c.caches; leases = c.leases.items }
 
+-- the same where they were kept
 abbrev pub caches_in : Option before.Before → Option Before
 caches_in (Some c) = Some (before_in c)
 caches_in None = None
@@ -45,10 +48,12 @@ abbrev pub desk_leased : Option ℕ → Desk → Desk
 desk_leased l desk.Idle = desk.Idle
 desk_leased l (desk.Runs old x) = desk.Runs l x
 
+-- the workers' leases before the event: those that were kept, or else as they are
 abbrev pub leases_before : Option Before → List (Option ℕ) → List (Option ℕ)
 leases_before (Some c) ls = c.leases
 leases_before None ls = ls
 
+-- the caches before the event: those that were kept, or else as they are
 abbrev pub caches_before : Option Before → CachesValue → CachesValue
 caches_before (Some c) now = c.caches
 caches_before None now = now

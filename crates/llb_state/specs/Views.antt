@@ -5,6 +5,7 @@ use Rattle.llb_state.specs.declared.stand.Desk.{Desk}
 use Rattle.llb_state.specs.declared.stand.Desk.TheVariants as desk
 use Rattle.llb_state.specs.declared.stand.Execution.{Execution}
 
+-- an execution as the model's
 abbrev pub execution_of : Execution → model.Execution
 execution_of x = record { vertex = x.vertex; done = x.done; fault = x.fault; own = x.view; places = x.places.items }
 

@@ -43,6 +43,7 @@ state_in vs ws = record { statuses = vs.statuses; workers = ws.workers; store = 
 abbrev pub claim_in : VerticesValue → WorkersValue → ℕ → ℕ → Result (State × Reply) ClaimFault
 claim_in vs ws w v = faulted claim_fault (claim_grant vs.build (state_in vs ws) w v)
 
+-- the table's answer to a step of worker w on this state
 abbrev pub step_in : VerticesValue → WorkersValue → ℕ → Result (State × Reply) StepFault
 step_in vs ws w = faulted step_fault (step_grant vs.build (state_in vs ws) w)
 
