@@ -57,6 +57,7 @@ made rows p tree = if nat_lt p.number (length (trees_of rows p.key)) then rows e
 
 -- ---- who has what
 
+-- whether two instances are one
 abbrev pub same_place : Instance → Instance → Bool
 same_place p q = (p.number == q.number) && same_key p.key q.key
 
@@ -98,6 +99,7 @@ number_for out key Shared = 0
 number_for out key Locked = 0
 number_for out key Private = first_free out key 0 (leases out)
 
+-- the instance that a lease of a key has
 abbrev pub place_for : Leases → Key → Instance
 place_for out key = place key (number_for out key key.mode)
 
@@ -105,6 +107,7 @@ place_for out key = place key (number_for out key key.mode)
 abbrev pub Taken : Type 0
 Taken = Instance × TreeMap
 
+-- what a lease takes: an instance for each need, and the tree for a new one
 abbrev pub taken : Leases → List Need → List Taken
 taken out needs = map (λ n. (place_for out n.key, n.tree)) needs
 
@@ -112,6 +115,7 @@ taken out needs = map (λ n. (place_for out n.key, n.tree)) needs
 abbrev pub made_all : List Row → List Taken → List Row
 made_all rows ts = fold (λ rows t. made rows t.0 t.1) rows ts
 
+-- whether a key is locked
 abbrev pub is_locked : Mode → Bool
 is_locked Locked = true
 is_locked Shared = false
@@ -198,6 +202,7 @@ AreThere rows out = (a : ℕ) (ps : List Instance) → Has out a ps → All (λ 
 abbrev pub AreFew : List Row → Type 0
 AreFew rows = (key : Key) → length (trees_of rows key) ≤ 65536
 
+-- what stands of all caches
 pub record IsCaches (c : CachesValue) : Type 0 where
   pub exclusive : AreExclusive c.out
   pub apart : AreApart c.out

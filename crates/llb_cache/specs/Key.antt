@@ -38,6 +38,7 @@ abbrev pub has_digest : Option Seed → Bool
 has_digest (Some s) = not (length s.digest == 0)
 has_digest None = false
 
+-- whether a key has a text that takes memory
 abbrev pub has_text : Key → Bool
 has_text k = not (length k.id == 0) || has_digest k.seed
 

@@ -36,6 +36,7 @@ numbers_leases key (Some ps ∷ out) =
     let one = sum_by-cons (λ (o : Option (List Instance)). cond (is_some o) 1 0) (Some ps) out in
     omega (arith, rest, one)
 
+-- no two instances have one key
 abbrev Differ : List Instance → Type 0
 Differ ps = AllPairs (λ p q. p.key ≢ q.key) ps
 
@@ -70,6 +71,7 @@ held_below key out n apart all =
 
 -- ---- the least free number
 
+-- r is the least of so many numbers from n on whose instance no lease has, or the number behind them
 pub record Least (out : Leases) (key : Key) (n more r : ℕ) : Type 0 where
   pub within : r ≤ n + more
   pub below : (k : ℕ) → n ≤ k → k < r → is_held out (place key k) ≡ true

@@ -14,6 +14,7 @@ use Rattle.llb_cache.specs.KeyOrder.{key_cmp}
 abbrev pub no_key : Key
 no_key = record { id = []; seed = None; mode = Shared }
 
+-- the key of row i
 abbrev pub key_at : List Row → ℕ → Key
 key_at rows i = slice_index_or (keys_of rows) i no_key
 
@@ -38,6 +39,7 @@ pub record IsPlace (rows : List Row) (order : List ℕ) (key : Key) (place : ℕ
   pub before : (j : ℕ) → j < place → is_before rows (row_at order j) key ≡ true
   pub behind : (j : ℕ) → place ≤ j → j < length order → is_before rows (row_at order j) key ≡ false
 
+-- rows with the order of their keys
 abbrev pub AreOrdered : Rows → Type 0
 AreOrdered rows = IsOrdered rows.entries.items rows.order.items
 

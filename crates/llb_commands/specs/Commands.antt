@@ -34,6 +34,7 @@ PerformsAs files Step line locals io = StepsAt files line.file line.workers loca
 PerformsAs files Assemble line locals io = Assembles io
 PerformsAs files Disassemble line locals io = Disassembles io
 
+-- a command has done what its line asks for, and its status is this
 abbrev pub Performs : Shelf → Line → List Local → Io → ℕ → Type 0
 Performs files line = PerformsAs files line.command line
 

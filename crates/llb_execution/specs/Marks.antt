@@ -21,6 +21,7 @@ mark_in (was.Results count) = Results count
 mark_in (was.Laid t) = Laid t
 mark_in (was.Mounts mounts last) = Mounts mounts last
 
+-- what a micro-step can change of a workspace
 abbrev pub mark_of : Workspace → Mark
 mark_of (LocalTree t) = Nothing
 mark_of (Files inputs results) = Results (length results)

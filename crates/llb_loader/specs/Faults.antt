@@ -34,6 +34,7 @@ row_fault k f = fault.Entry k f
 
 -- ---- what a fault prints: its number and its arguments, features and rules by their names
 
+-- the name of a feature
 abbrev pub feature_text : Feature → List ℕ
 feature_text feature.DiffOp = codes "DiffOp"
 feature_text feature.BuildOp = codes "BuildOp"
@@ -74,6 +75,7 @@ abbrev pub rule_text : Rule → List ℕ
 rule_text (rule.Script f) = codes "Script " ++ script_text f
 rule_text r = rule_name r
 
+-- the text of a fault: its number and what it is about
 abbrev pub load_text : LoadFault → List ℕ
 load_text (fault.Definition f) = codes "81 " ++ op_text f
 load_text (fault.Entry row f) = codes "82 " ++ (decimal row ++ (codes " " ++ op_text f))

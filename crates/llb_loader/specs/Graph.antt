@@ -129,6 +129,7 @@ IsVertexOf v (Some (Merge m)) = IsMergeVertex v m
 IsVertexOf v (Some (Exec x)) = IsExecVertex v x
 IsVertexOf v _ = ⊥
 
+-- vertices in an order in which edges lead down
 pub record IsGraph (g : Numbered) : Type 0 where
   -- every edge leads to an output of a lower vertex, and so does the result
   pub down : (k : ℕ) (d : Vertex) → k < length g.vertices → All (LeadsBelow g.vertices k) (slice_index_or g.vertices k d).inputs

@@ -130,11 +130,13 @@ pub record IsWhole (p : Plan) (order : List ℕ) : Type 0 where
 
 -- ---- the refusals
 
+-- row k is the least one reached that has a feature, f
 pub record IsUnsupported (p : Plan) (k : ℕ) (f : Feature) : Type 0 where
   pub reached : ReachedRow p k
   pub feature : feature_of (op_at p.ops k) ≡ Some f
   pub least : (j : ℕ) → j < k → ReachedRow p j → feature_of (op_at p.ops j) ≡ None
 
+-- row k is the least one reached that breaks a rule, r first
 pub record IsInvalid (p : Plan) (k : ℕ) (r : Rule) : Type 0 where
   pub reached : ReachedRow p k
   pub broken : BreaksFirst (op_at p.ops k) r

@@ -30,5 +30,6 @@ pub record IsEdit (rows new : List Row) (p : Instance) (t : TreeMap) : Type 0 wh
   pub here : slice_get (trees_of new p.key) p.number ≡ Some t
   pub rest : (n : ℕ) → n ≢ p.number → slice_get (trees_of new p.key) n ≡ slice_get (trees_of rows p.key) n
 
+-- each edit of the rows puts one tree into the store
 abbrev pub EditIsPut : List Row → List Row → Type 0
 EditIsPut rows new = (p : Instance) (t : TreeMap) → IsEdit rows new p t → store_of new ≡ put (store_of rows) p t

@@ -11,9 +11,11 @@ use Rattle.llb_model.specs.Run.{run}
 
 -- ---- the block
 
+-- n steps of worker w
 abbrev pub steps_by : ℕ → ℕ → List Event
 steps_by w n = replicate n (Step w)
 
+-- n steps of worker w and its settle
 abbrev pub landing : ℕ → ℕ → List Event
 landing w n = steps_by w n ++ Settle w ∷ []
 
@@ -48,6 +50,7 @@ left_so_far x trees = record { work = record { own = x.own; trees = trees }; fau
 abbrev pub with_steps : Execution → ℕ → Left → Execution
 with_steps x n left = record x { done = x.done + n; fault = left.fault; own = left.work.own }
 
+-- the state after n micro-steps of what worker w runs, which left this
 abbrev pub after_steps : State → ℕ → Execution → ℕ → Left → State
 after_steps s w x n left = record s { workers = slice_set s.workers w (Runs (with_steps x n left)); store = put_all s.store x.places left.work.trees }
 

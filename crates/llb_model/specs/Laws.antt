@@ -67,6 +67,7 @@ OthersKeep b = (s t : State) (e : Event) (r : Reply) → IsReached b s → table
 abbrev pub with_content : Instance → TreeMap → State → State
 with_content p t s = record s { store = put s.store p t }
 
+-- an answer whose state has another tree in an instance
 abbrev pub with_content_after : Instance → TreeMap → State × Reply → State × Reply
 with_content_after p t a = (with_content p t a.0, a.1)
 
@@ -87,6 +88,7 @@ abbrev pub EachIn : (State → Event → Type 0) → Build → State → List Ev
 EachIn C b s [] = Unit {0}
 EachIn C b s (e ∷ es) = C s e × ((a : State × Reply) → table b s e ≡ Some a → EachIn C b a.0 es)
 
+-- e is the event that a run by one does next
 abbrev pub IsChosen : Build → State → Event → Type 0
 IsChosen b s e = chosen b s ≡ Some e
 
@@ -154,6 +156,7 @@ pub record EndsByLastStatus (setting : Setting) (cs : List Joined) (work : Work)
   pub fails : is_over (runs_of setting cs) k (part (runs_of setting cs) work k) ≡ true
       → (part (runs_of setting cs) work k).fault ≡ fault_of (last_ran setting cs work k) (last_of (part (runs_of setting cs) work k).work.own)
 
+-- a script fails where the last command that ran had a status that is not 0
 abbrev pub FailsByLastStatus : Type 0
 FailsByLastStatus = (setting : Setting) (cs : List Joined) (mounts : List Shown) (caches : List ℕ) (trees : List TreeMap) (k : ℕ)
     → EndsByLastStatus setting cs (at_start mounts caches trees) k
@@ -185,6 +188,7 @@ pub record RunsInTurn (setting : Setting) (cs : List Joined) (work : Work) (k : 
   pub runs : (c : Joined) → (part (runs_of setting cs) work k).fault ≡ None → slice_get cs k ≡ Some c
       → is_run c.join (last_of (part (runs_of setting cs) work k).work.own) ≡ true
 
+-- commands joined by && run in turn
 abbrev pub AndsRunInTurn : Type 0
 AndsRunInTurn = (setting : Setting) (cs : List Joined) (mounts : List Shown) (caches : List ℕ) (trees : List TreeMap) (k : ℕ)
     → are_ands cs ≡ true → RunsInTurn setting cs (at_start mounts caches trees) k

@@ -70,20 +70,24 @@ ClaimLeases = (out : Leases) (workers : List WorkerStatus) (ls : List (Option �
     ≡ Some Idle
     → AreLeased (cache.with_lease out (cache.free_lease out) z.places) (slice_set workers w (Runs z)) (slice_set ls w (Some (cache.free_lease out)))
 
+-- a claim without caches changes no lease
 abbrev pub ClaimWithout : Type 0
 ClaimWithout = (out : Leases) (workers : List WorkerStatus) (ls : List (Option ℕ)) (w : ℕ) (z : Execution) → AreLeased out workers ls
     → slice_get workers w ≡ Some Idle → z.places ≡ []
     → AreLeased out (slice_set workers w (Runs z)) (slice_set ls w None)
 
+-- a step changes no lease
 abbrev pub StepKeepsLease : Type 0
 StepKeepsLease = (out : Leases) (workers : List WorkerStatus) (ls : List (Option ℕ)) (w : ℕ) (x z : Execution) → AreLeased out workers ls
     → slice_get workers w ≡ Some (Runs x) → z.places ≡ x.places
     → AreLeased out (slice_set workers w (Runs z)) ls
 
+-- an end gives the lease back
 abbrev pub EndGivesBack : Type 0
 EndGivesBack = (out : Leases) (workers : List WorkerStatus) (ls : List (Option ℕ)) (w l : ℕ) → AreLeased out workers ls → slice_get ls w ≡ Some (Some l)
     → AreLeased (cache.trimmed (slice_set out l None)) (slice_set workers w Idle) (slice_set ls w None)
 
+-- an end without a lease changes none
 abbrev pub EndWithout : Type 0
 EndWithout = (out : Leases) (workers : List WorkerStatus) (ls : List (Option ℕ)) (w : ℕ) → AreLeased out workers ls → slice_get ls w ≡ Some None
     → AreLeased out (slice_set workers w Idle) (slice_set ls w None)

@@ -11,6 +11,7 @@ pub record Order : Type 0 where
   pub statuses : List Status
   pub store : Store
 
+-- before the first claim
 abbrev pub at_first : Build → Store → Order
 at_first b store = record { statuses = replicate (length b.graph.vertices) Waiting; store = store }
 
@@ -36,6 +37,7 @@ pub record Named : Type 0 where
   pub instances : List ℕ
   pub cut : Option ℕ
 
+-- a claim of a vertex on instances of these numbers, whole or cut
 abbrev pub named : ℕ → List ℕ → Option ℕ → Named
 named v numbers cut = record { vertex = v; instances = numbers; cut = cut }
 
@@ -60,13 +62,16 @@ abbrev pub whole_at : Build → Order → ℕ → Start → List Instance → Op
 whole_at b o v start ps cut =
     left_by o v ps (program_of start.vertex) cut (done_of cut (program_of start.vertex).steps (begin_at b o.store start ps))
 
+-- after a claim, where its inputs are there
 abbrev pub run_whole : Build → Order → Named → Option Start → Order
 run_whole b o c None = o
 run_whole b o c (Some start) = whole_at b o c.vertex start (places_by (needs_of start.vertex) c.instances) c.cut
 
+-- after a claim
 abbrev pub after_whole : Build → Order → Named → Order
 after_whole b o c = run_whole b o c (ready b o.statuses c.vertex)
 
+-- after these claims, the first first
 abbrev pub order : Build → Order → List Named → Order
 order b o [] = o
 order b o (c ∷ cs) = order b (after_whole b o c) cs

@@ -96,6 +96,7 @@ pub record Need : Type 0 where
   pub key : Key
   pub input : ℤ
 
+-- the key of a need
 abbrev pub key_of : Need → Key
 key_of n = n.key
 

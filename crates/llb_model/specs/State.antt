@@ -76,17 +76,20 @@ ready b statuses v = start_from statuses (slice_get statuses v) (slice_get b.gra
 abbrev pub is_ready : Build → List Status → ℕ → Bool
 is_ready b statuses v = is_some (ready b statuses v)
 
+-- whether a status is Waiting
 abbrev pub is_waiting : Option Status → Bool
 is_waiting (Some Waiting) = true
 is_waiting (Some (Running w)) = false
 is_waiting (Some (Settled e)) = false
 is_waiting None = false
 
+-- whether an ending has trees
 abbrev pub is_done : Option Ending → Bool
 is_done (Some (Done trees)) = true
 is_done (Some (Failed f)) = false
 is_done None = false
 
+-- whether an ending is a failure
 abbrev pub is_failed : Option Ending → Bool
 is_failed (Some (Failed f)) = true
 is_failed (Some (Done trees)) = false
@@ -101,6 +104,7 @@ next_stopped statuses before v =
 abbrev pub stopped : Build → List Status → List Bool
 stopped b statuses = by_number (next_stopped statuses) [] b.graph.vertices
 
+-- whether vertex v has failed or is downstream of one that has
 abbrev pub is_stopped : Build → List Status → ℕ → Bool
 is_stopped b statuses v = unwrap_or (slice_get (stopped b statuses) v) false
 

@@ -18,5 +18,6 @@ unless_refused (Some name) cache all = Err (MissingLocal name)
 unless_refused None (Some v) all = Err (HasCache v)
 unless_refused None None all = Ok all
 
+-- the plain outcomes, or why there are none
 abbrev pub evaluate_of : Build → Result (List Outcome) PlainFault
 evaluate_of b = unless_refused (missing_local b.locals b.graph.vertices) (cache_from 0 b.graph.vertices) (outcomes b)

@@ -16,6 +16,7 @@ pub record GoesOn (old new : BoardValue) : Type 0 where
   pub leads : run old.build old.state more ≡ Some (new.state, replies)
   pub events : new.events ≡ old.events ++ more
 
+-- the state of an answer
 abbrev pub state_in : State × List Reply → State
 state_in a = a.0
 
@@ -35,5 +36,6 @@ Counts made old new = sum made + length old.events ≡ length new.events
 abbrev pub no_build : Build
 no_build = record { graph = record { vertices = []; result = record { vertex = 0; index = 0 } }; locals = [] }
 
+-- the board that stands where none is: of no graph and no workers
 abbrev pub nothing : BoardValue
 nothing = opened no_build 0 []
