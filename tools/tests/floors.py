@@ -92,6 +92,14 @@ class Lines(Repository):
         self.check("crates.txt: the line of llb_tree names `llb_wire`, which it does not use")
 
 
+class Orders(Repository):
+    """The orders in which to read the files of specs/."""
+
+    def test_an_order_names_each_file(self):
+        self.write_file("crates/llb_wire/specs/Lib.antt", "-- Read Bytes.\npub mod Bytes\npub mod Laws\n")
+        self.check("crates/llb_wire/specs/Lib.antt: the head does not name Laws")
+
+
 class Proofs(Repository):
     """The rule of the floors."""
 

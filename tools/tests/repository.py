@@ -17,7 +17,7 @@ MOST_OF_A_TOOL = 120
 ERROR = re.compile(r'#\[error\("(.*)"\)\]')
 HEAD = re.compile(r"pub (enum|struct) (\w+)")
 VARIANT = re.compile(r"(\w+)(\(.*\))?,")
-WRITTEN = re.compile(r'(\w+)::(\w+)\b[^\n=]* => write!\(f, "(.*?)"')
+WRITTEN = re.compile(r'(\w+)::(\w+)\b[^\n=]* => (write!\(f, |f\.write_str\(|at_row\(f, )"(.*?)"')
 KIT = re.compile(r"rattle-kit-\w+ logic [0-9a-f]{16}")
 NUMBERED = re.compile(r"([0-9]+)(?: [A-Za-z]+)*: (.*)")
 
@@ -35,8 +35,9 @@ class Declaration(NamedTuple):
 def declarations_in(crate, text):
     """Yields the variants and the types that a source declares."""
     written = {}
-    for owner, variant, form in WRITTEN.findall(text):
-        written.setdefault((owner, variant), []).append(form)
+    for owner, variant, call, form in WRITTEN.findall(text):
+        behind = " {row} {what}" if call.startswith("at_row") else ""
+        written.setdefault((owner, variant), []).append(form + behind)
     owner, sentences, error = None, [], None
     for line in text.split("\n"):
         bare = line.strip()

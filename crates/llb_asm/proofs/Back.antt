@@ -23,7 +23,8 @@ use Rattle.llb_asm.specs.declared.line.Held.TheVariants.{Record, Opens}
 use Rattle.llb_asm.specs.declared.line.Item.{Item}
 use Rattle.llb_asm.specs.Values.{number_text}
 use Rattle.llb_asm.specs.Line.{inside, behind, at_end, has_room, held_in, line_in}
-use Rattle.llb_asm.specs.Reading.{Hand, Items, done, single, nested, record_length, added, item, item_at, beyond, within, lines_of, records_of, IsWhole, Fits}
+use Rattle.llb_asm.specs.Reading.{Hand, Items, done, single, nested, record_length, added, item, item_at, beyond, within, lines_of, records_of, IsWhole}
+use Rattle.llb_asm.specs.Reading.{AreItems}
 use Rattle.llb_ops.specs.Fields.{one_more_of, AreFew}
 use Rattle.llb_asm.specs.Plain.{held_text, opening, field_lines}
 use Rattle.llb_asm.proofs.Round.{bytes_back}
@@ -147,7 +148,7 @@ module _ (labels : List (List ℕ)) (small : length labels < 2 ^ 64) where
 
   -- where there is room for the bytes of the fields, each line that is written of them adds its item to the message at hand
   pub items_fit : (hand : Hand) (fs : Fields) → AreFields hand.here.message hand.here.last hand.here.set fs → AreFew hand.here.last hand.here.count fs
-      → hand.here.ended ≡ false → HoldBytes fs → HasRoom hand (length (bytes_of fs)) → Fits labels hand (items_of labels hand.here fs)
+      → hand.here.ended ≡ false → HoldBytes fs → HasRoom hand (length (bytes_of fs)) → AreItems labels hand (items_of labels hand.here fs)
   unfolding held_in
   items_fit hand (extra []) are few goes_on all room = tt
   items_fit hand (extra (b ∷ more)) are few goes_on all room =
@@ -190,6 +191,6 @@ module _ (labels : List (List ℕ)) (small : length labels < 2 ^ 64) where
         items_fit (within hand n (sub_of row.1.kind)) inner fields few_within refl payload (in_it hand n (sub_of row.1.kind) (bytes_of inner)
             (bytes_of rest) room),
         items_whole labels (inside (sub_of row.1.kind)) inner,
-        subst (λ x. Fits labels (beyond hand here (set_bytes n x)) (items_of labels here rest)) (sym records)
+        subst (λ x. AreItems labels (beyond hand here (set_bytes n x)) (items_of labels here rest)) (sym records)
             (items_fit (beyond hand here b) rest are few refl all (behind_it hand here b (bytes_of rest) room)),
       )

@@ -5,7 +5,8 @@ use Rattle.std.proofs.Common.{inl, inr, arith, true≢false, ◌≤◌, zero, su
 use Rattle.std.specs.Result.{IsErrAnd}
 use Rattle.std.specs.Io.KnownBytes.{Appends}
 use Rattle.std.proofs.Math.Numerals.{add-one}
-use Rattle.llb_wire.specs.Sink.{PartOut, part_then, part_after}
+use Rattle.llb_wire.specs.Sink.{PartOut}
+use Rattle.llb_wire.specs.Laws.Sinks.{part_then, part_after}
 use Rattle.llb_asm.specs.declared.fault.AsmFault.{AsmFault}
 use Rattle.llb_asm.specs.declared.fault.AsmFault.TheVariants as fault
 use Rattle.llb_asm.specs.Printing.{Prints}

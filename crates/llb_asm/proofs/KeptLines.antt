@@ -11,7 +11,7 @@ use Rattle.std.specs.Prelude.{is_some, option_map}
 use Rattle.llb_asm.specs.declared.fault.Rule.TheVariants.{Unclosed}
 use Rattle.llb_asm.specs.declared.line.Refusal.TheVariants.{Breaks, UnknownLabel}
 use Rattle.llb_asm.specs.declared.open.Open.{Open}
-use Rattle.llb_asm.specs.Running.{Progress, seen, step_of, run_from, finish, fault_at, Gives}
+use Rattle.llb_asm.specs.Running.{Progress, open_op_of, step_of, run_from, finish, fault_at, Gives}
 
 abbrev pub pieces : List ℕ → List (List ℕ)
 pieces text = slice_split (λ b. nat_eq b 10) text
@@ -76,12 +76,12 @@ ends last p = refl
 
 -- where an op is open after the last line, the text is refused at this line as unclosed
 pub finish_open : (last : ℕ) (earlier : List (List ℕ)) (o : Option Open) → is_some o ≡ true
-    → finish last earlier (option_map seen o) ≡ Err (last, Breaks Unclosed)
+    → finish last earlier (option_map open_op_of o) ≡ Err (last, Breaks Unclosed)
 finish_open last earlier None e = absurd cc
 finish_open last earlier (Some s) e = refl
 
 -- where no op is open after the last line, the text is read as the entries so far
-pub finish_whole : (last : ℕ) (earlier : List (List ℕ)) (o : Option Open) → is_some o ≡ false → finish last earlier (option_map seen o) ≡ Ok earlier
+pub finish_whole : (last : ℕ) (earlier : List (List ℕ)) (o : Option Open) → is_some o ≡ false → finish last earlier (option_map open_op_of o) ≡ Ok earlier
 finish_whole last earlier None e = refl
 finish_whole last earlier (Some s) e = absurd cc
 

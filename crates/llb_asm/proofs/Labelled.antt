@@ -11,7 +11,8 @@ use Rattle.std.proofs.lemmas.Bool.{cases_eq, cases_Bool, lt-ltb, le-ltb, eq-eqb,
 use Rattle.std.proofs.lemmas.List.Folds.{prefix_len-append}
 use Rattle.std.proofs.lemmas.List.Sums.{prefix_len-le-length}
 use Rattle.std.proofs.lemmas.Slice.Eq.{bytes_eq-Decides}
-use Rattle.llb_asm.specs.Values.{is_text, string_text}
+use Rattle.llb_asm.specs.Values.{string_text}
+use Rattle.llb_wire.specs.Texts.{is_text}
 use Rattle.llb_asm.specs.Plain.{label_for, labelled_text, string_for}
 
 -- ---- the first place in a list

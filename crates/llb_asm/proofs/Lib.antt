@@ -1,4 +1,4 @@
-pub mod Digits
+pub mod Unsigned
 pub mod Strings
 pub mod Hexadecimal
 pub mod Escapes

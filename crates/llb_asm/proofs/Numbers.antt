@@ -14,7 +14,9 @@ use Rattle.llb_ops.specs.declared.table.FieldKind.TheVariants.{Int64, Int32, Uin
 use Rattle.llb_ops.specs.Fields.{IsNumberOf}
 use Rattle.llb_ops.specs.Records.{int32, int64, flag}
 use Rattle.llb_ops.specs.Writing.{bit}
-use Rattle.llb_asm.specs.Values.{is_digit, magnitude, signed_in, signed_text, below, negated, then_in, where_so, flag_in, flag_text, number_in}
+use Rattle.llb_asm.specs.Values.{signed_in, signed_text, negated, flag_in, flag_text, number_in}
+use Rattle.llb_wire.specs.Decimal.{is_digit, magnitude, below}
+use Rattle.llb_wire.specs.Texts.{then_in, where_so}
 use Rattle.llb_asm.specs.Values.{number_text, label_in, label_text}
 
 -- ---- digits

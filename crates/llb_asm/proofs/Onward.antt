@@ -14,7 +14,7 @@ use Rattle.llb_asm.specs.Line.{inside}
 use Rattle.llb_asm.specs.Reading.{Items, done, single, nested, unclosed, lines_of, records_of, IsWhole, item, closing}
 use Rattle.llb_asm.specs.Reading.{Entries, none, raw, op, open_op, text_of, AreEntries, begun_in, entry_in}
 use Rattle.llb_asm.specs.Running.{Progress, at_front, between, amid, with_held, with_item, with_begun, closed_on, step_in, step_of}
-use Rattle.llb_asm.proofs.States.{state, frame, state_after, FitsAt, state_whole, progress_after, closes_or_not, item_in, step_other}
+use Rattle.llb_asm.proofs.States.{state, frame, state_after, AreItemsAt, state_whole, progress_after, closes_or_not, item_in, step_other}
 
 -- what goes on to a value had one to go on with, and what goes on to a refusal was refused
 pub goes_from : {A B : Type 0} (r : Result A Refusal) (f : A → B) (y : B) → (r >>= λ x. Ok (f x)) ≡ Ok y → (x : A) × (r ≡ Ok x) × (f x ≡ y)
@@ -38,7 +38,7 @@ module _ (earlier : List (List ℕ)) where
   -- items with one line more
   pub record Adds (h : Here) (b : List ℕ) (w : List Frame) (t : Items) (line : List ℕ) (q : Progress) : Type 0 where
     pub items : Items
-    pub fits : FitsAt earlier (state h b w) items
+    pub fits : AreItemsAt earlier (state h b w) items
     pub text : lines_of items ≡ lines_of t ++ (line ∷ [])
     pub ends : amid earlier (state_after h b w items) ≡ q
 
@@ -66,7 +66,7 @@ module _ (earlier : List (List ℕ)) where
 
   -- a message that was not closed is closed
   closes : (h : Here) (b : List ℕ) (w : List Frame) (opens : List ℕ) (next : Here) (number : ℕ) (sub : MessageName) (inner : Items)
-      (line : List ℕ) (q : Progress) → FitsAt earlier (state h b w) (unclosed opens next number sub inner)
+      (line : List ℕ) (q : Progress) → AreItemsAt earlier (state h b w) (unclosed opens next number sub inner)
       → IsWhole inner → line ≡ closing → step_in earlier (state_after h b w (unclosed opens next number sub inner)) line ≡ Ok q
       → Adds h b w (unclosed opens next number sub inner) line q
   closes h b w opens next number sub inner line q (is, fits) whole same e = record {
@@ -80,7 +80,7 @@ module _ (earlier : List (List ℕ)) where
 
   -- each line goes on from items that fit
   pub goes_on : (h : Here) (b : List ℕ) (w : List Frame) (t : Items) (line : List ℕ) (q : Progress)
-      → FitsAt earlier (state h b w) t → step_in earlier (state_after h b w t) line ≡ Ok q → GoesOn h b w t line q
+      → AreItemsAt earlier (state h b w) t → step_in earlier (state_after h b w t) line ≡ Ok q → GoesOn h b w t line q
   goes_on h b w done line q fits e =
       elim (closes_or_not line) [ inl same ↦ inl (tt, same) | inr apart ↦ inr (first_line h b w line q apart.0 e) ]
   goes_on h b w (single l next bytes rest) line q (is, fits) e =

@@ -8,7 +8,8 @@ use Rattle.llb_wire.specs.Hexadecimal.{is_lower, hex_text}
 use Rattle.llb_wire.specs.Spelling.{AreBytes}
 use Rattle.llb_ops.specs.declared.table.FieldKind.{FieldKind}
 use Rattle.llb_ops.specs.Fields.{IsNumberOf}
-use Rattle.llb_asm.specs.Values.{closed, backslash, digit_of, after_it, where_so, string_from, string_in, string_text, escaped, number_in}
+use Rattle.llb_asm.specs.Values.{closed, backslash, digit_of, after_it, string_from, string_in, string_text, escaped, number_in}
+use Rattle.llb_wire.specs.Texts.{where_so}
 use Rattle.llb_asm.specs.Values.{number_text, bytes_spelled, label_in, label_text, ValuesAreReadBack}
 use Rattle.llb_asm.proofs.Escapes.{escaped_by}
 use Rattle.llb_asm.proofs.Numbers as numbers

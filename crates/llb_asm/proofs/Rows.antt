@@ -11,7 +11,7 @@ use Rattle.llb_ops.specs.declared.table.MessageName.{MessageName}
 use Rattle.llb_ops.specs.declared.table.MessageName.TheVariants as name
 use Rattle.llb_ops.specs.Table.{Row, rows_of, by_number, row_named, IsApart}
 use Rattle.llb_ops.proofs.TableRows.{rows_found}
-use Rattle.llb_asm.specs.Values.{is_text}
+use Rattle.llb_wire.specs.Texts.{is_text}
 use Rattle.llb_asm.specs.Line.{parted}
 
 -- ---- what holds of each row holds of the one that is found

@@ -16,7 +16,8 @@ use Rattle.llb_ops.specs.Fields.{may_be_empty, IsNumberOf, IsBytesOf}
 use Rattle.llb_asm.specs.declared.fault.Rule.TheVariants.{BadValue}
 use Rattle.llb_asm.specs.declared.line.Refusal.TheVariants.{Breaks}
 use Rattle.llb_asm.specs.declared.line.Held.TheVariants.{Record, Opens}
-use Rattle.llb_asm.specs.Values.{is_text, number_text, string_text, label_in}
+use Rattle.llb_asm.specs.Values.{number_text, string_text, label_in}
+use Rattle.llb_wire.specs.Texts.{is_text}
 use Rattle.llb_asm.specs.Line.{or_else, number_record, bytes_record, digest_or_string, string_of, held_by, held_in}
 use Rattle.llb_asm.specs.Plain.{label_for, labelled_text, string_for, held_text, opening}
 use Rattle.llb_asm.proofs.Round.{number_back, string_back, bytes_back, label_back, string_no_label}

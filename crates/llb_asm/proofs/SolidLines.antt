@@ -25,7 +25,8 @@ use Rattle.llb_ops.specs.Fields.{Fields, extra, number, bytes, message, bytes_of
 use Rattle.llb_asm.specs.Lines.{kept}
 use Rattle.llb_asm.specs.Plain.{PlainLine, label_for, labelled_text, string_for, held_text, opening, closing_line, extra_lines, field_lines}
 use Rattle.llb_asm.specs.Plain.{HasForm, Form, structured, raw, entry_lines, Formed, HaveForms, AreFormed, plain_lines, plain_text}
-use Rattle.llb_asm.specs.Values.{IsSolid, is_text, number_text}
+use Rattle.llb_asm.specs.Values.{IsSolid, number_text}
+use Rattle.llb_wire.specs.Texts.{is_text}
 use Rattle.llb_asm.proofs.Solid.{number_solid, string_solid, bytes_solid, label_solid}
 use Rattle.llb_asm.proofs.Cut.{IsContent, AreContents, kept_lines}
 
@@ -133,41 +134,41 @@ row_named m n row is = found_passes (λ r. is_name r.0) (λ r. r.1.number == n) 
 -- ---- what the fields of an entry are
 
 -- each has such a name and a value of its kind, and what is held is bytes
-abbrev CanStand : Fields → Type 0
-CanStand (extra more) = AreBytes more
-CanStand (number row v rest) = (is_name row.0 ≡ true) × IsNumberOf row.1.kind v × CanStand rest
-CanStand (bytes row held rest) = (is_name row.0 ≡ true) × IsBytesOf row.1.kind held × AreBytes held × CanStand rest
-CanStand (message row inner rest) = (is_name row.0 ≡ true) × CanStand inner × CanStand rest
+abbrev AreSpellable : Fields → Type 0
+AreSpellable (extra more) = AreBytes more
+AreSpellable (number row v rest) = (is_name row.0 ≡ true) × IsNumberOf row.1.kind v × AreSpellable rest
+AreSpellable (bytes row held rest) = (is_name row.0 ≡ true) × IsBytesOf row.1.kind held × AreBytes held × AreSpellable rest
+AreSpellable (message row inner rest) = (is_name row.0 ≡ true) × AreSpellable inner × AreSpellable rest
 
 payload_bytes : (n : ℕ) (held : List ℕ) → AreBytes (set_bytes n held) → AreBytes held
 unfolding set_bytes
 payload_bytes n held are = are_bytes-back (varint_text (length held)) held (are_bytes-back (tag_text n wire.Len) (varint_text (length held) ++ held) are)
 
-can_stand : (m : MessageName) (last : ℕ) (set : Bool) (fs : Fields) → AreFields m last set fs → AreBytes (bytes_of fs) → CanStand fs
-can_stand m last set (extra more) are bs = bs
-can_stand m last set (number row v rest) are bs =
-    (row_named m row.1.number row are.0.known, are.1, can_stand m _ _ rest are.3 (are_bytes-back (set_number row.1.number v) (bytes_of rest) bs))
-can_stand m last set (bytes row held rest) are bs = (
+are_spellable : (m : MessageName) (last : ℕ) (set : Bool) (fs : Fields) → AreFields m last set fs → AreBytes (bytes_of fs) → AreSpellable fs
+are_spellable m last set (extra more) are bs = bs
+are_spellable m last set (number row v rest) are bs =
+    (row_named m row.1.number row are.0.known, are.1, are_spellable m _ _ rest are.3 (are_bytes-back (set_number row.1.number v) (bytes_of rest) bs))
+are_spellable m last set (bytes row held rest) are bs = (
   row_named m row.1.number row are.0.known,
   are.1,
   payload_bytes row.1.number held (are_bytes-front (set_bytes row.1.number held) (bytes_of rest) bs),
-  can_stand m _ _ rest are.3 (are_bytes-back (set_bytes row.1.number held) (bytes_of rest) bs),
+  are_spellable m _ _ rest are.3 (are_bytes-back (set_bytes row.1.number held) (bytes_of rest) bs),
 )
-can_stand m last set (message row inner rest) are bs = (
+are_spellable m last set (message row inner rest) are bs = (
   row_named m row.1.number row are.0.known,
-  can_stand are.1.0 0 false inner are.1.2
+  are_spellable are.1.0 0 false inner are.1.2
       (payload_bytes row.1.number (bytes_of inner) (are_bytes-front (set_bytes row.1.number (bytes_of inner)) (bytes_of rest) bs)),
-  can_stand m _ _ rest are.2 (are_bytes-back (set_bytes row.1.number (bytes_of inner)) (bytes_of rest) bs),
+  are_spellable m _ _ rest are.2 (are_bytes-back (set_bytes row.1.number (bytes_of inner)) (bytes_of rest) bs),
 )
 
-fewer_stand : (fs : Fields) → CanStand fs → CanStand (without_empty fs)
-fewer_stand (extra more) can = can
-fewer_stand (number row v rest) can = (can.0, can.1, fewer_stand rest can.2)
-fewer_stand (bytes row held rest) can =
-    cond_both (row.1.of_entry && (length held == 0)) (without_empty rest) (bytes row held (without_empty rest)) CanStand
-    (λ empty. fewer_stand rest can.3)
-    (λ full. (can.0, can.1, can.2, fewer_stand rest can.3))
-fewer_stand (message row inner rest) can = (can.0, fewer_stand inner can.1, fewer_stand rest can.2)
+fewer_spellable : (fs : Fields) → AreSpellable fs → AreSpellable (without_empty fs)
+fewer_spellable (extra more) can = can
+fewer_spellable (number row v rest) can = (can.0, can.1, fewer_spellable rest can.2)
+fewer_spellable (bytes row held rest) can =
+    cond_both (row.1.of_entry && (length held == 0)) (without_empty rest) (bytes row held (without_empty rest)) AreSpellable
+    (λ empty. fewer_spellable rest can.3)
+    (λ full. (can.0, can.1, can.2, fewer_spellable rest can.3))
+fewer_spellable (message row inner rest) can = (can.0, fewer_spellable inner can.1, fewer_spellable rest can.2)
 
 -- ---- the values
 
@@ -209,7 +210,7 @@ extra_is : (depth : ℕ) (more : List ℕ) → AreBytes more → AreContents (ex
 extra_is depth [] are = tt
 extra_is depth (b ∷ more) are = (item_is (codes "extra") (hex_text (b ∷ more)) refl (bytes_solid (b ∷ more) are), tt)
 
-fields_are : (labels : List (List ℕ)) (depth : ℕ) (fs : Fields) → length labels ≤ 2 ^ 64 → CanStand fs → AreContents (field_lines labels depth fs)
+fields_are : (labels : List (List ℕ)) (depth : ℕ) (fs : Fields) → length labels ≤ 2 ^ 64 → AreSpellable fs → AreContents (field_lines labels depth fs)
 fields_are labels depth (extra more) few can = extra_is depth more can
 fields_are labels depth (number row v rest) few can =
     (item_is row.0 (number_text row.1.kind v) can.0 (number_solid row.1.kind v can.1), fields_are labels depth rest few can.2)
@@ -225,10 +226,10 @@ fields_are labels depth (message row inner rest) few can = (
 entry_are : (labels : List (List ℕ)) (entry : List ℕ) (form : Form) → length labels ≤ 2 ^ 64 → AreBytes entry → HasForm entry form
     → AreContents (entry_lines labels entry form)
 entry_are labels entry (structured op has) few are is =
-    let can = can_stand named.Op 0 false has.fields has.are (subst AreBytes (sym is.1 ∙ has.written) are) in (
+    let can = are_spellable named.Op 0 false has.fields has.are (subst AreBytes (sym is.1 ∙ has.written) are) in (
       item_is (codes "op") opening refl opening_solid,
       joined (field_lines labels 1 (without_empty has.fields)) (closing_line 0 ∷ [])
-          (fields_are labels 1 (without_empty has.fields) few (fewer_stand has.fields can)) (closing_is, tt),
+          (fields_are labels 1 (without_empty has.fields) few (fewer_spellable has.fields can)) (closing_is, tt),
     )
 entry_are labels entry raw few are is = (item_is (codes "raw") (hex_text entry) refl (bytes_solid entry are), tt)
 

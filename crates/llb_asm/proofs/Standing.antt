@@ -6,7 +6,8 @@ use Rattle.std.specs.List.{AllByRecursion}
 use Rattle.std.proofs.lemmas.Bool.{ltb-false, leb-true, lt-ltb, le-leb, and_from}
 use Rattle.std.proofs.lemmas.List.{map-append, map_push, length-map}
 use Rattle.std.proofs.lemmas.List.Concat.{flat_map-append}
-use Rattle.llb_wire.specs.Answer.{◌>>=◌, bind_ok}
+use Rattle.llb_wire.specs.Answer.{◌>>=◌}
+use Rattle.llb_wire.specs.Laws.Answers.{bind_ok}
 use Rattle.llb_wire.specs.Digest.{digest_text}
 use Rattle.llb_wire.specs.Hexadecimal.{hex_text}
 use Rattle.llb_wire.specs.Spelling.{AreBytes}
@@ -22,7 +23,7 @@ use Rattle.llb_ops.specs.Definition.{definition_shape, definition_of, definition
 use Rattle.llb_ops.specs.Fields.{Fields, bytes_of, without_empty, HasFields}
 use Rattle.llb_asm.specs.declared.entry.Begun.TheVariants.{Raw, Structured}
 use Rattle.llb_asm.specs.Line.{inside}
-use Rattle.llb_asm.specs.Reading.{record_length, is_within, Items, records_of, Fits, begun_in, entry_in, labels_of, outermost, closing}
+use Rattle.llb_asm.specs.Reading.{record_length, is_within, Items, records_of, AreItems, begun_in, entry_in, labels_of, outermost, closing}
 use Rattle.llb_asm.specs.Reading.{Entries, none, raw as by_bytes, op as by_items, text_of, entries_of, AreClosed, AreEntries}
 use Rattle.llb_asm.specs.Plain.{opening, field_lines, Form, structured, raw, HasForm, entry_lines, Formed, HaveForms, plain_lines}
 use Rattle.llb_asm.specs.Plain.{ReadsBack}
@@ -182,7 +183,7 @@ module _ (earlier : List (List ℕ)) (entry : List ℕ) (few : length earlier < 
     lean_short : length (bytes_of (fields_in op has)) ≤ length entry
     lean_short = let le = has.shorter in omega (arith, le, ap length same)
 
-    op_fits : Fits (labels_of earlier) (outermost earlier) (items_in earlier op has)
+    op_fits : AreItems (labels_of earlier) (outermost earlier) (items_in earlier op has)
     op_fits =
         let long : length (labels_of earlier) ≡ length earlier = length-map earlier digest_text in
         let small : length (labels_of earlier) < 2 ^ 64 = omega (arith, long) in

@@ -12,33 +12,33 @@ use Rattle.llb_asm.specs.declared.line.Refusal.TheVariants.{Breaks}
 use Rattle.llb_asm.specs.declared.line.Here.{Here}
 use Rattle.llb_asm.specs.declared.line.Item.{Item}
 use Rattle.llb_asm.specs.declared.open.Frame.{Frame}
-use Rattle.llb_asm.specs.Values.{is_text}
+use Rattle.llb_wire.specs.Texts.{is_text}
 use Rattle.llb_asm.specs.Line.{parted, parted_at, inside, line_in}
-use Rattle.llb_asm.specs.Reading.{Hand, Items, done, single, nested, unclosed, records_of, IsWhole, Fits, at_hand, item_at, is_within, labels_of, closing}
+use Rattle.llb_asm.specs.Reading.{Hand, Items, done, single, nested, unclosed, records_of, IsWhole, AreItems, at_hand, item_at, is_within, labels_of, closing}
 use Rattle.llb_asm.specs.Reading.{Entries, none, raw, op, open_op, entries_of, AreClosed}
-use Rattle.llb_asm.specs.Running.{Seen, Progress, at_front, between, amid, hand_of, with_item, step_in}
+use Rattle.llb_asm.specs.Running.{OpenOp, Progress, at_front, between, amid, hand_of, with_item, step_in}
 
 -- ---- after some items
 
-abbrev pub state : Here → List ℕ → List Frame → Seen
+abbrev pub state : Here → List ℕ → List Frame → OpenOp
 state h b w = record { here = h; bytes = b; below = w }
 
 abbrev pub frame : Here → ℕ → List ℕ → Frame
 frame next number b = record { here = next; number = number; bytes = b }
 
-abbrev pub state_after : Here → List ℕ → List Frame → Items → Seen
+abbrev pub state_after : Here → List ℕ → List Frame → Items → OpenOp
 state_after h b w done = state h b w
 state_after h b w (single line next bytes rest) = state_after next (b ++ bytes) w rest
 state_after h b w (nested line next number sub inner rest) = state_after next (b ++ set_bytes number (records_of inner)) w rest
 state_after h b w (unclosed line next number sub inner) = state_after (inside sub) [] (frame next number b ∷ w) inner
 
 -- in an op at its start
-abbrev pub state_in_op : Items → Seen
+abbrev pub state_in_op : Items → OpenOp
 state_in_op t = state_after at_front.here [] [] t
 
 -- the items fit in the message at hand there
-abbrev pub FitsAt : List (List ℕ) → Seen → Items → Type 0
-FitsAt earlier s t = Fits (labels_of earlier) (hand_of (is_within earlier) s) t
+abbrev pub AreItemsAt : List (List ℕ) → OpenOp → Items → Type 0
+AreItemsAt earlier s t = AreItems (labels_of earlier) (hand_of (is_within earlier) s) t
 
 -- the place of the next line after whole items
 abbrev pub here_after : Here → Items → Here
@@ -73,7 +73,7 @@ whole_or_not (nested line next number sub inner rest) = whole_or_not rest
 whole_or_not (unclosed line next number sub inner) = inr (λ x. x)
 
 -- some message is open
-pub record HasBelow (s : Seen) : Type 0 where
+pub record HasBelow (s : OpenOp) : Type 0 where
   pub first : Frame
   pub others : List Frame
   pub below : s.below ≡ first ∷ others
@@ -118,7 +118,7 @@ closed_or_not (open_op line items) = inr (λ x. x)
 -- an op is open
 pub record IsAmid (p : Progress) : Type 0 where
   pub earlier : List (List ℕ)
-  pub current : Seen
+  pub current : OpenOp
   pub is : p ≡ amid earlier current
 
 -- after entries that are not closed, an op is open
@@ -164,16 +164,16 @@ item_apart labels hand line i e same =
     let refused : item_at labels hand closing ≡ Err (Breaks Syntax) = item_closing labels hand in cc
 
 -- what a line adds to the message at hand there
-abbrev pub item_in : List (List ℕ) → Seen → List ℕ → Result Item Refusal
+abbrev pub item_in : List (List ℕ) → OpenOp → List ℕ → Result Item Refusal
 item_in earlier s line = item_at (labels_of earlier) (hand_of (is_within earlier) s) line
 
 -- a line that is not a closing one adds its item to the message at hand, or is refused as its item is
-pub step_other : (earlier : List (List ℕ)) (s : Seen) (line : List ℕ) → line ≢ closing
+pub step_other : (earlier : List (List ℕ)) (s : OpenOp) (line : List ℕ) → line ≢ closing
     → step_in earlier s line ≡ (item_in earlier s line >>= λ i. Ok (amid earlier (with_item s i)))
 step_other earlier s line apart = rw (no_closing line apart) refl
 
 -- a line with an item is not a closing one, and adds the item to the message at hand
-pub step_item : (earlier : List (List ℕ)) (s : Seen) (line : List ℕ) (i : Item) → item_in earlier s line ≡ Ok i
+pub step_item : (earlier : List (List ℕ)) (s : OpenOp) (line : List ℕ) (i : Item) → item_in earlier s line ≡ Ok i
     → step_in earlier s line ≡ Ok (amid earlier (with_item s i))
 step_item earlier s line i e =
     step_other earlier s line (item_apart (labels_of earlier) (hand_of (is_within earlier) s) line i e)

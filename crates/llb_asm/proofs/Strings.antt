@@ -8,7 +8,8 @@ use Rattle.std.proofs.lemmas.Bool.{eq-eqb, ne_eqb, or_right}
 use Rattle.std.proofs.lemmas.List.{take_all, take_more, append-nil}
 use Rattle.std.proofs.lemmas.Grind.{flat_map-append}
 use Rattle.llb_wire.specs.Hexadecimal.{is_lower}
-use Rattle.llb_asm.specs.Values.{Escape, closed, backslash, first, digit_of, after_it, where_so, string_from, string_in, string_text, escaped}
+use Rattle.llb_asm.specs.Values.{Escape, closed, backslash, first, digit_of, after_it, string_from, string_in, string_text, escaped}
+use Rattle.llb_wire.specs.Texts.{where_so}
 use Rattle.llb_asm.specs.Values.{escape_of, Continues, Leads}
 
 -- ---- a text and what follows its prefix

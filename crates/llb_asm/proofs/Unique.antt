@@ -1,6 +1,7 @@
 -- A text has one result at most: entries, or a refusal, are what it is read as.
 use Rattle.std.proofs.Common.{◌≡◌, refl, sym, ap, ◌∙◌, ℕ, List, [], ◌∷◌, ◌++◌, map, Result, Ok, Err, append_assoc, append-nil, inl, inr}
-use Rattle.llb_wire.specs.Answer.{◌>>=◌, bind_ok}
+use Rattle.llb_wire.specs.Answer.{◌>>=◌}
+use Rattle.llb_wire.specs.Laws.Answers.{bind_ok}
 use Rattle.llb_ops.specs.Writing.{set_bytes}
 use Rattle.llb_asm.specs.declared.fault.Rule.TheVariants.{Unclosed}
 use Rattle.llb_asm.specs.declared.line.Refusal.{Refusal}
@@ -15,9 +16,9 @@ use Rattle.llb_asm.specs.Lines.{Line, kept}
 use Rattle.llb_asm.specs.Line.{inside}
 use Rattle.llb_asm.specs.Reading.{Items, done, single, nested, unclosed, lines_of, records_of, item_at, item, is_within, labels_of, closing, IsRefusedIn}
 use Rattle.llb_asm.specs.Reading.{Entries, none, raw, op, open_op, text_of, AreEntries, begun_in, entry_in, IsRefused}
-use Rattle.llb_asm.specs.Reading.{StandsFor, FaultAt, HasOneAnswer}
-use Rattle.llb_asm.specs.Running.{Seen, Progress, at_front, between, amid, with_item, with_begun, step_in, step_of, run_from, finish}
-use Rattle.llb_asm.proofs.States.{state, frame, state_after, state_in_op, FitsAt, here_after, state_whole, hand_after, item_in, step_other, step_item}
+use Rattle.llb_asm.specs.Reading.{SpellsEntries, FaultAt, HasOneAnswer}
+use Rattle.llb_asm.specs.Running.{OpenOp, Progress, at_front, between, amid, with_item, with_begun, step_in, step_of, run_from, finish}
+use Rattle.llb_asm.proofs.States.{state, frame, state_after, state_in_op, AreItemsAt, here_after, state_whole, hand_after, item_in, step_other, step_item}
 use Rattle.llb_asm.proofs.States.{progress_after, progress_closed, progress_open}
 
 -- ---- lines without their numbers
@@ -36,7 +37,7 @@ unfolding steps
 steps_begun earlier line x rest e = rw e refl
 
 module _ (earlier : List (List ℕ)) where
-  steps_item : (s : Seen) (line : List ℕ) (i : Item) (rest : List (List ℕ)) → item_in earlier s line ≡ Ok i
+  steps_item : (s : OpenOp) (line : List ℕ) (i : Item) (rest : List (List ℕ)) → item_in earlier s line ≡ Ok i
       → steps (amid earlier s) (line ∷ rest) ≡ steps (amid earlier (with_item s i)) rest
   unfolding steps
   steps_item s line i rest e = ap (λ r. r >>= λ q. steps q rest) (step_item earlier s line i e)
@@ -52,7 +53,7 @@ module _ (earlier : List (List ℕ)) where
   steps_entry h b entry rest e = rw e refl
 
   -- the lines of items lead to the state after them
-  steps_items : (h : Here) (b : List ℕ) (w : List Frame) (t : Items) → FitsAt earlier (state h b w) t → (more : List (List ℕ))
+  steps_items : (h : Here) (b : List ℕ) (w : List Frame) (t : Items) → AreItemsAt earlier (state h b w) t → (more : List (List ℕ))
       → steps (amid earlier (state h b w)) (lines_of t ++ more) ≡ steps (amid earlier (state_after h b w t)) more
   steps_items h b w done fits more = refl
   steps_items h b w (single line next bytes rest) (is, fits) more =
@@ -129,7 +130,7 @@ run_all lines t are text =
 
 -- ---- what is said of a text is read
 
-read_entries : (lines : List Line) (entries : List (List ℕ)) → StandsFor lines entries → run_from 0 (between []) lines ≡ Ok entries
+read_entries : (lines : List Line) (entries : List (List ℕ)) → SpellsEntries lines entries → run_from 0 (between []) lines ≡ Ok entries
 read_entries lines entries x =
     run_all lines x.parts x.are x.text
     ∙ ap (λ p. finish (last_of 0 lines) p.earlier p.current) (progress_closed [] x.parts x.closed)

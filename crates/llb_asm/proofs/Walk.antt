@@ -7,7 +7,8 @@ use Rattle.llb_asm.specs.declared.line.Refusal.TheVariants.{Breaks, UnknownLabel
 use Rattle.llb_asm.specs.declared.open.Frame.{Frame}
 use Rattle.llb_asm.specs.Lines.{Line, kept}
 use Rattle.llb_asm.specs.Reading.{Items, records_of, IsWhole, at_hand, outermost, item_at, is_within, labels_of, closing, IsRefusedIn}
-use Rattle.llb_asm.specs.Reading.{Entries, none, raw, op, open_op, text_of, AreClosed, AreEntries, begun_in, entry_in, IsRefused, StandsFor, FaultAt, Assembles}
+use Rattle.llb_asm.specs.Reading.{Entries, none, raw, op, open_op, text_of, AreClosed, AreEntries, begun_in, entry_in, IsRefused, SpellsEntries, FaultAt}
+use Rattle.llb_asm.specs.Reading.{Assembles}
 use Rattle.llb_asm.specs.Running.{Progress, at_front, between, amid, with_item, with_begun, closed_on, step_in, step_of, run_from, finish, next, Gives}
 use Rattle.llb_asm.proofs.States.{state_in_op, hand_after, whole_or_not, below_open, item_in, closes_or_not, step_other}
 use Rattle.llb_asm.proofs.States.{progress_after, progress_closed, closed_or_not, progress_open}
@@ -55,7 +56,7 @@ refuses earlier (open_op l items) line e is = refuses_in earlier items line e is
 
 -- what the reading says of all lines
 abbrev Says : List Line → Result (List (List ℕ)) (ℕ × Refusal) → Type 0
-Says lines (Ok entries) = StandsFor lines entries
+Says lines (Ok entries) = SpellsEntries lines entries
 Says lines (Err x) = FaultAt lines x.0 x.1
 
 -- the number is the last line's

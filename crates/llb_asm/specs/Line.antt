@@ -18,7 +18,8 @@ use Rattle.llb_asm.specs.declared.line.Here.{Here}
 use Rattle.llb_asm.specs.declared.line.Held.{Held}
 use Rattle.llb_asm.specs.declared.line.Held.TheVariants.{Record, Opens}
 use Rattle.llb_asm.specs.declared.line.Item.{Item}
-use Rattle.llb_asm.specs.Values.{is_text, number_in, string_in, bytes_spelled, label_in}
+use Rattle.llb_asm.specs.Values.{number_in, string_in, bytes_spelled, label_in}
+use Rattle.llb_wire.specs.Texts.{is_text}
 
 -- a value, or this refusal if there is none
 abbrev pub or_else : {A : Type 0} → Refusal → Option A → Result A Refusal

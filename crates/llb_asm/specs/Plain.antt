@@ -11,8 +11,9 @@ use Rattle.llb_ops.specs.Writing.{op_bytes}
 use Rattle.llb_ops.specs.Fields.{Fields, extra, number, bytes, message, without_empty, HasFields}
 use Rattle.llb_ops.specs.Definition.{definition_of, definition_bytes}
 use Rattle.llb_asm.specs.Lines.{kept}
-use Rattle.llb_asm.specs.Reading.{StandsFor}
-use Rattle.llb_asm.specs.Values.{is_text, number_text, string_text, label_text}
+use Rattle.llb_asm.specs.Reading.{SpellsEntries}
+use Rattle.llb_asm.specs.Values.{number_text, string_text, label_text}
+use Rattle.llb_wire.specs.Texts.{is_text}
 
 -- ---- values
 
@@ -119,4 +120,4 @@ plain_text xs = text_of_lines (plain_lines [] xs)
 abbrev pub ReadsBack : List (List ℕ) → Type 0
 ReadsBack entries =
     definition_of (definition_bytes entries) ≡ Ok entries → (xs : List Formed) → AreFormed entries xs
-    → StandsFor (kept (plain_text xs)) entries
+    → SpellsEntries (kept (plain_text xs)) entries

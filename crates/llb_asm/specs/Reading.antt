@@ -25,7 +25,8 @@ use Rattle.llb_asm.specs.declared.line.Held.TheVariants.{Record, Opens}
 use Rattle.llb_asm.specs.declared.line.Item.{Item}
 use Rattle.llb_asm.specs.declared.entry.Begun.{Begun}
 use Rattle.llb_asm.specs.declared.entry.Begun.TheVariants.{Raw, Structured}
-use Rattle.llb_asm.specs.Values.{is_text, bytes_spelled}
+use Rattle.llb_asm.specs.Values.{bytes_spelled}
+use Rattle.llb_wire.specs.Texts.{is_text}
 use Rattle.llb_asm.specs.Lines.{Line, kept}
 use Rattle.llb_asm.specs.Line.{or_else, guard, parted, inside, line_in}
 
@@ -108,14 +109,14 @@ abbrev pub item : Here → Held → Item
 item next held = record { next = next; held = held }
 
 -- each line adds its item to the message that is at hand there
-abbrev pub Fits : List (List ℕ) → Hand → Items → Type 0
-Fits labels hand done = Unit {0}
-Fits labels hand (single line next bytes rest) = (item_at labels hand line ≡ Ok (item next (Record bytes))) × Fits labels (beyond hand next bytes) rest
-Fits labels hand (nested line next number sub inner rest) =
-    (item_at labels hand line ≡ Ok (item next (Opens number sub))) × Fits labels (within hand number sub) inner × IsWhole inner
-    × Fits labels (beyond hand next (set_bytes number (records_of inner))) rest
-Fits labels hand (unclosed line next number sub inner) = (item_at labels hand line ≡ Ok (item next (Opens number sub)))
-    × Fits labels (within hand number sub) inner
+abbrev pub AreItems : List (List ℕ) → Hand → Items → Type 0
+AreItems labels hand done = Unit {0}
+AreItems labels hand (single line next bytes rest) = (item_at labels hand line ≡ Ok (item next (Record bytes))) × AreItems labels (beyond hand next bytes) rest
+AreItems labels hand (nested line next number sub inner rest) =
+    (item_at labels hand line ≡ Ok (item next (Opens number sub))) × AreItems labels (within hand number sub) inner × IsWhole inner
+    × AreItems labels (beyond hand next (set_bytes number (records_of inner))) rest
+AreItems labels hand (unclosed line next number sub inner) = (item_at labels hand line ≡ Ok (item next (Opens number sub)))
+    × AreItems labels (within hand number sub) inner
 
 -- the message at hand after some items
 abbrev pub at_hand : Hand → Items → Hand
@@ -208,12 +209,12 @@ abbrev pub AreEntries : List (List ℕ) → Entries → Type 0
 AreEntries earlier none = Unit {0}
 AreEntries earlier (raw line bytes rest) = (begun_in earlier line ≡ Ok (Raw bytes)) × AreEntries (earlier ++ bytes ∷ []) rest
 AreEntries earlier (op line items entry rest) =
-    (begun_in earlier line ≡ Ok Structured) × Fits (labels_of earlier) (outermost earlier) items × IsWhole items
+    (begun_in earlier line ≡ Ok Structured) × AreItems (labels_of earlier) (outermost earlier) items × IsWhole items
     × (entry_in earlier (records_of items) ≡ Ok entry) × AreEntries (earlier ++ entry ∷ []) rest
-AreEntries earlier (open_op line items) = (begun_in earlier line ≡ Ok Structured) × Fits (labels_of earlier) (outermost earlier) items
+AreEntries earlier (open_op line items) = (begun_in earlier line ≡ Ok Structured) × AreItems (labels_of earlier) (outermost earlier) items
 
 -- The lines are read as these entries.
-pub record StandsFor (lines : List Line) (entries : List (List ℕ)) : Type 0 where
+pub record SpellsEntries (lines : List Line) (entries : List (List ℕ)) : Type 0 where
   pub parts : Entries
   pub are : AreEntries [] parts
   pub closed : AreClosed parts
@@ -262,7 +263,7 @@ FaultAt lines n e = StopsAt lines n e ⊎ (EndsOpen lines n × (e ≡ Breaks Unc
 
 -- what a text is assembled to
 abbrev pub Assembles : List ℕ → Result (List (List ℕ)) AsmFault → Type 0
-Assembles text (Ok entries) = StandsFor (kept text) entries
+Assembles text (Ok entries) = SpellsEntries (kept text) entries
 Assembles text (Err (fault.Line n rule)) = FaultAt (kept text) n (Breaks rule)
 Assembles text (Err (fault.UnknownLabel n)) = FaultAt (kept text) n UnknownLabel
 Assembles text (Err fault.Memory) = Unit {0}
@@ -274,6 +275,6 @@ at_line n e = (n, e)
 
 -- A text is read as at most one list of entries, it has at most one first fault, and it never has both.
 pub record HasOneAnswer (text : List ℕ) : Type 0 where
-  pub entries : (a b : List (List ℕ)) → StandsFor (kept text) a → StandsFor (kept text) b → a ≡ b
-  pub apart : (a : List (List ℕ)) (n : ℕ) (e : Refusal) → StandsFor (kept text) a → ¬ FaultAt (kept text) n e
+  pub entries : (a b : List (List ℕ)) → SpellsEntries (kept text) a → SpellsEntries (kept text) b → a ≡ b
+  pub apart : (a : List (List ℕ)) (n : ℕ) (e : Refusal) → SpellsEntries (kept text) a → ¬ FaultAt (kept text) n e
   pub faults : (n : ℕ) (d : Refusal) (m : ℕ) (e : Refusal) → FaultAt (kept text) n d → FaultAt (kept text) m e → at_line n d ≡ at_line m e

@@ -18,7 +18,7 @@ use Rattle.llb_asm.specs.declared.open.Frame.{Frame}
 use Rattle.llb_asm.specs.declared.open.Open.{Open}
 use Rattle.llb_asm.specs.declared.open.Closed.{Closed}
 use Rattle.llb_asm.specs.declared.open.Closed.TheVariants.{Whole, Still}
-use Rattle.llb_asm.specs.Values.{is_text}
+use Rattle.llb_wire.specs.Texts.{is_text}
 use Rattle.llb_asm.specs.Lines.{Line}
 use Rattle.llb_asm.specs.Line.{inside}
 use Rattle.llb_asm.specs.Reading.{Hand, closing, record_length, is_within, item_at, begun_in, entry_in, labels_of}
@@ -26,15 +26,15 @@ use Rattle.llb_asm.specs.Reading.{Hand, closing, record_length, is_within, item_
 -- ---- an op that is open
 
 -- the message at hand and its bytes, and the messages that it is in, the innermost first
-pub record Seen : Type 0 where
+pub record OpenOp : Type 0 where
   pub here : Here
   pub bytes : List ℕ
   pub below : List Frame
 
-abbrev pub seen : Open → Seen
-seen s = record { here = s.here; bytes = s.bytes; below = reverse s.below }
+abbrev pub open_op_of : Open → OpenOp
+open_op_of s = record { here = s.here; bytes = s.bytes; below = reverse s.below }
 
-abbrev pub at_front : Seen
+abbrev pub at_front : OpenOp
 at_front = record { here = inside named.Op; bytes = []; below = [] }
 
 -- whether the entry has room for the message at hand where that has `size` bytes
@@ -42,44 +42,44 @@ abbrev pub room_in : (ℕ → Bool) → List Frame → ℕ → Bool
 room_in room [] size = room size
 room_in room (f ∷ below) size = room_in room below (length f.bytes + record_length f.number size)
 
-abbrev pub hand_of : (ℕ → Bool) → Seen → Hand
+abbrev pub hand_of : (ℕ → Bool) → OpenOp → Hand
 hand_of room s = record { here = s.here; bytes = s.bytes; room = room_in room s.below }
 
 -- the open op with an item more
-abbrev pub with_held : Seen → Here → Held → Seen
+abbrev pub with_held : OpenOp → Here → Held → OpenOp
 with_held s next (Record bytes) = record { here = next; bytes = s.bytes ++ bytes; below = s.below }
 with_held s next (Opens number sub) = record { here = inside sub; bytes = []; below = record { here = next; number = number; bytes = s.bytes } ∷ s.below }
 
-abbrev pub with_item : Seen → Item → Seen
+abbrev pub with_item : OpenOp → Item → OpenOp
 with_item s i = with_held s i.next i.held
 
 -- the message at hand ends: with it the op and its records, or the next message outwards is at hand
 pub data Ending : Type 0 where
   whole : List ℕ → Ending
-  still : Seen → Ending
+  still : OpenOp → Ending
 
 abbrev pub closing_on : List ℕ → List Frame → Ending
 closing_on bytes [] = whole bytes
 closing_on bytes (f ∷ below) = still (record { here = f.here; bytes = f.bytes ++ set_bytes f.number bytes; below = below })
 
-abbrev pub closing_of : Seen → Ending
+abbrev pub closing_of : OpenOp → Ending
 closing_of s = closing_on s.bytes s.below
 
 abbrev pub ended : Closed → Ending
 ended (Whole bytes) = whole bytes
-ended (Still s) = still (seen s)
+ended (Still s) = still (open_op_of s)
 
 -- ---- the text
 
 -- the entries that are whole, and the op that is open
 pub record Progress : Type 0 where
   pub earlier : List (List ℕ)
-  pub current : Option Seen
+  pub current : Option OpenOp
 
 abbrev pub between : List (List ℕ) → Progress
 between earlier = record { earlier = earlier; current = None }
 
-abbrev pub amid : List (List ℕ) → Seen → Progress
+abbrev pub amid : List (List ℕ) → OpenOp → Progress
 amid earlier s = record { earlier = earlier; current = Some s }
 
 abbrev pub with_begun : List (List ℕ) → Begun → Progress
@@ -87,7 +87,7 @@ with_begun earlier (Raw bytes) = between (earlier ++ bytes ∷ [])
 with_begun earlier Structured = amid earlier at_front
 
 abbrev pub progress_of : List (List ℕ) → Option Open → Progress
-progress_of earlier current = record { earlier = earlier; current = option_map seen current }
+progress_of earlier current = record { earlier = earlier; current = option_map open_op_of current }
 
 abbrev pub progresses : List (List ℕ) → Result (Option Open) Refusal → Result Progress Refusal
 progresses earlier (Ok current) = Ok (progress_of earlier current)
@@ -98,12 +98,12 @@ abbrev pub closed_on : List (List ℕ) → List ℕ → List Frame → Result Pr
 closed_on earlier bytes [] = entry_in earlier bytes >>= λ entry. Ok (between (earlier ++ entry ∷ []))
 closed_on earlier bytes (f ∷ below) = Ok (amid earlier (record { here = f.here; bytes = f.bytes ++ set_bytes f.number bytes; below = below }))
 
-abbrev pub step_in : List (List ℕ) → Seen → List ℕ → Result Progress Refusal
+abbrev pub step_in : List (List ℕ) → OpenOp → List ℕ → Result Progress Refusal
 step_in earlier s line =
     if is_text line closing then closed_on earlier s.bytes s.below
     else (item_at (labels_of earlier) (hand_of (is_within earlier) s) line >>= λ i. Ok (amid earlier (with_item s i)))
 
-abbrev pub step_on : List (List ℕ) → Option Seen → List ℕ → Result Progress Refusal
+abbrev pub step_on : List (List ℕ) → Option OpenOp → List ℕ → Result Progress Refusal
 step_on earlier None line = begun_in earlier line >>= λ b. Ok (with_begun earlier b)
 step_on earlier (Some s) line = step_in earlier s line
 
@@ -111,7 +111,7 @@ abbrev pub step_of : Progress → List ℕ → Result Progress Refusal
 step_of p line = step_on p.earlier p.current line
 
 -- the result after the last line, of that number
-abbrev pub finish : ℕ → List (List ℕ) → Option Seen → Result (List (List ℕ)) (ℕ × Refusal)
+abbrev pub finish : ℕ → List (List ℕ) → Option OpenOp → Result (List (List ℕ)) (ℕ × Refusal)
 finish n earlier None = Ok earlier
 finish n earlier (Some s) = Err (n, Breaks Unclosed)
 

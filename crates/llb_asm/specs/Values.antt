@@ -1,50 +1,20 @@
 -- How the value of a field is spelled: what a text is read as, and the one text that is written for a value.
-use Rattle.std.specs.Prelude.{◌≡◌, ◌≢◌, ◌<◌, ◌≤◌, ℕ, ◌-◌, ◌+◌, ◌*◌, ◌^◌, ◌==◌, ◌&&◌, ◌||◌, not, nat_lt, nat_le, nat_eq, if◌then◌else◌, Bool, true}
+use Rattle.std.specs.Prelude.{◌≡◌, ◌≢◌, ◌<◌, ◌≤◌, ℕ, ◌-◌, ◌+◌, ◌*◌, ◌^◌, ◌==◌, ◌&&◌, ◌||◌, nat_lt, nat_le, if◌then◌else◌, true}
 use Rattle.std.specs.Prelude.{false, List, [], ◌∷◌, ◌++◌, length, codes, Option, Some, None, option_map}
 use Rattle.std.specs.List.{list_all, flat_map}
 use Rattle.std.specs.Str.{is_utf8}
-use Rattle.std.specs.Cmp.Lexicographic.{pointwise}
-use Rattle.std.specs.Str.Parse.{digits_value}
 use Rattle.std.specs.Fmt.{decimal}
 use denote.Ref.{Bor}
 use Rattle.hex.specs.Hex.{encode_lower}
 use Rattle.llb_wire.specs.Hexadecimal.{is_hex, bytes_in, is_lower, hex_text}
 use Rattle.llb_wire.specs.Spelling.{AreBytes}
+use Rattle.llb_wire.specs.Texts.{is_text, where_so, then_in}
+use Rattle.llb_wire.specs.Decimal.{magnitude, below}
 use Rattle.llb_ops.specs.Fields.{IsNumberOf}
 use Rattle.llb_ops.specs.declared.table.FieldKind.{FieldKind}
 use Rattle.llb_ops.specs.declared.table.FieldKind.TheVariants.{Int64, Int32, Uint32, Enum, Bool as Flag, String, Bytes, Message}
 
--- whether two texts are equal
-abbrev pub is_text : List ℕ → List ℕ → Bool
-is_text a b = pointwise nat_eq a b
-
--- a value, if a test passes
-abbrev pub where_so : {A : Type 0} → Bool → A → Option A
-where_so true x = Some x
-where_so false x = None
-
--- what f makes of a value, if there is one
-abbrev pub then_in : {A B : Type 0} → Option A → (A → Option B) → Option B
-then_in None f = None
-then_in (Some x) f = f x
-
 -- ---- numbers, as a varint has them: negative ones in two's complement of 64 bits
-
--- whether a byte is a decimal digit
-abbrev pub is_digit : ℕ → Bool
-is_digit b = nat_le 48 b && nat_le b 57
-
--- the number that one or more decimal digits spell
-unfoldable pub magnitude : List ℕ → Option ℕ
-magnitude text = where_so (not (length text == 0) && list_all is_digit text) (digits_value 10 text)
-
--- a number as a 64-bit number holds it: 2^64 - 1 for all numbers above it
-abbrev pub capped : ℕ → ℕ
-capped n = if nat_lt n (2 ^ 64) then n else 2 ^ 64 - 1
-
--- a number that is below a limit
-abbrev pub below : ℕ → ℕ → Option ℕ
-below limit n = where_so (nat_lt n limit) n
 
 -- minus n in two's complement of 64 bits, if n is from 1 to the limit
 abbrev pub negated : ℕ → ℕ → Option ℕ

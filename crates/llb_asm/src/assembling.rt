@@ -3,7 +3,7 @@
 ghost use Rattle.std.specs.Prelude.{◌≡◌, IfOk, []};
 ghost use Rattle.llb_asm.specs.Lines.{kept};
 ghost use Rattle.llb_asm.specs.Reading.{Assembles};
-ghost use Rattle.llb_asm.specs.Running.{progresses, progress_of, seen, step_of, step_in, closed_on, run_from, between, fault_at, Gives, reached};
+ghost use Rattle.llb_asm.specs.Running.{progresses, progress_of, open_op_of, step_of, step_in, closed_on, run_from, between, fault_at, Gives, reached};
 
 use crate::earlier::Earlier;
 use crate::entry::{Begun, begun_in, entry_in};
@@ -53,7 +53,7 @@ fn close(
     earlier: &mut Earlier,
     current: Open,
 ) -> Result<Result<Option<Open>, Refusal>, Memory>
-    ensures { IfOk result (λ r. progresses earlier.new r ≡ closed_on earlier.old (seen current).bytes (seen current).below) }
+    ensures { IfOk result (λ r. progresses earlier.new r ≡ closed_on earlier.old (open_op_of current).bytes (open_op_of current).below) }
 {
     match current.close()? {
         Closed::Still(open) => Ok(Ok(Some(open))),
@@ -74,7 +74,7 @@ fn go_on(
     current: Open,
     line: &[u8],
 ) -> Result<Result<Option<Open>, Refusal>, Memory>
-    ensures { IfOk result (λ r. progresses earlier.new r ≡ step_in earlier.old (seen current) line.now) }
+    ensures { IfOk result (λ r. progresses earlier.new r ≡ step_in earlier.old (open_op_of current) line.now) }
 {
     if line == b"}".as_slice() {
         return close(alloc, earlier, current);

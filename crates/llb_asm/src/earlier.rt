@@ -65,6 +65,7 @@ impl Model for Earlier {
 }
 
 impl Earlier {
+    // No entries.
     pub(crate) fn new(alloc: Global) -> Earlier
         ensures { result ≡ [] }
     {

@@ -17,4 +17,3 @@ pub use assembling::assemble;
 pub use fault::{AsmFault, Rule};
 pub use laws::{one_answer, reads_back};
 pub use print::disassemble;
-pub use values::magnitude;

@@ -2,7 +2,7 @@
 
 ghost use Rattle.std.specs.Prelude.{◌≡◌, ◌<◌, ◌^◌, ◌++◌, ◌∷◌, IfOk, length, reverse};
 ghost use Rattle.llb_asm.specs.Reading.{is_within, item_at, labels_of, added};
-ghost use Rattle.llb_asm.specs.Running.{Seen, seen, at_front, room_in, hand_of, with_item, closing_of, ended};
+ghost use Rattle.llb_asm.specs.Running.{OpenOp, open_op_of, at_front, room_in, hand_of, with_item, closing_of, ended};
 
 use crate::earlier::{Earlier, record_length};
 use crate::fault::Rule;
@@ -65,7 +65,7 @@ fn added(held: &Held) -> usize
 impl Open {
     /// Returns an op at its start.
     pub(crate) fn new(alloc: Global) -> Open
-        ensures { seen result ≡ at_front }
+        ensures { open_op_of result ≡ at_front }
     {
         Open {
             here: inside(MessageName::Op),
@@ -81,7 +81,7 @@ impl Open {
         earlier: &Earlier,
         line: &[u8],
     ) -> Result<Result<Item, Refusal>, Memory>
-        ensures { IfOk result (λ r. r ≡ item_at (labels_of earlier.now) (hand_of (is_within earlier.now) (seen self.now)) line.now) }
+        ensures { IfOk result (λ r. r ≡ item_at (labels_of earlier.now) (hand_of (is_within earlier.now) (open_op_of self.now)) line.now) }
     {
         match line_in(alloc, earlier.labels(), self.here, line)? {
             Err(refusal) => Ok(Err(refusal)),
@@ -97,7 +97,7 @@ impl Open {
 
     /// Returns the op with an item more.
     pub(crate) fn with_item(self, alloc: Global, item: Item) -> Result<Open, Memory>
-        ensures { IfOk result (λ s. seen s ≡ with_item (seen self) item) }
+        ensures { IfOk result (λ s. open_op_of s ≡ with_item (open_op_of self) item) }
     {
         let Open {
             here: _,
@@ -133,7 +133,7 @@ impl Open {
 
     /// Closes the message at hand.
     pub(crate) fn close(self) -> Result<Closed, Memory>
-        ensures { IfOk result (λ c. ended c ≡ closing_of (seen self)) }
+        ensures { IfOk result (λ c. ended c ≡ closing_of (open_op_of self)) }
     {
         let mut below = self.below.into_vec();
         let Some(frame) = below.pop() else {

@@ -3,36 +3,17 @@
 ghost use Rattle.std.specs.Prelude.{◌≡◌, ◌==◌, ◌||◌, ◌^◌, ◌≤◌, ◌++◌, nat_lt, IfOk, OnOk};
 ghost use Rattle.std.specs.Option.{option_map};
 ghost use Rattle.llb_wire.specs.Hexadecimal.{hex_text};
-ghost use Rattle.llb_asm.specs.Values.{capped, magnitude, signed_in, flag_in, number_in, string_in, bytes_spelled, label_in, number_text};
+ghost use Rattle.llb_asm.specs.Values.{signed_in, flag_in, number_in, string_in, bytes_spelled, label_in, number_text};
+ghost use Rattle.llb_wire.specs.Decimal.{capped, magnitude};
 ghost use Rattle.llb_asm.specs.Values.{string_text, label_text, escaped, escape_of, lower_digit, Leads, Continues, string_from, closed, backslash};
 ghost use Rattle.llb_asm.specs.Values.{first, signed_text, flag_text, ValuesAreReadBack, ValuesAreSolid};
 ghost use Rattle.std.specs.Fmt.{decimal};
 ghost use Rattle.llb_ops.specs.declared.table.FieldKind.TheVariants as kind;
 
 use llb_ops::FieldKind;
-use llb_wire::{Bytes, Memory, is_hex, read_hex};
+use llb_wire::{Bytes, Memory, is_hex, magnitude, read_hex};
 use std::alloc::Global;
 use std::str::from_utf8;
-
-/// Reads a decimal number; all above 2^64 - 1 are read as 2^64 - 1. Returns `None` for other texts, an empty one among them.
-#[tactic(auto, unfolding(crate::specs::Values::magnitude))]
-pub fn magnitude(text: &[u8]) -> Option<u64>
-    ensures { result ≡ option_map capped (magnitude text.now) }
-{
-    if text.is_empty() {
-        return None;
-    }
-    let mut number: u64 = 0;
-    for byte in text {
-        if !byte.is_ascii_digit() {
-            return None;
-        }
-        number = number
-            .saturating_mul(10)
-            .saturating_add(u64::from(*byte - b'0'));
-    }
-    Some(number)
-}
 
 /// Reads a number from minus the limit up to below the limit, in two's complement.
 #[tactic(auto, unfolding(crate::specs::Values::signed_in))]

@@ -1,111 +1,101 @@
--- A claim that is granted: the board does what the table gives, and keeps its invariant.
-use Rattle.std.proofs.Common.{◌≡◌, ◌≢◌, ℕ, ◌<◌, List, [], ◌∷◌, ◌++◌, length, map, Option, Some, refl, sym, subst, ◌∙◌, arith}
-use Rattle.std.specs.Prelude.{Bool, Ok, AllPairs}
+-- A claim: the board does what the table gives, and keeps its invariant.
+use Rattle.std.proofs.Common.{◌≡◌, ℕ, ◌+◌, ◌-◌, ◌<◌, List, [], ◌∷◌, ◌++◌, length, true, Option, Some, refl, sym, ap, ◌∙◌, arith}
+use Rattle.std.specs.Prelude.{Result, Ok, Err, slice_get, slice_set}
 use Rattle.std.proofs.lemmas.Option.{slice_get_within}
-use Rattle.llb_cache.specs.declared.need.Need as cache_need
-use Rattle.llb_cache.specs.Caches.{CachesValue, Row, leases, AreApart, AreThere}
+use Rattle.llb_cache.specs.Caches.{Row}
 use Rattle.llb_loader.specs.declared.graph.Vertex.{Vertex}
-use Rattle.llb_loader.specs.Graph.{IsGraph}
-use Rattle.llb_model.specs.Program.{Build, Need, needs_of}
-use Rattle.llb_model.specs.Outcome.{inputs_from}
-use Rattle.llb_model.specs.State.{Waiting, Idle, ending_at}
-use Rattle.llb_model.specs.Leases.{HoldsAs, asked}
-use Rattle.llb_model.specs.Table.{Event, Claim, Reply, claim_grant}
-use Rattle.llb_model.proofs.Leasing.{leased_holds_as}
+use Rattle.llb_model.specs.ClaimCause.{ClaimCause}
+use Rattle.llb_model.specs.Program.{program_at}
 use Rattle.llb_model.specs.Room.{events_of}
-use Rattle.llb_model.proofs.Lists.{length_set}
-use Rattle.llb_model.proofs.Needs.{graph_distinct}
-use Rattle.llb_state.specs.Events.{Space, claimed as room_claimed}
-use Rattle.llb_state.specs.Caches.{lease_if, rows_after}
-use Rattle.llb_needs.specs.Needs.{shut_key, unless_shut, places_taken}
-use Rattle.llb_state.specs.Room.{supplies_of, supplies_for}
-use Rattle.llb_state.specs.Rules.{Begun, begun}
-use Rattle.llb_state.specs.Views.{status_of, at_of, leased_by, execution_of}
-use Rattle.llb_state.specs.declared.stand.Stand.{Stand}
-use Rattle.llb_state.specs.declared.stand.Stand.TheVariants as stand
-use Rattle.llb_state.specs.declared.stand.Desk.{Desk}
-use Rattle.llb_state.specs.declared.stand.Desk.TheVariants as desk
-use Rattle.llb_state.specs.declared.stand.Execution as own
-use Rattle.llb_state.proofs.Lists.{length_map}
-use Rattle.llb_state.proofs.Wanting.{asked_differ}
-use Rattle.llb_state.proofs.Returned.{few_leases}
-use Rattle.llb_state.proofs.Spaces.{space_claimed}
-use Rattle.llb_state.proofs.Calls.{CanClaim, Claims, claims, granted_of, needs_asked, claim_done}
-use Rattle.llb_state.proofs.Kept.{Data, state_as, Keeps, kept_after, claimed, claim_does, claim_rows, leased_claimed, made_for, supplies_claimed, marks_kept}
+use Rattle.llb_model.specs.State.{Waiting, Running}
+use Rattle.llb_model.specs.Table.{Event, Claim, Reply, claim_grant}
+use Rattle.llb_model.proofs.Events.{Answer, claim_is}
+use Rattle.llb_events.specs.Causes.{faulted, claim_fault}
+use Rattle.llb_events.specs.Faults.{claim_may_want}
+use Rattle.llb_events.specs.declared.fault.ClaimFault.{ClaimFault}
+use Rattle.llb_state.specs.Caches.{rows_after}
+use Rattle.llb_state.specs.Vertices.{VerticesValue, with_status}
+use Rattle.llb_state.specs.Workers.{WorkersValue, Fits, state_in, reply_of}
+use Rattle.llb_board.specs.Seen.{BoardValue, seen, recorded}
+use Rattle.llb_board.specs.Kept.{IsBoard}
+use Rattle.llb_board.specs.History.{Space, taken_by, claimed, unclaimed}
+use Rattle.llb_board.proofs.Calls.{claim_done}
+use Rattle.llb_board.proofs.Kept.{has_room, kept_after}
+use Rattle.llb_board.proofs.Spaces.{claim_takes, space_claimed}
 
--- the data of a board over these caches
-abbrev pub data_of : List Stand → List Desk → CachesValue → List Bool → Data
-data_of ss ds c stop_marks = record { stands = ss; desks = ds; rows = c.rows; out = c.out; stop_marks = stop_marks }
+-- ---- a claim that is refused
 
--- a board whose worker w may claim vertex v, which is x
-pub record MayClaim (b : Build) (first : List Row) (ss : List Stand) (ds : List Desk) (c : CachesValue) (stop_marks : List Bool)
-    (es : List Event) (space : Space) (w v : ℕ) (x : Vertex) : Type 0 where
-  pub kept : Keeps b first (data_of ss ds c stop_marks) es space
-  pub can : CanClaim b (state_as (data_of ss ds c stop_marks)) w v x
-  pub graph : IsGraph b.graph
-  pub apart : AreApart c.out
-  pub there : AreThere c.rows c.out
+-- a claim that does not begin is not granted
+pub refused_as : (n : BoardValue) (e : Event) (r : Result Answer ClaimCause) (f : ClaimFault) → reply_of (faulted claim_fault r) ≡ Err f
+    → recorded n e claim_fault r ≡ Err f
+refused_as n e (Ok a) f is = absurd cc
+refused_as n e (Err cause) f is = ap (λ x. Err x) (inside is)
+  where
+    inside : {x y : ClaimFault} → ◌≡◌ {A = Result Reply ClaimFault} (Err x) (Err y) → x ≡ y
+    inside e = cc
 
--- the leases that are out on a board have what its running workers have, as each of these has its own
-pub same_held : (b : Build) (first : List Row) (ss : List Stand) (ds : List Desk) (c : CachesValue) (stop_marks : List Bool) (es : List Event) (space : Space)
-    → Keeps b first (data_of ss ds c stop_marks) es space → HoldsAs c.out (map at_of ds)
-same_held b first ss ds c stop_marks es space kept = leased_holds_as c.out (map at_of ds) (map leased_by ds) kept.leased
+-- memory may be wanted of it where it may be of the table's answer
+pub wants_as : (n : BoardValue) (e : Event) (r : Result Answer ClaimCause) → claim_may_want (faulted claim_fault r) ≡ true
+    → claim_may_want (recorded n e claim_fault r) ≡ true
+wants_as n e (Ok a) is = refl
+wants_as n e (Err cause) is = is
 
--- fewer leases are out than can be
-pub few_out : (b : Build) (first : List Row) (ss : List Stand) (ds : List Desk) (c : CachesValue) (stop_marks : List Bool) (es : List Event) (space : Space)
-    → Keeps b first (data_of ss ds c stop_marks) es space → leases c.out < 65536
-few_out b first ss ds c stop_marks es space kept = let few = few_leases c.out (map at_of ds) (map leased_by ds) kept.leased in omega (arith, few, kept.few)
+-- and where the table grants it
+pub granted_wants : (n : BoardValue) (e : Event) (r : Result Answer ClaimCause) (q : Reply) → reply_of (faulted claim_fault r) ≡ Ok q
+    → claim_may_want (recorded n e claim_fault r) ≡ true
+granted_wants n e (Ok a) q is = refl
+granted_wants n e (Err cause) q is = absurd cc
 
-module _ (b : Build) (first : List Row) (ss : List Stand) (ds : List Desk) (c : CachesValue) (stop_marks : List Bool) (es : List Event)
-    (space : Space) (w v events : ℕ) (x : Vertex) (counts : events ≡ events_of x)
-    (may : MayClaim b first ss ds c stop_marks es space w v x) (g : Begun)
-    (begins : begun b c w v x (inputs_from (ending_at (map status_of ss)) x.inputs) ≡ Ok g) where
-  asked_so : g.needs ≡ asked may.can.trees (needs_of x)
-  asked_so = needs_asked b c w v x may.can.trees (inputs_from (ending_at (map status_of ss)) x.inputs) g may.can.inputs begins
+-- room that was reserved and is given up again
+pub released : (v n : ℕ) (space : Space) → unclaimed v n (claimed v n space) ≡ space
+released v n space =
+    let same : (a b : ℕ) → a + b - b ≡ a = λ a b. omega arith in
+    λ i. record { room = same space.room (taken_by v n space) i; cancels = space.cancels }
 
-  -- the keys that are leased differ
-  pub differ : AllPairs (λ (n m : cache_need.Need). n.key ≢ m.key) g.needs
-  differ = subst (AllPairs (λ (n m : cache_need.Need). n.key ≢ m.key)) (sym asked_so)
-      (asked_differ may.can.trees (needs_of x) (graph_distinct b may.graph v x may.can.there))
+-- ---- a claim that is granted
 
-  -- what the board does
-  pub record Did (l : Option ℕ) (own : own.Execution) (r : Reply) (new : CachesValue) : Type 0 where
-    pub grants : claim_grant b (state_as (data_of ss ds c stop_marks)) w v ≡ Ok (state_as (claimed (data_of ss ds c stop_marks) w v l own new), r)
-    pub rows : new.rows ≡ rows_after c.rows (state_as (claimed (data_of ss ds c stop_marks) w v l own new)) w
-    pub keeps : Keeps b first (claimed (data_of ss ds c stop_marks) w v l own new) (es ++ Claim w v ∷ []) (room_claimed v events space)
-    pub low_v : v < length ss
-    pub low_w : w < length ds
+-- the job that was begun is this worker's, of this vertex
+pub granted_at : (vs : VerticesValue) (ws us : WorkersValue) (w v u k : ℕ) (r : Reply) → u ≡ w → k ≡ v
+    → claim_grant vs.build (state_in vs ws) u k ≡ Ok (state_in (with_status k (Running u) vs) us, r)
+    → claim_grant vs.build (state_in vs ws) w v ≡ Ok (state_in (with_status v (Running w) vs) us, r)
+granted_at vs ws us w v u k r one two is =
+    (λ i. claim_grant vs.build (state_in vs ws) (sym one i) (sym two i)) ∙ is ∙ (λ i. Ok (state_in (with_status (two i) (Running (one i)) vs) us, r))
 
-  -- if the needs are admitted and leased, the claim is granted, and the board keeps its invariant
-  pub did : (l : Option ℕ) (own : own.Execution) (new : CachesValue) (ns : List Need)
-      → unless_shut (needs_of x) (shut_key c.out (needs_of x)) ≡ Ok ns → execution_of own ≡ g.execution
-      → lease_if c g.needs ≡ Ok (l, new) → supplies_of own ≡ supplies_for (Some x) → Did l own g.reply new
-  did l own new ns admitted same leases supplies =
-      let d = data_of ss ds c stop_marks in
-      let s = state_as d in
-      let can = may.can in
-      let held = same_held b first ss ds c stop_marks es space may.kept in
-      let lease = granted_of c new x can.trees l g.needs asked_so leases in
-      let is = claims b s w v x c new l g ns can refl (record { same = held; apart = may.apart; there = may.there })
-      (graph_distinct b may.graph v x can.there) admitted begins lease in
-      let so = subst (λ z. Claims b s w v x c new z g.reply) (sym same) is in
-      let does = claim_does b d w v l x c new own g.reply so in
-      let vertex : own.vertex ≡ v = so.vertex in
-      let stays = marks_kept b ss v (stand.Running w) Waiting can.waits refl refl in
-      let rows = claim_rows b d w v l x c new own g.reply can.idle refl so in
-      record {
-        grants = does;
-        rows = rows;
-        keeps = kept_after b first d (claimed d w v l own new) es space (Claim w v) g.reply may.kept (claim_done b s w v _ does) (record {
-          same = length_set ds w (desk.Runs l own);
-          rows = rows;
-          leased = leased_claimed d w l own (places_taken c.out (needs_of x)) new.out may.kept.leased can.idle so.places lease.leased;
-          supplies = supplies_claimed b ds w l own may.kept.supplies (supplies ∙ made_for b x v own.vertex can.there vertex);
-          marks = may.kept.stop_marks_are ∙ sym stays;
-        }) (room_claimed v events space)
-            (space_claimed b s w v events x (state_as (claimed d w v l own new), g.reply) may.kept.replays.replies space can.there counts
-            (claim_done b s w v _ does)
-            may.kept.counted);
-        low_v = omega (arith, slice_get_within (map status_of ss) v Waiting can.waits, length_map status_of ss);
-        low_w = omega (arith, slice_get_within (map at_of ds) w Idle can.idle, length_map at_of ds);
-      }
+pub rows_at : (vs : VerticesValue) (ws us : WorkersValue) (w v u k : ℕ) → u ≡ w → k ≡ v
+    → us.rows ≡ rows_after ws.rows (state_in (with_status k (Running u) vs) us) u
+    → us.rows ≡ rows_after ws.rows (state_in (with_status v (Running w) vs) us) w
+rows_at vs ws us w v u k one two is = is ∙ (λ i. rows_after ws.rows (state_in (with_status (two i) (Running (one i)) vs) us) (one i))
+
+module _ (vs : VerticesValue) (first : List Row) (ws us : WorkersValue) (es : List Event) (space : Space) (w v n : ℕ) (r : Reply)
+    (kept : IsBoard (seen vs first ws es) ws space)
+    (grants : claim_grant vs.build (state_in vs ws) w v ≡ Ok (state_in (with_status v (Running w) vs) us, r))
+    (steps : n ≡ length (program_at (slice_get vs.build.graph.vertices v)).steps) where
+  vertex : Vertex
+  vertex = (claim_is vs.build (state_in vs ws) w v _ (claim_done vs.build (state_in vs ws) w v _ grants)).start.vertex
+
+  there : slice_get vs.build.graph.vertices v ≡ Some vertex
+  unfolding vertex
+  there = (claim_is vs.build (state_in vs ws) w v _ (claim_done vs.build (state_in vs ws) w v _ grants)).begins.there
+
+  pub low : v < length vs.statuses
+  low =
+      slice_get_within vs.statuses v Waiting
+      (claim_is vs.build (state_in vs ws) w v _ (claim_done vs.build (state_in vs ws) w v _ grants)).begins.waits
+
+  counts : n + 2 ≡ events_of vertex
+  counts = ap (λ m. m + 2) steps ∙ ap (λ (o : Option Vertex). length (program_at o).steps + 2) there
+
+  pub room : length es < (claimed v (n + 2) space).room
+  room =
+      let place = has_room (seen vs first ws es) ws space (Claim w v) _ kept (claim_done vs.build (state_in vs ws) w v _ grants) in
+      let takes = claim_takes vs.build w v (n + 2) vertex kept.replays.replies space there counts kept.counted in
+      omega (arith, place, takes)
+
+  -- the board keeps its invariant
+  pub keeps : length us.workers ≡ length ws.workers → us.rows ≡ rows_after ws.rows (state_in (with_status v (Running w) vs) us) w → Fits vs.build us
+      → IsBoard (seen (with_status v (Running w) vs) first us (es ++ Claim w v ∷ [])) us (claimed v (n + 2) space)
+  keeps count rows fits =
+      kept_after vs (slice_set vs.statuses v (Running w)) first ws us es space (Claim w v) r kept
+      (claim_done vs.build (state_in vs ws) w v _ grants) (record { count = count; rows = rows; fits = fits }) (claimed v (n + 2) space)
+      (space_claimed vs.build (state_in vs ws) w v (n + 2) vertex _ kept.replays.replies space there counts
+      (claim_done vs.build (state_in vs ws) w v _ grants) kept.counted)

@@ -1,58 +1,58 @@
--- A landing: the board's data after the steps that an outcome counts, and the block of these and of the settle.
-use Rattle.std.proofs.Common.{◌≡◌, ℕ, zero, suc, ◌+◌, ◌<◌, ◌≤◌, ◌^◌, List, [], ◌∷◌, ◌++◌, map, length, refl, sym, ap, subst, ◌∙◌, arith}
+-- A landing: the board after the steps that an outcome counts, and the block of these and of the settle.
+use Rattle.std.proofs.Common.{◌≡◌, ℕ, zero, suc, ◌+◌, ◌<◌, ◌≤◌, List, [], ◌∷◌, ◌++◌, map, length, inl, inr, refl, sym, ap, subst, ◌∙◌, arith}
 use Rattle.std.proofs.Common.{length-append}
-use Rattle.std.specs.Prelude.{Bool, true, Option, Some, None, option_map, Result, Ok, Err, is_ok, is_some, slice_get, slice_set, fold}
+use Rattle.std.specs.Prelude.{Bool, true, false, Some, option_map, Result, Ok, Err, is_ok, is_some, slice_get, slice_set, fold}
 use Rattle.std.specs.Prelude.{if◌then◌else◌}
+use Rattle.std.specs.Bool.{OnFalse}
 use Rattle.std.specs.Result.{result_unwrap_or}
 use Rattle.std.proofs.lemmas.List.{length-replicate, append_assoc}
 use Rattle.std.proofs.lemmas.List.Sums.{fold-append}
-use Rattle.llb_cache.specs.Caches.{Row, Leases, AreApart, AreThere as AreAllThere}
+use Rattle.std.proofs.lemmas.Option.{slice_get_within}
+use Rattle.llb_cache.specs.Caches.{Row, trees_of}
 use Rattle.llb_loader.specs.Graph.{IsGraph}
 use Rattle.llb_tree.specs.Tree.{TreeMap}
-use Rattle.llb_model.specs.Caches.{Place, Store, Hold, Distinct, put_all, trees_at}
-use Rattle.llb_model.specs.Program.{Build, Left, key_of}
-use Rattle.llb_model.specs.State.{State, Running, At, Runs, Execution, opening, program_in, is_finished, ending_from}
+use Rattle.llb_model.specs.Caches.{Instance, Store, Has, Hold, Distinct, put_all, trees_at}
+use Rattle.llb_model.specs.Laws.{HasDistinctNeeds}
+use Rattle.llb_model.specs.Program.{Build, Left, Need, key_of, needs_of, step_on}
+use Rattle.llb_model.specs.State.{State, Running, WorkerStatus, Idle, Runs, Execution, opening, program_in, is_finished, ending_from, held, places_for}
+use Rattle.llb_model.specs.State.{work_of, begin_at}
 use Rattle.llb_model.specs.Kept.{store_of}
 use Rattle.llb_model.specs.Leases.{put_each}
 use Rattle.llb_model.specs.Landing.{steps_by, further, AreThere, AreLeft, left_so_far, with_steps, after_steps}
 use Rattle.llb_model.specs.SettleCause.{SettleCause, NotFinished}
-use Rattle.llb_model.specs.Table.{Event, Step, Settle, Reply, Job, settle_with, settled, settle_grant, table}
+use Rattle.llb_model.specs.Table.{Event, Claim, Step, Settle, Cancel, Reply, Job, settle_with, settled, settle_grant, table, execution_on, with_step}
 use Rattle.llb_model.specs.Run.{run}
-use Rattle.std.proofs.lemmas.Option.{slice_get-map}
-use Rattle.llb_model.proofs.Lists.{inside, get_set_same, length_set, got_within, get_within}
+use Rattle.llb_model.specs.Room.{cancels_in}
+use Rattle.llb_model.proofs.Lists.{get_set_same, get_within, got_within, got_set, got_replicate, length_set}
 use Rattle.llb_model.proofs.Stores.{hold_all, hold_trees, hold_length}
 use Rattle.llb_model.proofs.Parts.{go_keeps}
 use Rattle.llb_model.proofs.Leases.{writes_alike}
+use Rattle.llb_model.proofs.Kept.{shows_instances}
 use Rattle.llb_model.proofs.Needs.{graph_distinct}
 use Rattle.llb_model.proofs.There.{held_are_there}
-use Rattle.llb_model.specs.Room.{cancels_in}
+use Rattle.llb_model.proofs.Events.{Answer, claim_places, claim_is, step_is, settle_is, cancel_is}
 use Rattle.llb_model.proofs.Cancels.{steps_no_cancel, steps_counts, steps_roomy, record_fits}
-use Rattle.llb_model.proofs.Runs.{run_none, run_one, run_on}
+use Rattle.llb_model.proofs.Runs.{run_none, run_one, run_on, run_keeps}
 use Rattle.llb_model.proofs.Landing.{first_step, steps_as_block, after_again, further_keeps}
-use Rattle.llb_state.specs.Events.{Space}
-use Rattle.llb_state.specs.Board.{Seen, Replays, kept_next, kept_along, opening_with, after_event, recorded}
-use Rattle.llb_state.specs.Caches.{written, places_at, rows_after, leased_places}
-use Rattle.llb_execution.specs.Jobs.{OutcomeValue, IsOutcome, begun_on}
-use Rattle.llb_board.specs.Landing.{CanLand, IsThrough, Lands}
-use Rattle.llb_state.specs.Jobs.{job_now, IsRunOf, desk_left}
-use Rattle.llb_state.specs.Room.{Supplies, supplies_of, supplies_for, needs_at}
 use Rattle.llb_events.specs.Causes.{settle_fault, GivesSettle}
-use Rattle.llb_state.specs.Rules.{settle_of}
-use Rattle.llb_state.specs.Views.{at_of, leased_by, execution_of}
 use Rattle.llb_events.specs.Views.{settle_reply}
 use Rattle.llb_events.specs.declared.event.Settled.{Settled}
 use Rattle.llb_events.specs.declared.fault.SettleFault.{SettleFault}
-use Rattle.llb_state.specs.declared.stand.Desk.{Desk}
-use Rattle.llb_state.specs.declared.stand.Desk.TheVariants as desk
-use Rattle.llb_state.specs.declared.stand.Execution as running
-use Rattle.llb_state.proofs.Lists.{length_map, map_set, get_map}
-use Rattle.llb_state.proofs.Needed.{few_needs}
-use Rattle.llb_state.proofs.Calls.{settle_done}
-use Rattle.llb_state.proofs.Kept.{Data, state_as, seen_as, Keeps, kept_more, made_enough, supplies_claimed}
+use Rattle.llb_execution.specs.Jobs.{OutcomeValue, IsOutcome, begun_on}
+use Rattle.llb_state.specs.Caches.{written, places_at, rows_after}
+use Rattle.llb_state.specs.Jobs.{job_now, IsRunOf}
+use Rattle.llb_state.specs.Vertices.{VerticesValue}
+use Rattle.llb_state.specs.Workers.{WorkersValue, Fits, state_in, RunsJob, steps_left}
 use Rattle.llb_state.proofs.Rewritten.{AreKeysApart, AreWithin, each_within, each_again, each_there}
-use Rattle.llb_state.proofs.Sound.{consistent, reached}
-use Rattle.llb_state.proofs.Stepping.{Holding, holding, held_keys, places_are, leased_stepped}
 use Rattle.llb_state.proofs.Written.{written_each}
+use Rattle.llb_board.specs.Seen.{BoardValue, Replays, seen, opening_with, kept_next, kept_along, after_event, recorded}
+use Rattle.llb_board.specs.Kept.{IsBoard}
+use Rattle.llb_board.specs.History.{Space}
+use Rattle.llb_board.specs.Rules.{settle_of}
+use Rattle.llb_board.specs.Landing.{CanLand, IsThrough, Lands}
+use Rattle.llb_board.proofs.Calls.{settle_done}
+use Rattle.llb_board.proofs.Kept.{kept_more}
+use Rattle.llb_board.proofs.Sound.{consistent, reached}
 
 -- ---- the lists of instances after the steps
 
@@ -101,190 +101,208 @@ settles_if : (b : Build) (s : State) (w : ℕ) (x : Execution) → slice_get s.w
 unfolding settled_if
 settles_if b s w x at fin = ap (λ o. is_ok (settled b s w o)) at ∙ ap (λ f. is_ok (settled_if b s w x f)) fin
 
--- ---- the board's invariant after the steps
+-- ---- the keys of a worker's instances
 
-module _ (b : Build) (first : List Row) (d : Data) (es : List Event) (space : Space) (w : ℕ) (l : Option ℕ) (own : running.Execution) (o : OutcomeValue)
-    (kept : Keeps b first d es space)
-    (at : slice_get d.desks w ≡ Some (desk.Runs l own)) (apart : AreApart d.out) (there : AreAllThere d.rows d.out) (graph : IsGraph b.graph)
-    (can : IsRunOf b (store_of d.rows) w (execution_of own) o.job) (is : IsOutcome o.job o.count o.left) where
-  x : Execution
-  x = execution_of own
+record AreApart (s : State) : Type 0 where
+  each : (w : ℕ) (x : Execution) → slice_get s.workers w ≡ Some (Runs x) → AreKeysApart x.places
 
-  abbrev pub after : running.Execution
-  after = record own { done = own.done + o.count; fault = o.left.fault; view = o.left.work.own }
+has_key : (ps : List Instance) (ns : List Need) (p : Instance) → Has (places_for ps ns) p → Has (map key_of ns) p.key
+has_key ps [] p there = absurd there
+has_key ps (n ∷ ns) p (inl h) = inl (ap (λ (q : Instance). q.key) h)
+has_key ps (n ∷ ns) p (inr h) = inr (has_key ps ns p h)
 
-  abbrev pub later : Data
-  later = record d { desks = slice_set d.desks w (desk.Runs l after); rows = put_each d.rows own.places.items o.left.work.trees }
+keys_apart : (ps : List Instance) (ns : List Need) → Distinct (map key_of ns) → AreKeysApart (places_for ps ns)
+keys_apart ps [] apart = tt
+keys_apart ps (n ∷ ns) apart =
+    (λ q there same. apart.0 (subst (Has (map key_of ns)) (sym same) (has_key ps ns q there)), keys_apart ps ns apart.1)
 
-  runs : slice_get (map at_of d.desks) w ≡ Some (Runs (execution_of own))
-  runs = get_map at_of d.desks w (desk.Runs l own) at
+apart_set : (ws : List WorkerStatus) (w : ℕ) (z : WorkerStatus) → ((u : ℕ) (x : Execution) → slice_get ws u ≡ Some (Runs x) → AreKeysApart x.places)
+    → ((x : Execution) → z ≡ Runs x → AreKeysApart x.places) → (u : ℕ) (x : Execution) → slice_get (slice_set ws w z) u ≡ Some (Runs x)
+    → AreKeysApart x.places
+apart_set ws w z old new u x there = elim (got_set ws w z u (Runs x) there) [ inl h ↦ new x (sym (h.1)) | inr h ↦ old u x h.1 ]
 
-  holds : Holding d.rows d.out d.desks w l own
-  holds = holding d.rows d.out d.desks w l own apart there kept.leased at
+runs_inside : {x y : Execution} → Runs x ≡ Runs y → x ≡ y
+runs_inside e = cc
 
-  keys : AreKeysApart own.places.items
-  keys = held_keys d.out (Some l) own.places.items apart holds.has
+event_apart : (b : Build) → HasDistinctNeeds b → (s : State) (e : Event) (a : Answer) → AreApart s → table b s e ≡ Some a → AreApart a.0
+event_apart b differ s (Claim w v) a f given =
+    let c = claim_is b s w v a given in
+    let ps = claim_places s c.start in
+    let apart = keys_apart (held s.workers) (needs_of c.start.vertex) (differ v c.start.vertex c.begins.there) in
+    subst (λ (t : Answer). AreApart t.0) (sym c.gives) (record {
+      each = apart_set s.workers w (Runs (execution_on v (begin_at b s.store c.start ps) ps)) f.each
+          (λ x is. subst (λ (y : Execution). AreKeysApart y.places) (runs_inside is) apart);
+    })
+event_apart b differ s (Step w) a f given =
+    let c = step_is b s w a given in
+    let left = step_on c.x.done (Some c.step) (work_of s c.x) in
+    subst (λ (t : Answer). AreApart t.0) (sym c.gives) (record {
+      each = apart_set s.workers w (Runs (with_step c.x left)) f.each
+          (λ x is. subst (λ (y : Execution). AreKeysApart y.places) (runs_inside is) (f.each w c.x c.there));
+    })
+event_apart b differ s (Settle w) a f given =
+    let c = settle_is b s w a given in
+    subst (λ (t : Answer). AreApart t.0) (sym c.gives) (record { each = apart_set s.workers w Idle f.each (λ x is. absurd cc) })
+event_apart b differ s (Cancel w) a f given =
+    let c = cancel_is b s w a given in
+    subst (λ (t : Answer). AreApart t.0) (sym c.gives) (record { each = apart_set s.workers w Idle f.each (λ x is. absurd cc) })
 
-  ready : Distinct own.places.items × ((trees : List TreeMap) × Hold (store_of d.rows) own.places.items trees)
-  ready = held_are_there b (graph_distinct b graph) (state_as d) (reached (seen_as b first d es) kept.replays) w (execution_of own) runs
+-- no two instances of a running worker have one key, as no two needs of a vertex have
+held_keys : (b : BoardValue) → IsGraph b.build.graph → Replays b → (w : ℕ) (x : Execution) → slice_get b.state.workers w ≡ Some (Runs x) → AreKeysApart x.places
+held_keys b graph here w x there =
+    let f = run_keeps b.build AreApart (event_apart b.build (graph_distinct b.build graph)) (opening b.build b.opening) b.state b.events here.replies
+    (record { each = λ w x there. absurd (let h : Runs x ≡ Idle = got_replicate b.opening.workers Idle w (Runs x) there in cc) }) here.leads in
+    f.each w x there
+
+-- instances that hold trees are there
+within_by : (rows : List Row) (ps : List Instance) (ts : List TreeMap) → Hold (store_of rows) ps ts → AreWithin rows ps
+within_by rows [] ts hold p there = absurd there
+within_by rows (q ∷ ps) [] hold p there = absurd hold
+within_by rows (q ∷ ps) (t ∷ ts) hold p (inl h) =
+    subst (λ (r : Instance). r.number < length (trees_of rows r.key)) (sym h)
+    (slice_get_within (trees_of rows q.key) q.number t (sym (shows_instances rows q) ∙ hold.0))
+within_by rows (q ∷ ps) (t ∷ ts) hold p (inr h) = within_by rows ps ts hold.1 p h
+
+-- ---- the board after the steps
+
+module _ (vs : VerticesValue) (first : List Row) (ws us : WorkersValue) (es : List Event) (space : Space) (w : ℕ) (x : Execution) (o : OutcomeValue)
+    (kept : IsBoard (seen vs first ws es) ws space) (graph : IsGraph vs.build.graph)
+    (runs : slice_get ws.workers w ≡ Some (Runs x))
+    (can : IsRunOf vs.build (store_of ws.rows) w x o.job) (is : IsOutcome o.job o.count o.left)
+    (workers : us.workers ≡ slice_set ws.workers w (steps_left o (slice_get ws.workers w)))
+    (put : us.rows ≡ put_each ws.rows (places_at (slice_get ws.workers w)) o.left.work.trees) where
+  abbrev b : Build
+  b = vs.build
+
+  keys : AreKeysApart x.places
+  keys = held_keys (seen vs first ws es) graph kept.replays w x runs
+
+  ready : Distinct x.places × ((trees : List TreeMap) × Hold (store_of ws.rows) x.places trees)
+  ready = held_are_there vs.build (graph_distinct vs.build graph) (state_in vs ws) (reached (seen vs first ws es) kept.replays) w x runs
+
+  within : AreWithin ws.rows x.places
+  within = within_by ws.rows x.places ready.1.0 ready.1.1
 
   abbrev trees : List TreeMap
-  trees = trees_at (store_of d.rows) own.places.items
+  trees = trees_at (store_of ws.rows) x.places
 
-  hold : Hold (store_of d.rows) own.places.items (trees_at (store_of d.rows) own.places.items)
-  hold = subst (Hold (store_of d.rows) own.places.items) (sym (hold_trees (store_of d.rows) own.places.items ready.1.0 ready.1.1)) ready.1.1
+  hold : Hold (store_of ws.rows) x.places (trees_at (store_of ws.rows) x.places)
+  hold = subst (Hold (store_of ws.rows) x.places) (sym (hold_trees (store_of ws.rows) x.places ready.1.0 ready.1.1)) ready.1.1
 
-  now : IsOutcome (job_now b (store_of d.rows) w (execution_of own)) o.count o.left
+  now : IsOutcome (job_now vs.build (store_of ws.rows) w x) o.count o.left
   now = subst (λ (j : Job). IsOutcome j o.count o.left) can.same is
 
-  begun : begun_on (job_now b (store_of d.rows) w (execution_of own)) ≡ left_so_far (execution_of own) (trees_at (store_of d.rows) own.places.items)
-  begun = λ i. record { work = record { own = own.view; trees = trees_at (store_of d.rows) own.places.items }; fault = sym can.clean i }
+  begun : begun_on (job_now vs.build (store_of ws.rows) w x) ≡ left_so_far x (trees_at (store_of ws.rows) x.places)
+  begun = λ i. record { work = record { own = x.own; trees = trees_at (store_of ws.rows) x.places }; fault = sym can.clean i }
 
   abbrev last : Left
-  last = further (program_in b (execution_of own)).steps own.done (left_so_far (execution_of own) (trees_at (store_of d.rows) own.places.items)) o.count
+  last = further (program_in vs.build x).steps x.done (left_so_far x (trees_at (store_of ws.rows) x.places)) o.count
 
-  all : AreLeft (program_in b (execution_of own)).steps own.done (left_so_far (execution_of own) (trees_at (store_of d.rows) own.places.items)) o.count
-  all = subst (λ (f : Left). AreLeft (program_in b (execution_of own)).steps own.done f o.count) begun now.all
+  all : AreLeft (program_in vs.build x).steps x.done (left_so_far x (trees_at (store_of ws.rows) x.places)) o.count
+  all = subst (λ (f : Left). AreLeft (program_in vs.build x).steps x.done f o.count) begun now.all
 
   leaves : o.left ≡ last
-  leaves = now.leaves ∙ ap (λ (f : Left). further (program_in b (execution_of own)).steps own.done f o.count) begun
+  leaves = now.leaves ∙ ap (λ (f : Left). further (program_in vs.build x).steps x.done f o.count) begun
 
-  state_is : state_as later ≡ after_steps (state_as d) w (execution_of own) o.count o.left
+  abbrev pub after : Execution
+  after = record x { done = x.done + o.count; fault = o.left.fault; own = o.left.work.own }
+
+  workers_are : us.workers ≡ slice_set ws.workers w (Runs after)
+  workers_are = workers ∙ ap (λ a. slice_set ws.workers w (steps_left o a)) runs
+
+  rows_are : us.rows ≡ put_each ws.rows x.places o.left.work.trees
+  rows_are = put ∙ ap (λ a. put_each ws.rows (places_at a) o.left.work.trees) runs
+
+  state_is : state_in vs us ≡ after_steps (state_in vs ws) w x o.count o.left
   state_is = λ i. record {
-    statuses = (state_as d).statuses;
-    workers = map_set at_of d.desks w (desk.Runs l after) i;
-    store = writes_alike d.rows own.places.items o.left.work.trees holds.within i;
+    statuses = vs.statuses;
+    workers = workers_are i;
+    store = (ap store_of rows_are ∙ writes_alike ws.rows x.places o.left.work.trees within) i;
   }
 
-  steps : (rs : List Reply) × (run b (state_as d) (steps_by w o.count) ≡ Some (state_as later, rs))
+  steps : (rs : List Reply) × (run vs.build (state_in vs ws) (steps_by w o.count) ≡ Some (state_in vs us, rs))
   steps =
-      let block = steps_as_block b (state_as d) w (execution_of own) (trees_at (store_of d.rows) own.places.items) o.count runs holds.distinct hold all.there
+      let block = steps_as_block vs.build (state_in vs ws) w x (trees_at (store_of ws.rows) x.places) o.count runs ready.0 hold all.there
       in (
         block.0,
         block.1
-            ∙ ap (λ (f : Left). Some (after_steps (state_as d) w (execution_of own) o.count f, block.0)) (sym leaves)
+            ∙ ap (λ (f : Left). Some (after_steps (state_in vs ws) w x o.count f, block.0)) (sym leaves)
             ∙ ap (λ (s : State). Some (s, block.0)) (sym state_is),
       )
 
-  rows : kept_along b (state_as d) d.rows (steps_by w o.count) ≡ Some (state_as later, later.rows)
+  rows : kept_along vs.build (state_in vs ws) ws.rows (steps_by w o.count) ≡ Some (state_in vs us, us.rows)
   rows =
-      rows_steps b (state_as d) d.rows w (execution_of own) (trees_at (store_of d.rows) own.places.items) o.count refl runs holds.distinct keys holds.within
+      rows_steps vs.build (state_in vs ws) ws.rows w x (trees_at (store_of ws.rows) x.places) o.count refl runs ready.0 keys within
       hold all.there
-      ∙ ap (λ (f : Left). Some (after_steps (state_as d) w (execution_of own) o.count f, put_each d.rows own.places.items f.work.trees)) (sym leaves)
-      ∙ ap (λ (s : State). Some (s, later.rows)) (sym state_is)
+      ∙ ap (λ (f : Left). Some (after_steps (state_in vs ws) w x o.count f, put_each ws.rows x.places f.work.trees)) (sym leaves)
+      ∙ (λ i. Some (sym state_is i, sym rows_are i))
 
-  same : length later.desks ≡ length d.desks
-  same = length_set d.desks w (desk.Runs l after)
+  same : length us.workers ≡ length ws.workers
+  same = ap length workers_are ∙ length_set ws.workers w (Runs after)
 
-  made : supplies_of after ≡ supplies_for (slice_get b.graph.vertices own.vertex)
-  made =
-      (λ i. record (supplies_of own) { mounts = now.mounts i; shown = now.shown i })
-      ∙ made_enough b d.desks w l own kept.supplies at
-
-  leads : run b (opening b (opening_with (length d.desks) first)) (es ++ steps_by w o.count) ≡ Some (state_as later, kept.replays.replies ++ steps.0)
-  leads = run_on b (opening b (opening_with (length d.desks) first)) (state_as d) (state_as later) es (steps_by w o.count) kept.replays.replies steps.0
+  leads : run vs.build (opening vs.build (opening_with (length ws.workers) first)) (es ++ steps_by w o.count)
+      ≡ Some (state_in vs us, kept.replays.replies ++ steps.0)
+  leads = run_on vs.build (opening vs.build (opening_with (length ws.workers) first)) (state_in vs ws) (state_in vs us) es (steps_by w o.count)
+      kept.replays.replies steps.0
       kept.replays.leads steps.1
 
   quiet : (v : ℕ) → cancels_in v steps.0 ≡ 0
-  quiet = steps_no_cancel b w o.count (state_as d) (state_as later) steps.0 steps.1
+  quiet = steps_no_cancel vs.build w o.count (state_in vs ws) (state_in vs us) steps.0 steps.1
 
   -- the board keeps its invariant
-  pub keeps : Keeps b first later (es ++ steps_by w o.count) space
-  keeps =
-      let some = kept.some in
-      let few = kept.few in
-      let alike = same in
-      record {
-        replays = record {
-          replies = kept.replays.replies ++ steps.0;
-          leads = ap (λ n. run b (opening b (opening_with n first)) (es ++ steps_by w o.count)) same ∙ leads;
-          keeps = ap (λ n. kept_along b (opening b (opening_with n first)) first (es ++ steps_by w o.count)) same
-              ∙ fold-append (kept_next b) (Some (opening b (opening_with (length d.desks) first), first)) es (steps_by w o.count)
-              ∙ ap (λ k. fold (kept_next b) k (steps_by w o.count)) kept.replays.keeps
-              ∙ rows;
-        };
-        room = steps_roomy b (state_as d) (state_as later) kept.replays.replies steps.0 space.room quiet refl kept.room;
-        counted = kept.counted ∙ sym (steps_counts b kept.replays.replies steps.0 quiet);
-        leased = leased_stepped d.out d.out d.desks w l own after kept.leased at refl refl;
-        supplies = supplies_claimed b d.desks w l after kept.supplies made;
-        some = omega (arith, length_map at_of later.desks, length_map at_of d.desks, alike, some);
-        few = omega (arith, length_map at_of later.desks, length_map at_of d.desks, alike, few);
-        stop_marks_are = kept.stop_marks_are;
-      }
+  pub keeps : Fits vs.build us → IsBoard (seen vs first us (es ++ steps_by w o.count)) us space
+  keeps fits = record {
+    replays = record {
+      replies = kept.replays.replies ++ steps.0;
+      leads = ap (λ n. run vs.build (opening vs.build (opening_with n first)) (es ++ steps_by w o.count)) same ∙ leads;
+      keeps = ap (λ n. kept_along vs.build (opening vs.build (opening_with n first)) first (es ++ steps_by w o.count)) same
+          ∙ fold-append (kept_next vs.build) (Some (opening vs.build (opening_with (length ws.workers) first), first)) es (steps_by w o.count)
+          ∙ ap (λ k. fold (kept_next vs.build) k (steps_by w o.count)) kept.replays.keeps
+          ∙ rows;
+    };
+    room = steps_roomy vs.build (state_in vs ws) (state_in vs us) kept.replays.replies steps.0 space.room quiet refl kept.room;
+    counted = kept.counted ∙ sym (steps_counts vs.build kept.replays.replies steps.0 quiet);
+    fits = fits;
+  }
 
   -- there is room for the steps
   pub room : length es + o.count ≤ space.room
   room =
-      let fits = record_fits b (opening_with (length d.desks) first) (state_as later) (es ++ steps_by w o.count) (kept.replays.replies ++ steps.0) space.room
+      let fits = record_fits vs.build (opening_with (length ws.workers) first) (state_in vs us) (es ++ steps_by w o.count) (kept.replays.replies ++ steps.0)
+      space.room
       leads
-      (steps_roomy b (state_as d) (state_as later) kept.replays.replies steps.0 space.room quiet refl kept.room) in
+      (steps_roomy vs.build (state_in vs ws) (state_in vs us) kept.replays.replies steps.0 space.room quiet refl kept.room) in
       let count : length (steps_by w o.count) ≡ o.count = length-replicate o.count (Step w) in
       omega (arith, fits, length-append es (steps_by w o.count), count)
 
-  pub trees_count : length o.left.work.trees ≡ length own.places.items
-  trees_count =
-      ap (λ (f : Left). length f.work.trees) leaves
-      ∙ further_keeps (program_in b (execution_of own)).steps own.done (left_so_far (execution_of own) (trees_at (store_of d.rows) own.places.items)) o.count
-      ∙ hold_length (store_of d.rows) own.places.items (trees_at (store_of d.rows) own.places.items) hold
-
-  -- as the vertex has few needs, the number of trees that come back fits in 32 bits
-  pub few_trees : length o.left.work.trees < 2 ^ 32
-  few_trees =
-      let many : length own.places.items ≡ length (needs_at (slice_get b.graph.vertices own.vertex))
-      = sym (length_map (λ (p : Place). p.key) own.places.items) ∙ ap (λ (s : Supplies). length s.keys) (made_enough b d.desks w l own kept.supplies at)
-      ∙ length_map key_of (needs_at (slice_get b.graph.vertices own.vertex)) in
-      let count = trees_count in
-      omega (arith, many, count, few_needs b.graph own.vertex graph)
-
-  pub few_done : own.done + o.count < 2 ^ 32
-  few_done = now.few
-
   -- the steps are done, and what the worker runs is finished
-  pub through : IsThrough (seen_as b first d es) w o.count (seen_as b first later (es ++ steps_by w o.count))
+  pub through : IsThrough (seen vs first ws es) w o.count (seen vs first us (es ++ steps_by w o.count))
   through = record {
     steps = record {
       replies = steps.0;
       runs = steps.1;
       rows = rows;
       recorded = λ i. record {
-        build = b;
+        build = vs.build;
         opening = opening_with (same i) first;
         first = first;
-        state = state_as later;
-        rows = later.rows;
+        state = state_in vs us;
+        rows = us.rows;
         events = es ++ steps_by w o.count;
       };
     };
-    finished = settles_if b (state_as later) w (execution_of after)
-        (ap (λ (ws : List At). slice_get ws w) (map_set at_of d.desks w (desk.Runs l after))
-        ∙ get_set_same (map at_of d.desks) w (Runs (execution_of after)) (Runs (execution_of own)) runs)
-        (ap (λ (f : Left). is_finished (program_in b (execution_of own)).steps (with_steps (execution_of own) o.count f)) leaves ∙ all.over);
+    finished = settles_if vs.build (state_in vs us) w after
+        (ap (λ (l : List WorkerStatus). slice_get l w) workers_are ∙ get_set_same ws.workers w (Runs after) (Runs x) runs)
+        (ap (λ (f : Left). is_finished (program_in vs.build x).steps (with_steps x o.count f)) leaves ∙ all.over);
   }
 
-  -- the lease is the worker's
-  lease_is : (k : Option ℕ) → slice_get (map leased_by d.desks) w ≡ Some k → leased_places d.out k ≡ own.places.items
-  lease_is k leased =
-      ap (leased_places d.out) (inside (sym leased ∙ get_map leased_by d.desks w (desk.Runs l own) at)) ∙ places_are d.out l own.places.items holds.has
-
-  -- as many trees come back as the worker's lease has places
-  pub leased_count : (k : Option ℕ) → slice_get (map leased_by d.desks) w ≡ Some k → length o.left.work.trees ≡ length (leased_places d.out k)
-  leased_count k leased = trees_count ∙ ap length (sym (lease_is k leased))
-
-  -- what the board does is what the steps leave
-  pub data_is : (k : Option ℕ) (ds : List Desk) (rs : List Row) (out : Leases) → slice_get (map leased_by d.desks) w ≡ Some k
-      → ds ≡ slice_set d.desks w (desk_left o.count o.left.fault o.left.work.own (slice_get d.desks w))
-      → rs ≡ put_each d.rows (leased_places d.out k) o.left.work.trees → out ≡ d.out
-      → ◌≡◌ {A = Data} (record d { desks = ds; rows = rs; out = out }) later
-  data_is k ds rs out leased desks_are rows_are same = λ i. record d {
-    desks = (desks_are ∙ ap (λ e. slice_set d.desks w (desk_left o.count o.left.fault o.left.work.own e)) at) i;
-    rows = (rows_are ∙ ap (λ ps. put_each d.rows ps o.left.work.trees) (lease_is k leased)) i;
-    out = same i;
-  }
-
--- ---- the worker's desk
+-- a worker whose outcome can land runs its job
+pub runs_job : (vs : VerticesValue) (first : List Row) (ws : WorkersValue) (es : List Event) (w : ℕ) (job : Job) → CanLand (seen vs first ws es) w job
+    → RunsJob vs ws w job
+runs_job vs first ws es w job can = record { x = can.x; runs = can.runs; own = can.own }
 
 -- the vertex that a worker runs is there
-pub runs_vertex : (b : Seen) → Replays b → (w : ℕ) (x : Execution) → slice_get b.state.workers w ≡ Some (Runs x)
+pub runs_vertex : (b : BoardValue) → Replays b → (w : ℕ) (x : Execution) → slice_get b.state.workers w ≡ Some (Runs x)
     → is_some (slice_get b.build.graph.vertices x.vertex) ≡ true
 runs_vertex b here w x runs =
     let c = consistent b here in
@@ -292,51 +310,13 @@ runs_vertex b here w x runs =
     let count = c.count in
     ap is_some (get_within b.build.graph.vertices x.vertex (omega (arith, low, count))).1
 
-pub record HasDesk (b : Build) (d : Data) (w : ℕ) (job : Job) : Type 0 where
-  pub l : Option ℕ
-  pub own : running.Execution
-  pub at : slice_get d.desks w ≡ Some (desk.Runs l own)
-  pub run : IsRunOf b (store_of d.rows) w (execution_of own) job
-
--- where an outcome can land, the worker's desk has the execution that its job is of
-pub has_desk : (b : Build) (first : List Row) (d : Data) (es : List Event) (w : ℕ) (job : Job) → CanLand (seen_as b first d es) w job → HasDesk b d w job
-has_desk b first d es w job can = by_desk (slice_get d.desks w) refl (sym (slice_get-map at_of d.desks w) ∙ can.runs)
-  where
-    inside_at : {x y : Execution} → ◌≡◌ {A = Option At} (Some (Runs x)) (Some (Runs y)) → x ≡ y
-    inside_at e = cc
-
-    by_desk : (k : Option Desk) → slice_get d.desks w ≡ k → option_map at_of k ≡ Some (Runs can.x) → HasDesk b d w job
-    by_desk None at is = absurd cc
-    by_desk (Some desk.Idle) at is = absurd cc
-    by_desk (Some (desk.Runs l own)) at is = record {
-      l = l;
-      own = own;
-      at = at;
-      run = subst (λ (x : Execution). IsRunOf b (store_of d.rows) w x job) (sym (inside_at is)) can.own;
-    }
-
--- the micro-steps that are done and those that are left can be counted together
-pub few_steps : (b : Build) (first : List Row) (d : Data) (es : List Event) (w : ℕ) (o : OutcomeValue) (l : Option ℕ) (x : running.Execution)
-    → CanLand (seen_as b first d es) w o.job → IsOutcome o.job o.count o.left → slice_get d.desks w ≡ Some (desk.Runs l x)
-    → x.done + o.count < 2 ^ 32
-few_steps b first d es w o l x can is at =
-    let k = has_desk b first d es w o.job can in
-    let same : k.own ≡ x = own_inside (sym k.at ∙ at) in
-    let begun : o.job.done ≡ k.own.done = ap (λ (j : Job). j.done) k.run.same in
-    let done : k.own.done ≡ x.done = ap (λ (y : running.Execution). y.done) same in
-    let few = is.few in
-    omega (arith, few, begun, done)
-  where
-    own_inside : {l k : Option ℕ} {x y : running.Execution} → ◌≡◌ {A = Option Desk} (Some (desk.Runs l x)) (Some (desk.Runs k y)) → x ≡ y
-    own_inside e = cc
-
 -- ---- the block
 
 inside_ok : {A E : Type 0} {x y : A} → ◌≡◌ {A = Result A E} (Ok x) (Ok y) → x ≡ y
 inside_ok e = cc
 
 -- a settle after the steps completes the landing
-pub settles : (b n m : Seen) (w : ℕ) (o : OutcomeValue) (reply : Reply) → CanLand b w o.job → IsThrough b w o.count n → settle_of n w ≡ Ok (m, reply)
+pub settles : (b n m : BoardValue) (w : ℕ) (o : OutcomeValue) (reply : Reply) → CanLand b w o.job → IsThrough b w o.count n → settle_of n w ≡ Ok (m, reply)
     → Lands b w o m reply
 settles b n m w o reply can through is = by_grant (settle_grant n.build n.state w) refl is
   where
@@ -345,9 +325,10 @@ settles b n m w o reply can through is = by_grant (settle_grant n.build n.state 
     by_grant (Err cause) grants is = absurd cc
     by_grant (Ok (t, q)) grants is =
         let steps = through.steps in
-        let same : ◌≡◌ {A = Seen × Reply} (after_event n (Settle w) t, q) (m, reply) = inside_ok is in
+        let same : ◌≡◌ {A = BoardValue × Reply} (after_event n (Settle w) t, q) (m, reply) = inside_ok is in
         let given : table b.build n.state (Settle w) ≡ Some (t, q)
-        = ap (λ (c : Build). table c n.state (Settle w)) (sym (ap (λ (k : Seen). k.build) steps.recorded)) ∙ settle_done n.build n.state w (t, q) grants in
+        = ap (λ (c : Build). table c n.state (Settle w)) (sym (ap (λ (k : BoardValue). k.build) steps.recorded))
+        ∙ settle_done n.build n.state w (t, q) grants in
         record {
           can = can;
           replies = steps.replies;
@@ -356,7 +337,7 @@ settles b n m w o reply can through is = by_grant (settle_grant n.build n.state 
               ∙ (λ i. Some ((same i).0.state, steps.replies ++ (same i).1 ∷ []));
           rows = kept_more b.build b.state b.rows n.rows n.state t (steps_by w o.count) (Settle w) q steps.rows given
               ∙ (λ i. Some ((same i).0.state, (same i).0.rows));
-          recorded = sym (ap (λ (a : Seen × Reply). a.0) same)
+          recorded = sym (ap (λ (a : BoardValue × Reply). a.0) same)
               ∙ (λ i. record {
                 build = (steps.recorded i).build;
                 opening = (steps.recorded i).opening;
@@ -369,7 +350,7 @@ settles b n m w o reply can through is = by_grant (settle_grant n.build n.state 
         }
 
 -- the settle after the steps is not refused
-pub not_refused : (b n : Seen) (w count : ℕ) (e : SettleFault) → IsThrough b w count n → settle_of n w ≡ Err e → ⊥
+pub not_refused : (b n : BoardValue) (w count : ℕ) (e : SettleFault) → IsThrough b w count n → settle_of n w ≡ Err e → ⊥
 not_refused b n w count e through is = by_grant (settle_grant n.build n.state w) through.finished is
   where
     by_grant : (r : Result (State × Reply) SettleCause) → is_ok r ≡ true → recorded n (Settle w) settle_fault r ≡ Err e → ⊥
@@ -377,7 +358,12 @@ not_refused b n w count e through is = by_grant (settle_grant n.build n.state w)
     by_grant (Err cause) ok is = cc
 
 -- the steps and what the settle returns are the landing of the outcome
-pub lands : (b n m : Seen) (w : ℕ) (o : OutcomeValue) (r : Result Settled SettleFault) (other : Settled) → CanLand b w o.job → IsThrough b w o.count n
+pub lands : (b n m : BoardValue) (w : ℕ) (o : OutcomeValue) (r : Result Settled SettleFault) (other : Settled) → CanLand b w o.job → IsThrough b w o.count n
     → GivesSettle (λ s. (m, settle_reply s)) r (settle_of n w) → Lands b w o m (settle_reply (result_unwrap_or r other))
 lands b n m w o (Ok s) other can through gives = settles b n m w o (settle_reply s) can through gives
 lands b n m w o (Err e) other can through gives = absurd (not_refused b n w o.count e through (gives refl))
+
+-- a fact that holds if a test fails, for a test that has failed
+pub on_false : (b : Bool) (P : Type 0) → OnFalse b P → b ≡ false → P
+on_false true P h is = absurd cc
+on_false false P h is = h

@@ -1,51 +1,35 @@
 -- A board on which nothing has happened.
-use Rattle.std.proofs.Common.{◌≡◌, ℕ, zero, suc, ◌<◌, ◌≤◌, List, [], ◌∷◌, map, length, refl, sym, ap, ◌∙◌, subst, arith}
-use Rattle.std.specs.Prelude.{Some, Bool, true, false, ◌&&◌, nat_le, replicate}
+use Rattle.std.proofs.Common.{◌≡◌, true≢false, ℕ, zero, suc, ◌<◌, ◌≤◌, List, [], ◌∷◌, map, length, refl, sym, ap, ◌∙◌, subst, arith}
+use Rattle.std.specs.Prelude.{Some, None, Bool, true, false, ◌&&◌, nat_le, replicate, Result, Ok, Err, IfOk, IfErr, is_ok, if◌then◌else◌}
 use Rattle.std.proofs.lemmas.Bool.{leb-true}
 use Rattle.std.proofs.lemmas.List.{length-replicate}
-use Rattle.llb_cache.specs.Caches.{Row, Leases, leases}
+use Rattle.llb_cache.specs.Caches.{CachesValue, Row}
+use Rattle.llb_wire.specs.Answer.{MemoryLast}
 use Rattle.llb_model.specs.Program.{Build}
 use Rattle.llb_model.specs.State as model
-use Rattle.llb_model.specs.Kept.{store_of}
-use Rattle.llb_model.specs.Leases.{AreLeased}
 use Rattle.llb_model.specs.Table.{Event}
 use Rattle.llb_model.specs.Room.{most_events}
 use Rattle.llb_model.specs.Run.{run}
 use Rattle.llb_model.proofs.Owing.{IsRoomy, opening_roomy}
 use Rattle.llb_model.proofs.Cancels.{counts_open}
-use Rattle.llb_state.specs.Views.{status_of, at_of, leased_by}
-use Rattle.llb_state.specs.Events.{Space}
-use Rattle.llb_state.specs.Board.{opening_with, opened}
-use Rattle.llb_board.specs.Opening.{may_work}
-use Rattle.llb_state.specs.Room.{IsKept, seen, ready_made, needed}
-use Rattle.llb_state.specs.declared.stand.Stand.{Stand}
-use Rattle.llb_state.specs.declared.stand.Stand.TheVariants.{Waiting}
-use Rattle.llb_state.specs.declared.stand.Desk.{Desk}
-use Rattle.llb_state.specs.declared.stand.Desk.TheVariants.{Idle}
-use Rattle.llb_state.proofs.Returned.{none_leased}
-use Rattle.llb_state.proofs.Marked.{unmarked}
+use Rattle.llb_state.specs.Room.{supplies_for, needed}
+use Rattle.llb_state.specs.Vertices.{VerticesValue, all_waiting}
+use Rattle.llb_state.specs.Workers.{WorkersValue}
+use Rattle.llb_board.specs.Seen.{BoardValue, opening_with, opened, seen}
+use Rattle.llb_board.specs.Kept.{IsBoard}
+use Rattle.llb_board.specs.History.{Space}
+use Rattle.llb_board.specs.Opening.{may_work, open_with, open_memory, GivesOpen, returned}
+use Rattle.llb_board.specs.declared.fault.OpenFault.{OpenFault}
+use Rattle.llb_board.specs.declared.fault.OpenFault.TheVariants as opening
 
 -- a function maps n equal items to n equal results
-pub map_replicate : {A B : Type 0} (f : A → B) (n : ℕ) (x : A) → map f (replicate n x) ≡ replicate n (f x)
+map_replicate : {A B : Type 0} (f : A → B) (n : ℕ) (x : A) → map f (replicate n x) ≡ replicate n (f x)
 map_replicate f zero x = refl
 map_replicate f (suc n) x = ap (λ l. f x ∷ l) (map_replicate f n x)
 
--- where all vertices wait, all workers are idle and no event is recorded, a board is seen as one that was just opened
-pub seen_open : (b : Build) (first : List Row) (workers : ℕ) (ss : List Stand) (ds : List Desk) (rows : List Row) (es : List Event)
-    → ss ≡ replicate (length b.graph.vertices) Waiting → ds ≡ replicate workers Idle → es ≡ [] → first ≡ rows
-    → seen b first ss ds rows es ≡ opened b workers rows
-seen_open b first workers ss ds rows es s d e f = λ i. record {
-  build = b;
-  opening = opening_with ((ap length d ∙ length-replicate workers Idle) i) (f i);
-  first = f i;
-  state = record {
-    statuses = (ap (map status_of) s ∙ map_replicate status_of (length b.graph.vertices) Waiting) i;
-    workers = (ap (map at_of) d ∙ map_replicate at_of workers Idle) i;
-    store = store_of rows;
-  };
-  rows = rows;
-  events = e i;
-}
+-- n idle workers on these lists of instances
+abbrev pub idle_on : ℕ → List Row → WorkersValue
+idle_on n rows = record { workers = replicate n model.Idle; rows = rows; supplies = replicate n (supplies_for None) }
 
 opened_leads : (b : Build) (s : model.State) → run b s [] ≡ Some (s, [])
 unfolding run
@@ -64,35 +48,52 @@ some_work n is = let some : 1 ≤ n = leb-true 1 n (both (nat_le 1 n) (nat_le n 
 pub few_work : (n : ℕ) → may_work n ≡ true → n ≤ 64
 few_work n is = leb-true n 64 (both (nat_le 1 n) (nat_le n 64) is).1
 
--- no worker has a lease
-leased_open : (workers : ℕ) (ds : List Desk) (out : Leases) → ds ≡ replicate workers Idle → leases out ≡ 0
-    → AreLeased out (replicate workers model.Idle) (map leased_by ds)
-leased_open workers ds out d none =
-    subst (AreLeased out (replicate workers model.Idle)) (sym (ap (map leased_by) d ∙ map_replicate leased_by workers Idle)) (none_leased out workers none)
+-- where all vertices wait, all workers are idle and no event is recorded, a board is seen as one that was just opened
+pub seen_open : (vs : VerticesValue) (first : List Row) (ws : WorkersValue) (es : List Event) (n : ℕ) (rows : List Row) → vs ≡ all_waiting vs.build
+    → ws ≡ idle_on n rows → es ≡ [] → first ≡ rows
+    → seen vs first ws es ≡ opened vs.build n rows
+seen_open vs first ws es n rows v w e f =
+    (λ i. seen (v i) (f i) (w i) (e i))
+    ∙ (λ i. record (opened vs.build n rows) { opening = opening_with (length-replicate n model.Idle i) rows })
 
-pub record IsFresh (b : Build) (workers : ℕ) (ss : List Stand) (ds : List Desk) (es : List Event) (stop_marks : List Bool) (space : Space) : Type 0 where
-  pub stands : ss ≡ replicate (length b.graph.vertices) Waiting
-  pub desks : ds ≡ replicate workers Idle
-  pub events : es ≡ []
-  pub marks : stop_marks ≡ replicate (length b.graph.vertices) false
-  pub room : space.room ≡ most_events b []
-  pub cancels : space.cancels ≡ replicate (length b.graph.vertices) 0
+kept_fresh : (b : Build) (n : ℕ) (rows : List Row) (space : Space) → space.room ≡ most_events b [] → space.cancels ≡ replicate (length b.graph.vertices) 0
+    → IsBoard (opened b n rows) (idle_on n rows) space
+kept_fresh b n rows space room cancels = record {
+  replays = record { replies = []; leads = opened_leads b (model.opening b (opening_with n rows)); keeps = refl };
+  room = subst (IsRoomy b (model.opening b (opening_with n rows)) []) (sym room) (opening_roomy b (opening_with n rows));
+  counted = cancels ∙ sym (counts_open b.graph.vertices 0);
+  fits = sym (map_replicate (needed b) n model.Idle);
+}
 
--- a board that was just opened has its type's invariant, if no lease is out and the number of workers is allowed
-pub kept_open : (b : Build) (first : List Row) (workers : ℕ) (space : Space) (ss : List Stand) (ds : List Desk) (rows : List Row) (out : Leases)
-    (es : List Event)
-    (stop_marks : List Bool)
-    → IsFresh b workers ss ds es stop_marks space → first ≡ rows → leases out ≡ 0 → 0 < workers → workers ≤ 64
-    → IsKept (seen b first ss ds rows es) ds out stop_marks space
-kept_open b first workers space ss ds rows out es stop_marks fresh f none one most =
-    let kept : IsKept (opened b workers rows) ds out stop_marks space = record {
-      replays = record { replies = []; leads = opened_leads b (model.opening b (opening_with workers rows)); keeps = refl };
-      room = subst (IsRoomy b (model.opening b (opening_with workers rows)) []) (sym fresh.room) (opening_roomy b (opening_with workers rows));
-      counted = fresh.cancels ∙ sym (counts_open b.graph.vertices 0);
-      leased = leased_open workers ds out fresh.desks none;
-      supplies = ap (map ready_made) fresh.desks ∙ map_replicate ready_made workers Idle ∙ sym (map_replicate (needed b) workers model.Idle);
-      some = omega (arith, length-replicate workers model.Idle, one);
-      few = omega (arith, length-replicate workers model.Idle, most);
-      stop_marks_are = fresh.marks ∙ sym (unmarked b.graph.vertices);
-    } in
-    subst (λ b. IsKept b ds out stop_marks space) (sym (seen_open b first workers ss ds rows es fresh.stands fresh.desks fresh.events f)) kept
+-- a board that was just opened has its type's invariant
+pub kept_open : (vs : VerticesValue) (first : List Row) (ws : WorkersValue) (es : List Event) (n : ℕ) (rows : List Row) (space : Space)
+    → vs ≡ all_waiting vs.build
+    → ws ≡ idle_on n rows → es ≡ [] → first ≡ rows → space.room ≡ most_events vs.build [] → space.cancels ≡ replicate (length vs.build.graph.vertices) 0
+    → IsBoard (seen vs first ws es) ws space
+kept_open vs first ws es n rows space v w e f room cancels =
+    subst (λ (us : WorkersValue). IsBoard (seen vs first ws es) us space) (sym w)
+    (subst (λ (s : BoardValue). IsBoard s (idle_on n rows) space) (sym (seen_open vs first ws es n rows v w e f))
+    (kept_fresh vs.build n rows space room cancels))
+
+-- ---- what an opening returns
+
+if_open : Build → CachesValue → ℕ → Bool → Result BoardValue OpenFault
+if_open b c n may = if may then Ok (opened b n c.rows) else Err (opening.Workers b.graph b.locals c)
+
+-- with an allowed number of workers, an opening returns the board, or memory was refused
+pub opens : (b : Build) (c : CachesValue) (n : ℕ) (vs : VerticesValue) (r : Result BoardValue OpenFault) → may_work n ≡ true → vs.build ≡ b
+    → IfOk r (λ s. s ≡ opened vs.build n c.rows) → IfErr r (λ e. e ≡ opening.Memory vs.build.graph vs.build.locals c)
+    → GivesOpen (λ s. s) r (open_with b c n)
+unfolding if_open
+opens b c n vs (Ok s) may same ok err = ap (if_open b c n) may ∙ ap (λ (x : BoardValue). Ok x) (ap (λ (d : Build). opened d n c.rows) (sym same) ∙ sym ok)
+opens b c n vs (Err e) may same ok err = λ known. absurd (true≢false (sym (ap open_memory err) ∙ known))
+
+pub open_last : (b : Build) (c : CachesValue) (n : ℕ) (r : Result BoardValue OpenFault) → may_work n ≡ true → MemoryLast open_memory r (open_with b c n)
+unfolding if_open
+open_last b c n (Ok s) may = tt
+open_last b c n (Err e) may = λ memory. ap (λ f. is_ok (if_open b c n f)) may
+
+pub open_back : (b : Build) (c : CachesValue) (vs : VerticesValue) (r : Result BoardValue OpenFault) → vs.build ≡ b
+    → IfErr r (λ e. e ≡ opening.Memory vs.build.graph vs.build.locals c) → IfErr r (λ e. returned e ≡ (b, c))
+open_back b c vs (Ok s) same err = tt
+open_back b c vs (Err e) same err = ap returned err ∙ (λ i. (same i, c))

@@ -6,8 +6,8 @@ use Rattle.llb_model.specs.State.{State, Status, Running, Execution, Idle, Runs,
 use Rattle.llb_model.specs.Table.{Event, Claim, Step, Settle, Cancel, worker_of, execution_on, with_step, table}
 use Rattle.llb_model.proofs.Lists.{inside, get_set_other}
 use Rattle.llb_model.proofs.Events.{Answer, claim_places, claim_is, step_is, settle_is, cancel_is}
-use Rattle.llb_state.specs.Board.{Seen, Replays}
-use Rattle.llb_state.proofs.Sound.{consistent}
+use Rattle.llb_board.specs.Seen.{BoardValue, Replays}
+use Rattle.llb_board.proofs.Sound.{consistent}
 
 -- an event writes what its own worker does, and no other's
 pub others : (b : Build) (s : State) (e : Event) (a : Answer) → table b s e ≡ Some a → (u : ℕ) → u ≢ worker_of e
@@ -32,7 +32,8 @@ running_by (Running w) = w
 running_by _ = 0
 
 -- the status of a vertex names the worker that runs it, so no two run one
-pub one_each : (b : Seen) → Replays b → (u w : ℕ) (x y : Execution) → slice_get b.state.workers u ≡ Some (Runs x) → slice_get b.state.workers w ≡ Some (Runs y)
+pub one_each : (b : BoardValue) → Replays b → (u w : ℕ) (x y : Execution) → slice_get b.state.workers u ≡ Some (Runs x) → slice_get b.state.workers w
+    ≡ Some (Runs y)
     → x.vertex ≡ y.vertex → u ≡ w
 unfolding running_by
 one_each b here u w x y at there same =

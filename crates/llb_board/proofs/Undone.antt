@@ -1,134 +1,140 @@
--- An event is taken back, over the board's data: the board keeps its invariant.
-use Rattle.std.proofs.Common.{◌≡◌, ℕ, zero, suc, ◌-◌, ◌<◌, ◌≤◌, Bool, true, false, ◌||◌, ◌&&◌, List, [], ◌∷◌, ◌++◌, map, length, Option}
-use Rattle.std.proofs.Common.{Some, None, unwrap_or, inr, refl, sym, ap, subst, ◌∙◌, arith, length-append}
-use Rattle.std.specs.Prelude.{slice_get, slice_set, nat_lt}
-use Rattle.std.specs.Bool.{OnTrue, OnFalse}
-use Rattle.std.specs.Option.{ForSome}
-use Rattle.std.specs.List.{list_any}
-use Rattle.std.proofs.lemmas.Bool.{ltb-true, ltb-false}
+-- An event is taken back: the board does what the definitions say, and keeps its invariant.
+use Rattle.std.proofs.Common.{◌≡◌, ℕ, ◌+◌, ◌<◌, List, [], ◌∷◌, ◌++◌, map, length, Option, Some, None, refl, sym, ap, subst, ◌∙◌, arith}
+use Rattle.std.specs.Prelude.{slice_get, slice_set}
 use Rattle.std.proofs.lemmas.Option.{slice_get_within}
-use Rattle.llb_cache.specs.Caches.{CachesValue, Row, Leases}
+use Rattle.llb_cache.specs.Caches.{Row}
 use Rattle.llb_execution.specs.Marks.{Mark, put_back}
 use Rattle.llb_execution.specs.Parts.{mounts_in}
-use Rattle.llb_execution.proofs.Marks.{shown_back}
-use Rattle.llb_loader.specs.declared.graph.Edge.{Edge}
+use Rattle.llb_execution.proofs.Stepping.{seen_so}
 use Rattle.llb_loader.specs.declared.graph.Vertex.{Vertex}
-use Rattle.llb_model.specs.ByNumber.{by_number}
+use Rattle.llb_model.specs.Caches.{trees_at}
 use Rattle.llb_model.specs.Kept.{store_of}
-use Rattle.llb_model.specs.Leases.{AreLeased}
-use Rattle.llb_model.specs.Program.{Build}
-use Rattle.llb_model.specs.Run.{is_settled}
-use Rattle.llb_model.specs.State.{State, opening, Status, Waiting, Running, Execution, At, Idle, Runs, is_waiting, is_failed, ending_of, ending_at}
-use Rattle.llb_model.specs.State.{next_stopped}
-use Rattle.llb_model.specs.State.{stopped, is_stopped}
-use Rattle.llb_model.specs.Room.{cancel_counts, room_taken}
+use Rattle.llb_model.specs.Program.{program_at, step_on}
+use Rattle.llb_model.specs.Room.{events_of, cancel_counts}
 use Rattle.llb_model.specs.Run.{run}
-use Rattle.llb_model.specs.Table.{Event, Reply, table}
+use Rattle.llb_model.specs.State.{State, opening, Status, Running, Execution, WorkerStatus, Idle, Runs, work_of}
+use Rattle.llb_model.specs.Table.{Event, Claim, Step, Settle, Cancel, Reply, Cancelled, with_step, table}
 use Rattle.llb_model.proofs.Cancels.{event_returns}
+use Rattle.llb_model.proofs.Events.{Answer, step_is, cancel_is}
+use Rattle.llb_model.proofs.Lists.{inside, get_set_same, length_set}
 use Rattle.llb_model.proofs.Owing.{IsRoomy}
 use Rattle.llb_model.proofs.Runs.{run_more}
-use Rattle.llb_model.proofs.Lists.{inside, get_set_same, get_set_other, get_within, length_set}
-use Rattle.llb_state.specs.Events.{Space}
-use Rattle.llb_state.specs.Board.{Seen, Replays, opening_with, kept_along}
-use Rattle.llb_state.specs.Room.{AreOver, IsKept, Supplies, supplies_for, ready_made, needed}
-use Rattle.llb_board.specs.Undo.{Back, Unclaim, Unstep, Resume, Displaced}
-use Rattle.llb_state.specs.Undoing.{Before, Left, left_in, caches_in}
-use Rattle.llb_board.specs.Undo.{statuses_before, workers_before, step_before, rows_before, store_before, undone}
-use Rattle.llb_state.specs.Undoing.{front}
-use Rattle.llb_board.specs.Undo.{IsBegun, HasNoPlaces, FitsLeases, CanUndo, event_before}
-use Rattle.llb_board.specs.declared.undo.End.{End}
-use Rattle.llb_state.specs.Undoing.{desk_before, leases_before, caches_before, HasPlaceFor}
-use Rattle.llb_state.specs.Views.{status_of, at_of, leased_by, execution_of}
-use Rattle.llb_state.specs.declared.stand.Stand.{Stand}
-use Rattle.llb_state.specs.declared.stand.Stand.TheVariants as stand
-use Rattle.llb_state.specs.declared.stand.Desk.{Desk}
-use Rattle.llb_state.specs.declared.stand.Desk.TheVariants as desk
-use Rattle.llb_state.specs.declared.stand.Execution as own
-use Rattle.llb_state.specs.declared.undoing.Before as before
-use Rattle.llb_state.proofs.Spaces.{SpaceBefore}
-use Rattle.llb_state.proofs.Kept.{Data, Keeps, state_as, seen_as, made_enough, supplies_claimed, leased_claimed}
-use Rattle.llb_state.proofs.Lists.{map_set, get_map, length_map}
-use Rattle.llb_state.proofs.Sound.{consistent}
-use Rattle.llb_state.proofs.Stepping.{leased_stepped}
-use Rattle.llb_state.proofs.Marked.{marks_stay}
+use Rattle.llb_state.specs.Room.{Supplies, needed, supplies_for}
+use Rattle.llb_state.specs.Undo.{Back, Unclaim, Unstep, Resume, Displaced, workers_before, with_view_back, step_before, rows_before, supplies_before}
+use Rattle.llb_state.specs.Undo.{change_in, IsBehind, CanPutBack}
+use Rattle.llb_state.specs.Undoing.{Before}
+use Rattle.llb_state.specs.Vertices.{VerticesValue, IsWhole}
+use Rattle.llb_state.specs.Workers.{WorkersValue}
+use Rattle.llb_state.specs.declared.workers.undoing.End.TheVariants as end
+use Rattle.llb_state.proofs.Lists.{map_set, set_same, get_map}
+use Rattle.llb_board.specs.Seen.{BoardValue, Replays, opening_with, seen}
+use Rattle.llb_board.specs.Kept.{IsBoard}
+use Rattle.llb_board.specs.History.{Space, front, last_of, space_back}
+use Rattle.llb_board.specs.Undo.{statuses_before, store_before, undone, event_before, CanUndo}
+use Rattle.llb_board.proofs.Kept.{waits_whole, runs_whole, has_vertex}
+use Rattle.llb_board.proofs.Recorded.{last_is}
+use Rattle.llb_board.proofs.Sound.{consistent}
+use Rattle.llb_board.proofs.Spaces.{SpaceBefore, space_stayed, space_unclaimed, space_uncancelled}
 
--- ---- what is over stays so below a vertex
+-- ---- the workers as the event left them
 
--- a mark stays as it was made
-kept_mark : {A B : Type 0} (next : List B → A → B) (before : List B) (xs : List A) (k : ℕ) → k < length before → slice_get (by_number next before xs) k
-    ≡ slice_get before k
-kept_mark next before [] k low = refl
-kept_mark next before (x ∷ xs) k low =
-    let longer = length-append before (next before x ∷ []) in
-    kept_mark next (before ++ next before x ∷ []) xs k (omega (arith, longer, low)) ∙ first_part before (next before x) k low
-  where
-    first_part : {B : Type 0} (ys : List B) (y : B) (k : ℕ) → k < length ys → slice_get (ys ++ y ∷ []) k ≡ slice_get ys k
-    first_part [] y k low = absurd (omega (arith, low))
-    first_part (z ∷ ys) y zero low = refl
-    first_part (z ∷ ys) y (suc k) low = first_part ys y k (omega (arith, low))
+runs_inside : {x y : Execution} → ◌≡◌ {A = Option WorkerStatus} (Some (Runs x)) (Some (Runs y)) → x ≡ y
+runs_inside e = cc
 
--- the marks below a number depend on the failures below it
-marks_below : (S T : List Status) (n : ℕ) → ((j : ℕ) → j < n → is_failed (ending_at S j) ≡ is_failed (ending_at T j))
-    → (before : List Bool) (vs : List Vertex) (k : ℕ) → k < n
-    → slice_get (by_number (next_stopped S) before vs) k ≡ slice_get (by_number (next_stopped T) before vs) k
-marks_below S T n same before [] k low = refl
-marks_below S T n same before (v ∷ vs) k low =
-    by_place (nat_lt (length before) n) refl (marks_below S T n same (before ++ next_stopped S before v ∷ []) vs k low)
-  where
-    by_place : (b : Bool) → nat_lt (length before) n ≡ b
-        → slice_get (by_number (next_stopped S) (before ++ next_stopped S before v ∷ []) vs) k
-        ≡ slice_get (by_number (next_stopped T) (before ++ next_stopped S before v ∷ []) vs) k
-        → slice_get (by_number (next_stopped S) before (v ∷ vs)) k ≡ slice_get (by_number (next_stopped T) before (v ∷ vs)) k
-    by_place true is rest =
-        rest
-        ∙ ap (λ f. slice_get (by_number (next_stopped T) (before ++ (f || list_any (λ (e : Edge). unwrap_or (slice_get before e.vertex) false) v.inputs) ∷
-        []) vs) k)
-        (same (length before) (ltb-true (length before) n is))
-    by_place false is rest =
-        let past = ltb-false (length before) n is in
-        kept_mark (next_stopped S) before (v ∷ vs) k (omega (arith, past, low)) ∙ sym (kept_mark (next_stopped T) before (v ∷ vs) k (omega (arith, past, low)))
+-- a view that is put back has as many mounts, since the micro-step that is taken back kept them
+unstepped_mounts : (b : BoardValue) (o : Option Before) (w : ℕ) (mark : Mark) (x : Execution) → CanUndo (record { back = Unstep w mark; caches = o }) b
+    → slice_get b.state.workers w ≡ Some (Runs x)
+    → mounts_in (put_back mark x.own) ≡ mounts_in x.own
+unstepped_mounts b o w mark x can runs =
+    let s = (undone (record { back = Unstep w mark; caches = o }) b).state in
+    let c = step_is b.build s w _ can.last.gives in
+    let y = with_view_back mark x in
+    let before : slice_get s.workers w ≡ Some (Runs y)
+    = get_set_same b.state.workers w (step_before mark (slice_get b.state.workers w)) (Runs x) runs ∙ ap (λ a. Some (step_before mark a)) runs in
+    let is : c.x ≡ y = runs_inside (sym c.there ∙ before) in
+    let left = step_on c.x.done (Some c.step) (work_of s c.x) in
+    let after : slice_get b.state.workers w ≡ Some (Runs (with_step c.x left))
+    = ap (λ (a : Answer). slice_get a.0.workers w) c.gives ∙ get_set_same s.workers w (Runs (with_step c.x left)) (Runs c.x) c.there in
+    let own : x ≡ with_step c.x left = runs_inside (sym runs ∙ after) in
+    sym (ap (λ (z : Execution). mounts_in z.own) own ∙ (seen_so c.x.done c.step c.x.own (trees_at s.store c.x.places)).mounts
+    ∙ ap (λ (z : Execution). mounts_in z.own) is)
 
--- what is over below a vertex stays over if the vertex gets another state
-pub over_below : (b : Build) (S : List Status) (v : ℕ) (new : Status) (n r : ℕ) → r ≤ n → r ≤ v → AreOver b S n → AreOver b (slice_set S v new) r
-over_below b S v new n r fits below over k low =
-    let other : (j : ℕ) → j < v → slice_get (slice_set S v new) j ≡ slice_get S j = λ j less. get_set_other S v new j (λ e. absurd (omega (arith, less, e))) in
-    let here = other k (omega (arith, low, below)) in
-    let marks : is_stopped b (slice_set S v new) k ≡ is_stopped b S k
-    = ap (λ o. unwrap_or o false) (marks_below (slice_set S v new) S v (λ j less. ap (λ o. is_failed (ending_of o)) (other j less)) [] b.graph.vertices k
-    (omega (arith, low, below))) in
-    (λ i. is_settled (here i) || (is_waiting (here i) && marks i)) ∙ over k (omega (arith, low, fits))
+behind : (b : BoardValue) (k : Back) (o : Option Before) → Replays b → CanUndo (record { back = k; caches = o }) b → IsBehind k b.state.workers
+behind b (Unclaim w v) o here can =
+    let r = (consistent b here).running v w can.stands.runs in
+    slice_get_within b.state.workers w (Runs r.0) r.1
+behind b (Unstep w mark) o here can =
+    record { x = can.stands.x; runs = can.stands.runs; mounts = unstepped_mounts b o w mark can.stands.x can can.stands.runs }
+behind b (Resume e w left) o here can = can.stands.idle
 
--- ---- what an undo leaves of the data
+-- what an event displaced can be put back
+pub can_put_back : (vs : VerticesValue) (first : List Row) (ws : WorkersValue) (es : List Event) (u : Displaced) → Replays (seen vs first ws es)
+    → CanUndo u (seen vs first ws es) → CanPutBack u ws
+can_put_back vs first ws es u here can = record { behind = behind (seen vs first ws es) u.back u.caches here can; leased = can.leased }
 
-pub record Leaves (b : Build) (d d' : Data) (u : Displaced) : Type 0 where
-  pub statuses : map status_of d'.stands ≡ statuses_before u.back (map status_of d.stands)
-  pub workers : map at_of d'.desks ≡ workers_before u.back (map at_of d.desks)
-  pub rows : d'.rows ≡ rows_before u.caches d.rows
-  pub leased : AreLeased d'.out (map at_of d'.desks) (map leased_by d'.desks)
-  pub supplies : map ready_made d'.desks ≡ map (needed b) (map at_of d'.desks)
-  pub marks : d'.stop_marks ≡ stopped b (map status_of d'.stands)
+-- ---- the vertex that has another status
 
-as_many : (k : Back) (workers : List At) → length (workers_before k workers) ≡ length workers
+change_inside : {v u : ℕ} {s t : Status} → ◌≡◌ {A = Option (ℕ × Status)} (Some (v, s)) (Some (u, t)) → (v ≡ u) × (s ≡ t)
+change_inside e = (ap (λ (p : ℕ × Status). p.0) (inside e), ap (λ (p : ℕ × Status). p.1) (inside e))
+
+pub changed : (k : Back) (statuses : List Status) (v : ℕ) (s : Status) → Some (v, s) ≡ change_in k → statuses_before k statuses ≡ slice_set statuses v s
+changed (Unclaim w u) statuses v s is = let h = change_inside (sym is) in λ i. slice_set statuses (h.0 i) (h.1 i)
+changed (Unstep w mark) statuses v s is = absurd cc
+changed (Resume e w left) statuses v s is = let h = change_inside (sym is) in λ i. slice_set statuses (h.0 i) (h.1 i)
+
+pub unchanged : (k : Back) (statuses : List Status) → None ≡ change_in k → statuses_before k statuses ≡ statuses
+unchanged (Unclaim w u) statuses is = absurd cc
+unchanged (Unstep w mark) statuses is = refl
+unchanged (Resume e w left) statuses is = absurd cc
+
+-- that status has no trees
+pub change_whole : (k : Back) (o : Option Vertex) (v : ℕ) (s : Status) → Some (v, s) ≡ change_in k → IsWhole o s
+change_whole (Unclaim w u) o v s is = subst (IsWhole o) (change_inside (sym is)).1 (waits_whole o)
+change_whole (Unstep w mark) o v s is = absurd cc
+change_whole (Resume e w left) o v s is = subst (IsWhole o) (change_inside (sym is)).1 (runs_whole o w)
+
+-- and it is that of a vertex
+pub change_low : (b : BoardValue) (k : Back) (o : Option Before) (v : ℕ) (s : Status) → CanUndo (record { back = k; caches = o }) b → Some (v, s) ≡ change_in k
+    → v < length b.state.statuses
+change_low b (Unclaim w u) o v s can is =
+    let same = (change_inside (sym is)).0 in
+    subst (λ n. n < length b.state.statuses) same (slice_get_within b.state.statuses u (Running w) can.stands.runs)
+change_low b (Unstep w mark) o v s can is = absurd cc
+change_low b (Resume e w left) o v s can is =
+    let same = (change_inside (sym is)).0 in
+    let m = undone (record { back = Resume e w left; caches = o }) b in
+    let runs : slice_get m.state.workers w ≡ Some (Runs left.execution) = get_set_same b.state.workers w (Runs left.execution) Idle can.stands.idle in
+    let ran = (consistent m can.replays).working w left.execution runs in
+    let low = slice_get_within m.state.statuses left.execution.vertex (Running w) ran in
+    let count = length_set b.state.statuses left.execution.vertex (Running w) in
+    subst (λ n. n < length b.state.statuses) same (omega (arith, low, count))
+
+-- ---- what is left
+
+pub as_many : (k : Back) (workers : List WorkerStatus) → length (workers_before k workers) ≡ length workers
 as_many (Unclaim w v) workers = length_set workers w Idle
 as_many (Unstep w mark) workers = length_set workers w (step_before mark (slice_get workers w))
 as_many (Resume e w left) workers = length_set workers w (Runs left.execution)
-
-same_desks : (b : Build) (d d' : Data) (u : Displaced) → Leaves b d d' u → length d'.desks ≡ length d.desks
-same_desks b d d' u leaves =
-    sym (length_map at_of d'.desks) ∙ ap length leaves.workers ∙ as_many u.back (map at_of d.desks) ∙ length_map at_of d.desks
 
 store_by : (o : Option Before) (rows : List Row) → store_of (rows_before o rows) ≡ store_before o (store_of rows)
 store_by (Some c) rows = refl
 store_by None rows = refl
 
--- data that is what an undo leaves is seen as the board that `undone` gives
-pub undone_is : (b : Build) (first : List Row) (d d' : Data) (es : List Event) (u : Displaced) → Leaves b d d' u → seen_as b first d' (front es)
-    ≡ undone u (seen_as b first d es)
-undone_is b first d d' es u leaves =
-    let many = same_desks b d d' u leaves in
-    let store = ap store_of leaves.rows ∙ store_by u.caches d.rows in
+-- what an undo leaves of the statuses and of the workers
+pub record Leaves (vs : VerticesValue) (ws us : WorkersValue) (old : List Status) (u : Displaced) : Type 0 where
+  pub statuses : old ≡ statuses_before u.back vs.statuses
+  pub workers : us.workers ≡ workers_before u.back ws.workers
+  pub rows : us.rows ≡ rows_before u.caches ws.rows
+  pub supplies : us.supplies ≡ supplies_before u.back ws.supplies
+
+-- it is seen as the board that `undone` gives
+pub undone_is : (vs : VerticesValue) (first : List Row) (ws us : WorkersValue) (es : List Event) (old : List Status) (u : Displaced) → Leaves vs ws us old u
+    → seen (record vs { statuses = old }) first us (front es) ≡ undone u (seen vs first ws es)
+undone_is vs first ws us es old u leaves =
+    let many : length us.workers ≡ length ws.workers = ap length leaves.workers ∙ as_many u.back ws.workers in
+    let store = ap store_of leaves.rows ∙ store_by u.caches ws.rows in
     λ i. record {
-      build = b;
+      build = vs.build;
       opening = opening_with (many i) first;
       first = first;
       state = record { statuses = leaves.statuses i; workers = leaves.workers i; store = store i };
@@ -136,250 +142,118 @@ undone_is b first d d' es u leaves =
       events = front es;
     }
 
+-- each worker has the supplies of its vertex
+fits_before : (b : BoardValue) (k : Back) (o : Option Before) (supplies : List Supplies) → CanUndo (record { back = k; caches = o }) b
+    → supplies ≡ map (needed b.build) b.state.workers
+    → supplies_before k supplies ≡ map (needed b.build) (workers_before k b.state.workers)
+fits_before b (Unclaim w v) o supplies can fits =
+    ap (λ l. slice_set l w (supplies_for None)) fits ∙ sym (map_set (needed b.build) b.state.workers w Idle)
+fits_before b (Unstep w mark) o supplies can fits =
+    let ws = b.state.workers in
+    let x = can.stands.x in
+    fits
+    ∙ sym (set_same (map (needed b.build) ws) w (needed b.build (Runs x)) (get_map (needed b.build) ws w (Runs x) can.stands.runs))
+    ∙ sym (map_set (needed b.build) ws w (Runs (with_view_back mark x)))
+    ∙ ap (λ a. map (needed b.build) (slice_set ws w (step_before mark a))) (sym can.stands.runs)
+fits_before b (Resume e w left) o supplies can fits =
+    (λ i. slice_set (fits i) w (can.stands.supplies i)) ∙ sym (map_set (needed b.build) b.state.workers w (Runs left.execution))
+
 -- ---- the record before
 
 -- a record that can be taken back: what it was, with its last event, and the room and the counts by its replies
-pub record EndsWith (b : Build) (first : List Row) (d : Data) (es : List Event) (space : Space) (u : Displaced) : Type 0 where
+pub record EndsWith (b : BoardValue) (space : Space) (u : Displaced) : Type 0 where
   pub replies : List Reply
-  pub leads : run b (opening b (opening_with (length d.desks) first)) (front es) ≡ Some ((undone u (seen_as b first d es)).state, replies)
-  pub keeps : kept_along b (opening b (opening_with (length d.desks) first)) first (front es)
-      ≡ Some ((undone u (seen_as b first d es)).state, (undone u (seen_as b first d es)).rows)
+  pub leads : run b.build (opening b.build b.opening) (front b.events) ≡ Some ((undone u b).state, replies)
   pub reply : Reply
-  pub gives : table b (undone u (seen_as b first d es)).state (event_before u.back) ≡ Some (state_as d, reply)
-  pub counted : space.cancels ≡ cancel_counts b (replies ++ reply ∷ [])
-  pub roomy : IsRoomy b (state_as d) (replies ++ reply ∷ []) space.room
+  pub gives : table b.build (undone u b).state (event_before u.back) ≡ Some (b.state, reply)
+  pub counted : space.cancels ≡ cancel_counts b.build (replies ++ reply ∷ [])
+  pub roomy : IsRoomy b.build b.state (replies ++ reply ∷ []) space.room
 
 replies_inside : {s t : State} {rs qs : List Reply} → ◌≡◌ {A = Option (State × List Reply)} (Some (s, rs)) (Some (t, qs)) → rs ≡ qs
 replies_inside e = ap (λ (a : State × List Reply). a.1) (inside e)
 
-pub ends_with : (b : Build) (first : List Row) (d : Data) (es : List Event) (space : Space) (u : Displaced) → Keeps b first d es space
-    → CanUndo u (seen_as b first d es) → EndsWith b first d es space u
-ends_with b first d es space u kept can =
-    let o = opening b (opening_with (length d.desks) first) in
+pub ends_with : (b : BoardValue) (ws : WorkersValue) (space : Space) (u : Displaced) → IsBoard b ws space → CanUndo u b → EndsWith b space u
+ends_with b ws space u kept can =
+    let o = opening b.build b.opening in
     let rs = can.replays.replies in
     let r = can.last.reply in
-    let all : run b o es ≡ Some (state_as d, rs ++ r ∷ [])
-    = ap (run b o) can.last.events
-    ∙ run_more b o (undone u (seen_as b first d es)).state (state_as d) (front es) rs (event_before u.back) r can.replays.leads can.last.gives in
+    let all : run b.build o b.events ≡ Some (b.state, rs ++ r ∷ [])
+    = ap (run b.build o) can.last.events
+    ∙ run_more b.build o (undone u b).state b.state (front b.events) rs (event_before u.back) r can.replays.leads can.last.gives in
     let same : kept.replays.replies ≡ rs ++ r ∷ [] = replies_inside (sym kept.replays.leads ∙ all) in
     record {
       replies = rs;
       leads = can.replays.leads;
-      keeps = can.replays.keeps;
       reply = r;
       gives = can.last.gives;
-      counted = kept.counted ∙ ap (cancel_counts b) same;
-      roomy = subst (λ qs. IsRoomy b (state_as d) qs space.room) same kept.room;
+      counted = kept.counted ∙ ap (cancel_counts b.build) same;
+      roomy = subst (λ qs. IsRoomy b.build b.state qs space.room) same kept.room;
     }
 
--- data that is what an undo leaves has the board's invariant, if the room and the counts are what they were
-pub undo_keeps : (b : Build) (first : List Row) (d d' : Data) (es : List Event) (space old : Space) (u : Displaced) → Keeps b first d es space
-    → (ends : EndsWith b first d es space u) → SpaceBefore b ends.replies (event_before u.back) space old
-    → Leaves b d d' u → Keeps b first d' (front es) old
-undo_keeps b first d d' es space old u kept ends before leaves =
-    let n = undone u (seen_as b first d es) in
-    let replays : Replays n = record { replies = ends.replies; leads = ends.leads; keeps = ends.keeps } in
-    let many = as_many u.back (map at_of d.desks) in
-    let some = kept.some in
-    let few = kept.few in
-    let returned = event_returns b n.state ends.replies space.room (event_before u.back) (state_as d, ends.reply)
+-- the room and the counts before the event, where a vertex has another status than before
+pub space_changed : (b : BoardValue) (space : Space) (k : Back) (o : Option Before) (v n : ℕ) (s : Status) → Replays b
+    → (ends : EndsWith b space (record { back = k; caches = o })) → CanUndo (record { back = k; caches = o }) b
+    → Some (v, s) ≡ change_in k → n ≡ length (program_at (slice_get b.build.graph.vertices v)).steps
+    → SpaceBefore b.build ends.replies (event_before k) space (space_back (last_of b.events) v (n + 2) space)
+space_changed b space (Unclaim w u) o v n s here ends can is counts =
+    let same = (change_inside (sym is)).0 in
+    let x = has_vertex b here u (Running w) can.stands.runs in
+    let many : n + 2 ≡ events_of x.0
+    = ap (λ m. m + 2) counts ∙ ap (λ m. length (program_at (slice_get b.build.graph.vertices m)).steps + 2) (sym same)
+    ∙ ap (λ (y : Option Vertex). length (program_at y).steps + 2) x.1 in
+    subst (λ e. SpaceBefore b.build ends.replies (Claim w u) space (space_back e v (n + 2) space))
+    (sym (last_is b.events _ (Claim w u) can.last.events))
+    (subst (λ m. SpaceBefore b.build ends.replies (Claim w u) space (space_back (Some (Claim w u)) m (n + 2) space)) same
+    (space_unclaimed b.build _ w u (n + 2) x.0 _ ends.replies space x.1 many ends.gives ends.counted))
+space_changed b space (Unstep w mark) o v n s here ends can is counts = absurd cc
+space_changed b space (Resume end.Settle w left) o v n s here ends can is counts =
+    subst (λ e. SpaceBefore b.build ends.replies (Settle w) space (space_back e v (n + 2) space))
+    (sym (last_is b.events _ (Settle w) can.last.events))
+    (space_stayed b.build _ (Settle w) _ ends.replies space (λ u e. cc) refl ends.gives ends.counted)
+space_changed b space (Resume end.Cancel w left) o v n s here ends can is counts =
+    let same = (change_inside (sym is)).0 in
+    let m = undone (record { back = Resume end.Cancel w left; caches = o }) b in
+    let x = left.execution in
+    let runs : slice_get m.state.workers w ≡ Some (Runs x) = get_set_same b.state.workers w (Runs x) Idle can.stands.idle in
+    let y = has_vertex m can.replays x.vertex (Running w) ((consistent m can.replays).working w x runs) in
+    let c = cancel_is b.build m.state w _ ends.gives in
+    let ran : c.x ≡ x = runs_inside (sym c.there ∙ runs) in
+    let reply : ends.reply ≡ Cancelled x.vertex x.done = ap (λ (t : Answer). t.1) c.gives ∙ (λ i. Cancelled (ran i).vertex (ran i).done) in
+    subst (λ e. SpaceBefore b.build ends.replies (Cancel w) space (space_back e v (n + 2) space))
+    (sym (last_is b.events _ (Cancel w) can.last.events))
+    (subst (λ m. SpaceBefore b.build ends.replies (Cancel w) space (space_back (Some (Cancel w)) m (n + 2) space)) same
+    (space_uncancelled b.build w x.vertex x.done y.0 ends.replies space y.1
+    (subst (λ r. space.cancels ≡ cancel_counts b.build (ends.replies ++ r ∷ [])) reply ends.counted)))
+
+-- and where none has
+pub space_unchanged : (b : BoardValue) (space : Space) (k : Back) (o : Option Before) (v n : ℕ) → (ends : EndsWith b space (record { back = k; caches = o }))
+    → CanUndo (record { back = k; caches = o }) b
+    → None ≡ change_in k
+    → SpaceBefore b.build ends.replies (event_before k) space (space_back (last_of b.events) v n space)
+space_unchanged b space (Unclaim w u) o v n ends can is = absurd cc
+space_unchanged b space (Unstep w mark) o v n ends can is =
+    subst (λ e. SpaceBefore b.build ends.replies (Step w) space (space_back e v n space)) (sym (last_is b.events _ (Step w) can.last.events))
+    (space_stayed b.build _ (Step w) _ ends.replies space (λ u e. cc) refl ends.gives ends.counted)
+space_unchanged b space (Resume e w left) o v n ends can is = absurd cc
+
+-- ---- the invariant
+
+-- what an undo leaves has the board's invariant, if the room and the counts are what they were
+pub undo_keeps : (vs : VerticesValue) (first : List Row) (ws us : WorkersValue) (es : List Event) (space more : Space) (old : List Status) (u : Displaced)
+    → IsBoard (seen vs first ws es) ws space
+    → (can : CanUndo u (seen vs first ws es)) → (ends : EndsWith (seen vs first ws es) space u)
+    → SpaceBefore vs.build ends.replies (event_before u.back) space more
+    → Leaves vs ws us old u → IsBoard (seen (record vs { statuses = old }) first us (front es)) us more
+undo_keeps vs first ws us es space more old u kept can ends before leaves =
+    let b = seen vs first ws es in
+    let n = undone u b in
+    let replays : Replays n = record { replies = ends.replies; leads = ends.leads; keeps = can.replays.keeps } in
+    let returned = event_returns vs.build n.state ends.replies space.room (event_before u.back) (b.state, ends.reply)
     (consistent n replays) ends.gives ends.roomy in
-    let here : IsKept n d'.desks d'.out d'.stop_marks old = record {
+    let here : IsBoard n us more = record {
       replays = replays;
-      room = subst (IsRoomy b n.state ends.replies) (sym before.room) returned.1;
+      room = subst (IsRoomy vs.build n.state ends.replies) (sym before.room) returned.1;
       counted = before.counted;
-      leased = subst (λ (ws : List At). AreLeased d'.out ws (map leased_by d'.desks)) leaves.workers leaves.leased;
-      supplies = leaves.supplies ∙ ap (map (needed b)) leaves.workers;
-      some = omega (arith, length_map at_of d.desks, many, some);
-      few = omega (arith, length_map at_of d.desks, many, few);
-      stop_marks_are = leaves.marks ∙ ap (stopped b) leaves.statuses;
+      fits = leaves.supplies ∙ fits_before b u.back u.caches ws.supplies can kept.fits ∙ ap (map (needed vs.build)) (sym leaves.workers);
     } in
-    subst (λ (s : Seen). IsKept s d'.desks d'.out d'.stop_marks old) (sym (undone_is b first d d' es u leaves)) here
-
--- the room that the event took is there to be given back
-pub room_returns : (b : Build) (first : List Row) (d : Data) (es : List Event) (space : Space) (u : Displaced) (ends : EndsWith b first d es space u)
-    → room_taken b ends.replies (event_before u.back) ≤ space.room
-room_returns b first d es space u ends =
-    let n = undone u (seen_as b first d es) in
-    let replays : Replays n = record { replies = ends.replies; leads = ends.leads; keeps = ends.keeps } in
-    (event_returns b n.state ends.replies space.room (event_before u.back) (state_as d, ends.reply) (consistent n replays) ends.gives ends.roomy).0
-
--- ---- caches that are put back
-
--- each lease has a worker that runs
-pub place_for : (out : Leases) (workers : List At) (ls : List (Option ℕ)) → AreLeased out workers ls → HasPlaceFor ls workers
-place_for out workers ls leased = record { count = leased.count; idle = λ w at. by_lease w at (slice_get ls w) refl }
-  where
-    apart : (x : Execution) → ◌≡◌ {A = Option At} (Some (Runs x)) (Some Idle) → ⊥
-    apart x e = cc
-
-    by_lease : (w : ℕ) → slice_get workers w ≡ Some Idle → (o : Option (Option ℕ)) → slice_get ls w ≡ o → slice_get ls w ≡ Some None
-    by_lease w at None is =
-        let low = slice_get_within workers w Idle at in
-        let count = leased.count in
-        let there = get_within ls w (omega (arith, low, count)) in
-        absurd (let same : ◌≡◌ {A = Option (Option ℕ)} None (Some there.0) = sym is ∙ there.1 in cc)
-    by_lease w at (Some None) is = is
-    by_lease w at (Some (Some l)) is = let r = leased.runs w l is in absurd (apart r.0 (sym r.1 ∙ at))
-
--- if caches are put back, their leases fit; otherwise those that are there do
-abbrev pub LeasedSo : Option Before → List At → Leases → List (Option ℕ) → Type 0
-LeasedSo (Some c) workers out ls = AreLeased c.caches.out workers c.leases
-LeasedSo None workers out ls = AreLeased out workers ls
-
--- after an undo the leases fit: those of the caches that are put back, or else those that are there
-pub leased_so : (u : Displaced) (n : Seen) (o : Option Before) (workers : List At) (out : Leases) (ls : List (Option ℕ)) → FitsLeases u n o → workers
-    ≡ (undone u n).state.workers
-    → (HasNoPlaces u.back → AreLeased out workers ls) → LeasedSo o workers out ls
-leased_so u n (Some c) workers out ls fits same else = subst (λ ws. AreLeased c.caches.out ws c.leases) (sym same) fits
-leased_so u n None workers out ls fits same else = else fits
-
--- with the caches and their leases put back, or as they are, each running worker has its own lease
-pub leased_put : (o : Option Before) (ds ds' : List Desk) (c c' : CachesValue) → LeasedSo o (map at_of ds) c.out (map leased_by ds)
-    → map at_of ds' ≡ map at_of ds → map leased_by ds' ≡ leases_before o (map leased_by ds) → c' ≡ caches_before o c
-    → AreLeased c'.out (map at_of ds') (map leased_by ds')
-leased_put (Some k) ds ds' c c' leased workers leases caches =
-    subst (λ ws. AreLeased c'.out ws (map leased_by ds')) (sym workers)
-    (subst (AreLeased c'.out (map at_of ds)) (sym leases) (subst (λ (x : CachesValue). AreLeased x.out (map at_of ds) k.leases) (sym caches) leased))
-leased_put None ds ds' c c' leased workers leases caches =
-    subst (λ ws. AreLeased c'.out ws (map leased_by ds')) (sym workers)
-    (subst (AreLeased c'.out (map at_of ds)) (sym leases) (subst (λ (x : CachesValue). AreLeased x.out (map at_of ds) (map leased_by ds)) (sym caches) leased))
-
--- the lists of instances come from the caches that are put back, or stay
-pub rows_put : (o : Option Before) (c c' : CachesValue) (rows : List Row) → c.rows ≡ rows → c' ≡ caches_before o c → c'.rows ≡ rows_before o rows
-rows_put (Some k) c c' rows same caches = ap (λ (x : CachesValue). x.rows) caches
-rows_put None c c' rows same caches = ap (λ (x : CachesValue). x.rows) caches ∙ same
-
--- the caches that are to be put back have a lease for each worker that runs
-pub places_put : (u : Displaced) (n : Seen) (o : Option before.Before) (workers : List At) → FitsLeases u n (caches_in o) → workers ≡ (undone u n).state.workers
-    → ForSome o (λ c. HasPlaceFor c.leases.items workers)
-places_put u n o workers fits same c is =
-    place_for c.caches.out workers c.leases.items
-    (subst (λ ws. AreLeased c.caches.out ws c.leases.items) (sym same) (subst (λ (x : Option before.Before). FitsLeases u n (caches_in x)) is fits))
-
--- ---- by the event
-
--- a worker's desk, by what the worker does
-pub desk_at : (ds : List Desk) (w : ℕ) (x : Execution) → slice_get (map at_of ds) w ≡ Some (Runs x)
-    → (l : Option ℕ) × (y : own.Execution) × (slice_get ds w ≡ Some (desk.Runs l y)) × (execution_of y ≡ x)
-desk_at [] w x at = absurd cc
-desk_at (desk.Idle ∷ ds) zero x at = absurd cc
-desk_at (desk.Runs l y ∷ ds) zero x at = (l, y, refl, runs_inside at)
-  where
-    runs_inside : {x y : Execution} → ◌≡◌ {A = Option At} (Some (Runs x)) (Some (Runs y)) → x ≡ y
-    runs_inside e = cc
-desk_at (d ∷ ds) (suc w) x at = desk_at ds w x at
-
--- the worker whose claim is taken back runs something
-pub runs_there : (n : Seen) (w v : ℕ) → Replays n → IsBegun n w v → (x : Execution) × (slice_get n.state.workers w ≡ Some (Runs x))
-runs_there n w v here begun = let r = (consistent n here).running v w begun.runs in (r.0, r.1)
-
--- a worker whose claim is taken back is idle
-pub unclaimed_workers : (ds : List Desk) (w v : ℕ) → map at_of (slice_set ds w desk.Idle) ≡ workers_before (Unclaim w v) (map at_of ds)
-unclaimed_workers ds w v = map_set at_of ds w desk.Idle
-
--- a running vertex that waits again had not failed, so the marks stay
-pub unclaimed_marks : (b : Build) (ss : List Stand) (w v : ℕ) (marks : List Bool) → marks ≡ stopped b (map status_of ss) → slice_get (map status_of ss) v
-    ≡ Some (Running w)
-    → marks ≡ stopped b (map status_of (slice_set ss v stand.Waiting))
-unclaimed_marks b ss w v marks are runs =
-    are ∙ sym (ap (stopped b) (map_set status_of ss v stand.Waiting) ∙ marks_stay b.graph.vertices (map status_of ss) v (Running w) Waiting runs refl refl)
-
--- the state of a worker before a micro-step, by its desk
-unstepped_at : (mark : Mark) (d : Desk) → at_of (desk_before mark (Some d)) ≡ step_before mark (Some (at_of d))
-unstepped_at mark desk.Idle = refl
-unstepped_at mark (desk.Runs l x) = refl
-
-pub unstepped_workers : (ds : List Desk) (w : ℕ) (mark : Mark) (d : Desk) → slice_get ds w ≡ Some d
-    → map at_of (slice_set ds w (desk_before mark (slice_get ds w))) ≡ workers_before (Unstep w mark) (map at_of ds)
-unstepped_workers ds w mark d at =
-    map_set at_of ds w (desk_before mark (slice_get ds w))
-    ∙ ap (λ o. slice_set (map at_of ds) w (at_of (desk_before mark o))) at
-    ∙ ap (slice_set (map at_of ds) w) (unstepped_at mark d)
-    ∙ ap (λ o. slice_set (map at_of ds) w (step_before mark o)) (sym (get_map at_of ds w d at))
-
-unstepped_supplies : (b : Build) (ds : List Desk) (w : ℕ) (mark : Mark) (l : Option ℕ) (x : own.Execution) → map ready_made ds ≡ map (needed b) (map at_of ds)
-    → slice_get ds w ≡ Some (desk.Runs l x) → mounts_in (put_back mark x.view) ≡ (supplies_for (slice_get b.graph.vertices x.vertex)).mounts
-    → map ready_made (slice_set ds w (desk_before mark (Some (desk.Runs l x)))) ≡ map (needed b) (map at_of (slice_set ds w (desk_before mark (Some
-    (desk.Runs l x)))))
-unstepped_supplies b ds w mark l x kept at mounts =
-    let made = made_enough b ds w l x kept at in
-    supplies_claimed b ds w l (record x { done = x.done - 1; fault = None; view = put_back mark x.view }) kept (λ i. record {
-      outputs = (made i).outputs;
-      setting = (made i).setting;
-      mounts = mounts i;
-      shown = (shown_back mark x.view ∙ ap (λ (s : Supplies). s.shown) made) i;
-      keys = (made i).keys;
-    })
-
--- a worker whose micro-step is taken back keeps its lease and has what its vertex needs
-pub unstep_leaves : (b : Build) (first : List Row) (ss : List Stand) (ds : List Desk) (c : CachesValue) (es : List Event) (space : Space) (w : ℕ) (mark : Mark)
-    (marks : List Bool)
-    → Keeps b first (record { stands = ss; desks = ds; rows = c.rows; out = c.out; stop_marks = marks }) es space
-    → (x : Execution) → slice_get (map at_of ds) w ≡ Some (Runs x) → mounts_in (put_back mark x.own)
-    ≡ (supplies_for (slice_get b.graph.vertices x.vertex)).mounts
-    → (let new = slice_set ds w (desk_before mark (slice_get ds w)) in
-    AreLeased c.out (map at_of new) (map leased_by new) × (map ready_made new ≡ map (needed b) (map at_of new)) × (map at_of new
-    ≡ workers_before (Unstep w mark) (map at_of ds)))
-unstep_leaves b first ss ds c es space w mark marks kept x at mounts =
-    let d = desk_at ds w x at in
-    let l = d.0 in
-    let y = d.1 in
-    let there = d.2 in
-    let again : desk_before mark (slice_get ds w) ≡ desk_before mark (Some (desk.Runs l y)) = ap (desk_before mark) there in
-    let fits : mounts_in (put_back mark y.view) ≡ (supplies_for (slice_get b.graph.vertices y.vertex)).mounts
-    = subst (λ (z : Execution). mounts_in (put_back mark z.own) ≡ (supplies_for (slice_get b.graph.vertices z.vertex)).mounts) (sym d.3) mounts in
-    let leased = leased_stepped c.out c.out ds w l y (record y { done = y.done - 1; fault = None; view = put_back mark y.view }) kept.leased there refl
-    refl in (
-      subst (λ e. AreLeased c.out (map at_of (slice_set ds w e)) (map leased_by (slice_set ds w e))) (sym again) leased,
-      subst (λ e. map ready_made (slice_set ds w e) ≡ map (needed b) (map at_of (slice_set ds w e))) (sym again) (unstepped_supplies b ds w mark l y
-          kept.supplies there fits),
-      unstepped_workers ds w mark (desk.Runs l y) there,
-    )
-
--- the workers after a settle or a cancel is taken back
-pub resumed_workers : (ds : List Desk) (e : End) (w : ℕ) (l : Option ℕ) (x : own.Execution) → map at_of (slice_set ds w (desk.Runs l x))
-    ≡ workers_before (Resume e w (left_in x)) (map at_of ds)
-resumed_workers ds e w l x = map_set at_of ds w (desk.Runs l x)
-
--- the vertex that a worker runs again is one of the graph's
-pub resumed_there : (u : Displaced) (n : Seen) (e : End) (w : ℕ) (left : Left) → u.back ≡ Resume e w left → Replays (undone u n)
-    → slice_get n.state.workers w ≡ Some Idle
-    → left.execution.vertex < length n.state.statuses
-resumed_there u n e w left is here idle =
-    let runs : slice_get (undone u n).state.workers w ≡ Some (Runs left.execution)
-    = ap (λ k. slice_get (workers_before k n.state.workers) w) is ∙ get_set_same n.state.workers w (Runs left.execution) Idle idle in
-    let ran = (consistent (undone u n) here).working w left.execution runs in
-    let at : slice_get (slice_set n.state.statuses left.execution.vertex (Running w)) left.execution.vertex ≡ Some (Running w)
-    = ap (λ k. slice_get (statuses_before k n.state.statuses) left.execution.vertex) (sym is) ∙ ran in
-    let low = slice_get_within _ left.execution.vertex (Running w) at in
-    let same = length_set n.state.statuses left.execution.vertex (Running w) in
-    omega (arith, low, same)
-
--- a worker that runs again without instances needs no lease
-pub resumed_leased : (b : Build) (first : List Row) (d : Data) (es : List Event) (space : Space) (w : ℕ) (x : own.Execution) → Keeps b first d es space
-    → slice_get (map at_of d.desks) w ≡ Some Idle → x.places.items ≡ []
-    → AreLeased d.out (map at_of (slice_set d.desks w (desk.Runs None x))) (map leased_by (slice_set d.desks w (desk.Runs None x)))
-resumed_leased b first d es space w x kept idle none = leased_claimed d w None x [] d.out kept.leased idle none (inr (refl, refl, refl))
-
--- the marks are made anew where the vertex that runs again had failed, and else stay
-pub resumed_marks : (b : Build) (ss : List Stand) (w v : ℕ) (had : Stand) (failed : Bool) (old new : List Bool) → old ≡ stopped b (map status_of ss)
-    → slice_get ss v ≡ Some had
-    → failed ≡ is_failed (ending_of (Some (status_of had)))
-    → (failed ≡ true → new ≡ stopped b (map status_of (slice_set ss v (stand.Running w)))) → (failed ≡ false → new ≡ old)
-    → new ≡ stopped b (map status_of (slice_set ss v (stand.Running w)))
-resumed_marks b ss w v had true old new are at is anew same = anew refl
-resumed_marks b ss w v had false old new are at is anew same =
-    same refl ∙ are
-    ∙ sym (ap (stopped b) (map_set status_of ss v (stand.Running w))
-    ∙ marks_stay b.graph.vertices (map status_of ss) v (status_of had) (Running w) (get_map status_of ss v had at) (sym is) refl)
-
--- a fact that holds if a test passes, for a test that has passed
-pub on_true : (b : Bool) (P : Type 0) → OnTrue b P → b ≡ true → P
-on_true true P h is = h
-on_true false P h is = absurd cc
-
--- a fact that holds if a test fails, for a test that has failed
-pub on_false : (b : Bool) (P : Type 0) → OnFalse b P → b ≡ false → P
-on_false true P h is = absurd cc
-on_false false P h is = h
+    subst (λ (s : BoardValue). IsBoard s us more) (sym (undone_is vs first ws us es old u leaves)) here

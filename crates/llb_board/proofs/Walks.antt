@@ -1,65 +1,60 @@
 -- An event that is granted, and the board before it: the event's undo leads back there, and can be done.
-use Rattle.std.proofs.Common.{◌≡◌, ℕ, ◌+◌, ◌-◌, Bool, true, false, ◌||◌, List, [], ◌∷◌, ◌++◌, map, length, Option, Some, None, is_some, refl, sym, ap}
+use Rattle.std.proofs.Common.{◌≡◌, ℕ, ◌+◌, ◌-◌, Bool, ◌||◌, List, [], ◌∷◌, ◌++◌, length, Option, Some, None, is_some, refl, sym, ap}
 use Rattle.std.proofs.Common.{subst, ◌∙◌, arith}
-use Rattle.std.specs.Prelude.{Result, Ok, Err, slice_get, slice_set, nat_le, not, ◌==◌, if◌then◌else◌}
-use Rattle.std.proofs.lemmas.Bool.{eqb-true}
+use Rattle.std.specs.Prelude.{Result, Ok, Err, slice_get, slice_set, nat_le, if◌then◌else◌}
 use Rattle.llb_cache.specs.Caches.{Row}
-use Rattle.llb_execution.specs.Marks.{Mark, mark_of}
+use Rattle.llb_execution.specs.Marks.{mark_of}
 use Rattle.llb_execution.specs.Parts.{mounts_in}
 use Rattle.llb_execution.proofs.Marks.{puts_back}
 use Rattle.llb_loader.specs.declared.graph.Vertex.{Vertex}
 use Rattle.llb_model.specs.declared.fault.VertexFault.{VertexFault}
 use Rattle.llb_model.specs.Caches.{Store, put_all, trees_at}
 use Rattle.llb_model.specs.Program.{Build, MicroStep, needs_of, step_on}
-use Rattle.llb_model.specs.State.{Status, Waiting, Running, Settled, Execution, At, Idle, Runs, State, program_in, work_of, next_step, ending_from, held}
+use Rattle.llb_model.specs.State.{Status, Waiting, Running, Settled, Execution, WorkerStatus, Idle, Runs, State, program_in, work_of, next_step, ending_from}
+use Rattle.llb_model.specs.State.{held}
 use Rattle.llb_model.specs.State.{places_for, begin_at}
-use Rattle.llb_model.specs.Table.{Event, Claim, Step, Settle, Cancel, worker_of, with_step, step_by, stepped, settled, cancelled, after_end, table}
+use Rattle.llb_model.specs.Table.{Event, Claim, Step, Settle, Cancel, worker_of, with_step, step_by, after_end, table}
+use Rattle.llb_model.specs.Kept.{store_of}
 use Rattle.llb_model.specs.Leases.{AreLeased}
 use Rattle.llb_model.proofs.Events.{Answer, IsStep, claim_places, claim_is, step_is, settle_is, cancel_is}
 use Rattle.llb_model.proofs.Lists.{get_set_same}
-use Rattle.llb_state.specs.Board.{Seen, Replays, after_event, recorded}
-use Rattle.llb_state.specs.Caches.{written, places_at, rows_after}
-use Rattle.llb_state.specs.Room.{Supplies, supplies_for, ready_made, needed, mounts_at, needs_at}
-use Rattle.llb_events.specs.Causes.{claim_fault, step_fault, settle_fault, cancel_fault}
-use Rattle.llb_board.specs.Undo.{told_as, walk_of, Back, Unclaim, Unstep, Resume, Displaced}
-use Rattle.llb_state.specs.Undoing.{Before, left_in}
-use Rattle.llb_board.specs.Undo.{statuses_before, with_view_back, step_before, workers_before, rows_before, store_before, undone}
-use Rattle.llb_board.specs.Undo.{StandsBehind, HasNoPlaces, FitsLeases, CanUndo, KeepsWhere, MarksClaim, MarksStep, MarksEnd, Marks}
-use Rattle.llb_board.specs.Undo.{end_of, no_worker, not_running, event_before, IsLast}
-use Rattle.llb_board.specs.declared.undo.End.{End}
-use Rattle.llb_board.specs.declared.undo.End.TheVariants as end
+use Rattle.llb_events.specs.Causes.{faulted, claim_fault, step_fault, settle_fault, cancel_fault}
 use Rattle.llb_events.specs.declared.fault.WalkFault.{WalkFault}
 use Rattle.llb_events.specs.declared.fault.WalkFault.TheVariants as walk
-use Rattle.llb_state.specs.Views.{execution_of, at_of}
-use Rattle.llb_board.specs.Walking.{KeepsIf}
-use Rattle.llb_events.specs.declared.fault.StepFault.TheVariants as no_step
-use Rattle.llb_state.specs.declared.stand.Desk.{Desk}
-use Rattle.llb_state.specs.declared.stand.Desk.TheVariants as desk
-use Rattle.llb_state.specs.declared.stand.Execution as own
+use Rattle.llb_state.specs.Caches.{written, places_at, rows_after}
+use Rattle.llb_state.specs.Room.{needs_at}
+use Rattle.llb_state.specs.Undo.{Back, Unclaim, Unstep, Resume, Displaced, walk_in, end_of, workers_before, with_view_back, step_before, rows_before}
+use Rattle.llb_state.specs.Undo.{HasNoPlaces, FitsLeases, KeepsWhere, MarksClaim, MarksStep, MarksEnd, MarksIn}
+use Rattle.llb_state.specs.Undoing.{Before}
+use Rattle.llb_state.specs.Vertices.{VerticesValue}
+use Rattle.llb_state.specs.Workers.{WorkersValue}
+use Rattle.llb_state.specs.declared.workers.undoing.End.{End}
+use Rattle.llb_state.specs.declared.workers.undoing.End.TheVariants as end
+use Rattle.llb_state.proofs.Lists.{set_back, front_again}
+use Rattle.llb_board.specs.Seen.{BoardValue, Replays, seen, after_event, recorded}
+use Rattle.llb_board.specs.Undo.{told_as, walk_of, statuses_before, store_before, undone, event_before, IsLast, StandsBehind, CanUndo}
 use Rattle.llb_board.specs.declared.walk.Reply as replied
-use Rattle.llb_state.proofs.Calls.{claim_done, step_done, settle_done, cancel_done}
-use Rattle.llb_state.proofs.Kept.{made_enough}
-use Rattle.llb_state.proofs.Lists.{get_map, set_back, front_again}
-use Rattle.llb_state.proofs.Sound.{consistent}
+use Rattle.llb_board.proofs.Calls.{claim_done, step_done, settle_done, cancel_done}
+use Rattle.llb_board.proofs.Sound.{consistent}
 
 -- ---- what `walk` returns
 
-told_inside : {x y : Seen × replied.Reply} → ◌≡◌ {A = Result (Seen × replied.Reply) WalkFault} (Ok x) (Ok y) → x ≡ y
+told_inside : {x y : BoardValue × replied.Reply} → ◌≡◌ {A = Result (BoardValue × replied.Reply) WalkFault} (Ok x) (Ok y) → x ≡ y
 told_inside e = cc
 
 -- an event that is granted, with what it gives
-pub record Granted (b n : Seen) (e : Event) : Type 0 where
+pub record Granted (b n : BoardValue) (e : Event) : Type 0 where
   pub answer : Answer
   pub grants : table b.build b.state e ≡ Some answer
   pub is : n ≡ after_event b e answer.0
 
-told_of : {C F : Type 0} (b n : Seen) (e : Event) (fault : C → F) (wrap : F → WalkFault) (answer : Result Answer C) (r : replied.Reply)
+told_of : {C F : Type 0} (b n : BoardValue) (e : Event) (fault : C → F) (wrap : F → WalkFault) (answer : Result Answer C) (r : replied.Reply)
     → ((a : Answer) → answer ≡ Ok a → table b.build b.state e ≡ Some a)
     → told_as wrap (recorded b e fault answer) ≡ Ok (n, r) → Granted b n e
 told_of b n e fault wrap (Ok (s, reply)) r done is = record { answer = (s, reply); grants = done (s, reply) refl; is = ap (λ p. p.0) (sym (told_inside is)) }
 told_of b n e fault wrap (Err cause) r done is = absurd cc
 
-pub granted : (b n : Seen) (e : Event) (r : replied.Reply) → walk_of b e ≡ Ok (n, r) → Granted b n e
+pub granted : (b n : BoardValue) (e : Event) (r : replied.Reply) → walk_of b e ≡ Ok (n, r) → Granted b n e
 granted b n (Claim w v) r is = told_of b n (Claim w v) claim_fault walk.Claim _ r (claim_done b.build b.state w v) is
 granted b n (Step w) r is = told_of b n (Step w) step_fault walk.Step _ r (step_done b.build b.state w) is
 granted b n (Settle w) r is = told_of b n (Settle w) settle_fault walk.Settle _ r (settle_done b.build b.state w) is
@@ -68,13 +63,13 @@ granted b n (Cancel w) r is = told_of b n (Cancel w) cancel_fault walk.Cancel _ 
 -- ---- back to the board before
 
 -- the parts of the state are those before the event
-record LeadsBack (u : Displaced) (b : Seen) (e : Event) (s : State) : Type 0 where
+record LeadsBack (u : Displaced) (b : BoardValue) (e : Event) (s : State) : Type 0 where
   statuses : statuses_before u.back s.statuses ≡ b.state.statuses
   workers : workers_before u.back s.workers ≡ b.state.workers
   store : store_before u.caches s.store ≡ b.state.store
   rows : rows_before u.caches (rows_after b.rows s (worker_of e)) ≡ b.rows
 
-leads_back : (u : Displaced) (b : Seen) (e : Event) (s : State) → LeadsBack u b e s → undone u (after_event b e s) ≡ b
+leads_back : (u : Displaced) (b : BoardValue) (e : Event) (s : State) → LeadsBack u b e s → undone u (after_event b e s) ≡ b
 leads_back u b e s to = λ i. record {
   build = b.build;
   opening = b.opening;
@@ -85,24 +80,26 @@ leads_back u b e s to = λ i. record {
 }
 
 -- the caches are those that were kept, or nothing of them has changed
-store_back : {A : Type 0} (shown : List A) (b : Seen) (o : Option Before) (store : Store) → KeepsWhere shown b o → (shown ≡ [] → store ≡ b.state.store)
-    → store_before o store ≡ b.state.store
-store_back shown b (Some c) store keeps stays = keeps.store
-store_back shown b None store keeps stays = stays keeps
+store_back : {A : Type 0} (shown : List A) (ws : WorkersValue) (o : Option Before) (store : Store) → KeepsWhere shown ws o
+    → (shown ≡ [] → store ≡ store_of ws.rows)
+    → store_before o store ≡ store_of ws.rows
+store_back shown ws (Some c) store keeps stays = ap store_of keeps.rows
+store_back shown ws None store keeps stays = stays keeps
 
-rows_back : {A : Type 0} (shown : List A) (b : Seen) (o : Option Before) (rows : List Row) → KeepsWhere shown b o → (shown ≡ [] → rows ≡ b.rows)
-    → rows_before o rows ≡ b.rows
-rows_back shown b (Some c) rows keeps stays = keeps.rows
-rows_back shown b None rows keeps stays = stays keeps
+rows_back : {A : Type 0} (shown : List A) (ws : WorkersValue) (o : Option Before) (rows : List Row) → KeepsWhere shown ws o → (shown ≡ [] → rows ≡ ws.rows)
+    → rows_before o rows ≡ ws.rows
+rows_back shown ws (Some c) rows keeps stays = keeps.rows
+rows_back shown ws None rows keeps stays = stays keeps
 
-fits_leases : {A : Type 0} (shown : List A) (u : Displaced) (b n : Seen) (o : Option Before) → undone u n ≡ b → KeepsWhere shown b o → (shown ≡ []
-    → HasNoPlaces u.back)
-    → FitsLeases u n o
-fits_leases shown u b n (Some c) is keeps none = subst (λ (m : Seen). AreLeased c.caches.out m.state.workers c.leases) (sym is) keeps.leased
-fits_leases shown u b n None is keeps none = none keeps
+fits_leases : {A : Type 0} (shown : List A) (k : Back) (ws : WorkersValue) (workers : List WorkerStatus) (o : Option Before) → workers_before k workers
+    ≡ ws.workers
+    → KeepsWhere shown ws o → (shown ≡ [] → HasNoPlaces k)
+    → FitsLeases k workers o
+fits_leases shown k ws workers (Some c) is keeps none = subst (λ us. AreLeased c.caches.out us c.leases) (sym is) keeps.leased
+fits_leases shown k ws workers None is keeps none = none keeps
 
 -- an event that is granted is the last of the record after it
-last_of : (u : Displaced) (b : Seen) (k : Back) (a : Answer) → table b.build b.state (event_before k) ≡ Some a → u.back ≡ k
+last_of : (u : Displaced) (b : BoardValue) (k : Back) (a : Answer) → table b.build b.state (event_before k) ≡ Some a → u.back ≡ k
     → undone u (after_event b (event_before k) a.0) ≡ b → IsLast u (after_event b (event_before k) a.0)
 last_of u b k a grants same is = record {
   reply = a.1;
@@ -110,58 +107,17 @@ last_of u b k a grants same is = record {
   events = λ i. (sym is i).events ++ event_before (sym same i) ∷ [];
 }
 
-can_undo : {A : Type 0} (shown : List A) (u : Displaced) (b : Seen) (k : Back) (a : Answer) → Replays b → table b.build b.state (event_before k) ≡ Some a
-    → undone u (after_event b (event_before k) a.0) ≡ b → u.back ≡ k → StandsBehind k (after_event b (event_before k) a.0)
-    → KeepsWhere shown b u.caches
-    → (shown ≡ [] → HasNoPlaces k) → CanUndo u (after_event b (event_before k) a.0)
-can_undo shown u b k a here grants is same stands keeps none =
-    let n = after_event b (event_before k) a.0 in
-    record {
-      replays = subst Replays (sym is) here;
-      last = last_of u b k a grants same is;
-      stands = subst (λ (x : Back). StandsBehind x n) (sym same) stands;
-      leased = fits_leases shown u b n u.caches is keeps (λ e. subst HasNoPlaces (sym same) (none e));
-    }
-
 -- what an undo of an event does
-pub record Undoes (b : Seen) (e : Event) (s : State) (u : Displaced) : Type 0 where
+pub record Undoes (b : BoardValue) (e : Event) (s : State) (u : Displaced) : Type 0 where
   pub back : undone u (after_event b e s) ≡ b
   pub can : CanUndo u (after_event b e s)
 
--- ---- of a claim
+-- ---- of a claim, in parts
 
 needs_are : (vertex : Vertex) (o : Option Vertex) → o ≡ Some vertex → needs_at o ≡ [] → needs_of vertex ≡ []
 needs_are vertex o there none = ap needs_at (sym there) ∙ none
 
-claim_back : (b : Seen) (w v : ℕ) (a : Answer) (u : Displaced) → Replays b → table b.build b.state (Claim w v) ≡ Some a → MarksClaim b w v u
-    → Undoes b (Claim w v) a.0 u
-claim_back b w v a u here grants marks =
-    let c = claim_is b.build b.state w v a grants in
-    let s = b.state in
-    let ps = claim_places s c.start in
-    let work = begin_at b.build s.store c.start ps in
-    let z : Execution = record { vertex = v; done = 0; fault = None; own = work.own; places = ps } in
-    let none : needs_at (slice_get b.build.graph.vertices v) ≡ [] → ps ≡ []
-    = λ e. ap (places_for (held s.workers)) (needs_are c.start.vertex _ c.begins.there e) in
-    let runs : slice_get a.0.workers w ≡ Some (Runs z) = ap (λ (t : Answer). slice_get t.0.workers w) c.gives ∙ get_set_same s.workers w (Runs z) Idle c.idle in
-    let is = leads_back u b (Claim w v) a.0 (record {
-      statuses = ap (λ k. statuses_before k a.0.statuses) marks.back
-          ∙ ap (λ (t : Answer). slice_set t.0.statuses v Waiting) c.gives ∙ set_back s.statuses v (Running w) Waiting c.begins.waits;
-      workers = ap (λ k. workers_before k a.0.workers) marks.back
-          ∙ ap (λ (t : Answer). slice_set t.0.workers w Idle) c.gives ∙ set_back s.workers w (Runs z) Idle c.idle;
-      store = store_back (needs_at (slice_get b.build.graph.vertices v)) b u.caches a.0.store marks.caches
-          (λ e. ap (λ (t : Answer). t.0.store) c.gives ∙ ap (λ qs. put_all s.store qs work.trees) (none e));
-      rows = rows_back (needs_at (slice_get b.build.graph.vertices v)) b u.caches (rows_after b.rows a.0 w) marks.caches
-          (λ e. ap (λ o. written a.0.store b.rows (places_at o)) runs ∙ ap (written a.0.store b.rows) (none e));
-    }) in
-    record {
-      back = is;
-      can = can_undo (needs_at (slice_get b.build.graph.vertices v)) u b (Unclaim w v) a here grants is marks.back
-          (record { runs = ap (λ (t : Answer). slice_get t.0.statuses v) c.gives ∙ get_set_same s.statuses v (Running w) Waiting c.begins.waits })
-          marks.caches (λ e. tt);
-    }
-
--- ---- of a step
+-- ---- of a step, in parts
 
 -- the micro-step of an execution that is known
 record StepsBy (b : Build) (s : State) (w : ℕ) (a : Answer) (x : Execution) : Type 0 where
@@ -169,7 +125,7 @@ record StepsBy (b : Build) (s : State) (w : ℕ) (a : Answer) (x : Execution) : 
   next : next_step (program_in b x).steps x ≡ Some step
   gives : a ≡ step_by s w x step (step_on x.done (Some step) (work_of s x))
 
-runs_inside : {x y : Execution} → ◌≡◌ {A = Option At} (Some (Runs x)) (Some (Runs y)) → x ≡ y
+runs_inside : {x y : Execution} → ◌≡◌ {A = Option WorkerStatus} (Some (Runs x)) (Some (Runs y)) → x ≡ y
 runs_inside e = cc
 
 steps_by : (b : Build) (s : State) (w : ℕ) (a : Answer) (x : Execution) → slice_get s.workers w ≡ Some (Runs x) → IsStep b s w a → StepsBy b s w a x
@@ -197,40 +153,7 @@ view_back s x m none =
       places = x.places;
     }
 
-step_back : (b : Seen) (w : ℕ) (a : Answer) (u : Displaced) → Replays b → table b.build b.state (Step w) ≡ Some a → MarksStep b w u → Undoes b (Step w) a.0 u
-step_back b w a u here grants marks =
-    let s = b.state in
-    let x = marks.x in
-    let c = steps_by b.build s w a x marks.runs (step_is b.build s w a grants) in
-    let left = step_on x.done (Some c.step) (work_of s x) in
-    let z = with_step x left in
-    let mark = mark_of x.own in
-    let runs : slice_get a.0.workers w ≡ Some (Runs z) = ap (λ (t : Answer). slice_get t.0.workers w) c.gives
-    ∙ get_set_same s.workers w (Runs z) (Runs x) marks.runs in
-    let again : step_before mark (slice_get a.0.workers w) ≡ Runs x
-    = ap (step_before mark) runs ∙ ap (λ y. Runs y) (view_back s x c.step (clean (program_in b.build x).steps x c.step c.next)) in
-    let is = leads_back u b (Step w) a.0 (record {
-      statuses = ap (λ k. statuses_before k a.0.statuses) marks.back ∙ ap (λ (t : Answer). t.0.statuses) c.gives;
-      workers = ap (λ k. workers_before k a.0.workers) marks.back
-          ∙ ap (slice_set a.0.workers w) again ∙ ap (λ (t : Answer). slice_set t.0.workers w (Runs x)) c.gives
-          ∙ set_back s.workers w (Runs z) (Runs x) marks.runs;
-      store = store_back x.places b u.caches a.0.store marks.caches
-          (λ e. ap (λ (t : Answer). t.0.store) c.gives ∙ ap (λ qs. put_all s.store qs left.work.trees) e);
-      rows = rows_back x.places b u.caches (rows_after b.rows a.0 w) marks.caches
-          (λ e. ap (λ o. written a.0.store b.rows (places_at o)) runs ∙ ap (written a.0.store b.rows) e);
-    }) in
-    record {
-      back = is;
-      can = can_undo x.places u b (Unstep w mark) a here grants is marks.back
-          (record {
-            x = z;
-            runs = runs;
-            mounts = ap mounts_in (puts_back x.own x.done (Some c.step) (trees_at s.store x.places))
-                ∙ marks.mounts;
-          }) marks.caches (λ e. tt);
-    }
-
--- ---- of a settle or a cancel
+-- ---- of a settle or a cancel, in parts
 
 -- the worker leaves the vertex, which has another state then
 record LeavesBy (s : State) (w : ℕ) (a : Answer) (x : Execution) : Type 0 where
@@ -251,114 +174,151 @@ worker_ends : (e : End) (w : ℕ) → worker_of (end_of e w) ≡ w
 worker_ends end.Settle w = refl
 worker_ends end.Cancel w = refl
 
-end_back : (b : Seen) (e : End) (w : ℕ) (a : Answer) (u : Displaced) → Replays b → table b.build b.state (end_of e w) ≡ Some a → MarksEnd b e w u
-    → Undoes b (end_of e w) a.0 u
-end_back b e w a u here grants marks =
-    let s = b.state in
-    let x = marks.left.execution in
-    let c = leaves_by b.build s e w a x marks.runs grants in
-    let ran = (consistent b here).working w x marks.runs in
-    let idle : slice_get a.0.workers w ≡ Some Idle = ap (λ (t : State). slice_get t.workers w) c.gives ∙ get_set_same s.workers w Idle (Runs x) marks.runs in
-    let is = leads_back u b (end_of e w) a.0 (record {
-      statuses = ap (λ k. statuses_before k a.0.statuses) marks.back
-          ∙ ap (λ (t : State). slice_set t.statuses x.vertex (Running w)) c.gives ∙ set_back s.statuses x.vertex c.status (Running w) ran;
-      workers = ap (λ k. workers_before k a.0.workers) marks.back
-          ∙ ap (λ (t : State). slice_set t.workers w (Runs x)) c.gives ∙ set_back s.workers w Idle (Runs x) marks.runs;
-      store = store_back x.places b u.caches a.0.store marks.caches (λ none. ap (λ (t : State). t.store) c.gives);
-      rows = ap (λ k. rows_before u.caches (rows_after b.rows a.0 k)) (worker_ends e w)
-          ∙ rows_back x.places b u.caches (rows_after b.rows a.0 w) marks.caches (λ none. ap (λ o. written a.0.store b.rows (places_at o)) idle);
-    }) in
-    record {
-      back = is;
-      can = can_undo x.places u b (Resume e w marks.left) a here grants is marks.back (record {
-        idle = idle;
-        supplies = marks.supplies;
-      }) marks.caches (λ none. none);
-    }
+-- ---- the board before
 
--- ---- of any event
+module _ (vs : VerticesValue) (first : List Row) (ws : WorkersValue) (es : List Event) where
+  abbrev b : BoardValue
+  b = seen vs first ws es
 
-undoes : (b : Seen) (e : Event) (a : Answer) (u : Displaced) → Replays b → table b.build b.state e ≡ Some a → Marks b e u → Undoes b e a.0 u
-undoes b (Claim w v) a u here grants marks = claim_back b w v a u here grants marks
-undoes b (Step w) a u here grants marks = step_back b w a u here grants marks
-undoes b (Settle w) a u here grants marks = end_back b end.Settle w a u here grants marks
-undoes b (Cancel w) a u here grants marks = end_back b end.Cancel w a u here grants marks
+  can_undo : {A : Type 0} (shown : List A) (u : Displaced) (k : Back) (a : Answer) → Replays b → table b.build b.state (event_before k) ≡ Some a
+      → undone u (after_event b (event_before k) a.0) ≡ b → u.back ≡ k → StandsBehind k (after_event b (event_before k) a.0)
+      → KeepsWhere shown ws u.caches
+      → (shown ≡ [] → HasNoPlaces k) → CanUndo u (after_event b (event_before k) a.0)
+  can_undo shown u k a here grants is same stands keeps none =
+      let n = after_event b (event_before k) a.0 in
+      record {
+        replays = subst Replays (sym is) here;
+        last = last_of u b k a grants same is;
+        stands = subst (λ (x : Back). StandsBehind x n) (sym same) stands;
+        leased = fits_leases shown u.back ws n.state.workers u.caches (ap (λ (m : BoardValue). m.state.workers) is) keeps
+            (λ e. subst HasNoPlaces (sym same) (none e));
+      }
 
--- what was kept before a granted event leads back from the board after it to the one before
-pub walk_back : (b n : Seen) (e : Event) (r : replied.Reply) (u : Displaced) → Replays b → walk_of b e ≡ Ok (n, r) → Marks b e u → undone u n ≡ b
-walk_back b n e r u here is marks =
-    let g = granted b n e r is in
-    ap (undone u) g.is ∙ (undoes b e g.answer u here g.grants marks).back
+  -- ---- of a claim
 
--- and it can be undone: the board before replays its record, and worker and vertex are as the event left them
-pub walk_can : (b n : Seen) (e : Event) (r : replied.Reply) (u : Displaced) → Replays b → walk_of b e ≡ Ok (n, r) → Marks b e u → CanUndo u n
-walk_can b n e r u here is marks =
-    let g = granted b n e r is in
-    subst (CanUndo u) (sym g.is) (undoes b e g.answer u here g.grants marks).can
+  claim_back : (w v : ℕ) (a : Answer) (u : Displaced) → Replays b → table b.build b.state (Claim w v) ≡ Some a → MarksClaim vs ws w v u
+      → Undoes b (Claim w v) a.0 u
+  claim_back w v a u here grants marks =
+      let c = claim_is b.build b.state w v a grants in
+      let s = b.state in
+      let ps = claim_places s c.start in
+      let work = begin_at b.build s.store c.start ps in
+      let z : Execution = record { vertex = v; done = 0; fault = None; own = work.own; places = ps } in
+      let none : needs_at (slice_get b.build.graph.vertices v) ≡ [] → ps ≡ []
+      = λ e. ap (places_for (held s.workers)) (needs_are c.start.vertex _ c.begins.there e) in
+      let runs : slice_get a.0.workers w ≡ Some (Runs z)
+      = ap (λ (t : Answer). slice_get t.0.workers w) c.gives ∙ get_set_same s.workers w (Runs z) Idle c.idle in
+      let is = leads_back u b (Claim w v) a.0 (record {
+        statuses = ap (λ k. statuses_before k a.0.statuses) marks.back
+            ∙ ap (λ (t : Answer). slice_set t.0.statuses v Waiting) c.gives ∙ set_back s.statuses v (Running w) Waiting c.begins.waits;
+        workers = ap (λ k. workers_before k a.0.workers) marks.back
+            ∙ ap (λ (t : Answer). slice_set t.0.workers w Idle) c.gives ∙ set_back s.workers w (Runs z) Idle c.idle;
+        store = store_back (needs_at (slice_get b.build.graph.vertices v)) ws u.caches a.0.store marks.caches
+            (λ e. ap (λ (t : Answer). t.0.store) c.gives ∙ ap (λ qs. put_all s.store qs work.trees) (none e));
+        rows = rows_back (needs_at (slice_get b.build.graph.vertices v)) ws u.caches (rows_after b.rows a.0 w) marks.caches
+            (λ e. ap (λ o. written a.0.store b.rows (places_at o)) runs ∙ ap (written a.0.store b.rows) (none e));
+      }) in
+      record {
+        back = is;
+        can = can_undo (needs_at (slice_get b.build.graph.vertices v)) u (Unclaim w v) a here grants is marks.back
+            (record { runs = ap (λ (t : Answer). slice_get t.0.statuses v) c.gives ∙ get_set_same s.statuses v (Running w) Waiting c.begins.waits })
+            marks.caches (λ e. tt);
+      }
 
--- ---- what is kept before an event
+  -- ---- of a step
 
-pub keeps_where : {A : Type 0} (xs : List A) (n : Seen) (asked : Bool) (o : Option Before) → KeepsIf asked n o → (asked ≡ false → xs ≡ []) → KeepsWhere xs n o
-keeps_where xs n asked (Some c) keeps none = keeps
-keeps_where xs n true None keeps none = absurd keeps
-keeps_where xs n false None keeps none = none refl
+  step_back : (w : ℕ) (a : Answer) (u : Displaced) → Replays b → table b.build b.state (Step w) ≡ Some a → MarksStep vs ws w u → Undoes b (Step w) a.0 u
+  step_back w a u here grants marks =
+      let s = b.state in
+      let x = marks.x in
+      let c = steps_by b.build s w a x marks.runs (step_is b.build s w a grants) in
+      let left = step_on x.done (Some c.step) (work_of s x) in
+      let z = with_step x left in
+      let mark = mark_of x.own in
+      let runs : slice_get a.0.workers w ≡ Some (Runs z) = ap (λ (t : Answer). slice_get t.0.workers w) c.gives
+      ∙ get_set_same s.workers w (Runs z) (Runs x) marks.runs in
+      let again : step_before mark (slice_get a.0.workers w) ≡ Runs x
+      = ap (step_before mark) runs ∙ ap (λ y. Runs y) (view_back s x c.step (clean (program_in b.build x).steps x c.step c.next)) in
+      let is = leads_back u b (Step w) a.0 (record {
+        statuses = ap (λ k. statuses_before k a.0.statuses) marks.back ∙ ap (λ (t : Answer). t.0.statuses) c.gives;
+        workers = ap (λ k. workers_before k a.0.workers) marks.back
+            ∙ ap (slice_set a.0.workers w) again ∙ ap (λ (t : Answer). slice_set t.0.workers w (Runs x)) c.gives
+            ∙ set_back s.workers w (Runs z) (Runs x) marks.runs;
+        store = store_back x.places ws u.caches a.0.store marks.caches
+            (λ e. ap (λ (t : Answer). t.0.store) c.gives ∙ ap (λ qs. put_all s.store qs left.work.trees) e);
+        rows = rows_back x.places ws u.caches (rows_after b.rows a.0 w) marks.caches
+            (λ e. ap (λ o. written a.0.store b.rows (places_at o)) runs ∙ ap (written a.0.store b.rows) e);
+      }) in
+      record {
+        back = is;
+        can = can_undo x.places u (Unstep w mark) a here grants is marks.back
+            (record {
+              x = z;
+              runs = runs;
+              mounts = ap mounts_in (puts_back x.own x.done (Some c.step) (trees_at s.store x.places))
+                  ∙ marks.mounts;
+            }) marks.caches (λ e. tt);
+      }
 
--- what a running worker has
-pub record IsAt (n : Seen) (b : Build) (ds : List Desk) (w : ℕ) (l : Option ℕ) (x : own.Execution) : Type 0 where
-  pub build : n.build ≡ b
-  pub workers : n.state.workers ≡ map at_of ds
-  pub supplies : map ready_made ds ≡ map (needed b) (map at_of ds)
-  pub there : slice_get ds w ≡ Some (desk.Runs l x)
+  -- ---- of a settle or a cancel
 
--- before a step, the mark of the worker's view and, where asked for, the caches are all that the step can displace
-pub marks_step : (n : Seen) (b : Build) (ds : List Desk) (w : ℕ) (l : Option ℕ) (x : own.Execution) (m : Mark) (o : Option Before) (asked : Bool)
-    → IsAt n b ds w l x
-    → m ≡ mark_of x.view → KeepsIf asked n o → (asked ≡ false → x.places.items ≡ []) → MarksStep n w (record { back = Unstep w m; caches = o })
-marks_step n b ds w l x m o asked at is keeps none =
-    let made = made_enough b ds w l x at.supplies at.there in
-    record {
-      x = execution_of x;
-      runs = ap (λ ws. slice_get ws w) at.workers ∙ get_map at_of ds w (desk.Runs l x) at.there;
-      back = ap (Unstep w) is;
-      mounts = ap (λ (s : Supplies). s.mounts) made ∙ ap (λ (c : Build). length (mounts_at (slice_get c.graph.vertices x.vertex))) (sym at.build);
-      caches = keeps_where x.places.items n asked o keeps none;
-    }
+  end_back : (e : End) (w : ℕ) (a : Answer) (u : Displaced) → Replays b → table b.build b.state (end_of e w) ≡ Some a → MarksEnd vs ws e w u
+      → Undoes b (end_of e w) a.0 u
+  end_back e w a u here grants marks =
+      let s = b.state in
+      let x = marks.left.execution in
+      let c = leaves_by b.build s e w a x marks.runs grants in
+      let ran = (consistent b here).working w x marks.runs in
+      let idle : slice_get a.0.workers w ≡ Some Idle = ap (λ (t : State). slice_get t.workers w) c.gives ∙ get_set_same s.workers w Idle (Runs x) marks.runs in
+      let is = leads_back u b (end_of e w) a.0 (record {
+        statuses = ap (λ k. statuses_before k a.0.statuses) marks.back
+            ∙ ap (λ (t : State). slice_set t.statuses x.vertex (Running w)) c.gives ∙ set_back s.statuses x.vertex c.status (Running w) ran;
+        workers = ap (λ k. workers_before k a.0.workers) marks.back
+            ∙ ap (λ (t : State). slice_set t.workers w (Runs x)) c.gives ∙ set_back s.workers w Idle (Runs x) marks.runs;
+        store = store_back x.places ws u.caches a.0.store marks.caches (λ none. ap (λ (t : State). t.store) c.gives);
+        rows = ap (λ k. rows_before u.caches (rows_after b.rows a.0 k)) (worker_ends e w)
+            ∙ rows_back x.places ws u.caches (rows_after b.rows a.0 w) marks.caches (λ none. ap (λ o. written a.0.store b.rows (places_at o)) idle);
+      }) in
+      record {
+        back = is;
+        can = can_undo x.places u (Resume e w marks.left) a here grants is marks.back (record {
+          idle = idle;
+          supplies = marks.supplies;
+        }) marks.caches (λ none. none);
+      }
 
--- before a settle or a cancel, the worker's execution and, where asked for, the caches are all that it can displace
-pub marks_end : (n : Seen) (e : End) (b : Build) (ds : List Desk) (w : ℕ) (l : Option ℕ) (x y : own.Execution) (o : Option Before) (asked : Bool)
-    → IsAt n b ds w l x → left_in y ≡ left_in x → KeepsIf asked n o → (asked ≡ false → x.places.items ≡ [])
-    → MarksEnd n e w (record { back = Resume e w (left_in y); caches = o })
-marks_end n e b ds w l x y o asked at is keeps none =
-    let made = made_enough b ds w l x at.supplies at.there in
-    record {
-      left = left_in x;
-      runs = ap (λ ws. slice_get ws w) at.workers ∙ get_map at_of ds w (desk.Runs l x) at.there;
-      back = ap (Resume e w) is;
-      supplies = made ∙ ap (λ (c : Build). supplies_for (slice_get c.graph.vertices x.vertex)) (sym at.build);
-      caches = keeps_where x.places.items n asked o keeps none;
-    }
+  -- ---- of any event
 
--- ---- a worker that runs nothing
+  undoes : (e : Event) (a : Answer) (u : Displaced) → Replays b → table b.build b.state e ≡ Some a → MarksIn vs ws e u → Undoes b e a.0 u
+  undoes (Claim w v) a u here grants marks = claim_back w v a u here grants marks
+  undoes (Step w) a u here grants marks = step_back w a u here grants marks
+  undoes (Settle w) a u here grants marks = end_back end.Settle w a u here grants marks
+  undoes (Cancel w) a u here grants marks = end_back end.Cancel w a u here grants marks
 
-pub step_none : (n : Seen) (w : ℕ) → slice_get n.state.workers w ≡ None → walk_of n (Step w) ≡ Err (walk.Step no_step.NoWorker)
-step_none n w at = ap (λ o. told_as walk.Step (recorded n (Step w) step_fault (stepped n.build n.state w o))) at
+  -- what was kept before a granted event leads back from the board after it to the one before
+  pub walk_back : (n : BoardValue) (e : Event) (r : replied.Reply) (u : Displaced) → Replays b → walk_of b e ≡ Ok (n, r) → MarksIn vs ws e u → undone u n ≡ b
+  walk_back n e r u here is marks =
+      let g = granted b n e r is in
+      ap (undone u) g.is ∙ (undoes e g.answer u here g.grants marks).back
 
-pub step_idle : (n : Seen) (w : ℕ) → slice_get n.state.workers w ≡ Some Idle → walk_of n (Step w) ≡ Err (walk.Step no_step.NotRunning)
-step_idle n w at = ap (λ o. told_as walk.Step (recorded n (Step w) step_fault (stepped n.build n.state w o))) at
+  -- and it can be undone: the board before replays its record, and worker and vertex are as the event left them
+  pub walk_can : (n : BoardValue) (e : Event) (r : replied.Reply) (u : Displaced) → Replays b → walk_of b e ≡ Ok (n, r) → MarksIn vs ws e u → CanUndo u n
+  walk_can n e r u here is marks =
+      let g = granted b n e r is in
+      subst (CanUndo u) (sym g.is) (undoes e g.answer u here g.grants marks).can
 
-pub end_none : (n : Seen) (e : End) (w : ℕ) → slice_get n.state.workers w ≡ None → walk_of n (end_of e w) ≡ Err (no_worker e)
-end_none n end.Settle w at = ap (λ o. told_as walk.Settle (recorded n (Settle w) settle_fault (settled n.build n.state w o))) at
-end_none n end.Cancel w at = ap (λ o. told_as walk.Cancel (recorded n (Cancel w) cancel_fault (cancelled n.state w o))) at
+-- an event of which what to put back is refused is refused itself
+pub walk_refused : (vs : VerticesValue) (first : List Row) (ws : WorkersValue) (es : List Event) (e : Event) (f : WalkFault) → walk_in vs ws e ≡ Err f
+    → walk_of (seen vs first ws es) e ≡ Err f
+walk_refused vs first ws es e f is = go e is
+  where
+    told_err : {C F : Type 0} (e : Event) (fault : C → F) (wrap : F → WalkFault) (r : Result Answer C) → faulted wrap (faulted fault r) ≡ Err f
+        → told_as wrap (recorded (seen vs first ws es) e fault r) ≡ Err f
+    told_err e fault wrap (Ok a) is = absurd cc
+    told_err e fault wrap (Err cause) is = let same : ◌≡◌ {A = WalkFault} (wrap (fault cause)) f = cc in ap (λ x. Err x) same
 
-pub end_idle : (n : Seen) (e : End) (w : ℕ) → slice_get n.state.workers w ≡ Some Idle → walk_of n (end_of e w) ≡ Err (not_running e)
-end_idle n end.Settle w at = ap (λ o. told_as walk.Settle (recorded n (Settle w) settle_fault (settled n.build n.state w o))) at
-end_idle n end.Cancel w at = ap (λ o. told_as walk.Cancel (recorded n (Cancel w) cancel_fault (cancelled n.state w o))) at
-
-none_of : {A : Type 0} (xs : List A) → length xs ≡ 0 → xs ≡ []
-none_of [] e = refl
-none_of (x ∷ xs) e = absurd (omega (arith, e))
-
--- a list that is not asked about is empty
-pub unasked : {A : Type 0} (xs : List A) (n : ℕ) (empty : Bool) → n ≡ length xs → empty ≡ (n == 0) → not empty ≡ false → xs ≡ []
-unasked xs n true len is asked = let zero_is = eqb-true n 0 (sym is) in none_of xs (omega (arith, len, zero_is))
-unasked xs n false len is asked = absurd cc
+    go : (e : Event) → walk_in vs ws e ≡ Err f → walk_of (seen vs first ws es) e ≡ Err f
+    go (Claim w v) is = told_err (Claim w v) claim_fault walk.Claim _ is
+    go (Step w) is = told_err (Step w) step_fault walk.Step _ is
+    go (Settle w) is = told_err (Settle w) settle_fault walk.Settle _ is
+    go (Cancel w) is = told_err (Cancel w) cancel_fault walk.Cancel _ is

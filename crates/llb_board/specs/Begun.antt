@@ -5,7 +5,7 @@ use Rattle.llb_model.specs.Program.{Build, Start, start_with, begin}
 use Rattle.llb_model.specs.Outcome.{outcome, ending_in, inputs_from, is_plain}
 use Rattle.llb_model.specs.State.{Execution, Runs, State}
 use Rattle.llb_model.specs.Table.{Job, Claim, Claimed, job_on, table}
-use Rattle.llb_state.specs.Board.{Seen}
+use Rattle.llb_board.specs.Seen.{BoardValue}
 use Rattle.llb_state.specs.Jobs.{job_now}
 use Rattle.llb_board.specs.Landing.{CanLand}
 
@@ -23,22 +23,22 @@ abbrev pub plain_job : Build → ℕ → ℕ → Option Job
 plain_job b w v = option_map (job_from b w v) (plain_start b (slice_get b.graph.vertices v))
 
 -- a worker's execution has no fault and no instances, and what it has left is the plain job
-pub record IsBegunPlainly (b : Seen) (w : ℕ) (x : Execution) : Type 0 where
+pub record IsBegunPlainly (b : BoardValue) (w : ℕ) (x : Execution) : Type 0 where
   pub clean : x.fault ≡ None
   pub bare : x.places ≡ []
   pub job : plain_job b.build w x.vertex ≡ Some (job_now b.build b.state.store w x)
 
 -- every worker that has done no micro-step of such a vertex is begun plainly
-abbrev pub BegunArePlain : Seen → Type 0
+abbrev pub BegunArePlain : BoardValue → Type 0
 BegunArePlain b = (w : ℕ) (x : Execution) → is_plain b.build x.vertex ≡ true → slice_get b.state.workers w ≡ Some (Runs x) → x.done ≡ 0 → IsBegunPlainly b w x
 
 -- a claim of such a vertex hands out the plain job
-abbrev pub ClaimsArePlain : Seen → Type 0
+abbrev pub ClaimsArePlain : BoardValue → Type 0
 ClaimsArePlain b = (w v : ℕ) (t : State) (job : Job) → is_plain b.build v ≡ true → table b.build b.state (Claim w v) ≡ Some (t, Claimed job)
     → plain_job b.build w v ≡ Some job
 
 -- a worker has done no micro-step of a vertex with no cache mount at or before it, and a job is the plain job
-pub record IsKnown (b : Seen) (w : ℕ) (job : Job) : Type 0 where
+pub record IsKnown (b : BoardValue) (w : ℕ) (job : Job) : Type 0 where
   pub x : Execution
   pub plain : is_plain b.build x.vertex ≡ true
   pub runs : slice_get b.state.workers w ≡ Some (Runs x)
@@ -46,5 +46,5 @@ pub record IsKnown (b : Seen) (w : ℕ) (job : Job) : Type 0 where
   pub same : plain_job b.build w x.vertex ≡ Some job
 
 -- the outcome of such a job lands
-abbrev pub KnownLand : Seen → Type 0
+abbrev pub KnownLand : BoardValue → Type 0
 KnownLand b = (w : ℕ) (job : Job) → IsKnown b w job → CanLand b w job

@@ -2,43 +2,45 @@
 use Rattle.std.specs.Prelude.{◌≡◌, ◌≢◌, ℕ, Some, option_map, slice_get}
 use Rattle.llb_cache.specs.declared.key.Mode.TheVariants.{Locked}
 use Rattle.llb_tree.specs.Tree.{TreeMap}
-use Rattle.llb_model.specs.Caches.{Place, content, Has, IsExclusive}
+use Rattle.llb_model.specs.Caches.{Instance, content, Has, IsExclusive}
 use Rattle.llb_model.specs.Laws.{with_content, with_content_after}
 use Rattle.llb_model.specs.State.{Execution, Runs, State}
 use Rattle.llb_model.specs.Table.{Event, Reply, worker_of, table}
 use Rattle.llb_model.specs.Order.{at_first, order, claims_in, StandsIn}
-use Rattle.llb_state.specs.Board.{Seen, Replays, SettledArePlain, replies_in}
+use Rattle.llb_board.specs.Seen.{BoardValue, Replays, replies_in}
+use Rattle.llb_board.specs.Laws.{SettledArePlain}
 
 -- worker w is running, and holds the instance p
-pub record HasPlace (b : Seen) (w : ℕ) (p : Place) : Type 0 where
+pub record HoldsInstance (b : BoardValue) (w : ℕ) (p : Instance) : Type 0 where
   pub execution : Execution
   pub runs : slice_get b.state.workers w ≡ Some (Runs execution)
   pub has : Has execution.places p
 
 -- two running workers that hold instances of one locked key are the same worker
-abbrev pub LockedOnce : Seen → Type 0
-LockedOnce b = (w u : ℕ) (p q : Place) → HasPlace b w p → HasPlace b u q → p.key ≡ q.key → p.key.mode ≡ Locked → w ≡ u
+abbrev pub LockedOnce : BoardValue → Type 0
+LockedOnce b = (w u : ℕ) (p q : Instance) → HoldsInstance b w p → HoldsInstance b u q → p.key ≡ q.key → p.key.mode ≡ Locked → w ≡ u
 
 -- two running workers with the same instance of a locked or a private key are the same worker
-abbrev pub HeldOnce : Seen → Type 0
-HeldOnce b = (w u : ℕ) (p : Place) → HasPlace b w p → HasPlace b u p → IsExclusive p.key.mode → w ≡ u
+abbrev pub HeldOnce : BoardValue → Type 0
+HeldOnce b = (w u : ℕ) (p : Instance) → HoldsInstance b w p → HoldsInstance b u p → IsExclusive p.key.mode → w ≡ u
 
 -- an event of another worker leaves such an instance as it is
-abbrev pub OthersLeave : Seen → Type 0
-OthersLeave b = (w : ℕ) (p : Place) → HasPlace b w p → IsExclusive p.key.mode → (e : Event) (t : State) (r : Reply) → worker_of e ≢ w
+abbrev pub OthersLeave : BoardValue → Type 0
+OthersLeave b = (w : ℕ) (p : Instance) → HoldsInstance b w p → IsExclusive p.key.mode → (e : Event) (t : State) (r : Reply) → worker_of e ≢ w
     → table b.build b.state e ≡ Some (t, r)
     → content t.store p ≡ content b.state.store p
 
 -- an event of another worker would have the same reply, and the same effect elsewhere, whatever tree such an instance had
-abbrev pub OthersIgnore : Seen → Type 0
-OthersIgnore b = (w : ℕ) (p : Place) → HasPlace b w p → IsExclusive p.key.mode → (e : Event) (tree : TreeMap) → worker_of e ≢ w
+abbrev pub OthersIgnore : BoardValue → Type 0
+OthersIgnore b = (w : ℕ) (p : Instance) → HoldsInstance b w p → IsExclusive p.key.mode → (e : Event) (tree : TreeMap) → worker_of e ≢ w
     → table b.build (with_content p tree b.state) e ≡ option_map (with_content_after p tree) (table b.build b.state e)
 
 -- the settled vertices and the free instances are as the claims of the record leave them, each vertex run at its claim
-abbrev pub StandsInClaimOrder : Seen → Type 0
+abbrev pub StandsInClaimOrder : BoardValue → Type 0
 StandsInClaimOrder b = StandsIn b.state (order b.build (at_first b.build b.opening.store) (claims_in (replies_in b)))
 
-pub record Headline (b : Seen) : Type 0 where
+-- what stands of every board
+pub record Headline (b : BoardValue) : Type 0 where
   -- after every interleaving of events the state and the replies are the written table's on the recorded events
   pub replays : Replays b
   -- no two executions hold one locked cache at once, nor one instance of a private one

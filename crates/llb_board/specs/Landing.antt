@@ -1,12 +1,13 @@
 -- What a landing returns: the block of the worker's remaining micro-steps and its settle, or the first cause of its refusal.
 use Rattle.std.specs.Prelude.{◌≡◌, ℕ, Bool, true, false, List, [], ◌∷◌, ◌++◌, Option, Some, None, slice_get, is_ok}
-use Rattle.llb_model.specs.Caches.{Place}
-use Rattle.llb_model.specs.State.{Execution, At, Idle, Runs}
+use Rattle.llb_model.specs.Caches.{Instance}
+use Rattle.llb_model.specs.State.{Execution, WorkerStatus, Idle, Runs}
 use Rattle.llb_model.specs.Table.{Job, Reply, settle_grant}
 use Rattle.llb_model.specs.Run.{run}
 use Rattle.llb_model.specs.Landing.{steps_by, landing}
-use Rattle.llb_state.specs.Board.{Seen, kept_along}
+use Rattle.llb_board.specs.Seen.{BoardValue, kept_along}
 use Rattle.llb_execution.specs.Jobs.{OutcomeValue}
+use Rattle.llb_state.specs.Caches.{places_at}
 use Rattle.llb_state.specs.Jobs.{has_shared, IsRunOf}
 use Rattle.llb_board.specs.declared.fault.LandFault.{LandFault}
 use Rattle.llb_board.specs.declared.fault.LandFault.TheVariants as fault
@@ -16,37 +17,37 @@ use Rattle.llb_board.specs.declared.landing.LandCause.TheVariants as cause
 -- ---- which outcomes land
 
 -- what a worker runs has an instance of a shared cache
-abbrev pub runs_shared : Option At → Bool
+abbrev pub runs_shared : Option WorkerStatus → Bool
 runs_shared (Some (Runs x)) = has_shared x
 runs_shared (Some Idle) = false
 runs_shared None = false
 
 -- the instances of caches that a worker has
-abbrev pub places_had : Option At → List Place
-places_had (Some (Runs x)) = x.places
-places_had (Some Idle) = []
-places_had None = []
+abbrev pub places_had : Option WorkerStatus → List Instance
+places_had = places_at
 
-pub record CanLand (b : Seen) (w : ℕ) (job : Job) : Type 0 where
+-- job is what worker w has left to do, on no instance that is shared
+pub record CanLand (b : BoardValue) (w : ℕ) (job : Job) : Type 0 where
   pub x : Execution
   pub runs : slice_get b.state.workers w ≡ Some (Runs x)
   pub alone : has_shared x ≡ false
   pub own : IsRunOf b.build b.state.store w x job
 
 -- the worker runs a vertex, none of its caches is shared, and the job is not what it runs
-pub record RunsAlone (b : Seen) (w : ℕ) (job : Job) : Type 0 where
+pub record RunsAlone (b : BoardValue) (w : ℕ) (job : Job) : Type 0 where
   pub x : Execution
   pub runs : slice_get b.state.workers w ≡ Some (Runs x)
   pub alone : has_shared x ≡ false
   pub other : IsRunOf b.build b.state.store w x job → ⊥
 
-pub record RunsShared (b : Seen) (w : ℕ) : Type 0 where
+-- worker w runs on an instance that is shared
+pub record RunsShared (b : BoardValue) (w : ℕ) : Type 0 where
   pub x : Execution
   pub runs : slice_get b.state.workers w ≡ Some (Runs x)
   pub shared : has_shared x ≡ true
 
 -- a cause is the first for which a job's outcome is refused
-abbrev pub StandsInWay : Seen → ℕ → Job → LandCause → Type 0
+abbrev pub StandsInWay : BoardValue → ℕ → Job → LandCause → Type 0
 StandsInWay b w job cause.NoWorker = slice_get b.state.workers w ≡ None
 StandsInWay b w job cause.NotRunning = slice_get b.state.workers w ≡ Some Idle
 StandsInWay b w job cause.HasShared = RunsShared b w
@@ -59,7 +60,8 @@ land_fault cause.NotRunning o = fault.NotRunning o
 land_fault cause.HasShared o = fault.HasShared o
 land_fault cause.Stranger o = fault.Stranger o
 
-pub record IsRefused (b : Seen) (w : ℕ) (o : OutcomeValue) (e : LandFault) : Type 0 where
+-- the refusal e of an outcome says the first cause that stands in its way
+pub record IsRefused (b : BoardValue) (w : ℕ) (o : OutcomeValue) (e : LandFault) : Type 0 where
   pub cause : LandCause
   pub stands : StandsInWay b w o.job cause
   pub is : e ≡ land_fault cause o
@@ -67,14 +69,14 @@ pub record IsRefused (b : Seen) (w : ℕ) (o : OutcomeValue) (e : LandFault) : T
 -- ---- what a landing does
 
 -- a worker's steps, as many as an outcome counts, are done and recorded
-pub record Steps (b : Seen) (w : ℕ) (count : ℕ) (new : Seen) : Type 0 where
+pub record Steps (b : BoardValue) (w : ℕ) (count : ℕ) (new : BoardValue) : Type 0 where
   pub replies : List Reply
   pub runs : run b.build b.state (steps_by w count) ≡ Some (new.state, replies)
   pub rows : kept_along b.build b.state b.rows (steps_by w count) ≡ Some (new.state, new.rows)
   pub recorded : new ≡ record b { state = new.state; rows = new.rows; events = b.events ++ steps_by w count }
 
 -- the block of these steps and the settle is done and recorded; the settle's reply is the last
-pub record Lands (b : Seen) (w : ℕ) (o : OutcomeValue) (new : Seen) (reply : Reply) : Type 0 where
+pub record Lands (b : BoardValue) (w : ℕ) (o : OutcomeValue) (new : BoardValue) (reply : Reply) : Type 0 where
   pub can : CanLand b w o.job
   pub replies : List Reply
   pub runs : run b.build b.state (landing w o.count) ≡ Some (new.state, replies ++ reply ∷ [])
@@ -82,6 +84,6 @@ pub record Lands (b : Seen) (w : ℕ) (o : OutcomeValue) (new : Seen) (reply : R
   pub recorded : new ≡ record b { state = new.state; rows = new.rows; events = b.events ++ landing w o.count }
 
 -- after the steps, what the worker runs is finished
-pub record IsThrough (b : Seen) (w : ℕ) (count : ℕ) (new : Seen) : Type 0 where
+pub record IsThrough (b : BoardValue) (w : ℕ) (count : ℕ) (new : BoardValue) : Type 0 where
   pub steps : Steps b w count new
   pub finished : is_ok (settle_grant new.build new.state w) ≡ true

@@ -3,8 +3,8 @@ use Rattle.std.specs.Prelude.{ℕ, nat_le, Bool, true, false, ◌&&◌, List, Op
 use Rattle.llb_wire.specs.Answer as answer
 use Rattle.llb_cache.specs.Caches.{CachesValue}
 use Rattle.llb_model.specs.Program.{Build}
-use Rattle.llb_model.specs.State.{missing_local}
-use Rattle.llb_state.specs.Board.{Seen, opened}
+use Rattle.llb_loader.specs.Missing.{missing_local}
+use Rattle.llb_board.specs.Seen.{BoardValue, opened}
 use Rattle.llb_board.specs.declared.fault.OpenFault.{OpenFault}
 use Rattle.llb_board.specs.declared.fault.OpenFault.TheVariants as opening
 
@@ -12,19 +12,21 @@ use Rattle.llb_board.specs.declared.fault.OpenFault.TheVariants as opening
 abbrev pub may_work : ℕ → Bool
 may_work workers = nat_le 1 workers && nat_le workers 64
 
-abbrev pub open_with : Build → CachesValue → ℕ → Result Seen OpenFault
+-- a board opened on these caches, or the refusal of the number of workers
+abbrev pub open_with : Build → CachesValue → ℕ → Result BoardValue OpenFault
 open_with b c workers = if may_work workers then Ok (opened b workers c.rows) else Err (opening.Workers b.graph b.locals c)
 
 -- a missing local tree is the first cause of all
-abbrev pub open_unless : Option (List ℕ) → Build → CachesValue → ℕ → Result Seen OpenFault
+abbrev pub open_unless : Option (List ℕ) → Build → CachesValue → ℕ → Result BoardValue OpenFault
 open_unless (Some name) b c workers = Err (opening.MissingLocal name b.graph b.locals c)
 open_unless None b c workers = open_with b c workers
 
-abbrev pub open_of : Build → CachesValue → ℕ → Result Seen OpenFault
+-- the rule of opening: a local tree that is missing is told first
+abbrev pub open_of : Build → CachesValue → ℕ → Result BoardValue OpenFault
 open_of b c workers = open_unless (missing_local b.locals b.graph.vertices) b c workers
 
 -- whether memory may be needed: if there is no other cause, or for the name of a missing local tree
-abbrev pub may_want_memory : Result Seen OpenFault → Bool
+abbrev pub may_want_memory : Result BoardValue OpenFault → Bool
 may_want_memory (Ok b) = true
 may_want_memory (Err (opening.MissingLocal name g ts c)) = true
 may_want_memory (Err (opening.Workers g ts c)) = false
@@ -36,10 +38,12 @@ returned (opening.Memory g ts c) = (record { graph = g; locals = ts }, c)
 returned (opening.Workers g ts c) = (record { graph = g; locals = ts }, c)
 returned (opening.MissingLocal name g ts c) = (record { graph = g; locals = ts }, c)
 
+-- whether a refusal of opening is that of memory
 abbrev pub open_memory : OpenFault → Bool
 open_memory (opening.Memory g ts c) = true
 open_memory (opening.Workers g ts c) = false
 open_memory (opening.MissingLocal name g ts c) = false
 
+-- a result of opening is what the rule returns, but for want of memory
 abbrev pub GivesOpen : {X Y : Type 0} → (X → Y) → Result X OpenFault → Result Y OpenFault → Type 0
 GivesOpen = answer.Gives open_memory

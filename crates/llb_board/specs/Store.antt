@@ -5,8 +5,8 @@ use Rattle.std.specs.Coded.{Coded, code_by, coded×, coded_ℕ, coded_list, code
 use Rattle.llb_cache.specs.declared.key.Seed.{Seed}
 use Rattle.llb_cache.specs.declared.key.Mode.{Mode}
 use Rattle.llb_cache.specs.declared.key.Mode.TheVariants.{Shared, Private, Locked}
-use Rattle.llb_tree.specs.Tree.{coded_tree}
-use Rattle.llb_model.specs.Caches.{Place, Store, mode_number}
+use Rattle.llb_tree.specs.Coded.{coded_tree}
+use Rattle.llb_model.specs.Caches.{Instance, Store, mode_number}
 
 -- a cache's sharing mode, by its number
 abbrev pub mode_by : ℕ → Mode
@@ -18,18 +18,22 @@ mode_by (suc (suc n)) = Locked
 abbrev pub Packed : Type 0
 Packed = (ℕ × ℕ) × (List ℕ × Option (List ℕ × ℕ))
 
+-- a seed as a pair
 abbrev pub packed_seed : Option Seed → Option (List ℕ × ℕ)
 packed_seed None = None
 packed_seed (Some s) = Some (s.digest, s.index)
 
+-- the seed of a pair
 abbrev pub unpacked_seed : Option (List ℕ × ℕ) → Option Seed
 unpacked_seed None = None
 unpacked_seed (Some p) = Some (record { digest = p.0; index = p.1 })
 
-abbrev pub packed : Place → Packed
+-- an instance as pairs
+abbrev pub packed : Instance → Packed
 packed p = ((p.number, mode_number p.key.mode), (p.key.id, packed_seed p.key.seed))
 
-abbrev pub unpacked : Packed → Place
+-- the instance of pairs
+abbrev pub unpacked : Packed → Instance
 unpacked p = record { number = p.0.0; key = record { id = p.1.0; seed = unpacked_seed p.1.1; mode = mode_by p.0.1 } }
 
 pub mode_back : (m : Mode) → mode_by (mode_number m) ≡ m
@@ -41,12 +45,14 @@ pub seed_back : (o : Option Seed) → unpacked_seed (packed_seed o) ≡ o
 seed_back None = refl
 seed_back (Some s) = refl
 
-pub unpacked-packed : (p : Place) → unpacked (packed p) ≡ p
+pub unpacked-packed : (p : Instance) → unpacked (packed p) ≡ p
 unpacked-packed p = λ i. record { number = p.number; key = record { id = p.key.id; seed = seed_back p.key.seed i; mode = mode_back p.key.mode i } }
 
-abbrev pub coded_place : Coded Place
+-- instances have a code, by which they are looked up
+abbrev pub coded_place : Coded Instance
 coded_place = code_by Packed
     (coded× (coded× coded_ℕ coded_ℕ) (coded× (coded_list coded_ℕ) (coded_option (coded× (coded_list coded_ℕ) coded_ℕ)))) packed unpacked unpacked-packed
 
+-- so have stores
 abbrev pub coded_store : Coded Store
 coded_store = finite.code coded_place coded_tree

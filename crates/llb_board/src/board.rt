@@ -1,60 +1,54 @@
-//! The board: the state of each vertex, what each worker runs, the caches, and the record of events since it was opened. Its invariant:
-//! the record is a run of the table to the board's state, it has room for every event to come but those of a vertex that is claimed
-//! again after a cancel, and each running worker has a lease of its cache instances.
+//! The board: what is known of the vertices, what the workers do, and the record of events since it was opened. Its invariant: the record is
+//! a run of the table to the board's state, it has room for every event to come but those of a vertex that is claimed again after a cancel,
+//! and each worker has the supplies of its vertex. What its vertices and its workers keep is theirs.
 
-ghost use Rattle.std.specs.Prelude.{◌≡◌, ◌<◌, ◌≤◌, ◌+◌, [], length, true, is_some, option_map, OnErr, IfErr, IfOk};
+ghost use Rattle.std.specs.Prelude.{◌≡◌, ◌<◌, ◌≤◌, ◌+◌, [], length, replicate, true, is_some, option_map, Some, OnErr, IfErr, IfOk, if◌then◌else◌};
 ghost use Rattle.llb_model.specs.Outcome.{output_in};
-ghost use Rattle.llb_model.specs.State.{ending_at, missing_local};
+ghost use Rattle.llb_model.specs.State.{ending_at, is_failed, ending_of};
+ghost use Rattle.llb_loader.specs.Missing.{missing_local};
 ghost use Rattle.llb_model.specs.Room.{most_events, owed, still_to_come};
 ghost use Rattle.llb_model.specs.Run.{chosen, is_complete};
 ghost use Rattle.llb_model.specs.Laws.{IsReached};
+ghost use Rattle.llb_model.specs.Table.{SettledDone, SettledFailed};
 ghost use Rattle.llb_loader.specs.Graph.{IsGraph};
-ghost use Rattle.llb_state.specs.Board.{Seen, Replays, replies_in};
 ghost use Rattle.llb_links.specs.Links.{users_of};
 ghost use Rattle.llb_wire.specs.Answer.{MemoryLast};
 ghost use Rattle.llb_cache.specs.Caches.{leases};
 ghost use Rattle.llb_model.specs.Kept.{store_of};
 ghost use Rattle.llb_model.specs.Leases.{HoldsAs};
-ghost use Rattle.llb_events.specs.Causes.{step_memory};
-ghost use Rattle.llb_board.specs.Opening.{may_work, open_memory, GivesOpen, open_of, open_with};
-ghost use Rattle.llb_events.specs.Faults.{claim_memory, claim_may_want};
-ghost use Rattle.llb_board.specs.Opening.{returned, may_want_memory};
-ghost use Rattle.llb_state.specs.Rules.{claim_of, step_of, settle_of, cancel_of};
-ghost use Rattle.llb_events.specs.Causes.{GivesStep, GivesSettle, GivesCancel};
-ghost use Rattle.llb_events.specs.Faults.{GivesClaim};
-ghost use Rattle.llb_events.specs.Views.{event_of, claim_reply, step_reply, settle_reply, cancel_reply, look, look_at, worker_look};
-ghost use Rattle.llb_state.specs.Views.{status_of};
+ghost use Rattle.llb_events.specs.Causes.{step_memory, GivesStep, GivesSettle, GivesCancel};
+ghost use Rattle.llb_events.specs.Faults.{GivesClaim, claim_memory, claim_may_want};
+ghost use Rattle.llb_events.specs.Views.{event_of, claim_reply, step_reply, settle_reply, cancel_reply, look_at, worker_look};
+ghost use Rattle.llb_state.specs.Vertices.{all_waiting, status_of};
+ghost use Rattle.llb_board.specs.Seen.{BoardValue, Replays, opened, replies_in};
+ghost use Rattle.llb_board.specs.declared.fault.OpenFault.TheVariants as opening;
+ghost use Rattle.llb_board.specs.Opening.{may_work, open_memory, GivesOpen, open_of, open_with, returned, may_want_memory};
+ghost use Rattle.llb_board.specs.Rules.{claim_of, step_of, settle_of, cancel_of};
 
+use crate::choice::next_event;
+use crate::events::Events;
 use crate::fault::OpenFault;
+use crate::history::History;
 use llb_cache::Caches;
 use llb_events::{
-    At, CancelFault, Cancelled, ClaimFault, Event, SettleFault, Settled, Status, StepFault, Stepped,
+    CancelFault, Cancelled, ClaimFault, Event, Memory, SettleFault, Settled, Status, StepFault,
+    Stepped, WorkerStatus,
 };
 use llb_execution::Job;
-use llb_links::Links;
-use llb_loader::{Graph, Locals};
-use llb_needs::wanted_by;
-use llb_state::{
-    Begun, Build, Claim, Desk, Events, History, Stand, all_settled, begin, claimable, desk_at,
-    first_open, give_all_back, give_back, give_up, is_finished, is_marked, is_ready,
-    lease_with_room, leave, next_claim, next_event, opening, output_at, stand_at, step_at,
-};
+use llb_loader::{Graph, Locals, missing_local};
+use llb_state::{Stage, Vertices, Workers};
 use llb_tree::Tree;
-use llb_wire::{Memory, Text};
+use llb_wire::Text;
 use std::alloc::Global;
 use std::marker::Model;
 
 /// A graph that workers work on, with its local trees and caches, and the record of what was done.
 pub struct Board {
     pub(crate) alloc: Global,
-    pub(crate) build: Build,
-    pub(crate) caches: Caches,
+    pub(crate) vertices: Vertices,
+    pub(crate) workers: Workers,
+    /// The caches as they were handed in.
     pub(crate) start: Caches,
-    pub(crate) stands: Vec<Stand>,
-    pub(crate) desks: Vec<Desk>,
-    pub(crate) stop_marks: Vec<bool>,
-    pub(crate) links: Links,
-    pub(crate) first_open: u32,
     pub(crate) history: History,
 }
 
@@ -63,14 +57,9 @@ impl Drop for Board {
     fn drop(self) {
         let Board {
             alloc: _,
-            build: _,
-            caches: _,
+            vertices: _,
+            workers: _,
             start: _,
-            stands: _,
-            desks: _,
-            stop_marks: _,
-            links: _,
-            first_open: _,
             history: _,
         } = self;
     }
@@ -78,19 +67,18 @@ impl Drop for Board {
 
 impl Model for Board {
     ghost use Rattle.std.specs.Coded.{codes};
-    ghost use Rattle.llb_tree.specs.Tree.{coded_tree};
+    ghost use Rattle.llb_tree.specs.Coded.{coded_tree};
     ghost use Rattle.llb_board.specs.Store.{coded_store};
-    ghost use Rattle.llb_state.specs.Board.{Seen};
-    ghost use Rattle.llb_state.specs.Room.{seen, IsTracked};
+    ghost use Rattle.llb_board.specs.Seen.{BoardValue, seen};
+    ghost use Rattle.llb_board.specs.Kept.{IsBoard};
 
-    ghost Value = { Seen };
+    ghost Value = { BoardValue };
 
     ghost coded = { Prim.hlevel (codes, coded_tree, coded_store) };
 
-    ghost view = { λ b. seen b.build b.start.rows b.stands.items b.desks.items b.caches.rows b.history.list };
+    ghost view = { λ b. seen b.vertices b.start.rows b.workers b.history.list };
 
-    ghost invariant = { λ b. IsTracked (seen b.build b.start.rows b.stands.items b.desks.items b.caches.rows b.history.list) b.desks.items b.caches.out
-        b.stop_marks.items b.links b.history.space b.first_open };
+    ghost invariant = { λ b. IsBoard (seen b.vertices b.start.rows b.workers b.history.list) b.workers b.history.space };
 }
 
 impl Board {
@@ -109,53 +97,61 @@ impl Board {
         ensures last { IfErr result (λ e. open_memory e ≡ true → may_want_memory (open_of (record { graph = graph; locals = locals }) caches workers) ≡ true) }
         ensures back { IfErr result (λ e. returned e ≡ (record { graph = graph; locals = locals }, caches)) }
     {
-        let build = Build::new(graph, locals);
-        match missing(alloc, &build) {
-            Ok(None) => Board::open_with(alloc, build, caches, workers),
-            Ok(Some(name)) => {
-                let (graph, locals) = build.into_parts();
-                Err(OpenFault::MissingLocal(name, graph, locals, caches))
-            }
-            Err(_) => {
-                let (graph, locals) = build.into_parts();
-                Err(OpenFault::Memory(graph, locals, caches))
-            }
+        match missing(alloc, &graph, &locals) {
+            Ok(None) => Board::open_with(alloc, graph, locals, caches, workers),
+            Ok(Some(name)) => Err(OpenFault::MissingLocal(name, graph, locals, caches)),
+            Err(_) => Err(OpenFault::Memory(graph, locals, caches)),
         }
     }
 
     // Opens a board if all local trees are there.
     fn open_with(
         alloc: Global,
-        build: Build,
+        graph: Graph,
+        locals: Locals,
         caches: Caches,
         workers: u32,
     ) -> Result<Board, OpenFault>
         requires { leases caches.out ≡ 0 }
-        ensures gives { GivesOpen (λ b. b) result (open_with build caches workers) }
-        ensures last { MemoryLast open_memory result (open_with build caches workers) }
-        ensures back { IfErr result (λ e. returned e ≡ (build, caches)) }
+        ensures gives { GivesOpen (λ b. b) result (open_with (record { graph = graph; locals = locals }) caches workers) }
+        ensures last { MemoryLast open_memory result (open_with (record { graph = graph; locals = locals }) caches workers) }
+        ensures back { IfErr result (λ e. returned e ≡ (record { graph = graph; locals = locals }, caches)) }
     {
         if !may_work(workers) {
-            let (graph, locals) = build.into_parts();
             return Err(OpenFault::Workers(graph, locals, caches));
         }
-        match opening(alloc, &build, &caches, workers) {
-            Ok(fresh) => Ok(Board {
-                alloc,
-                build,
-                caches,
-                start: fresh.start,
-                stands: fresh.stands,
-                desks: fresh.desks,
-                stop_marks: fresh.stop_marks,
-                links: fresh.links,
-                first_open: 0,
-                history: fresh.history,
-            }),
-            Err(_) => {
-                let (graph, locals) = build.into_parts();
-                Err(OpenFault::Memory(graph, locals, caches))
-            }
+        match Vertices::open(alloc, graph, locals) {
+            Ok(vertices) => Board::open_on(alloc, vertices, caches, workers),
+            Err((graph, locals)) => Err(OpenFault::Memory(graph, locals, caches)),
+        }
+    }
+
+    // Opens a board on vertices that all wait. Fails with 123 `Memory` alone.
+    fn open_on(
+        alloc: Global,
+        vertices: Vertices,
+        caches: Caches,
+        workers: u32,
+    ) -> Result<Board, OpenFault>
+        requires free { leases caches.out ≡ 0 }
+        requires waits { vertices ≡ all_waiting vertices.build }
+        requires some { 0 < workers }
+        requires few { workers ≤ 64 }
+        ensures ok { IfOk result (λ b. b ≡ opened vertices.build workers caches.rows) }
+        ensures back { IfErr result (λ e. e ≡ opening.Memory vertices.build.graph vertices.build.locals caches) }
+    {
+        match fresh(alloc, &vertices, &caches) {
+            Ok((start, history)) => match Workers::open(alloc, caches, workers) {
+                Ok(workers) => Ok(Board {
+                    alloc,
+                    vertices,
+                    workers,
+                    start,
+                    history,
+                }),
+                Err(caches) => Err(refused(vertices, caches)),
+            },
+            Err(_) => Err(refused(vertices, caches)),
         }
     }
 
@@ -168,33 +164,15 @@ impl Board {
         ensures last { IfErr result (λ e. claim_memory e ≡ true → claim_may_want (claim_of self.old w v) ≡ true) }
         ensures err { OnErr result (self.new ≡ self.old) }
     {
-        let vertex = claimable(&self.build, &self.stands, &self.links, &self.desks, w, v)?;
-        let wanted = wanted_by(self.alloc, &self.caches, vertex)?;
-        let claim = Claim {
-            worker: w,
-            number: v,
-            vertex,
+        let begun = self.workers.begin(self.alloc, &self.vertices, w, v)?;
+        let events = self.vertices.steps(v) as usize + 2;
+        self.history.reserve(v, events)?;
+        let Ok(job) = self.workers.start(&self.vertices, begun) else {
+            self.history.release(v, events);
+            return Err(ClaimFault::Memory);
         };
-        let begun = begin(
-            self.alloc,
-            &self.build,
-            &self.caches,
-            &self.stands,
-            claim,
-            wanted,
-        )?;
-        let Begun {
-            job,
-            execution,
-            needs,
-        } = begun;
-        self.caches.is_exclusive();
-        let events = self.build.steps(v) as usize + 2;
-        let lease = lease_with_room(&mut self.caches, &mut self.history, needs, v, events)?;
-        self.first_open = first_open(&self.build, &self.stands, &self.stop_marks, self.first_open);
-        self.history.push_reserved(Event::Claim(w, v));
-        self.stands[v as usize] = Stand::Running(w);
-        self.desks[w as usize] = Desk::Runs(lease, execution);
+        self.vertices.set(v, Stage::Running(w));
+        self.history.record(Event::Claim(w, v));
         Ok(job)
     }
 
@@ -206,14 +184,8 @@ impl Board {
         ensures last { MemoryLast step_memory result (step_of self.old w) }
         ensures err { OnErr result (self.new ≡ self.old) }
     {
-        let stepped = step_at(
-            self.alloc,
-            &self.build,
-            &mut self.desks,
-            &mut self.caches,
-            w,
-        )?;
-        self.history.push_reserved(Event::Step(w));
+        let stepped = self.workers.step(self.alloc, &self.vertices, w)?;
+        self.history.record(Event::Step(w));
         Ok(stepped)
     }
 
@@ -223,25 +195,11 @@ impl Board {
         ensures gives { GivesSettle (λ r. (self.new, settle_reply r)) result (settle_of self.old w) }
         ensures err { OnErr result (self.new ≡ self.old) }
     {
-        let _ = self.build.vertices();
-        let (v, stand, lease) = leave(&self.build, &mut self.desks, w)?;
-        give_back(&mut self.caches, lease);
-        let failed = stand.has_failed();
-        self.stands[v as usize] = stand;
-        self.history.push_reserved(Event::Settle(w));
-        if failed {
-            self.links.spread(&mut self.stop_marks, v);
-            self.first_open = first_open(
-                &self.build,
-                &self.stands,
-                &self.stop_marks,
-                self.first_open,
-            );
-            return Ok(Settled::Failed(v));
-        }
-        self.links.count_down(v);
-        self.first_open = first_open(&self.build, &self.stands, &self.stop_marks, self.first_open);
-        Ok(Settled::Done(v))
+        let (v, stage) = self.workers.leave(&self.vertices, w)?;
+        let failed = has_failed(&stage);
+        self.vertices.set(v, stage);
+        self.history.record(Event::Settle(w));
+        Ok(settled(v, failed))
     }
 
     /// Makes a worker give up what it runs, finished or not. Its vertex waits again, its cache instances are free, and they keep what
@@ -250,11 +208,9 @@ impl Board {
         ensures gives { GivesCancel (λ r. (self.new, cancel_reply r)) result (cancel_of self.old w) }
         ensures err { OnErr result (self.new ≡ self.old) }
     {
-        let _ = self.build.vertices();
-        let (cancelled, lease) = give_up(&mut self.desks, w)?;
-        give_back(&mut self.caches, lease);
-        self.stands[cancelled.vertex as usize] = Stand::Waiting;
-        self.history.push_cancel(w, cancelled.vertex);
+        let cancelled = self.workers.give_up(w)?;
+        self.vertices.set(cancelled.vertex, Stage::Waiting);
+        self.history.record_cancel(w, cancelled.vertex);
         Ok(cancelled)
     }
 
@@ -262,45 +218,35 @@ impl Board {
     pub fn graph(&self) -> &Graph
         ensures { result.now ≡ self.now.build.graph }
     {
-        self.build.graph()
+        self.vertices.graph()
     }
 
     /// Returns the status of a vertex; `None` past the last vertex. Does not allocate.
     pub fn status(&self, v: u32) -> Option<Status>
         ensures { result ≡ look_at self.now.build self.now.state v }
     {
-        let stand = stand_at(&self.stands, v)?;
-        let _ = self.build.vertices();
-        let ready = is_ready(&self.stands, &self.links, v);
-        Some(look(stand, ready, is_marked(&self.stop_marks, v)))
+        self.vertices.status(v)
     }
 
     /// Returns what a worker does; `None` past the last worker. Does not allocate.
-    pub fn worker(&self, w: u32) -> Option<At>
+    pub fn worker(&self, w: u32) -> Option<WorkerStatus>
         ensures { result ≡ worker_look self.now.build self.now.state w }
     {
-        match desk_at(&self.desks, w)? {
-            Desk::Idle => Some(At::Idle),
-            Desk::Runs(_, execution) => {
-                let finished = is_finished(execution, self.build.steps(execution.vertex));
-                Some(At::Runs(execution.vertex, execution.done, finished))
-            }
-        }
+        self.workers.look(&self.vertices, w)
     }
 
     /// Returns output i of a vertex that is done; `None` where there is no such vertex or output. Does not allocate.
     pub fn output(&self, v: u32, i: u32) -> Option<&Tree>
         ensures { option_map (λ t. t.now) result ≡ output_in (ending_at self.now.state.statuses v) i }
     {
-        output_at(&self.stands, v, i)
+        self.vertices.output(v, i)
     }
 
     /// Returns the users of a vertex, which are those with an edge to it: ascending, each once; empty past the last vertex. Does not allocate.
     pub fn users(&self, v: u32) -> &[u32]
         ensures { result.now ≡ users_of self.now.build.graph.vertices v }
     {
-        let _ = self.build.vertices();
-        self.links.users(v)
+        self.vertices.users(v)
     }
 
     /// Returns the record of events since the board was opened: for each vertex at most one claim, one settle and its micro-steps, and as many
@@ -318,10 +264,12 @@ impl Board {
     pub fn chosen(&self) -> Option<Event>
         ensures { option_map event_of result ≡ chosen self.now.build self.now.state }
     {
-        let _ = self.build.vertices();
-        match next_event(&self.build, &self.desks) {
+        match next_event(&self.vertices, &self.workers) {
             Some(event) => Some(event),
-            None => next_claim(&self.build, &self.stands, &self.links, self.first_open),
+            None => match self.vertices.next_ready() {
+                Some(v) => Some(Event::Claim(0, v)),
+                None => None,
+            },
         }
     }
 
@@ -329,7 +277,7 @@ impl Board {
     pub fn is_complete(&self) -> bool
         ensures { result ≡ is_complete self.now.build self.now.state }
     {
-        all_settled(&self.build, &self.stands, &self.stop_marks, self.first_open)
+        self.vertices.are_settled()
     }
 
     /// Returns the caches as they are now: each key with its instances, first the keys that were handed in, then the others in the order of
@@ -339,7 +287,7 @@ impl Board {
         ensures contents { store_of result.now.rows ≡ self.now.state.store }
         ensures leased { HoldsAs result.now.out self.now.state.workers }
     {
-        &self.caches
+        self.workers.caches()
     }
 
     /// Returns the graph, the local trees and the caches as they are now, with no lease out. Does not allocate.
@@ -352,27 +300,20 @@ impl Board {
     {
         let Board {
             alloc: _,
-            build,
-            mut caches,
+            vertices,
+            workers,
             start: _,
-            stands: _,
-            desks,
-            stop_marks: _,
-            links: _,
-            first_open: _,
             history: _,
         } = self;
-        give_all_back(&mut caches, &desks);
-        caches.is_exclusive();
-        let (graph, locals) = build.into_parts();
-        (graph, locals, caches)
+        let (graph, locals) = vertices.into_parts();
+        (graph, locals, workers.into_caches())
     }
 
     /// Recalls the invariant of the board's graph: what is true of every graph is true of it.
     pub fn is_graph(&self)
         ensures { IsGraph self.now.build.graph }
     {
-        let _ = self.build.vertices();
+        let _ = self.vertices.graph().vertices();
     }
 
     /// Recalls that the board has 1 to 64 workers.
@@ -380,7 +321,7 @@ impl Board {
         ensures some { 0 < length self.now.state.workers }
         ensures few { length self.now.state.workers ≤ 64 }
     {
-        let _ = &self.desks;
+        let _ = self.workers.look(&self.vertices, 0);
     }
 
     /// Recalls that the record is a run of the table from the opening state to the board's state, and the lists of instances are what this run
@@ -402,32 +343,66 @@ fn may_work(workers: u32) -> bool
 }
 
 // Returns a copy of the first local source's name, by vertex, that has no tree.
-fn missing(alloc: Global, build: &Build) -> Result<Option<Text>, Memory>
-    ensures first { IfOk result (λ o. o ≡ missing_local build.now.locals build.now.graph.vertices) }
-    ensures some { IfErr result (λ _. is_some (missing_local build.now.locals build.now.graph.vertices) ≡ true) }
+fn missing(alloc: Global, graph: &Graph, locals: &Locals) -> Result<Option<Text>, Memory>
+    ensures first { IfOk result (λ o. o ≡ missing_local locals.now graph.now.vertices) }
+    ensures some { IfErr result (λ _. is_some (missing_local locals.now graph.now.vertices) ≡ true) }
 {
-    match build.missing() {
+    match missing_local(graph, locals) {
         Some(name) => Ok(Some(Text::from_str(alloc, name)?)),
         None => Ok(None),
     }
 }
 
-// Returns the status of a vertex, given its state, whether it has no open input, and whether it is downstream of a failed vertex.
-fn look(stand: &Stand, ready: bool, behind: bool) -> Status
-    ensures { result ≡ look ready behind (status_of stand.now) }
+// Returns a copy of the caches, and a record without events that has room for every event, if no vertex is cancelled.
+fn fresh(alloc: Global, vertices: &Vertices, caches: &Caches) -> Result<(Caches, History), Memory>
+    ensures start { IfOk result (λ r. r.0 ≡ caches.now) }
+    ensures events { IfOk result (λ r. r.1.list ≡ []) }
+    ensures room { IfOk result (λ r. r.1.space.room ≡ most_events vertices.now.build []) }
+    ensures cancels { IfOk result (λ r. r.1.space.cancels ≡ replicate (length vertices.now.build.graph.vertices) 0) }
 {
-    match stand {
-        Stand::Waiting => {
-            if ready {
-                Status::Ready
-            } else if behind {
-                Status::Blocked
-            } else {
-                Status::Waiting
-            }
-        }
-        Stand::Running(w) => Status::Running(*w),
-        Stand::Done(_) => Status::Done,
-        Stand::Failed(fault) => Status::Failed(*fault),
+    let count = vertices.graph().vertices().len();
+    let start = caches.copy()?;
+    let history = History::new(alloc, room(vertices), count)?;
+    Ok((start, history))
+}
+
+// Returns how many events there can be if no vertex is cancelled.
+fn room(vertices: &Vertices) -> usize
+    ensures { result ≡ most_events vertices.now.build [] }
+{
+    let mut all: usize = 0;
+    let count = vertices.graph().vertices().len() as u32;
+    for v in 0..count {
+        all += vertices.steps(v) as usize + 2;
+    }
+    all
+}
+
+// Returns the fault for want of memory, with all that was handed in.
+fn refused(vertices: Vertices, caches: Caches) -> OpenFault
+    ensures { result ≡ opening.Memory vertices.build.graph vertices.build.locals caches }
+{
+    let (graph, locals) = vertices.into_parts();
+    OpenFault::Memory(graph, locals, caches)
+}
+
+// Returns whether a vertex has failed.
+fn has_failed(stage: &Stage) -> bool
+    ensures { result ≡ is_failed (ending_of (Some (status_of stage.now))) }
+{
+    match stage {
+        Stage::Failed(_) => true,
+        _ => false,
+    }
+}
+
+// Returns the reply to the settle of a vertex.
+fn settled(v: u32, failed: bool) -> Settled
+    ensures { settle_reply result ≡ if failed then SettledFailed v else SettledDone v }
+{
+    if failed {
+        Settled::Failed(v)
+    } else {
+        Settled::Done(v)
     }
 }

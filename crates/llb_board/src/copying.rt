@@ -4,7 +4,6 @@ ghost use Rattle.std.specs.Prelude.{◌≡◌, IfOk};
 
 use crate::board::Board;
 use llb_events::Memory;
-use llb_state::{copied_desks, copied_stands};
 
 impl Board {
     /// Returns a second board on which the same has happened. Its record has the same room, since `events` fixes the room by what contracts
@@ -14,14 +13,9 @@ impl Board {
     {
         Ok(Board {
             alloc: self.alloc,
-            build: self.build.copy()?,
-            caches: self.caches.copy()?,
+            vertices: self.vertices.copy(self.alloc)?,
+            workers: self.workers.copy(self.alloc)?,
             start: self.start.copy()?,
-            stands: copied_stands(self.alloc, &self.stands)?,
-            desks: copied_desks(self.alloc, &self.desks)?,
-            stop_marks: Vec::from_slice(self.alloc, &self.stop_marks)?,
-            links: self.links.copy(self.alloc)?,
-            first_open: self.first_open,
             history: self.history.copy(self.alloc)?,
         })
     }

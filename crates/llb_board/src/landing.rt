@@ -2,6 +2,9 @@
 //! the board. It settles and does no micro-step. `land` compares trees, by value alone; `land_known` compares nothing.
 
 ghost use Rattle.std.specs.Prelude.{◌≡◌, slice_get, IfOk, IfErr, OnOk, OnErr};
+ghost use Rattle.std.specs.List.{list_any};
+ghost use Rattle.llb_model.specs.Caches as model;
+ghost use Rattle.llb_state.specs.Jobs.{is_shared};
 ghost use Rattle.llb_board.specs.Begun.{IsKnown};
 ghost use Rattle.llb_board.specs.Landing.{CanLand, StandsInWay, IsRefused, land_fault, places_had, runs_shared, IsThrough, Lands};
 ghost use Rattle.llb_events.specs.Views.{settle_reply};
@@ -9,10 +12,9 @@ ghost use Rattle.llb_events.specs.Views.{settle_reply};
 use crate::board::Board;
 use crate::fault::LandFault;
 use crate::laws::begun_are_plain;
-use llb_cache::Place;
-use llb_events::Settled;
+use llb_cache::{Instance, Mode};
+use llb_events::{Settled, WorkerStatus};
 use llb_execution::{Job, Outcome};
-use llb_state::{Desk, desk_at, has_shared, is_run_of, put_left, write_back};
 
 /// Why an outcome does not land.
 #[derive(Clone, Copy)]
@@ -58,20 +60,14 @@ impl Board {
     pub fn has_shared(&self, w: u32) -> bool
         ensures { result ≡ runs_shared (slice_get self.now.state.workers w) }
     {
-        match desk_at(&self.desks, w) {
-            Some(Desk::Runs(_, execution)) => has_shared(&execution.places),
-            _ => false,
-        }
+        has_shared(self.workers.places(w))
     }
 
     /// Returns the instances of caches that a worker has; none where it runs nothing, or there is no such worker. Does not allocate.
-    pub fn places(&self, w: u32) -> &[Place]
+    pub fn places(&self, w: u32) -> &[Instance]
         ensures { result.now ≡ places_had (slice_get self.now.state.workers w) }
     {
-        match desk_at(&self.desks, w) {
-            Some(Desk::Runs(_, execution)) => &execution.places,
-            _ => &[],
-        }
+        self.workers.places(w)
     }
 
     // Checks that the outcome of a job lands; otherwise returns the first cause why it does not.
@@ -79,16 +75,14 @@ impl Board {
         ensures ok { OnOk result (CanLand self.now w job.now) }
         ensures err { IfErr result (λ cause. StandsInWay self.now w job.now cause) }
     {
-        let _ = self.build.vertices();
-        self.caches.is_exclusive();
-        match desk_at(&self.desks, w) {
+        match self.workers.look(&self.vertices, w) {
             None => Err(LandCause::NoWorker),
-            Some(Desk::Idle) => Err(LandCause::NotRunning),
-            Some(Desk::Runs(_, execution)) => {
-                if has_shared(&execution.places) {
+            Some(WorkerStatus::Idle) => Err(LandCause::NotRunning),
+            Some(WorkerStatus::Runs(_, _, _)) => {
+                if has_shared(self.workers.places(w)) {
                     return Err(LandCause::HasShared);
                 }
-                if !is_run_of(&self.build, &self.caches, w, execution, job) {
+                if !self.workers.is_run_of(&self.vertices, w, job) {
                     return Err(LandCause::Stranger);
                 }
                 Ok(())
@@ -102,11 +96,9 @@ impl Board {
         ensures { IsThrough self.old w outcome.count self.new }
     {
         outcome.is_whole();
-        let (count, view, trees, fault) = outcome.into_left();
-        let _ = self.build.vertices();
-        self.caches.is_exclusive();
-        let lease = put_left(&mut self.desks, w, (count, fault), view);
-        write_back(&mut self.caches, lease, trees);
+        let _ = self.vertices.graph().vertices();
+        let count = outcome.count();
+        self.workers.land(&self.vertices, w, outcome);
         self.history.record_steps(w, count);
     }
 }
@@ -121,4 +113,16 @@ fn refused(cause: LandCause, outcome: Outcome) -> LandFault
         LandCause::HasShared => LandFault::HasShared(outcome),
         LandCause::Stranger => LandFault::Stranger(outcome),
     }
+}
+
+// Returns whether one of the instances belongs to a shared cache.
+fn has_shared(places: &[Instance]) -> bool
+    ensures { result ≡ list_any (λ (p : model.Instance). is_shared p.key.mode) places.now }
+{
+    for place in places {
+        if let Mode::Shared = place.key.mode {
+            return true;
+        }
+    }
+    false
 }

@@ -7,7 +7,7 @@ ghost use Rattle.llb_model.specs.Run.{chosen, is_complete, StandsPlainly};
 ghost use Rattle.llb_model.specs.Consistent.{IsConsistent};
 ghost use Rattle.llb_model.specs.Landing.{LandsAsBlock};
 ghost use Rattle.llb_model.specs.Laws as machine;
-ghost use Rattle.llb_state.specs.Board.{SettledArePlain, ChosenIsGranted, OthersKeep, OneWorkerEach, ReadyBehindDone, BlockedBehindAFailure, OutcomeByInputs};
+ghost use Rattle.llb_board.specs.Laws.{SettledArePlain, ChosenIsGranted, OthersKeep, OneWorkerEach, ReadyBehindDone, BlockedBehindAFailure, OutcomeByInputs};
 ghost use Rattle.llb_board.specs.Begun.{BegunArePlain, ClaimsArePlain, KnownLand};
 ghost use Rattle.llb_board.specs.Headline.{Headline, StandsInClaimOrder};
 

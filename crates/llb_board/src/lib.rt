@@ -1,10 +1,13 @@
 //! One state, which only the transition table changes: claims, steps, settles and cancels of workers on the vertices of a graph with
-//! caches, and the record of them. It is built on `llb_state`, whose parts it keeps together; it starts no thread and takes no lock.
+//! caches, and the record of them. It ties the parts of `llb_state` to the record; it starts no thread and takes no lock.
 #![tactic(auto)]
 
 mod board;
+mod choice;
 mod copying;
+mod events;
 mod fault;
+mod history;
 mod landing;
 pub mod laws;
 mod same;
@@ -12,13 +15,13 @@ mod undo;
 mod walk;
 
 pub use board::Board;
+pub use events::Events;
 pub use fault::{LandFault, OpenFault};
 pub use llb_events::{
-    At, CancelFault, Cancelled, ClaimFault, Event, Memory, SettleFault, Settled, Status, StepFault,
-    Stepped, WalkFault,
+    CancelFault, Cancelled, ClaimFault, Event, Memory, SettleFault, Settled, Status, StepFault,
+    Stepped, WalkFault, WorkerStatus,
 };
-pub use llb_execution::{Gate, Job, Outcome, Program, Stopped, View, WorkFault, work};
-pub use llb_state::Events;
+pub use llb_execution::{Gate, Job, Outcome, Program, Stopped, WorkFault, Workspace, work};
+pub use llb_state::Undo;
 pub use llb_wire::{Bytes, Text};
-pub use undo::Undo;
 pub use walk::{Reply, Walked};

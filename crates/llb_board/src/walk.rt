@@ -1,21 +1,12 @@
 //! Does an event and keeps what undoes it, for callers that go through a run forwards and back.
 
-ghost use Rattle.std.specs.Prelude.{◌≡◌, ◌==◌, false, not, length, option_map, slice_get, OnErr, IfOk, IfErr, Err};
-ghost use Rattle.llb_state.specs.Room.{needs_at};
-ghost use Rattle.llb_board.specs.Undo.{GivesWalk, walk_of, walk_memory, undone, CanUndo, Marks, MarksClaim, MarksStep, MarksEnd};
-ghost use Rattle.llb_board.specs.Undo.{end_of, no_worker, not_running};
-ghost use Rattle.llb_state.specs.Undoing.{caches_in};
-ghost use Rattle.llb_board.specs.Walking.{KeepsIf};
+ghost use Rattle.std.specs.Prelude.{◌≡◌, OnErr, IfOk};
+ghost use Rattle.llb_board.specs.Undo.{GivesWalk, walk_of, undone, CanUndo};
 ghost use Rattle.llb_events.specs.Views.{event_of};
-ghost use Rattle.llb_model.specs.Table.{Step};
 
 use crate::board::Board;
-use crate::undo::{Back, End, Undo};
-use llb_events::{
-    CancelFault, Cancelled, Event, Memory, SettleFault, Settled, StepFault, Stepped, WalkFault,
-};
-use llb_needs::shows_cache;
-use llb_state::{Before, Build, Desk, copied, copied_leases};
+use llb_events::{Cancelled, Event, Settled, Stepped, WalkFault};
+use llb_state::Undo;
 
 /// The reply of an event.
 #[derive(Clone, Copy, Debug, PartialEq, Eq)]
@@ -42,8 +33,7 @@ impl Board {
         ensures can { IfOk result (λ r. CanUndo r.undo self.new) }
         ensures err { OnErr result (self.new ≡ self.old) }
     {
-        self.replays();
-        let undo = self.before(event)?;
+        let undo = self.workers.before(self.alloc, &self.vertices, event)?;
         let reply = self.happen(event)?;
         Ok(Walked { reply, undo })
     }
@@ -71,114 +61,5 @@ impl Board {
                 Ok(Reply::Cancelled(cancelled))
             }
         }
-    }
-
-    // Returns what takes an event back, before it is done on this board.
-    fn before(&self, event: Event) -> Result<Undo, WalkFault>
-        ensures marks { IfOk result (λ u. Marks self.now (event_of event) u) }
-        ensures refused { IfErr result (λ e. walk_memory e ≡ false → walk_of self.now (event_of event) ≡ Err e) }
-    {
-        match event {
-            Event::Claim(w, v) => Ok(self.before_claim(w, v)?),
-            Event::Step(w) => self.before_step(w),
-            Event::Settle(w) => self.before_end(End::Settle, w),
-            Event::Cancel(w) => self.before_end(End::Cancel, w),
-        }
-    }
-
-    fn before_claim(&self, w: u32, v: u32) -> Result<Undo, Memory>
-        ensures { IfOk result (λ u. MarksClaim self.now w v u) }
-    {
-        let caches = self.caches_if(shows_cache_at(&self.build, v))?;
-        Ok(Undo {
-            back: Back::Unclaim(w, v),
-            caches,
-        })
-    }
-
-    fn before_step(&self, w: u32) -> Result<Undo, WalkFault>
-        ensures marks { IfOk result (λ u. MarksStep self.now w u) }
-        ensures refused { IfErr result (λ e. walk_memory e ≡ false → walk_of self.now (Step w) ≡ Err e) }
-    {
-        match desk_of(&self.desks, w) {
-            None => Err(WalkFault::Step(StepFault::NoWorker)),
-            Some(Desk::Idle) => Err(WalkFault::Step(StepFault::NotRunning)),
-            Some(Desk::Runs(_, execution)) => {
-                let mark = execution.view.mark()?;
-                let caches = self.caches_if(!execution.places.is_empty())?;
-                Ok(Undo {
-                    back: Back::Unstep(w, mark),
-                    caches,
-                })
-            }
-        }
-    }
-
-    fn before_end(&self, end: End, w: u32) -> Result<Undo, WalkFault>
-        ensures marks { IfOk result (λ u. MarksEnd self.now end w u) }
-        ensures refused { IfErr result (λ e. walk_memory e ≡ false → walk_of self.now (end_of end w) ≡ Err e) }
-    {
-        match desk_of(&self.desks, w) {
-            None => Err(no_worker(end)),
-            Some(Desk::Idle) => Err(not_running(end)),
-            Some(Desk::Runs(_, execution)) => {
-                let left = copied(self.alloc, execution)?;
-                let caches = self.caches_if(!execution.places.is_empty())?;
-                Ok(Undo {
-                    back: Back::Resume(end, w, left),
-                    caches,
-                })
-            }
-        }
-    }
-
-    // Returns a copy of the caches and of the leases of all workers, if it is needed.
-    fn caches_if(&self, needed: bool) -> Result<Option<Before>, Memory>
-        ensures { IfOk result (λ o. KeepsIf needed self.now (caches_in o)) }
-    {
-        if !needed {
-            return Ok(None);
-        }
-        Ok(Some(Before {
-            caches: self.caches.copy()?,
-            leases: copied_leases(self.alloc, &self.desks)?,
-        }))
-    }
-}
-
-// Returns the fault of a settle or a cancel by a worker that is not there, 131 `NoWorker`.
-fn no_worker(end: End) -> WalkFault
-    ensures { result ≡ no_worker end }
-{
-    match end {
-        End::Settle => WalkFault::Settle(SettleFault::NoWorker),
-        End::Cancel => WalkFault::Cancel(CancelFault::NoWorker),
-    }
-}
-
-// Returns the fault of a settle or a cancel by a worker that is idle, 136 `NotRunning`.
-fn not_running(end: End) -> WalkFault
-    ensures { result ≡ not_running end }
-{
-    match end {
-        End::Settle => WalkFault::Settle(SettleFault::NotRunning),
-        End::Cancel => WalkFault::Cancel(CancelFault::NotRunning),
-    }
-}
-
-// Returns the state of a worker; `None` past the last worker.
-fn desk_of(desks: &[Desk], w: u32) -> Option<&Desk>
-    ensures { option_map (λ d. d.now) result ≡ slice_get desks.now w }
-{
-    desks.get(w as usize)
-}
-
-// Returns whether the vertex of a number shows a cache; false past the last vertex.
-fn shows_cache_at(build: &Build, v: u32) -> bool
-    ensures { result ≡ not (length (needs_at (slice_get build.now.graph.vertices v)) == 0) }
-{
-    match build.vertex(v) {
-        Some(vertex) => shows_cache(vertex),
-        None => false,
     }
 }

@@ -1,10 +1,10 @@
 -- What a lease has made ready is what its needs take.
 use Rattle.std.proofs.Common.{◌≡◌, ℕ, List, [], ◌∷◌, map, None, Ok, find, refl, sym, ap, ◌∙◌, unwrap_or}
 use Rattle.llb_cache.specs.declared.need.Need.{Need}
-use Rattle.llb_cache.specs.declared.need.Place.{Place}
+use Rattle.llb_cache.specs.declared.need.Instance.{Instance}
 use Rattle.llb_cache.specs.declared.growing.Ready.{Ready}
 use Rattle.llb_cache.specs.Growing.{shown}
-use Rattle.llb_cache.specs.Caches.{CachesValue, Row, Leases, Taken, taken, made_all, is_shut, free_lease, with_lease, granted, lease_by}
+use Rattle.llb_cache.specs.Caches.{CachesValue, Row, Leases, Taken, taken, made_all, is_locked_and_held, free_lease, with_lease, granted, lease_by}
 use Rattle.llb_cache.specs.Caches.{lease_of, places_of, place_for}
 use Rattle.llb_cache.specs.Leased.{lease_has}
 
@@ -13,7 +13,7 @@ places_shown [] = refl
 places_shown (r ∷ readies) = ap (λ ps. r.place ∷ ps) (places_shown readies)
 
 -- a lease that was made ready need by need is the one that the rule grants for all the needs
-pub is_granted : (c : CachesValue) (needs left : List Need) (readies : List Ready) (places : List Place) (rows : List Row) (out : Leases) (lease : ℕ)
+pub is_granted : (c : CachesValue) (needs left : List Need) (readies : List Ready) (places : List Instance) (rows : List Row) (out : Leases) (lease : ℕ)
     → left ≡ needs → map shown readies ≡ taken c.out left → places ≡ map (λ (r : Ready). r.place) readies
     → rows ≡ made_all c.rows (map shown readies) → out ≡ with_lease c.out (free_lease c.out) places → lease ≡ free_lease c.out
     → granted c needs ≡ (lease, record { rows = rows; out = out })
@@ -26,7 +26,7 @@ is_granted c needs left readies places rows out lease same takes has makes puts 
     λ i. (sym number i, record { rows = made_is i; out = out_is i })
 
 -- where no need is refused
-pub not_refused : (c : CachesValue) (needs : List Need) → find (is_shut c.out) needs ≡ None → lease_of c needs ≡ Ok (granted c needs)
+pub not_refused : (c : CachesValue) (needs : List Need) → find (is_locked_and_held c.out) needs ≡ None → lease_of c needs ≡ Ok (granted c needs)
 not_refused c needs none = ap (lease_by c needs) none
 
 -- a lease has an instance for each need

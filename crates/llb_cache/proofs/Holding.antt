@@ -5,10 +5,11 @@ use Rattle.std.specs.List.{AllPairs}
 use Rattle.std.specs.Map.{keys_of}
 use Rattle.llb_tree.specs.Tree.{TreeMap}
 use Rattle.llb_cache.specs.declared.need.Need.{Need}
-use Rattle.llb_cache.specs.declared.need.Place.{Place}
-use Rattle.llb_cache.specs.Caches.{CachesValue, Row, Leases, taken, is_shut, is_held, leases, granted, with_lease, free_lease, put, given_back, trimmed, before}
+use Rattle.llb_cache.specs.declared.need.Instance.{Instance}
+use Rattle.llb_cache.specs.Caches.{CachesValue, Row, Leases, taken, is_locked_and_held, is_held, leases, granted, with_lease, free_lease, put, given_back}
+use Rattle.llb_cache.specs.Caches.{trimmed, before}
 use Rattle.llb_cache.specs.Caches.{places_of, IsCaches, IsExclusive, Has}
-use Rattle.llb_cache.specs.Firsts.{keys_long}
+use Rattle.llb_cache.specs.LawsOfFirstRows.{keys_long}
 use Rattle.llb_cache.specs.Members.{In, contained_in}
 use Rattle.llb_cache.specs.Leased.{held_by, holder, in_any, in_place, lease_cases, lease_has, back_cases, trimmed_has}
 use Rattle.llb_cache.specs.Marks.{marked, Remarks, is_one_of, IsMarked}
@@ -20,7 +21,7 @@ unfolding marked is_held
 nothing_marked = record { caches = nothing_kept; each = refl; exact = λ p alone. refl }
 
 -- a tree that is written to an instance
-pub put_marked : (c : CachesValue) (p : Place) (tree : TreeMap) (marks : List (List Bool)) (rows : List Row) → rows ≡ put c.rows p tree
+pub put_marked : (c : CachesValue) (p : Instance) (tree : TreeMap) (marks : List (List Bool)) (rows : List Row) → rows ≡ put c.rows p tree
     → keys_of rows ≡ keys_of c.rows → IsMarked c marks → IsMarked (record c { rows = rows }) marks
 put_marked c p tree marks rows written keys is = record {
   caches = subst (λ (r : List Row). IsCaches (record c { rows = r })) (sym written) (put_keeps c p tree is.caches);
@@ -39,19 +40,19 @@ never : (b : Bool) → (b ≡ true → ⊥) → b ≡ false
 never true none = absurd (none refl)
 never false none = refl
 
-set_other : (out : Leases) (n a : ℕ) (x : Option (List Place)) (qs : List Place) → a ≢ n → Has out a qs → Has (slice_set out n x) a qs
+set_other : (out : Leases) (n a : ℕ) (x : Option (List Instance)) (qs : List Instance) → a ≢ n → Has out a qs → Has (slice_set out n x) a qs
 set_other [] n a x qs other at = at
 set_other (o ∷ out) zero zero x qs other at = absurd (other refl)
 set_other (o ∷ out) zero (suc a) x qs other at = at
 set_other (o ∷ out) (suc n) zero x qs other at = at
 set_other (o ∷ out) (suc n) (suc a) x qs other at = set_other out n a x qs (λ e. other (ap suc e)) at
 
-push_other : (out : Leases) (x : Option (List Place)) (a : ℕ) (qs : List Place) → Has out a qs → Has (out ++ x ∷ []) a qs
+push_other : (out : Leases) (x : Option (List Instance)) (a : ℕ) (qs : List Instance) → Has out a qs → Has (out ++ x ∷ []) a qs
 push_other [] x a qs at = absurd (let e = at in cc)
 push_other (o ∷ out) x zero qs at = at
 push_other (o ∷ out) x (suc a) qs at = push_other out x a qs at
 
-not_free : (out : Leases) (a : ℕ) (qs : List Place) → Has out a qs → a ≢ free_lease out
+not_free : (out : Leases) (a : ℕ) (qs : List Instance) → Has out a qs → a ≢ free_lease out
 not_free [] a qs at e = absurd (let h = at in cc)
 not_free (None ∷ out) zero qs at e = absurd (let h = at in cc)
 not_free (None ∷ out) (suc a) qs at e = absurd (omega (arith, e))
@@ -59,19 +60,19 @@ not_free (Some ps ∷ out) zero qs at e = let first : free_lease (Some ps ∷ ou
 not_free (Some ps ∷ out) (suc a) qs at e =
     let first : free_lease (Some ps ∷ out) ≡ 1 + free_lease out = refl in not_free out a qs at (omega (arith, e, first))
 
-still_out : (out : Leases) (ps : List Place) (a : ℕ) (qs : List Place) → Has out a qs → Has (with_lease out (free_lease out) ps) a qs
+still_out : (out : Leases) (ps : List Instance) (a : ℕ) (qs : List Instance) → Has out a qs → Has (with_lease out (free_lease out) ps) a qs
 still_out out ps a qs at = go (nat_lt (free_lease out) (length out))
   where
     go : (b : Bool) → Has (cond b (slice_set out (free_lease out) (Some ps)) (out ++ Some ps ∷ [])) a qs
     go true = set_other out (free_lease out) a (Some ps) qs (not_free out a qs at) at
     go false = push_other out (Some ps) a qs at
 
-before_still : (less out : Leases) (a : ℕ) (qs : List Place) → Has (None ∷ out) a qs → ((b : ℕ) → Has out b qs → Has less b qs) → Has (before less) a qs
+before_still : (less out : Leases) (a : ℕ) (qs : List Instance) → Has (None ∷ out) a qs → ((b : ℕ) → Has out b qs → Has less b qs) → Has (before less) a qs
 before_still less out zero qs at rest = absurd (let h = at in cc)
 before_still [] out (suc a) qs at rest = absurd (let h = rest a at in cc)
 before_still (o ∷ less) out (suc a) qs at rest = rest a at
 
-trimmed_still : (out : Leases) (a : ℕ) (qs : List Place) → Has out a qs → Has (trimmed out) a qs
+trimmed_still : (out : Leases) (a : ℕ) (qs : List Instance) → Has out a qs → Has (trimmed out) a qs
 unfolding trimmed
 trimmed_still [] a qs at = at
 trimmed_still (Some ps ∷ out) zero qs at = at
@@ -79,34 +80,34 @@ trimmed_still (Some ps ∷ out) (suc a) qs at = trimmed_still out a qs at
 trimmed_still (None ∷ out) a qs at = before_still (trimmed out) out a qs at (λ b. trimmed_still out b qs)
 
 -- a lease that is given back has nothing
-set_none : (out : Leases) (n : ℕ) (qs : List Place) → Has (slice_set out n None) n qs → ⊥
+set_none : (out : Leases) (n : ℕ) (qs : List Instance) → Has (slice_set out n None) n qs → ⊥
 set_none [] n qs at = let h = at in cc
 set_none (o ∷ out) zero qs at = let h = at in cc
 set_none (o ∷ out) (suc n) qs at = set_none out n qs at
 
-same_has : (out : Leases) (a : ℕ) (ps qs : List Place) → Has out a ps → Has out a qs → ps ≡ qs
+same_has : (out : Leases) (a : ℕ) (ps qs : List Instance) → Has out a ps → Has out a qs → ps ≡ qs
 same_has out a ps qs at also = ap (λ o. unwrap_or (unwrap_or o None) ps) (sym at ∙ also)
 
 -- what a lease has is had under its number
-places_had : (out : Leases) (n : ℕ) (p : Place) → In (places_of out n) p → Has out n (places_of out n)
+places_had : (out : Leases) (n : ℕ) (p : Instance) → In (places_of out n) p → Has out n (places_of out n)
 places_had out n p h = go (slice_get out n) refl h
   where
-    go : (o : Option (Option (List Place))) → slice_get out n ≡ o → In (unwrap_or (unwrap_or o None) []) p → Has out n (unwrap_or (unwrap_or o None) [])
+    go : (o : Option (Option (List Instance))) → slice_get out n ≡ o → In (unwrap_or (unwrap_or o None) []) p → Has out n (unwrap_or (unwrap_or o None) [])
     go None is h = absurd h
     go (Some None) is h = absurd h
     go (Some (Some ps)) is h = is
 
-of_number : (out : Leases) (n : ℕ) (ps : List Place) → Has out n ps → places_of out n ≡ ps
+of_number : (out : Leases) (n : ℕ) (ps : List Instance) → Has out n ps → places_of out n ≡ ps
 of_number out n ps at = ap (λ o. unwrap_or (unwrap_or o None) []) at
 
 -- nothing is out under the number that was given back
-not_given : (out : Leases) (lease : ℕ) (qs : List Place) → Has (trimmed (slice_set out lease None)) lease qs → ⊥
+not_given : (out : Leases) (lease : ℕ) (qs : List Instance) → Has (trimmed (slice_set out lease None)) lease qs → ⊥
 not_given out lease qs at = set_none out lease qs (trimmed_has (slice_set out lease None) lease qs at)
 
 -- ---- a lease
 
 pub lease_marked : (c : CachesValue) (needs : List Need) (marks new : List (List Bool)) → IsMarked c marks → leases c.out < 65536
-    → AllPairs (λ n m. n.key ≢ m.key) needs → find (is_shut c.out) needs ≡ None
+    → AllPairs (λ n m. n.key ≢ m.key) needs → find (is_locked_and_held c.out) needs ≡ None
     → Remarks (keys_of c.rows) marks (keys_of (granted c needs).1.rows) new (is_one_of (map (λ t. t.0) (taken c.out needs))) true
     → length new ≡ length (granted c needs).1.rows → IsMarked (granted c needs).1 new
 lease_marked c needs marks new is few differ none remarks each = record {
@@ -115,13 +116,13 @@ lease_marked c needs marks new is few differ none remarks each = record {
   exact = λ p alone. remarks p ∙ go p alone (is_one_of mine p) refl;
 }
   where
-    mine : List Place
+    mine : List Instance
     mine = map (λ t. t.0) (taken c.out needs)
 
     later : Leases
     later = with_lease c.out (free_lease c.out) mine
 
-    go : (p : Place) → IsExclusive p.key.mode → (b : Bool) → is_one_of mine p ≡ b
+    go : (p : Instance) → IsExclusive p.key.mode → (b : Bool) → is_one_of mine p ≡ b
         → cond (is_one_of mine p) true (marked (keys_of c.rows) marks p) ≡ is_held later p
     go p alone true mark =
         ap (λ b. cond b true (marked (keys_of c.rows) marks p)) mark
@@ -146,16 +147,16 @@ back_marked c lease marks new is remarks each = record {
   exact = λ p alone. remarks p ∙ go p alone (is_one_of mine p) refl;
 }
   where
-    mine : List Place
+    mine : List Instance
     mine = places_of c.out lease
 
     later : Leases
     later = trimmed (slice_set c.out lease None)
 
-    was : (p : Place) → is_held later p ≡ true → (a : ℕ) × (qs : List Place) × Has c.out a qs × In qs p × Has later a qs
+    was : (p : Instance) → is_held later p ≡ true → (a : ℕ) × (qs : List Instance) × Has c.out a qs × In qs p × Has later a qs
     was p held = let h = holder later p held in (h.0, h.1, back_cases c.out lease h.0 h.1 h.2, h.3, h.2)
 
-    go : (p : Place) → IsExclusive p.key.mode → (b : Bool) → is_one_of mine p ≡ b
+    go : (p : Instance) → IsExclusive p.key.mode → (b : Bool) → is_one_of mine p ≡ b
         → cond (is_one_of mine p) false (marked (keys_of c.rows) marks p) ≡ is_held later p
     go p alone true mark =
         ap (λ b. cond b false (marked (keys_of c.rows) marks p)) mark

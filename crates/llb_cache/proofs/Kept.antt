@@ -6,8 +6,8 @@ use Rattle.std.proofs.lemmas.List.Elements.{All-from_recursion}
 use Rattle.llb_tree.specs.Tree.{TreeMap}
 use Rattle.llb_cache.specs.declared.key.Key.{Key}
 use Rattle.llb_cache.specs.declared.need.Need.{Need}
-use Rattle.llb_cache.specs.declared.need.Place.{Place}
-use Rattle.llb_cache.specs.Caches.{CachesValue, Row, Leases, Taken, place_for, taken, made_all, is_shut, is_held, leases, granted}
+use Rattle.llb_cache.specs.declared.need.Instance.{Instance}
+use Rattle.llb_cache.specs.Caches.{CachesValue, Row, Leases, Taken, place_for, taken, made_all, is_locked_and_held, is_held, leases, granted}
 use Rattle.llb_cache.specs.Caches.{free_lease, put, given_back, trimmed, trees_of, IsCaches, IsExclusive, Has, AreApart, AreThere}
 use Rattle.llb_cache.specs.Members.{In, in_contained, in_map, pairs_map}
 use Rattle.llb_cache.specs.Leased.{held_by, lease_cases, lease_short, back_cases, back_short, trimmed_twice, trimmed_lease, trimmed_nothing}
@@ -16,17 +16,18 @@ use Rattle.llb_cache.specs.Rows.{IsNext, all_grow, all_there, all_few, put_count
 
 -- ---- what a lease takes
 
-none_shut : (out : Leases) (needs : List Need) → find (is_shut out) needs ≡ None → (n : Need) → In needs n → is_shut out n ≡ false
-none_shut out [] e n h = absurd h
-none_shut out (m ∷ needs) e n h = go (is_shut out m) refl e h (none_shut out needs)
+none_locked_and_held : (out : Leases) (needs : List Need) → find (is_locked_and_held out) needs ≡ None → (n : Need) → In needs n → is_locked_and_held out n
+    ≡ false
+none_locked_and_held out [] e n h = absurd h
+none_locked_and_held out (m ∷ needs) e n h = go (is_locked_and_held out m) refl e h (none_locked_and_held out needs)
   where
-    go : (b : Bool) → is_shut out m ≡ b → cond b (Some m) (find (is_shut out) needs) ≡ None → In (m ∷ needs) n
-        → (find (is_shut out) needs ≡ None → (n : Need) → In needs n → is_shut out n ≡ false) → is_shut out n ≡ false
+    go : (b : Bool) → is_locked_and_held out m ≡ b → cond b (Some m) (find (is_locked_and_held out) needs) ≡ None → In (m ∷ needs) n
+        → (find (is_locked_and_held out) needs ≡ None → (n : Need) → In needs n → is_locked_and_held out n ≡ false) → is_locked_and_held out n ≡ false
     go true is e h rest = absurd cc
-    go false is e (inl same) rest = ap (is_shut out) same ∙ is
+    go false is e (inl same) rest = ap (is_locked_and_held out) same ∙ is
     go false is e (inr later) rest = rest e n later
 
-places : Leases → List Need → List Place
+places : Leases → List Need → List Instance
 places out needs = map (λ t. t.0) (taken out needs)
 
 places_are : (out : Leases) (needs : List Need) → places out needs ≡ map (λ (n : Need). place_for out n.key) needs
@@ -35,17 +36,17 @@ places_are out [] = refl
 places_are out (n ∷ needs) = ap (λ ps. place_for out n.key ∷ ps) (places_are out needs)
 
 -- the need of an instance that is taken
-need_of : (out : Leases) (needs : List Need) (p : Place) → Contains (places out needs) p → (n : Need) × In needs n × (p ≡ place_for out n.key)
+need_of : (out : Leases) (needs : List Need) (p : Instance) → Contains (places out needs) p → (n : Need) × In needs n × (p ≡ place_for out n.key)
 need_of out needs p h = in_map (λ (n : Need). place_for out n.key) needs p (subst (λ ps. In ps p) (places_are out needs) (in_contained (places out needs) p h))
 
 -- no lease has what a lease takes for itself
-taken_free : (out : Leases) (needs : List Need) → AreApart out → find (is_shut out) needs ≡ None → (p : Place)
+taken_free : (out : Leases) (needs : List Need) → AreApart out → find (is_locked_and_held out) needs ≡ None → (p : Instance)
     → Contains (places out needs) p → IsExclusive p.key.mode → is_held out p ≡ false
 taken_free out needs apart none p h alone =
     let n = need_of out needs p h in
-    let mode = ap (λ (q : Place). q.key.mode) n.2 in
+    let mode = ap (λ (q : Instance). q.key.mode) n.2 in
     ap (is_held out) n.2
-    ∙ number_free out n.0.key n.0.key.mode apart (none_shut out needs none n.0 n.1) (subst IsExclusive mode alone)
+    ∙ number_free out n.0.key n.0.key.mode apart (none_locked_and_held out needs none n.0 n.1) (subst IsExclusive mode alone)
 
 next_all : (rows : List Row) (out : Leases) (needs : List Need) → AreThere rows out → AllByRecursion (IsNext rows) (taken out needs)
 next_all rows out [] there = tt
@@ -55,7 +56,7 @@ small_all : (out : Leases) (needs : List Need) → leases out < 65536 → AllByR
 small_all out [] few = tt
 small_all out (n ∷ needs) few = (let w = number_within out n.key n.key.mode in omega (arith, w, few), small_all out needs few)
 
-first_of_each : (P : Place → Type 0) (ts : List Taken) → AllByRecursion (λ t. P t.0) ts → AllByRecursion P (map (λ t. t.0) ts)
+first_of_each : (P : Instance → Type 0) (ts : List Taken) → AllByRecursion (λ t. P t.0) ts → AllByRecursion P (map (λ t. t.0) ts)
 first_of_each P [] all = tt
 first_of_each P (t ∷ ts) all = (all.0, first_of_each P ts all.1)
 
@@ -63,16 +64,16 @@ first_of_each P (t ∷ ts) all = (all.0, first_of_each P ts all.1)
 
 -- two leases of which one is the new one
 pub lease_keeps : (c : CachesValue) (needs : List Need) → IsCaches c → leases c.out < 65536 → AllPairs (λ n m. n.key ≢ m.key) needs
-    → find (is_shut c.out) needs ≡ None
+    → find (is_locked_and_held c.out) needs ≡ None
     → IsCaches (granted c needs).1
 unfolding places
 lease_keeps c needs is few differ none =
     let out = c.out in
     let lease = free_lease out in
-    let new : List Place = places out needs in
+    let new : List Instance = places out needs in
     let rows : List Row = made_all c.rows (taken out needs) in
     let cases = lease_cases out new in
-    let clash : (a : ℕ) (qs : List Place) (p : Place) → Has out a qs → Contains new p → Contains qs p → IsExclusive p.key.mode → ⊥ =
+    let clash : (a : ℕ) (qs : List Instance) (p : Instance) → Has out a qs → Contains new p → Contains qs p → IsExclusive p.key.mode → ⊥ =
     λ a qs p at mine theirs alone. true≢false (sym (held_by out a qs p at (in_contained qs p theirs)) ∙ taken_free out needs is.apart none p mine alone) in
     record {
       exclusive = λ a b ps qs p at bt mine theirs alone. elim (cases a ps at) [
@@ -117,7 +118,7 @@ nothing_kept = record {
 }
 
 -- with no lease more, and no instance less
-fewer : (c d : CachesValue) → IsCaches c → ((a : ℕ) (ps : List Place) → Has d.out a ps → Has c.out a ps) → length d.out ≤ length c.out
+fewer : (c d : CachesValue) → IsCaches c → ((a : ℕ) (ps : List Instance) → Has d.out a ps → Has c.out a ps) → length d.out ≤ length c.out
     → ((k : Key) → length (trees_of d.rows k) ≡ length (trees_of c.rows k)) → trimmed d.out ≡ d.out → IsCaches d
 fewer c d is before short same ends = record {
   exclusive = λ a b ps qs p at bt mine theirs alone. is.exclusive a b ps qs p (before a ps at) (before b qs bt) mine theirs alone;
@@ -129,7 +130,7 @@ fewer c d is before short same ends = record {
 }
 
 -- a tree that is written to an instance leaves all that holds of caches
-pub put_keeps : (c : CachesValue) (p : Place) (tree : TreeMap) → IsCaches c → IsCaches (record c { rows = put c.rows p tree })
+pub put_keeps : (c : CachesValue) (p : Instance) (tree : TreeMap) → IsCaches c → IsCaches (record c { rows = put c.rows p tree })
 put_keeps c p tree is = fewer c (record c { rows = put c.rows p tree }) is (λ a ps at. at) (omega arith) (λ k. put_counts c.rows p tree k) is.ends
 
 -- a lease that is given back leaves all that holds of caches

@@ -5,10 +5,12 @@ use Rattle.std.specs.Prelude.{◌==◌}
 use Rattle.std.specs.Map.{keys_of, lookup}
 use Rattle.llb_tree.specs.Tree.{TreeMap}
 use Rattle.llb_cache.specs.declared.key.Key.{Key}
-use Rattle.llb_cache.specs.declared.need.Place.{Place}
-use Rattle.llb_cache.specs.Key.{same_key, same_keys, key_equiv}
+use Rattle.llb_cache.specs.declared.need.Instance.{Instance}
+use Rattle.llb_cache.specs.Key.{same_key}
+use Rattle.llb_cache.specs.LawsOfKeys.{same_keys, key_equiv}
 use Rattle.llb_cache.specs.Caches.{Row, same_place, with_trees}
-use Rattle.llb_cache.specs.Firsts.{IsAbsent, IsFirst, set_trees, first_placed, absent_found}
+use Rattle.llb_cache.specs.FirstRows.{IsAbsent, IsFirst, set_trees}
+use Rattle.llb_cache.specs.LawsOfFirstRows.{first_placed, absent_found}
 use Rattle.llb_cache.specs.Leased.{same_places}
 use Rattle.llb_cache.specs.Marks.{marked, Remarks}
 
@@ -36,7 +38,7 @@ rows_stay [] i w = refl
 rows_stay (e ∷ es) zero w = refl
 rows_stay (e ∷ es) (suc i) w = ap suc (rows_stay es i w)
 
-at_first : (es : List Row) (marks : List (List Bool)) (p : Place) (i : ℕ) → IsFirst p.key es i → marked (keys_of es) marks p ≡ mark_at marks i p.number
+at_first : (es : List Row) (marks : List (List Bool)) (p : Instance) (i : ℕ) → IsFirst p.key es i → marked (keys_of es) marks p ≡ mark_at marks i p.number
 unfolding marked
 at_first [] marks p i h = absurd h
 at_first (e ∷ es) [] p i h = refl
@@ -44,21 +46,21 @@ at_first (e ∷ es) (m ∷ marks) p zero h = ap (λ b. cond b (slice_index_or m 
 at_first (e ∷ es) (m ∷ marks) p (suc i) h =
     ap (λ b. cond b (slice_index_or m p.number false) (marked (keys_of es) marks p)) h.0 ∙ at_first es marks p i h.1
 
-absent : (es : List Row) (marks : List (List Bool)) (p : Place) → IsAbsent p.key es → marked (keys_of es) marks p ≡ false
+absent : (es : List Row) (marks : List (List Bool)) (p : Instance) → IsAbsent p.key es → marked (keys_of es) marks p ≡ false
 unfolding marked
 absent [] marks p h = refl
 absent (e ∷ es) [] p h = refl
 absent (e ∷ es) (m ∷ marks) p h = ap (λ b. cond b (slice_index_or m p.number false) (marked (keys_of es) marks p)) h.0 ∙ absent es marks p h.1
 
 -- the mark of a key that has a row, and of one that has none
-pub mark_there : (es : List Row) (marks : List (List Bool)) (p : Place) (i : ℕ) → position (same_key p.key) (keys_of es) ≡ Some i
+pub mark_there : (es : List Row) (marks : List (List Bool)) (p : Instance) (i : ℕ) → position (same_key p.key) (keys_of es) ≡ Some i
     → marked (keys_of es) marks p ≡ mark_at marks i p.number
 mark_there es marks p i e = at_first es marks p i (first_placed p.key es i e)
 
-none_there : (es : List Row) (p : Place) → false ≡ is_some (lookup (same_key p.key) es) → IsAbsent p.key es
+none_there : (es : List Row) (p : Instance) → false ≡ is_some (lookup (same_key p.key) es) → IsAbsent p.key es
 none_there es p e = absent_found p.key es (sym e)
 
-pub no_mark : (es : List Row) (marks : List (List Bool)) (p : Place) → false ≡ is_some (lookup (same_key p.key) es) → marked (keys_of es) marks p ≡ false
+pub no_mark : (es : List Row) (marks : List (List Bool)) (p : Instance) → false ≡ is_some (lookup (same_key p.key) es) → marked (keys_of es) marks p ≡ false
 no_mark es marks p e = absent es marks p (none_there es p e)
 
 -- ---- a change
@@ -71,7 +73,7 @@ abbrev pub Sets : List Bool → List Bool → ℕ → Bool → Type 0
 Sets old new n b = (k : ℕ) → slice_index_or new k false ≡ cond (k == n) b (slice_index_or old k false)
 
 -- behind another key
-behind : (keys more : List Key) (marks new : List (List Bool)) (m : List Bool) (p : Place) (k : Key) (b : Bool) → same_key p.key k ≡ false → (q : Place)
+behind : (keys more : List Key) (marks new : List (List Bool)) (m : List Bool) (p : Instance) (k : Key) (b : Bool) → same_key p.key k ≡ false → (q : Instance)
     → marked more new q ≡ cond (same_place q p) b (marked keys marks q)
     → marked (k ∷ more) (m ∷ new) q ≡ cond (same_place q p) b (marked (k ∷ keys) (m ∷ marks) q)
 unfolding marked
@@ -90,7 +92,7 @@ behind keys more marks new m p k b differ q rest = go (same_key q.key k) refl
         ap (λ x. cond x mine (marked more new q)) is ∙ rest ∙ sym (ap (λ x. cond (same_place q p) b (cond x mine (marked keys marks q))) is)
 
 -- in front
-here : (p q : Place) (k : Key) (b : Bool) (old new : List Bool) (rest : Bool) → p.key ≡ k → Sets old new p.number b
+here : (p q : Instance) (k : Key) (b : Bool) (old new : List Bool) (rest : Bool) → p.key ≡ k → Sets old new p.number b
     → cond (same_key q.key k) (slice_index_or new q.number false) rest
     ≡ cond (same_place q p) b (cond (same_key q.key k) (slice_index_or old q.number false) rest)
 here p q k b old new rest same sets = go (same_key q.key k) refl
@@ -110,7 +112,7 @@ here p q k b old new rest same sets = go (same_key q.key k) refl
         ∙ sym (ap (λ x. cond x b (cond (same_key q.key k) (slice_index_or old q.number false) rest)) (at_key false is ∙ and_false (q.number == p.number))
         ∙ ap (λ x. cond x (slice_index_or old q.number false) rest) is)
 
-at_row : (es : List Row) (marks : List (List Bool)) (p : Place) (i : ℕ) (new : List Bool) (b : Bool) → IsFirst p.key es i → i < length marks
+at_row : (es : List Row) (marks : List (List Bool)) (p : Instance) (i : ℕ) (new : List Bool) (b : Bool) → IsFirst p.key es i → i < length marks
     → Sets (slice_index_or marks i []) new p.number b → Remarks (keys_of es) marks (keys_of es) (slice_set marks i new) (λ q. same_place q p) b
 unfolding marked
 at_row [] marks p i new b h below sets q = absurd h
@@ -120,13 +122,13 @@ at_row (e ∷ es) (m ∷ marks) p (suc i) new b h below sets q =
     behind (keys_of es) (keys_of es) marks (slice_set marks i new) m p e.0 b h.0 q (at_row es marks p i new b h.1 (omega (arith, below)) sets q)
 
 -- the mark of a number of a key that has a row
-pub remarked : (es : List Row) (marks : List (List Bool)) (p : Place) (i : ℕ) (new : List Bool) (b : Bool)
+pub remarked : (es : List Row) (marks : List (List Bool)) (p : Instance) (i : ℕ) (new : List Bool) (b : Bool)
     → position (same_key p.key) (keys_of es) ≡ Some i → i < length marks
     → Sets (slice_index_or marks i []) new p.number b → Remarks (keys_of es) marks (keys_of es) (slice_set marks i new) (λ q. same_place q p) b
 remarked es marks p i new b e below sets = at_row es marks p i new b (first_placed p.key es i e) below sets
 
 -- a key that has none has no mark left to be taken away
-pub unmarked : (es : List Row) (marks : List (List Bool)) (p : Place) → false ≡ is_some (lookup (same_key p.key) es)
+pub unmarked : (es : List Row) (marks : List (List Bool)) (p : Instance) → false ≡ is_some (lookup (same_key p.key) es)
     → Remarks (keys_of es) marks (keys_of es) marks (λ q. same_place q p) false
 unmarked es marks p e q = go (same_place q p) refl
   where
@@ -135,7 +137,7 @@ unmarked es marks p e q = go (same_place q p) refl
         ap (marked (keys_of es) marks) (same_places q p is) ∙ no_mark es marks p e ∙ sym (ap (λ x. cond x false (marked (keys_of es) marks q)) is)
     go false is = sym (ap (λ x. cond x false (marked (keys_of es) marks q)) is)
 
-new_row : (es : List Row) (marks : List (List Bool)) (p : Place) (ts : List TreeMap) (new : List Bool) → IsAbsent p.key es
+new_row : (es : List Row) (marks : List (List Bool)) (p : Instance) (ts : List TreeMap) (new : List Bool) → IsAbsent p.key es
     → length marks ≡ length es → Sets [] new p.number true
     → Remarks (keys_of es) marks (keys_of (with_trees es p.key ts)) (marks ++ new ∷ []) (λ q. same_place q p) true
 unfolding marked
@@ -152,7 +154,7 @@ new_row (e ∷ es) (m ∷ marks) p ts new h count sets q =
     (new_row es marks p ts new h.1 (omega (arith, count)) sets q)
 
 -- the marks of a key that is new
-pub marked_new : (es : List Row) (marks : List (List Bool)) (p : Place) (ts : List TreeMap) (new : List Bool) → false ≡ is_some (lookup (same_key p.key) es)
+pub marked_new : (es : List Row) (marks : List (List Bool)) (p : Instance) (ts : List TreeMap) (new : List Bool) → false ≡ is_some (lookup (same_key p.key) es)
     → length marks ≡ length es → Sets [] new p.number true
     → Remarks (keys_of es) marks (keys_of (with_trees es p.key ts)) (marks ++ new ∷ []) (λ q. same_place q p) true
 marked_new es marks p ts new e count sets = new_row es marks p ts new (none_there es p e) count sets

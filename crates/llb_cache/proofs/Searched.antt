@@ -5,9 +5,10 @@ use Rattle.std.specs.declared.cmp.Ordering.TheVariants.{Less, Equal, Greater}
 use Rattle.std.specs.Ordering.{is_lt}
 use Rattle.std.proofs.lemmas.Bool.{cases_lt}
 use Rattle.llb_cache.specs.declared.key.Key.{Key}
-use Rattle.llb_cache.specs.Order.{key_cmp, key_cmp-IsTotalOrder}
+use Rattle.llb_cache.specs.KeyOrder.{key_cmp}
+use Rattle.llb_cache.specs.LawsOfKeyOrder.{key_cmp-IsTotalOrder}
 use Rattle.llb_cache.specs.Caches.{Row}
-use Rattle.llb_cache.specs.Ordered.{key_at, row_at, is_before, IsOrdered}
+use Rattle.llb_cache.specs.RowOrder.{key_at, row_at, is_before, IsOrdered}
 
 less : (o : Ordering) → is_lt o ≡ true → o ≡ Less
 less Less e = refl

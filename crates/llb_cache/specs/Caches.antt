@@ -11,7 +11,7 @@ use Rattle.llb_cache.specs.declared.key.Key.{Key}
 use Rattle.llb_cache.specs.declared.key.Mode.{Mode}
 use Rattle.llb_cache.specs.declared.key.Mode.TheVariants.{Shared, Private, Locked}
 use Rattle.llb_cache.specs.declared.need.Need.{Need}
-use Rattle.llb_cache.specs.declared.need.Place.{Place}
+use Rattle.llb_cache.specs.declared.need.Instance.{Instance}
 use Rattle.llb_cache.specs.declared.fault.LeaseFault.{LeaseFault}
 use Rattle.llb_cache.specs.declared.fault.LeaseFault.TheVariants.{Held}
 
@@ -21,7 +21,7 @@ Row = Key × List TreeMap
 
 -- the leases by number: the instances of a lease that is out, in the order of its needs, and nothing for one that was given back
 abbrev pub Leases : Type 0
-Leases = List (Option (List Place))
+Leases = List (Option (List Instance))
 
 -- the keys in the order in which they were first leased, and the leases
 pub record CachesValue : Type 0 where
@@ -31,7 +31,7 @@ pub record CachesValue : Type 0 where
 -- ---- instances
 
 -- the instance of a key with this number
-abbrev pub place : Key → ℕ → Place
+abbrev pub place : Key → ℕ → Instance
 place key number = record { key = key; number = number }
 
 -- the trees of a key's instances by number; none for a key that is not there
@@ -44,29 +44,30 @@ with_trees [] key trees = (key, trees) ∷ []
 with_trees (r ∷ rows) key trees = if same_key key r.0 then (r.0, trees) ∷ rows else r ∷ with_trees rows key trees
 
 -- the tree of an instance
-abbrev pub tree_at : List Row → Place → Option TreeMap
+abbrev pub tree_at : List Row → Instance → Option TreeMap
 tree_at rows p = slice_get (trees_of rows p.key) p.number
 
 -- the rows where an instance has this tree
-abbrev pub put : List Row → Place → TreeMap → List Row
+abbrev pub put : List Row → Instance → TreeMap → List Row
 put rows p tree = with_trees rows p.key (slice_set (trees_of rows p.key) p.number tree)
 
 -- the rows where an instance that is not there is made with a tree, after the others of its key
-abbrev pub made : List Row → Place → TreeMap → List Row
+abbrev pub made : List Row → Instance → TreeMap → List Row
 made rows p tree = if nat_lt p.number (length (trees_of rows p.key)) then rows else with_trees rows p.key (trees_of rows p.key ++ tree ∷ [])
 
 -- ---- who has what
 
-abbrev pub same_place : Place → Place → Bool
+-- whether two instances are one
+abbrev pub same_place : Instance → Instance → Bool
 same_place p q = (p.number == q.number) && same_key p.key q.key
 
 -- whether a lease has an instance
-abbrev pub has : Place → Option (List Place) → Bool
+abbrev pub has : Instance → Option (List Instance) → Bool
 has p None = false
 has p (Some ps) = list_any (same_place p) ps
 
 -- whether a lease that is out has an instance
-unfoldable pub is_held : Leases → Place → Bool
+unfoldable pub is_held : Leases → Instance → Bool
 is_held out p = list_any (has p) out
 
 -- how many leases are out
@@ -74,15 +75,15 @@ abbrev pub leases : Leases → ℕ
 leases out = count_by is_some out
 
 -- the instances of a lease that is out
-abbrev pub places_of : Leases → ℕ → List Place
+abbrev pub places_of : Leases → ℕ → List Instance
 places_of out lease = unwrap_or (unwrap_or (slice_get out lease) None) []
 
 -- a lease is out
 abbrev pub IsOut : Leases → ℕ → Type 0
-IsOut out lease = (ps : List Place) × (slice_get out lease ≡ Some (Some ps))
+IsOut out lease = (ps : List Instance) × (slice_get out lease ≡ Some (Some ps))
 
 -- the instance of a need of a lease
-abbrev pub place_at : Leases → ℕ → ℕ → Place
+abbrev pub place_at : Leases → ℕ → ℕ → Instance
 place_at out lease i = slice_index_or (places_of out lease) i (place (record { id = []; seed = None; mode = Shared }) 0)
 
 -- ---- what a lease takes
@@ -98,13 +99,15 @@ number_for out key Shared = 0
 number_for out key Locked = 0
 number_for out key Private = first_free out key 0 (leases out)
 
-abbrev pub place_for : Leases → Key → Place
+-- the instance that a lease of a key has
+abbrev pub place_for : Leases → Key → Instance
 place_for out key = place key (number_for out key key.mode)
 
 -- for each need an instance, and the tree that it holds where it is new
 abbrev pub Taken : Type 0
-Taken = Place × TreeMap
+Taken = Instance × TreeMap
 
+-- what a lease takes: an instance for each need, and the tree for a new one
 abbrev pub taken : Leases → List Need → List Taken
 taken out needs = map (λ n. (place_for out n.key, n.tree)) needs
 
@@ -112,21 +115,22 @@ taken out needs = map (λ n. (place_for out n.key, n.tree)) needs
 abbrev pub made_all : List Row → List Taken → List Row
 made_all rows ts = fold (λ rows t. made rows t.0 t.1) rows ts
 
+-- whether a key is locked
 abbrev pub is_locked : Mode → Bool
 is_locked Locked = true
 is_locked Shared = false
 is_locked Private = false
 
 -- a locked key whose instance a lease has
-abbrev pub is_shut : Leases → Need → Bool
-is_shut out n = is_locked n.key.mode && is_held out (place n.key 0)
+abbrev pub is_locked_and_held : Leases → Need → Bool
+is_locked_and_held out n = is_locked n.key.mode && is_held out (place n.key 0)
 
 -- the least number that no lease has
 abbrev pub free_lease : Leases → ℕ
 free_lease out = position_or_len (λ o. not (is_some o)) out
 
 -- the leases with one more, under its number: that of one that was given back, or the next
-abbrev pub with_lease : Leases → ℕ → List Place → Leases
+abbrev pub with_lease : Leases → ℕ → List Instance → Leases
 with_lease out lease ps = if nat_lt lease (length out) then slice_set out lease (Some ps) else out ++ Some ps ∷ []
 
 -- a lease of all needs, and its number
@@ -146,7 +150,7 @@ lease_by c needs (Some n) = Err (Held n.key)
 
 -- the first need whose locked key is held refuses them
 abbrev pub lease_of : CachesValue → List Need → Result (ℕ × CachesValue) LeaseFault
-lease_of c needs = lease_by c needs (find (is_shut c.out) needs)
+lease_of c needs = lease_by c needs (find (is_locked_and_held c.out) needs)
 
 -- ---- the other calls
 
@@ -171,32 +175,34 @@ given_back c lease = record c { out = trimmed (slice_set c.out lease None) }
 
 -- ---- what holds of caches
 
--- a way of sharing in which one lease at a time has an instance
+-- a way of sharing in which one lease at a time, or one execution, has an instance
 abbrev pub IsExclusive : Mode → Type 0
 IsExclusive Shared = ⊥
 IsExclusive Private = Unit {0}
 IsExclusive Locked = Unit {0}
 
 -- a lease that is out has these instances
-abbrev pub Has : Leases → ℕ → List Place → Type 0
+abbrev pub Has : Leases → ℕ → List Instance → Type 0
 Has out lease ps = slice_get out lease ≡ Some (Some ps)
 
 -- no two leases have one instance of a private or a locked key
 abbrev pub AreExclusive : Leases → Type 0
-AreExclusive out = (a b : ℕ) (ps qs : List Place) (p : Place) → Has out a ps → Has out b qs → Contains ps p → Contains qs p → IsExclusive p.key.mode → a ≡ b
+AreExclusive out = (a b : ℕ) (ps qs : List Instance) (p : Instance) → Has out a ps → Has out b qs → Contains ps p → Contains qs p → IsExclusive p.key.mode
+    → a ≡ b
 
 -- the keys of a lease differ
 abbrev pub AreApart : Leases → Type 0
-AreApart out = (a : ℕ) (ps : List Place) → Has out a ps → AllPairs (λ p q. p.key ≢ q.key) ps
+AreApart out = (a : ℕ) (ps : List Instance) → Has out a ps → AllPairs (λ p q. p.key ≢ q.key) ps
 
 -- what a lease has is there
 abbrev pub AreThere : List Row → Leases → Type 0
-AreThere rows out = (a : ℕ) (ps : List Place) → Has out a ps → All (λ p. p.number < length (trees_of rows p.key)) ps
+AreThere rows out = (a : ℕ) (ps : List Instance) → Has out a ps → All (λ p. p.number < length (trees_of rows p.key)) ps
 
 -- no key has more instances than leases can be out, at most 65,536
 abbrev pub AreFew : List Row → Type 0
 AreFew rows = (key : Key) → length (trees_of rows key) ≤ 65536
 
+-- what stands of all caches
 pub record IsCaches (c : CachesValue) : Type 0 where
   pub exclusive : AreExclusive c.out
   pub apart : AreApart c.out

@@ -6,6 +6,7 @@ use Rattle.llb_cache.specs.declared.fault.LeaseFault.{LeaseFault}
 use Rattle.llb_cache.specs.declared.fault.LeaseFault.TheVariants.{Held}
 use Rattle.llb_cache.specs.Caches.{Taken}
 
+-- what is ready for a need, as taken
 abbrev pub shown : Ready → Taken
 shown r = (r.place, r.tree)
 

@@ -6,8 +6,9 @@ use Rattle.std.specs.List.{list_any}
 use Rattle.std.proofs.lemmas.Bool.{eqb-true, eq-eqb, ltb-false, ltb-true}
 use Rattle.std.proofs.lemmas.List.{length-set, take_more}
 use Rattle.std.proofs.lemmas.List.Sums.{prefix_len-le-length, sum_by-cons}
-use Rattle.llb_cache.specs.declared.need.Place.{Place}
-use Rattle.llb_cache.specs.Key.{same_key, same_keys, key_itself}
+use Rattle.llb_cache.specs.declared.need.Instance.{Instance}
+use Rattle.llb_cache.specs.Key.{same_key}
+use Rattle.llb_cache.specs.LawsOfKeys.{same_keys, key_itself, both}
 use Rattle.llb_cache.specs.Caches.{Leases, same_place, has, is_held, leases, free_lease, with_lease, before, trimmed, Has}
 use Rattle.llb_cache.specs.Members.{In}
 
@@ -17,28 +18,24 @@ either : (a b : Bool) → (a || b) ≡ true → (a ≡ true) ⊎ (b ≡ true)
 either true b e = inl refl
 either false b e = inr e
 
-both : (a b : Bool) → (a && b) ≡ true → (a ≡ true) × (b ≡ true)
-both true b e = (refl, e)
-both false b e = absurd cc
-
-pub same_places : (p q : Place) → same_place p q ≡ true → p ≡ q
+pub same_places : (p q : Instance) → same_place p q ≡ true → p ≡ q
 same_places p q e =
     let h = both _ _ e in
     let number = eqb-true p.number q.number h.0 in
     let key = same_keys p.key q.key h.1 in
     λ i. record { key = key i; number = number i }
 
-pub place_itself : (p : Place) → same_place p p ≡ true
+pub place_itself : (p : Instance) → same_place p p ≡ true
 place_itself p = ap (λ b. b && same_key p.key p.key) (eq-eqb p.number p.number refl) ∙ key_itself p.key
 
-any_in : (p : Place) (ps : List Place) → list_any (same_place p) ps ≡ true → In ps p
+any_in : (p : Instance) (ps : List Instance) → list_any (same_place p) ps ≡ true → In ps p
 any_in p [] e = absurd cc
 any_in p (q ∷ ps) e = elim (either (same_place p q) (list_any (same_place p) ps) e) [
   | inl here ↦ inl (same_places p q here)
   | inr later ↦ inr (any_in p ps later)
 ]
 
-pub in_any : (p : Place) (ps : List Place) → In ps p → list_any (same_place p) ps ≡ true
+pub in_any : (p : Instance) (ps : List Instance) → In ps p → list_any (same_place p) ps ≡ true
 in_any p [] h = absurd h
 in_any p (q ∷ ps) (inl is) = ap (λ b. b || list_any (same_place p) ps) (ap (same_place p) (sym is) ∙ place_itself p)
 in_any p (q ∷ ps) (inr h) = ap (λ b. same_place p q || b) (in_any p ps h) ∙ or_true (same_place p q)
@@ -47,7 +44,7 @@ in_any p (q ∷ ps) (inr h) = ap (λ b. same_place p q || b) (in_any p ps h) ∙
     or_true true = refl
     or_true false = refl
 
-pub in_place : (p : Place) (ps : List Place) → has p (Some ps) ≡ true → In ps p
+pub in_place : (p : Instance) (ps : List Instance) → has p (Some ps) ≡ true → In ps p
 in_place p ps e = any_in p ps e
 
 or_true : (b : Bool) → (b || true) ≡ true
@@ -55,14 +52,14 @@ or_true true = refl
 or_true false = refl
 
 -- what a lease has is held
-pub held_by : (out : Leases) (a : ℕ) (ps : List Place) (p : Place) → Has out a ps → In ps p → is_held out p ≡ true
+pub held_by : (out : Leases) (a : ℕ) (ps : List Instance) (p : Instance) → Has out a ps → In ps p → is_held out p ≡ true
 unfolding is_held
 held_by [] a ps p at h = absurd cc
 held_by (o ∷ out) zero ps p at h = let is : o ≡ Some ps = ap (λ x. unwrap_or x o) at in ap (λ b. b || list_any (has p) out) (ap (has p) is ∙ in_any p ps h)
 held_by (o ∷ out) (suc a) ps p at h = ap (λ b. has p o || b) (held_by out a ps p at h) ∙ or_true (has p o)
 
 -- what is held, a lease has
-pub holder : (out : Leases) (p : Place) → is_held out p ≡ true → (a : ℕ) × (ps : List Place) × Has out a ps × In ps p
+pub holder : (out : Leases) (p : Instance) → is_held out p ≡ true → (a : ℕ) × (ps : List Instance) × Has out a ps × In ps p
 unfolding is_held
 holder [] p e = absurd cc
 holder (None ∷ out) p e = let rest = holder out p e in (suc rest.0, rest.1, rest.2, rest.3)
@@ -74,10 +71,10 @@ holder (Some ps ∷ out) p e = elim (either (has p (Some ps)) (list_any (has p) 
 -- ---- a lease more
 
 -- the lease of a number is this one, or it is another that was out before
-abbrev pub Either : Leases → ℕ → Option (List Place) → ℕ → List Place → Type 0
+abbrev pub Either : Leases → ℕ → Option (List Instance) → ℕ → List Instance → Type 0
 Either out n x a qs = ((a ≡ n) × (x ≡ Some qs)) ⊎ Has out a qs
 
-set_cases : (out : Leases) (n : ℕ) (x : Option (List Place)) (a : ℕ) (qs : List Place) → Has (slice_set out n x) a qs → Either out n x a qs
+set_cases : (out : Leases) (n : ℕ) (x : Option (List Instance)) (a : ℕ) (qs : List Instance) → Has (slice_set out n x) a qs → Either out n x a qs
 set_cases [] n x a qs at = inr at
 set_cases (o ∷ out) zero x zero qs at = inl (refl, ap (λ r. unwrap_or r x) at)
 set_cases (o ∷ out) zero x (suc a) qs at = inr at
@@ -87,7 +84,7 @@ set_cases (o ∷ out) (suc n) x (suc a) qs at = elim (set_cases out n x a qs at)
   | inr h ↦ inr h
 ]
 
-push_cases : (out : Leases) (x : Option (List Place)) (a : ℕ) (qs : List Place) → Has (out ++ x ∷ []) a qs → Either out (length out) x a qs
+push_cases : (out : Leases) (x : Option (List Instance)) (a : ℕ) (qs : List Instance) → Has (out ++ x ∷ []) a qs → Either out (length out) x a qs
 push_cases [] x zero qs at = inl (refl, ap (λ r. unwrap_or r x) at)
 push_cases [] x (suc a) qs at = absurd cc
 push_cases (o ∷ out) x zero qs at = inr at
@@ -96,7 +93,7 @@ push_cases (o ∷ out) x (suc a) qs at = elim (push_cases out x a qs at) [
   | inr h ↦ inr h
 ]
 
-some_same : (ps qs : List Place) → Some ps ≡ Some qs → ps ≡ qs
+some_same : (ps qs : List Instance) → Some ps ≡ Some qs → ps ≡ qs
 some_same ps qs e = ap (λ o. unwrap_or o ps) e
 
 pub free_within : (out : Leases) → free_lease out ≤ length out
@@ -108,12 +105,12 @@ all_out [] h = refl
 all_out (None ∷ out) h = absurd (omega (arith, h))
 all_out (Some ps ∷ out) h =
     let first : free_lease (Some ps ∷ out) ≡ 1 + free_lease out = refl in
-    let one : leases (Some ps ∷ out) ≡ 1 + leases out = sum_by-cons (λ (o : Option (List Place)). cond (is_some o) 1 0) (Some ps) out in
+    let one : leases (Some ps ∷ out) ≡ 1 + leases out = sum_by-cons (λ (o : Option (List Instance)). cond (is_some o) 1 0) (Some ps) out in
     let rest = all_out out (omega (arith, h, first)) in
     omega (arith, rest, one)
 
 -- who has what after a lease
-pub lease_cases : (out : Leases) (ps : List Place) (a : ℕ) (qs : List Place) → Has (with_lease out (free_lease out) ps) a qs
+pub lease_cases : (out : Leases) (ps : List Instance) (a : ℕ) (qs : List Instance) → Has (with_lease out (free_lease out) ps) a qs
     → ((a ≡ free_lease out) × (ps ≡ qs)) ⊎ Has out a qs
 lease_cases out ps a qs = go (nat_lt (free_lease out) (length out)) refl
   where
@@ -129,7 +126,7 @@ lease_cases out ps a qs = go (nat_lt (free_lease out) (length out)) refl
       | inr h ↦ inr h
     ]
 
-pub lease_short : (out : Leases) (ps : List Place) → length out ≤ 65536 → leases out < 65536 → length (with_lease out (free_lease out) ps) ≤ 65536
+pub lease_short : (out : Leases) (ps : List Instance) → length out ≤ 65536 → leases out < 65536 → length (with_lease out (free_lease out) ps) ≤ 65536
 lease_short out ps short few = go (nat_lt (free_lease out) (length out)) refl
   where
     go : (b : Bool) → nat_lt (free_lease out) (length out) ≡ b → length (cond b (slice_set out (free_lease out) (Some ps)) (out ++ Some ps ∷ [])) ≤ 65536
@@ -142,7 +139,7 @@ lease_short out ps short few = go (nat_lt (free_lease out) (length out)) refl
 
 -- ---- a lease less
 
-before_has : (less out : Leases) (a : ℕ) (qs : List Place) → Has (before less) a qs → ((b : ℕ) → Has less b qs → Has out b qs) → Has (None ∷ out) a qs
+before_has : (less out : Leases) (a : ℕ) (qs : List Instance) → Has (before less) a qs → ((b : ℕ) → Has less b qs → Has out b qs) → Has (None ∷ out) a qs
 before_has [] out a qs at rest = absurd cc
 before_has (o ∷ less) out zero qs at rest = at
 before_has (o ∷ less) out (suc a) qs at rest = rest a at
@@ -151,7 +148,7 @@ before_short : (less : Leases) → length (before less) ≤ length less + 1
 before_short [] = omega arith
 before_short (o ∷ less) = omega arith
 
-pub trimmed_has : (out : Leases) (a : ℕ) (qs : List Place) → Has (trimmed out) a qs → Has out a qs
+pub trimmed_has : (out : Leases) (a : ℕ) (qs : List Instance) → Has (trimmed out) a qs → Has out a qs
 unfolding trimmed
 trimmed_has [] a qs at = at
 trimmed_has (Some ps ∷ out) zero qs at = at
@@ -165,7 +162,7 @@ trimmed_short (Some ps ∷ out) = let rest = trimmed_short out in omega (arith, 
 trimmed_short (None ∷ out) = let rest = trimmed_short out in let one = before_short (trimmed out) in omega (arith, rest, one)
 
 -- who has what after the end of a lease
-pub back_cases : (out : Leases) (n : ℕ) (a : ℕ) (qs : List Place) → Has (trimmed (slice_set out n None)) a qs → Has out a qs
+pub back_cases : (out : Leases) (n : ℕ) (a : ℕ) (qs : List Instance) → Has (trimmed (slice_set out n None)) a qs → Has out a qs
 back_cases out n a qs at = elim (set_cases out n None a qs (trimmed_has (slice_set out n None) a qs at)) [
   | inl h ↦ absurd (let e = h.1 in cc)
   | inr h ↦ h
@@ -175,7 +172,7 @@ pub back_short : (out : Leases) (n : ℕ) → length (trimmed (slice_set out n N
 back_short out n = let less = trimmed_short (slice_set out n None) in let same = length-set out n None in omega (arith, less, same)
 
 -- a list whose last lease is out stays as it is when it is trimmed
-pub trimmed_some : (out : Leases) (ps : List Place) → trimmed (out ++ Some ps ∷ []) ≡ out ++ Some ps ∷ []
+pub trimmed_some : (out : Leases) (ps : List Instance) → trimmed (out ++ Some ps ∷ []) ≡ out ++ Some ps ∷ []
 unfolding trimmed
 trimmed_some [] ps = refl
 trimmed_some (Some qs ∷ out) ps = ap (λ o. Some qs ∷ o) (trimmed_some out ps)
@@ -210,12 +207,12 @@ nothing_before : (less out : Leases) → before less ≡ None ∷ out → less �
 nothing_before [] out e = absurd cc
 nothing_before (o ∷ less) out e = cc
 
-before_set : (out : Leases) (n : ℕ) (o : Option (List Place)) → before out ≡ None ∷ out → before (slice_set out n o) ≡ None ∷ slice_set out n o
+before_set : (out : Leases) (n : ℕ) (o : Option (List Instance)) → before out ≡ None ∷ out → before (slice_set out n o) ≡ None ∷ slice_set out n o
 before_set [] n o e = absurd cc
 before_set (x ∷ out) zero o e = refl
 before_set (x ∷ out) (suc n) o e = refl
 
-trimmed_set : (out : Leases) (n : ℕ) (ps : List Place) → trimmed out ≡ out → trimmed (slice_set out n (Some ps)) ≡ slice_set out n (Some ps)
+trimmed_set : (out : Leases) (n : ℕ) (ps : List Instance) → trimmed out ≡ out → trimmed (slice_set out n (Some ps)) ≡ slice_set out n (Some ps)
 unfolding trimmed
 trimmed_set [] n ps same = refl
 trimmed_set (Some qs ∷ out) zero ps same = ap (λ o. Some ps ∷ o) cc
@@ -225,7 +222,7 @@ trimmed_set (None ∷ out) (suc n) ps same =
     let less = nothing_before (trimmed out) out same in
     ap before (trimmed_set out n ps less) ∙ before_set out n (Some ps) (ap before (sym less) ∙ same)
 
-pub trimmed_lease : (out : Leases) (n : ℕ) (ps : List Place) → trimmed out ≡ out → trimmed (with_lease out n ps) ≡ with_lease out n ps
+pub trimmed_lease : (out : Leases) (n : ℕ) (ps : List Instance) → trimmed out ≡ out → trimmed (with_lease out n ps) ≡ with_lease out n ps
 trimmed_lease out n ps same = go (nat_lt n (length out))
   where
     go : (b : Bool) → trimmed (cond b (slice_set out n (Some ps)) (out ++ Some ps ∷ [])) ≡ cond b (slice_set out n (Some ps)) (out ++ Some ps ∷ [])
@@ -237,23 +234,23 @@ pub none_out : (out : Leases) → trimmed out ≡ out → leases out ≡ 0 → o
 unfolding trimmed
 none_out [] same none = refl
 none_out (Some ps ∷ out) same none =
-    let one : leases (Some ps ∷ out) ≡ 1 + leases out = sum_by-cons (λ (o : Option (List Place)). cond (is_some o) 1 0) (Some ps) out in
+    let one : leases (Some ps ∷ out) ≡ 1 + leases out = sum_by-cons (λ (o : Option (List Instance)). cond (is_some o) 1 0) (Some ps) out in
     absurd (omega (arith, none, one))
 none_out (None ∷ out) same none =
     let less = nothing_before (trimmed out) out same in
-    let one : leases (None ∷ out) ≡ 0 + leases out = sum_by-cons (λ (o : Option (List Place)). cond (is_some o) 1 0) None out in
+    let one : leases (None ∷ out) ≡ 0 + leases out = sum_by-cons (λ (o : Option (List Instance)). cond (is_some o) 1 0) None out in
     let rest = none_out out less (omega (arith, none, one)) in
     let e = ap before (less ∙ rest) in absurd cc
 
 -- one number more, of a lease that is out, and of one that is not
-pub trimmed_at_some : (out : Leases) (i : ℕ) (o : Option (List Place)) → i < length out → o ≡ get_or out i o → is_some o ≡ true
+pub trimmed_at_some : (out : Leases) (i : ℕ) (o : Option (List Instance)) → i < length out → o ≡ get_or out i o → is_some o ≡ true
     → trimmed (take (i + 1) out) ≡ take (i + 1) out
 trimmed_at_some out i None below read is = absurd cc
 trimmed_at_some out i (Some ps) below read is =
     let more : take (i + 1) out ≡ take i out ++ Some ps ∷ [] = take_more out i (Some ps) below ∙ ap (λ o. take i out ++ o ∷ []) (sym read) in
     ap trimmed more ∙ trimmed_some (take i out) ps ∙ sym more
 
-pub trimmed_at_none : (out : Leases) (i : ℕ) (o : Option (List Place)) → i < length out → o ≡ get_or out i o → is_some o ≡ false
+pub trimmed_at_none : (out : Leases) (i : ℕ) (o : Option (List Instance)) → i < length out → o ≡ get_or out i o → is_some o ≡ false
     → trimmed (take (i + 1) out) ≡ trimmed (take i out)
 trimmed_at_none out i (Some ps) below read is = absurd cc
 trimmed_at_none out i None below read is =
@@ -261,16 +258,16 @@ trimmed_at_none out i None below read is =
     ap trimmed more ∙ trimmed_none (take i out)
 
 -- what a lease has after its grant
-set_here : (out : Leases) (n : ℕ) (x : Option (List Place)) → n < length out → slice_get (slice_set out n x) n ≡ Some x
+set_here : (out : Leases) (n : ℕ) (x : Option (List Instance)) → n < length out → slice_get (slice_set out n x) n ≡ Some x
 set_here [] n x below = absurd (omega (arith, below))
 set_here (o ∷ out) zero x below = refl
 set_here (o ∷ out) (suc n) x below = set_here out n x (omega (arith, below))
 
-push_here : (out : Leases) (x : Option (List Place)) → slice_get (out ++ x ∷ []) (length out) ≡ Some x
+push_here : (out : Leases) (x : Option (List Instance)) → slice_get (out ++ x ∷ []) (length out) ≡ Some x
 push_here [] x = refl
 push_here (o ∷ out) x = push_here out x
 
-pub lease_has : (out : Leases) (ps : List Place) → Has (with_lease out (free_lease out) ps) (free_lease out) ps
+pub lease_has : (out : Leases) (ps : List Instance) → Has (with_lease out (free_lease out) ps) (free_lease out) ps
 lease_has out ps = go (nat_lt (free_lease out) (length out)) refl
   where
     go : (b : Bool) → nat_lt (free_lease out) (length out) ≡ b

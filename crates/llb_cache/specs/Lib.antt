@@ -1,15 +1,19 @@
 -- Read first Caches (keys with their instances, leases, and what each call makes of them), Key (when two keys are one) and Faults (the results of calls).
--- Growing is what a lease has ready, Marks which instances are marked as those of leases, Order and Ordered the order in which keys are looked up; Firsts,
--- Members, Rows, Leased and Numbers are what follows from the definitions, for those who rest on them.
+-- Growing is what a lease has ready, Marks which instances are marked as those of leases, KeyOrder and RowOrder the order in which keys are looked up,
+-- FirstRows at which row a key is;
+-- LawsOfKeys, LawsOfKeyOrder, LawsOfFirstRows, Members, Rows, Leased and Numbers are what follows from the definitions, for those who rest on them.
 pub mod Key
-pub mod Order
+pub mod LawsOfKeys
+pub mod KeyOrder
+pub mod LawsOfKeyOrder
 pub mod Caches
 pub mod Faults
-pub mod Ordered
+pub mod RowOrder
 pub mod Growing
 pub mod Marks
 pub mod Members
-pub mod Firsts
+pub mod FirstRows
+pub mod LawsOfFirstRows
 pub mod Rows
 pub mod Leased
 pub mod Numbers

@@ -3,26 +3,26 @@ use Rattle.std.specs.Prelude.{◌≡◌, Bool, false, List, [], ◌∷◌, lengt
 use Rattle.std.specs.List.{list_any}
 use Rattle.std.specs.Map.{keys_of}
 use Rattle.llb_cache.specs.declared.key.Key.{Key}
-use Rattle.llb_cache.specs.declared.need.Place.{Place}
+use Rattle.llb_cache.specs.declared.need.Instance.{Instance}
 use Rattle.llb_cache.specs.Key.{same_key}
 use Rattle.llb_cache.specs.Caches.{CachesValue, IsCaches, IsExclusive, same_place, is_held}
 
 -- whether an instance is marked
-unfoldable pub marked : List Key → List (List Bool) → Place → Bool
+unfoldable pub marked : List Key → List (List Bool) → Instance → Bool
 marked [] marks p = false
 marked (k ∷ keys) [] p = false
 marked (k ∷ keys) (m ∷ marks) p = if same_key p.key k then slice_index_or m p.number false else marked keys marks p
 
 -- whether an instance is one of these
-abbrev pub is_one_of : List Place → Place → Bool
+abbrev pub is_one_of : List Instance → Instance → Bool
 is_one_of ps p = list_any (same_place p) ps
 
 -- the instances that pass a test have this mark, and all others the one that they had
-abbrev pub Remarks : List Key → List (List Bool) → List Key → List (List Bool) → (Place → Bool) → Bool → Type 0
-Remarks keys marks keys' marks' test b = (p : Place) → marked keys' marks' p ≡ (if test p then b else marked keys marks p)
+abbrev pub Remarks : List Key → List (List Bool) → List Key → List (List Bool) → (Instance → Bool) → Bool → Type 0
+Remarks keys marks keys' marks' test b = (p : Instance) → marked keys' marks' p ≡ (if test p then b else marked keys marks p)
 
 -- caches with their marks: there is a list of marks for each key, and of the locked and the private keys the instances that leases have are marked
 pub record IsMarked (c : CachesValue) (marks : List (List Bool)) : Type 0 where
   pub caches : IsCaches c
   pub each : length marks ≡ length c.rows
-  pub exact : (p : Place) → IsExclusive p.key.mode → marked (keys_of c.rows) marks p ≡ is_held c.out p
+  pub exact : (p : Instance) → IsExclusive p.key.mode → marked (keys_of c.rows) marks p ≡ is_held c.out p

@@ -8,8 +8,9 @@ use native.Mathlib.Decide.{dec_lt}
 use Rattle.llb_cache.specs.declared.key.Key.{Key}
 use Rattle.llb_cache.specs.declared.key.Mode.{Mode}
 use Rattle.llb_cache.specs.declared.key.Mode.TheVariants.{Shared, Private, Locked}
-use Rattle.llb_cache.specs.declared.need.Place.{Place}
-use Rattle.llb_cache.specs.Key.{same_key, same_keys, key_itself}
+use Rattle.llb_cache.specs.declared.need.Instance.{Instance}
+use Rattle.llb_cache.specs.Key.{same_key}
+use Rattle.llb_cache.specs.LawsOfKeys.{same_keys, key_itself}
 use Rattle.llb_cache.specs.Caches.{Row, Leases, place, is_held, leases, first_free, number_for, is_locked, IsExclusive, Has, AreApart, AreThere, trees_of}
 use Rattle.llb_cache.specs.Members.{In, contained_in, pairs_head, pairs_tail, no_fewer}
 use Rattle.llb_cache.specs.Leased.{holder}
@@ -17,7 +18,7 @@ use Rattle.llb_cache.specs.Leased.{holder}
 -- ---- each lease has one instance of a key at most
 
 -- the number that a lease has of a key
-number_in : Key → List Place → ℕ
+number_in : Key → List Instance → ℕ
 number_in key [] = 0
 number_in key (p ∷ ps) = cond (same_key key p.key) p.number (number_in key ps)
 
@@ -32,24 +33,25 @@ numbers_leases key [] = refl
 numbers_leases key (None ∷ out) = numbers_leases key out
 numbers_leases key (Some ps ∷ out) =
     let rest = numbers_leases key out in
-    let one = sum_by-cons (λ (o : Option (List Place)). cond (is_some o) 1 0) (Some ps) out in
+    let one = sum_by-cons (λ (o : Option (List Instance)). cond (is_some o) 1 0) (Some ps) out in
     omega (arith, rest, one)
 
-abbrev Differ : List Place → Type 0
+-- no two instances have one key
+abbrev Differ : List Instance → Type 0
 Differ ps = AllPairs (λ p q. p.key ≢ q.key) ps
 
-number_is : (key : Key) (k : ℕ) (ps : List Place) → Differ ps → In ps (place key k) → number_in key ps ≡ k
+number_is : (key : Key) (k : ℕ) (ps : List Instance) → Differ ps → In ps (place key k) → number_in key ps ≡ k
 unfolding number_in
 number_is key k [] apart h = absurd h
 number_is key k (p ∷ ps) apart (inl is) =
-    ap (λ (q : Place). cond (same_key key q.key) q.number (number_in key ps)) (sym is) ∙ ap (λ b. cond b k (number_in key ps)) (key_itself key)
+    ap (λ (q : Instance). cond (same_key key q.key) q.number (number_in key ps)) (sym is) ∙ ap (λ b. cond b k (number_in key ps)) (key_itself key)
 number_is key k (p ∷ ps) apart (inr h) = go (same_key key p.key) refl (number_is key k ps (pairs_tail (λ p q. p.key ≢ q.key) p ps apart) h)
   where
     go : (b : Bool) → same_key key p.key ≡ b → number_in key ps ≡ k → cond b p.number (number_in key ps) ≡ k
     go true is rest = absurd (pairs_head (λ p q. p.key ≢ q.key) p ps apart (place key k) h (sym (same_keys key p.key is)))
     go false is rest = rest
 
-held_number : (key : Key) (k : ℕ) (out : Leases) (a : ℕ) (ps : List Place) → Has out a ps → Differ ps → In ps (place key k) → In (numbers key out) k
+held_number : (key : Key) (k : ℕ) (out : Leases) (a : ℕ) (ps : List Instance) → Has out a ps → Differ ps → In ps (place key k) → In (numbers key out) k
 unfolding numbers
 held_number key k [] a ps at apart h = absurd cc
 held_number key k (None ∷ out) zero ps at apart h = absurd cc
@@ -69,6 +71,7 @@ held_below key out n apart all =
 
 -- ---- the least free number
 
+-- r is the least of so many numbers from n on whose instance no lease has, or the number behind them
 pub record Least (out : Leases) (key : Key) (n more r : ℕ) : Type 0 where
   pub within : r ≤ n + more
   pub below : (k : ℕ) → n ≤ k → k < r → is_held out (place key k) ≡ true
@@ -148,4 +151,4 @@ number_next rows out key Private there =
     let l = least out key 0 (leases out) in
     up_to (first_free out key 0 (leases out)) (length (trees_of rows key))
     (λ k below. let h = holder out (place key k) (l.below k (omega arith) below) in
-    All-contains (λ (p : Place). p.number < length (trees_of rows p.key)) h.1 (place key k) (there h.0 h.1 h.2) (contained_in h.1 (place key k) h.3))
+    All-contains (λ (p : Instance). p.number < length (trees_of rows p.key)) h.1 (place key k) (there h.0 h.1 h.2) (contained_in h.1 (place key k) h.3))

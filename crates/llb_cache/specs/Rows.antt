@@ -9,10 +9,12 @@ use Rattle.std.proofs.lemmas.Bool.{ltb-true, ltb-false}
 use Rattle.std.proofs.lemmas.List.{length-set}
 use Rattle.llb_tree.specs.Tree.{TreeMap}
 use Rattle.llb_cache.specs.declared.key.Key.{Key}
-use Rattle.llb_cache.specs.declared.need.Place.{Place}
-use Rattle.llb_cache.specs.Key.{same_key, same_keys, key_itself}
+use Rattle.llb_cache.specs.declared.need.Instance.{Instance}
+use Rattle.llb_cache.specs.Key.{same_key}
+use Rattle.llb_cache.specs.LawsOfKeys.{same_keys, key_itself}
 use Rattle.llb_cache.specs.Caches.{Row, Taken, trees_of, with_trees, put, made, made_all, AreFew}
-use Rattle.llb_cache.specs.Firsts.{set_trees, first_placed, first_trees, written_first}
+use Rattle.llb_cache.specs.FirstRows.{set_trees}
+use Rattle.llb_cache.specs.LawsOfFirstRows.{first_placed, first_trees, written_first}
 
 -- ---- a write at the place of a key
 
@@ -30,7 +32,7 @@ pub trees_written : (es : List Row) (k : Key) (i : ℕ) (w : List TreeMap) → p
 trees_written es k i w place = sym (written_first k es i w (first_placed k es i place))
 
 -- a new instance
-pub instance_made : (es : List Row) (p : Place) (tree : TreeMap) (i : ℕ) (old w : List TreeMap)
+pub instance_made : (es : List Row) (p : Instance) (tree : TreeMap) (i : ℕ) (old w : List TreeMap)
     → position (same_key p.key) (keys_of es) ≡ Some i → slice_get (values_of es) i ≡ Some old
     → length old ≤ p.number → w ≡ old ++ tree ∷ [] → set_trees es i w ≡ made es p tree
 instance_made es p tree i old w place at past is =
@@ -40,7 +42,7 @@ instance_made es p tree i old w place at past is =
     ∙ sym (ap (λ b. cond b es (with_trees es p.key (trees_of es p.key ++ tree ∷ []))) test)
 
 -- an instance that is there
-pub instance_there : (es : List Row) (p : Place) (tree : TreeMap) (i : ℕ) (old : List TreeMap)
+pub instance_there : (es : List Row) (p : Instance) (tree : TreeMap) (i : ℕ) (old : List TreeMap)
     → position (same_key p.key) (keys_of es) ≡ Some i → slice_get (values_of es) i ≡ Some old
     → p.number < length old → set_trees es i old ≡ made es p tree
 instance_there es p tree i old place at below =
@@ -49,7 +51,7 @@ instance_there es p tree i old place at below =
     some_value es i old at ∙ sym (ap (λ b. cond b es (with_trees es p.key (trees_of es p.key ++ tree ∷ []))) test)
 
 -- another tree in an instance
-pub tree_put : (es : List Row) (p : Place) (tree : TreeMap) (i : ℕ) (old w : List TreeMap)
+pub tree_put : (es : List Row) (p : Instance) (tree : TreeMap) (i : ℕ) (old w : List TreeMap)
     → position (same_key p.key) (keys_of es) ≡ Some i → slice_get (values_of es) i ≡ Some old
     → w ≡ slice_set old p.number tree → set_trees es i w ≡ put es p tree
 tree_put es p tree i old w place at is =
@@ -97,7 +99,7 @@ counted rows k ts l = go (same_key l k) refl
     go false is = inr (ap length (other_trees rows k l ts is))
 
 -- a put changes no number
-pub put_counts : (rows : List Row) (p : Place) (tree : TreeMap) (l : Key) → length (trees_of (put rows p tree) l) ≡ length (trees_of rows l)
+pub put_counts : (rows : List Row) (p : Instance) (tree : TreeMap) (l : Key) → length (trees_of (put rows p tree) l) ≡ length (trees_of rows l)
 put_counts rows p tree l = elim (counted rows p.key (slice_set (trees_of rows p.key) p.number tree) l) [
   | inl h ↦ h.1 ∙ length-set (trees_of rows p.key) p.number tree ∙ ap (λ k. length (trees_of rows k)) (sym h.0)
   | inr h ↦ h
@@ -106,12 +108,12 @@ put_counts rows p tree l = elim (counted rows p.key (slice_set (trees_of rows p.
 -- ---- what is made
 
 -- how many a key has after the making of an instance
-pub record Makes (rows : List Row) (p : Place) (new : List Row) : Type 0 where
+pub record Makes (rows : List Row) (p : Instance) (new : List Row) : Type 0 where
   pub grows : (k : Key) → length (trees_of rows k) ≤ length (trees_of new k)
   pub there : p.number ≤ length (trees_of rows p.key) → p.number < length (trees_of new p.key)
   pub few : AreFew rows → p.number < 65536 → AreFew new
 
-one_more : (rows : List Row) (p : Place) (tree : TreeMap) → length (trees_of rows p.key) ≤ p.number
+one_more : (rows : List Row) (p : Instance) (tree : TreeMap) → length (trees_of rows p.key) ≤ p.number
     → Makes rows p (with_trees rows p.key (trees_of rows p.key ++ tree ∷ []))
 one_more rows p tree past =
     let more : List TreeMap = trees_of rows p.key ++ tree ∷ [] in
@@ -130,7 +132,7 @@ one_more rows p tree past =
       ];
     }
 
-pub makes : (rows : List Row) (p : Place) (tree : TreeMap) → Makes rows p (made rows p tree)
+pub makes : (rows : List Row) (p : Instance) (tree : TreeMap) → Makes rows p (made rows p tree)
 makes rows p tree = go (nat_lt p.number (length (trees_of rows p.key))) refl
   where
     go : (b : Bool) → nat_lt p.number (length (trees_of rows p.key)) ≡ b → Makes rows p (cond b rows (with_trees rows p.key (trees_of rows p.key ++ tree ∷ [])))
@@ -148,7 +150,8 @@ all_grow rows (t ∷ ts) k =
 abbrev pub IsNext : List Row → Taken → Type 0
 IsNext rows t = t.0.number ≤ length (trees_of rows t.0.key)
 
-still_next : (rows : List Row) (p : Place) (tree : TreeMap) (ts : List Taken) → AllByRecursion (IsNext rows) ts → AllByRecursion (IsNext (made rows p tree)) ts
+still_next : (rows : List Row) (p : Instance) (tree : TreeMap) (ts : List Taken) → AllByRecursion (IsNext rows) ts
+    → AllByRecursion (IsNext (made rows p tree)) ts
 still_next rows p tree [] all = tt
 still_next rows p tree (t ∷ ts) all = (let h = all.0 in let more = (makes rows p tree).grows t.0.key in omega (arith, h, more), still_next rows p tree ts all.1)
 

@@ -13,7 +13,7 @@ use crate::growing::{make_all, places_at, places_for, set_at, take_back, take_le
 use crate::key::Key;
 use crate::key_ref::KeyRef;
 use crate::marks::Marks;
-use crate::need::{Need, Place};
+use crate::need::{Instance, Need};
 use crate::rows::{Rows, no_rows, reserve, trees_at, trees_with};
 use crate::search::{count, keys_differ};
 use llb_tree::Tree;
@@ -51,7 +51,7 @@ pub struct Caches {
     pub(crate) rows: Rows,
     // For each row the marks of the instances that leases have: those of locked and private keys are exact.
     pub(crate) marks: Vec<Marks>,
-    pub(crate) out: Vec<Option<Many<Place>>>,
+    pub(crate) out: Vec<Option<Many<Instance>>>,
 }
 
 // Written out, so that the crates above drop one by this one function.
@@ -67,10 +67,10 @@ impl Drop for Caches {
 
 impl Model for Caches {
     ghost use Rattle.std.specs.Coded.{codes};
-    ghost use Rattle.llb_tree.specs.Tree.{coded_tree};
+    ghost use Rattle.llb_tree.specs.Coded.{coded_tree};
     ghost use Rattle.llb_cache.specs.Caches.{CachesValue};
     ghost use Rattle.llb_cache.specs.Marks.{IsMarked};
-    ghost use Rattle.llb_cache.specs.Ordered.{AreOrdered};
+    ghost use Rattle.llb_cache.specs.RowOrder.{AreOrdered};
 
     ghost Value = { CachesValue };
 
@@ -187,10 +187,10 @@ impl Caches {
     }
 
     /// Returns whether a lease of this key would be refused: it is locked, and a lease has its instance. Does not allocate.
-    pub fn is_shut(&self, key: &KeyRef<'_>) -> bool
+    pub fn is_locked_and_held(&self, key: &KeyRef<'_>) -> bool
         ensures { result ≡ (is_locked key.now.mode && is_held self.now.out (place key.now 0)) }
     {
-        self.has_shut(key)
+        self.holds_locked(key)
     }
 
     /// Returns the number of the instance that a lease of this key would have now. Does not allocate.

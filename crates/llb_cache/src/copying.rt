@@ -1,17 +1,18 @@
 //! Equal second owners of caches and of leases, and whether two are the same.
 
 ghost use Rattle.std.specs.Prelude.{◌≡◌, ◌↔◌, IsTrue, IfOk};
-ghost use Rattle.llb_cache.specs.Ordered.{AreOrdered};
+ghost use Rattle.llb_cache.specs.RowOrder.{AreOrdered};
 
 use crate::fault::Memory;
 use crate::key::Key;
 use crate::marks::Marks;
-use crate::need::Place;
+use crate::need::Instance;
 use crate::rows::Rows;
 use crate::trees::Trees;
 use llb_wire::{Many, Same};
 use std::alloc::Global;
 
+// Equal second owners of all trees, under their keys.
 pub(crate) fn copied_rows(rows: &Rows) -> Result<Rows, Memory>
     requires { AreOrdered rows.now }
     ensures entries { IfOk result (λ r. r.entries.items ≡ rows.now.entries.items) }
@@ -32,7 +33,8 @@ fn copied_entries(entries: &Vec<(Key, Trees)>) -> Result<Vec<(Key, Trees)>, Memo
     Ok(copies)
 }
 
-fn copied_places(alloc: Global, places: &[Place]) -> Result<Many<Place>, Memory>
+// An equal second owner of a list of instances.
+fn copied_places(alloc: Global, places: &[Instance]) -> Result<Many<Instance>, Memory>
     ensures { IfOk result (λ ps. ps ≡ places.now) }
 {
     let mut copies = Vec::new(alloc);
@@ -42,7 +44,11 @@ fn copied_places(alloc: Global, places: &[Place]) -> Result<Many<Place>, Memory>
     Ok(Many::new(copies))
 }
 
-fn copied_lease(alloc: Global, lease: &Option<Many<Place>>) -> Result<Option<Many<Place>>, Memory>
+// An equal second owner of a lease's instances.
+fn copied_lease(
+    alloc: Global,
+    lease: &Option<Many<Instance>>,
+) -> Result<Option<Many<Instance>>, Memory>
     ensures { IfOk result (λ l. l ≡ lease.now) }
 {
     match lease {
@@ -51,9 +57,10 @@ fn copied_lease(alloc: Global, lease: &Option<Many<Place>>) -> Result<Option<Man
     }
 }
 
+// Equal second owners of the instances of all leases.
 pub(crate) fn copied_leases(
-    out: &Vec<Option<Many<Place>>>,
-) -> Result<Vec<Option<Many<Place>>>, Memory>
+    out: &Vec<Option<Many<Instance>>>,
+) -> Result<Vec<Option<Many<Instance>>>, Memory>
     ensures { IfOk result (λ o. o.items ≡ out.now.items) }
 {
     let alloc = *out.allocator();
@@ -64,6 +71,7 @@ pub(crate) fn copied_leases(
     Ok(copies)
 }
 
+// An equal second owner of the marks.
 pub(crate) fn copied_marks(marks: &Vec<Marks>) -> Result<Vec<Marks>, Memory>
     ensures { IfOk result (λ m. m.items ≡ marks.now.items) }
 {
@@ -89,8 +97,8 @@ pub(crate) fn same_rows(rows: &[(Key, Trees)], others: &[(Key, Trees)]) -> bool
     true
 }
 
-impl Same for Place {
-    fn same(&self, other: &Place) -> bool {
+impl Same for Instance {
+    fn same(&self, other: &Instance) -> bool {
         self.number == other.number && self.key.same(&other.key)
     }
 }

@@ -6,11 +6,11 @@ ghost use Rattle.std.specs.Map.{keys_of};
 ghost use Rattle.llb_cache.specs.Caches.{same_place, made, made_all, free_lease, with_lease, places_of, put, trees_of, trimmed};
 ghost use Rattle.llb_cache.specs.Growing.{shown, FitsIn};
 ghost use Rattle.llb_cache.specs.Marks.{Remarks, is_one_of};
-ghost use Rattle.llb_cache.specs.Ordered.{AreOrdered, HasRoom};
+ghost use Rattle.llb_cache.specs.RowOrder.{AreOrdered, HasRoom};
 
 use crate::fault::Memory;
 use crate::marks::Marks;
-use crate::need::Place;
+use crate::need::Instance;
 use crate::rows::{Rows, add_row, row_of};
 use crate::search::free_lease;
 use crate::trees::{Room, Trees};
@@ -21,14 +21,14 @@ use std::alloc::Global;
 // What a need takes: an instance, the tree that it holds where it is new, and room for it and for its mark.
 #[derive(Drop)]
 pub(crate) struct Ready {
-    pub(crate) place: Place,
+    pub(crate) place: Instance,
     pub(crate) tree: Tree,
     pub(crate) room: Room,
     pub(crate) marks: Marks,
 }
 
 // The instances of a lease, as copies.
-pub(crate) fn places_for(alloc: Global, readies: &[Ready]) -> Result<Many<Place>, Memory>
+pub(crate) fn places_for(alloc: Global, readies: &[Ready]) -> Result<Many<Instance>, Memory>
     ensures { IfOk result (λ ps. ps ≡ map (λ r. r.place) readies.now) }
 {
     let mut places = Vec::new(alloc);
@@ -59,7 +59,7 @@ fn make(rows: &mut Rows, marks: &mut Vec<Marks>, ready: Ready)
         room,
         marks: free,
     } = ready;
-    let Place { key, number } = place;
+    let Instance { key, number } = place;
     match row_of(rows, &key.by_ref()) {
         Some(i) => {
             marks[i].set(number, free);
@@ -98,7 +98,7 @@ pub(crate) fn make_all(rows: &mut Rows, marks: &mut Vec<Marks>, readies: Vec<Rea
 }
 
 // Takes the marks of instances away.
-pub(crate) fn unmark_all(rows: &Rows, marks: &mut Vec<Marks>, places: &[Place])
+pub(crate) fn unmark_all(rows: &Rows, marks: &mut Vec<Marks>, places: &[Instance])
     requires order { AreOrdered rows.now }
     requires each { length marks.old.items ≡ length rows.now.entries.items }
     ensures marks { Remarks (keys_of rows.now.entries.items) marks.old.items (keys_of rows.now.entries.items) marks.new.items (is_one_of places.now) false }
@@ -110,7 +110,7 @@ pub(crate) fn unmark_all(rows: &Rows, marks: &mut Vec<Marks>, places: &[Place])
 }
 
 // Takes the mark of an instance away.
-fn unmark(rows: &Rows, marks: &mut Vec<Marks>, place: &Place)
+fn unmark(rows: &Rows, marks: &mut Vec<Marks>, place: &Instance)
     requires order { AreOrdered rows.now }
     requires each { length marks.old.items ≡ length rows.now.entries.items }
     ensures marks { Remarks (keys_of rows.now.entries.items) marks.old.items (keys_of rows.now.entries.items) marks.new.items
@@ -123,7 +123,7 @@ fn unmark(rows: &Rows, marks: &mut Vec<Marks>, place: &Place)
 }
 
 // Puts a lease out, under the least number that is free. There is room for one more.
-pub(crate) fn take_lease(out: &mut Vec<Option<Many<Place>>>, places: Many<Place>) -> u32
+pub(crate) fn take_lease(out: &mut Vec<Option<Many<Instance>>>, places: Many<Instance>) -> u32
     requires room { vec_len out.old < vec_capacity out.old }
     requires short { length out.old.items ≤ 65536 }
     ensures number { result ≡ free_lease out.old.items }
@@ -139,7 +139,7 @@ pub(crate) fn take_lease(out: &mut Vec<Option<Many<Place>>>, places: Many<Place>
 }
 
 // The instances of a lease that is out.
-pub(crate) fn places_at(out: &[Option<Many<Place>>], lease: u32) -> &[Place]
+pub(crate) fn places_at(out: &[Option<Many<Instance>>], lease: u32) -> &[Instance]
     ensures { result.now ≡ places_of out.now lease }
 {
     match out.get(lease as usize) {
@@ -149,7 +149,7 @@ pub(crate) fn places_at(out: &[Option<Many<Place>>], lease: u32) -> &[Place]
 }
 
 // Puts a tree in the place of an instance's.
-pub(crate) fn set_at(rows: &mut Rows, place: &Place, tree: Tree)
+pub(crate) fn set_at(rows: &mut Rows, place: &Instance, tree: Tree)
     requires order { AreOrdered rows.old }
     requires there { place.now.number < length (trees_of rows.old.entries.items place.now.key) }
     ensures rows { rows.new.entries.items ≡ put rows.old.entries.items place.now tree }
@@ -162,7 +162,7 @@ pub(crate) fn set_at(rows: &mut Rows, place: &Place, tree: Tree)
 }
 
 // Drops what is after the last lease that is out.
-fn trim(out: &mut Vec<Option<Many<Place>>>)
+fn trim(out: &mut Vec<Option<Many<Instance>>>)
     ensures { out.new.items ≡ trimmed out.old.items }
 {
     let mut kept = 0;
@@ -175,7 +175,7 @@ fn trim(out: &mut Vec<Option<Many<Place>>>)
 }
 
 // A lease is out no more.
-pub(crate) fn take_back(out: &mut Vec<Option<Many<Place>>>, lease: u32)
+pub(crate) fn take_back(out: &mut Vec<Option<Many<Instance>>>, lease: u32)
     requires { lease < length out.old.items }
     ensures { out.new.items ≡ trimmed (slice_set out.old.items lease None) }
 {

@@ -3,7 +3,7 @@
 ghost use Rattle.std.specs.Prelude.{◌≡◌, ◌==◌, not, length, option_map, true, IfErr, IfOk};
 ghost use Rattle.std.specs.Option.{option_cmp};
 ghost use Rattle.llb_cache.specs.Key.{same_key, seed_by, has_digest, has_text};
-ghost use Rattle.llb_cache.specs.Order.{mode_place, seed_cmp, key_cmp};
+ghost use Rattle.llb_cache.specs.KeyOrder.{mode_place, seed_cmp, key_cmp};
 
 use crate::fault::Memory;
 use crate::key::{Key, Mode, Seed};
@@ -49,6 +49,7 @@ impl<'a> KeyRef<'a> {
         Ok(Key { id, seed, mode })
     }
 
+    // How the cache is shared.
     pub(crate) fn mode(&self) -> Mode
         ensures { result ≡ self.now.mode }
     {
@@ -63,7 +64,7 @@ impl<'a> KeyRef<'a> {
     }
 
     // By ID, then by mode, then by seed, where no seed comes first.
-    #[tactic(auto, unfolding(crate::specs::Order::key_cmp))]
+    #[tactic(auto, unfolding(crate::specs::KeyOrder::key_cmp))]
     pub(crate) fn order(&self, other: &KeyRef<'_>) -> Ordering
         ensures { result ≡ key_cmp self.now other.now }
     {

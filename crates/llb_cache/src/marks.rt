@@ -27,6 +27,7 @@ impl Model for Marks {
 }
 
 impl Marks {
+    // No marks.
     pub(crate) fn new(alloc: Global) -> Marks
         ensures { result ≡ [] }
     {
@@ -44,6 +45,7 @@ impl Marks {
         Ok(Marks { items })
     }
 
+    // Whether a number is marked.
     pub(crate) fn has(&self, number: u32) -> bool
         ensures { result ≡ slice_index_or self.now number false }
     {
@@ -66,6 +68,7 @@ impl Marks {
         self.items.len()
     }
 
+    // Removes the mark of a number.
     pub(crate) fn clear(&mut self, number: u32)
         ensures { (k : ℕ) → slice_index_or self.new k false ≡ (if k == number then false else slice_index_or self.old k false) }
     {
@@ -101,6 +104,7 @@ impl Marks {
         self.items = items;
     }
 
+    // An equal second owner.
     pub(crate) fn copy(&self) -> Result<Marks, Memory>
         ensures { IfOk result (λ m. m ≡ self.now) }
     {

@@ -15,17 +15,18 @@ pub struct Need {
 
 /// An instance: a key, and a number among its instances.
 #[derive(Drop)]
-pub struct Place {
+pub struct Instance {
     pub key: Key,
     pub number: u32,
 }
 
-impl Place {
-    pub(crate) fn copy(&self) -> Result<Place, Memory>
+impl Instance {
+    // An equal second owner.
+    pub(crate) fn copy(&self) -> Result<Instance, Memory>
         ensures { IfOk result (λ p. p ≡ self.now) }
     {
         let key = self.key.copy()?;
         let number = self.number;
-        Ok(Place { key, number })
+        Ok(Instance { key, number })
     }
 }

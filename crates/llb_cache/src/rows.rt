@@ -6,7 +6,7 @@ ghost use Rattle.std.specs.Prelude.{is_some, option_map, position, slice_get};
 ghost use Rattle.std.specs.Map.{keys_of, values_of, lookup};
 ghost use Rattle.llb_cache.specs.Caches.{with_trees};
 ghost use Rattle.llb_cache.specs.Key.{same_key};
-ghost use Rattle.llb_cache.specs.Ordered.{is_before, IsPlace, AreOrdered, HasRoom};
+ghost use Rattle.llb_cache.specs.RowOrder.{is_before, IsPlace, AreOrdered, HasRoom};
 
 use crate::fault::Memory;
 use crate::key::Key;
@@ -31,6 +31,7 @@ impl Drop for Rows {
     }
 }
 
+// No rows.
 pub(crate) fn no_rows(alloc: Global) -> Rows
     ensures empty { result.entries.items ≡ [] }
     ensures order { AreOrdered result }

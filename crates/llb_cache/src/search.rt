@@ -5,10 +5,10 @@ ghost use Rattle.std.specs.Prelude.{MatchResult, None, option_and_then};
 ghost use Rattle.std.specs.List.{All, list_any, find};
 ghost use Rattle.std.specs.Map.{keys_of};
 ghost use Rattle.llb_cache.specs.Key.{same_key};
-ghost use Rattle.llb_cache.specs.Caches.{place, is_held, leases, taken, number_for, is_locked, is_shut, free_lease};
+ghost use Rattle.llb_cache.specs.Caches.{place, is_held, leases, taken, number_for, is_locked, is_locked_and_held, free_lease};
 ghost use Rattle.llb_cache.specs.Growing.{shown, FitsIn, IsRefusal};
 ghost use Rattle.llb_cache.specs.Marks.{marked};
-ghost use Rattle.llb_cache.specs.Ordered.{AreOrdered};
+ghost use Rattle.llb_cache.specs.RowOrder.{AreOrdered};
 
 use crate::caches::Caches;
 use crate::fault::{LeaseFault, Memory};
@@ -16,7 +16,7 @@ use crate::growing::Ready;
 use crate::key::Mode;
 use crate::key_ref::KeyRef;
 use crate::marks::Marks;
-use crate::need::{Need, Place};
+use crate::need::{Instance, Need};
 use crate::rows::{Rows, row_of};
 use crate::trees::Room;
 use llb_wire::Many;
@@ -47,7 +47,7 @@ fn first_unmarked(rows: &Rows, marks: &[Marks], key: &KeyRef<'_>) -> usize
 }
 
 // How many leases are out.
-pub(crate) fn count(out: &[Option<Many<Place>>]) -> u32
+pub(crate) fn count(out: &[Option<Many<Instance>>]) -> u32
     requires { length out.now ≤ 65536 }
     ensures { result ≡ leases out.now }
 {
@@ -62,7 +62,7 @@ pub(crate) fn count(out: &[Option<Many<Place>>]) -> u32
 
 impl Caches {
     // Whether a key is locked, and a lease has its instance.
-    pub(crate) fn has_shut(&self, key: &KeyRef<'_>) -> bool
+    pub(crate) fn holds_locked(&self, key: &KeyRef<'_>) -> bool
         ensures { result ≡ (is_locked key.now.mode && is_held self.now.out (place key.now 0)) }
     {
         match key.mode() {
@@ -84,12 +84,12 @@ impl Caches {
     }
 
     // The first need whose locked key is held.
-    fn first_shut(&self, needs: &[Need]) -> Option<usize>
-        ensures found { find (is_shut self.now.out) needs.now ≡ option_and_then (slice_get needs.now) result }
+    fn first_held(&self, needs: &[Need]) -> Option<usize>
+        ensures found { find (is_locked_and_held self.now.out) needs.now ≡ option_and_then (slice_get needs.now) result }
         ensures within { IfSome result (λ i. i < length needs.now) }
     {
         for (i, need) in needs.iter().enumerate() {
-            if self.has_shut(&need.key.by_ref()) {
+            if self.holds_locked(&need.key.by_ref()) {
                 return Some(i);
             }
         }
@@ -98,10 +98,10 @@ impl Caches {
 
     // The needs, where no locked key of theirs is held; else the first such key.
     pub(crate) fn admitted(&self, needs: Vec<Need>) -> Result<Vec<Need>, LeaseFault>
-        ensures { MatchResult result (λ ns. (find (is_shut self.now.out) needs.items ≡ None) × (ns.items ≡ needs.items))
-            (IsRefusal (find (is_shut self.now.out) needs.items)) }
+        ensures { MatchResult result (λ ns. (find (is_locked_and_held self.now.out) needs.items ≡ None) × (ns.items ≡ needs.items))
+            (IsRefusal (find (is_locked_and_held self.now.out) needs.items)) }
     {
-        match self.first_shut(&needs) {
+        match self.first_held(&needs) {
             Some(i) => {
                 let mut needs = needs;
                 let need = needs.swap_remove(i);
@@ -122,7 +122,7 @@ impl Caches {
             let number = self.number_for(&need.key.by_ref());
             let room = Room::up_to(alloc, number)?;
             let marks = Marks::up_to(alloc, number)?;
-            let place = Place {
+            let place = Instance {
                 key: need.key,
                 number,
             };
@@ -138,7 +138,7 @@ impl Caches {
 }
 
 // The least number that no lease has.
-pub(crate) fn free_lease(out: &[Option<Many<Place>>]) -> usize
+pub(crate) fn free_lease(out: &[Option<Many<Instance>>]) -> usize
     ensures { result ≡ free_lease out.now }
 {
     for (i, lease) in out.iter().enumerate() {

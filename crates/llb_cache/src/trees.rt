@@ -24,7 +24,8 @@ impl Drop for Trees {
 impl Model for Trees {
     ghost use Rattle.std.specs.Prelude.{List};
     ghost use Rattle.std.specs.Coded.{codes};
-    ghost use Rattle.llb_tree.specs.Tree.{TreeMap, coded_tree};
+    ghost use Rattle.llb_tree.specs.Tree.{TreeMap};
+    ghost use Rattle.llb_tree.specs.Coded.{coded_tree};
 
     ghost Value = { List TreeMap };
 
@@ -60,6 +61,7 @@ impl Room {
 }
 
 impl Trees {
+    // No trees.
     pub(crate) fn new(alloc: Global) -> Trees
         ensures { result ≡ [] }
     {
@@ -68,18 +70,21 @@ impl Trees {
         }
     }
 
+    // How many trees there are.
     pub(crate) fn len(&self) -> usize
         ensures { result ≡ length self.now }
     {
         self.items.len()
     }
 
+    // The tree of a number, if there is one.
     pub(crate) fn get(&self, number: u32) -> Option<&Tree>
         ensures { option_map (λ t. t.now) result ≡ slice_get self.now number }
     {
         self.items.get(number as usize)
     }
 
+    // The tree of a number that is there.
     pub(crate) fn at(&self, number: u32) -> &Tree
         requires { number < length self.now }
         ensures { slice_get self.now number ≡ Some result.now }
@@ -87,6 +92,7 @@ impl Trees {
         &self.items[number as usize]
     }
 
+    // Puts a tree in the place of another.
     pub(crate) fn set(&mut self, number: u32, tree: Tree)
         requires { number < length self.old }
         ensures { self.new ≡ slice_set self.old number tree }
@@ -105,6 +111,7 @@ impl Trees {
         self.items = items;
     }
 
+    // Second owners of all trees.
     pub(crate) fn copy(&self) -> Result<Trees, Memory>
         ensures { IfOk result (λ t. t ≡ self.now) }
     {
@@ -115,6 +122,7 @@ impl Trees {
         Ok(Trees { items })
     }
 
+    // Whether there are the same trees, in the same order.
     pub(crate) fn same(&self, other: &Trees) -> bool
         ensures { IsTrue result ↔ (self.now ≡ other.now) }
     {

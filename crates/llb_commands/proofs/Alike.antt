@@ -7,7 +7,7 @@ use Rattle.llb_ops.specs.declared.fault.OpFault.{OpFault}
 use Rattle.llb_ops.specs.Definition.{definition_of, definition_bytes}
 use Rattle.llb_ops.specs.Laws.{AreReadAgain}
 use Rattle.llb_asm.specs.Lines.{kept}
-use Rattle.llb_asm.specs.Reading.{HasOneAnswer, StandsFor}
+use Rattle.llb_asm.specs.Reading.{HasOneAnswer, SpellsEntries}
 use Rattle.llb_loader.specs.Graph.{Numbered}
 use Rattle.llb_loader.specs.Laws.{HasOneAnswerIn}
 use Rattle.llb_loader.specs.Link.{IsGraphOf}
@@ -66,7 +66,7 @@ runs_alike text bytes entries once graphs again are stands read locals definitio
     loaded = moved definition bytes entries y.graph (ap definition_of same ∙ again bytes are read) read y.loaded
 
 -- what a text is assembled to has the entries that the text is read as, where a definition has them
-read_again : (text bytes : List ℕ) (entries : List (List ℕ)) → HasOneAnswer text → AreReadAgain entries → AreBytes bytes → StandsFor (kept text) entries
+read_again : (text bytes : List ℕ) (entries : List (List ℕ)) → HasOneAnswer text → AreReadAgain entries → AreBytes bytes → SpellsEntries (kept text) entries
     → definition_of bytes ≡ Ok entries → (definition : List ℕ) → IsAssembled text definition → definition_of definition ≡ Ok entries
 read_again text bytes entries once again are stands read definition assembled =
     ap definition_of (assembled.same ∙ ap definition_bytes (once.entries assembled.entries entries assembled.stands stands)) ∙ again bytes are read

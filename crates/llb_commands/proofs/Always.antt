@@ -5,7 +5,7 @@ use Rattle.llb_model.specs.State.{opening}
 use Rattle.llb_model.proofs.Others as others
 use Rattle.llb_model.proofs.Plain.{opening_plain, run_plain}
 use Rattle.llb_board.specs.Headline.{LockedOnce}
-use Rattle.llb_state.specs.Board.{SettledArePlain}
+use Rattle.llb_board.specs.Laws.{SettledArePlain}
 use Rattle.llb_commands.specs.Aim.{AfterAll}
 
 pub locked_once : (graph : Numbered) → AfterAll graph LockedOnce

@@ -13,7 +13,7 @@ use Rattle.llb_loader.specs.Faults.{is_memory}
 use Rattle.llb_loader.specs.Graph.{Numbered, IsGraph}
 use Rattle.llb_loader.specs.Locals.{Local}
 use Rattle.llb_loader.specs.Load.{IsGraphIn, IsRefusalIn}
-use Rattle.llb_state.specs.Board.{Seen, opened}
+use Rattle.llb_board.specs.Seen.{BoardValue, opened}
 use Rattle.llb_commands.specs.declared.fault.ProgramFault.{ProgramFault}
 use Rattle.llb_commands.specs.declared.fault.ProgramFault.TheVariants.{Refused, Loading}
 use Rattle.llb_commands.specs.declared.fault.ProgramFault.TheVariants as fault
@@ -75,7 +75,7 @@ pub reads_graph : (left : Option (List ℕ)) (g : Numbered) (bytes : List ℕ) �
     → IfSome left (λ xs. IsGraphIn xs g)
 reads_graph left g bytes read loaded = some_map (λ xs. bytes ≡ xs) (λ xs. IsGraphIn xs g) left (λ xs same. subst (λ ys. IsGraphIn ys g) same loaded) read
 
-module _ (workers : ℕ) (ls : List Local) (left : Option (List ℕ)) (g : Numbered) (graph : IsGraph g) (b : Seen) (fin : IsFinished workers ls g b)
+module _ (workers : ℕ) (ls : List Local) (left : Option (List ℕ)) (g : Numbered) (graph : IsGraph g) (b : BoardValue) (fin : IsFinished workers ls g b)
     (loads : IfSome left (λ bytes. IsGraphIn bytes g)) where
   yields : (bytes : List ℕ) → IsGraphIn bytes g → (t : TreeMap) → result_in b.state g ≡ Some t → Yields workers ls bytes (tree_text t)
   yields bytes loaded t is = record {
@@ -114,7 +114,8 @@ module _ (workers : ℕ) (ls : List Local) (left : Option (List ℕ)) (g : Numbe
   shown output (Err e) s = inr (s.0, answers_part output s.1.0 s.1.1 s.1.2)
 
 -- what is shown of the result is the answer of the run
-pub answers : (workers : ℕ) (ls : List Local) (left : Option (List ℕ)) (b : Seen) → IsGraph b.build.graph → Finishes workers ls left (Ok b) → (output : Stream)
+pub answers : (workers : ℕ) (ls : List Local) (left : Option (List ℕ)) (b : BoardValue) → IsGraph b.build.graph → Finishes workers ls left (Ok b)
+    → (output : Stream)
     (r : Result Ended ProgramFault) → Shows b output (result_in b.state b.build.graph) r → Answers workers ls left output r
 answers workers ls left b graph (g, loads, fin) output r shows =
     let same : b.build.graph ≡ g = ap (λ (x : Build). x.graph) fin.build in
@@ -214,7 +215,7 @@ module _ (workers : ℕ) (ls : List Local) (left left' out out' last : Option (L
   part_kept keeps bytes (text, yields, (front, rest, split, app)) = (text, yields, (front, rest, split, Appends-kept out out' last front app keeps))
 
   -- the lines of a board are those of the run that it is the end of
-  fails_on : (b : Seen) → IsWritten errors (failed_lines b.build b.state (length b.build.graph.vertices)) → (bytes : List ℕ)
+  fails_on : (b : BoardValue) → IsWritten errors (failed_lines b.build b.state (length b.build.graph.vertices)) → (bytes : List ℕ)
       → YieldsNoneOn workers ls b bytes → FailsAll workers ls errors bytes
   fails_on b lines bytes (y, state, build) =
       let same = ap (λ (x : Build). failed_lines x b.state (length x.graph.vertices)) (sym build)
@@ -271,7 +272,8 @@ tells_unrun workers ls left g e loads unrun h =
     some_map (λ bytes. IsGraphIn bytes g) (IsNotRun workers ls e) left (λ bytes loaded. inr (g, loaded, unrun h)) loads
 
 -- the board of the graph, or why there is none
-pub opens : (workers : ℕ) (ls : List Local) (left : Option (List ℕ)) (g : Numbered) (r : Result Seen ProgramFault) → IfSome left (λ bytes. IsGraphIn bytes g)
+pub opens : (workers : ℕ) (ls : List Local) (left : Option (List ℕ)) (g : Numbered) (r : Result BoardValue ProgramFault)
+    → IfSome left (λ bytes. IsGraphIn bytes g)
     → IfOk r (λ b. b ≡ opened (build_of ls g) workers []) → IfErr r (λ e. IsRefusal e → IsUnopened ls g workers e) → Opens workers ls left r
 opens workers ls left g (Ok b) loads is unopened = (g, loads, is)
 opens workers ls left g (Err e) loads is unopened = tells_unrun workers ls left g e loads unopened

@@ -23,7 +23,7 @@ use Rattle.llb_model.proofs.Outcomes.{each_below, edge_there}
 use Rattle.llb_model.proofs.Consistent.{opening_consistent, run_consistent}
 use Rattle.llb_model.proofs.Stopped.{stopped_there, stopped_cases, done_count}
 use Rattle.llb_model.proofs.Complete.{is_over, over_by, each_true, complete_is_none}
-use Rattle.llb_state.specs.Board.{Seen, opened}
+use Rattle.llb_board.specs.Seen.{BoardValue, opened}
 use Rattle.llb_commands.proofs.Reaching.{none_fails}
 use Rattle.llb_work.specs.Alone.{Goes, EndsInClaimOrder}
 use Rattle.llb_work.specs.Crew.{GoesOn}
@@ -68,27 +68,27 @@ no_rows = refl
 abbrev IsPlain : Build → State → Type 0
 IsPlain b s = HasNoCaches b → (v : ℕ) → v < length b.graph.vertices → StandsPlainly (slice_get s.statuses v) (outcome b v)
 
-module _ (ls : List Local) (g : Numbered) (workers : ℕ) (old new : Seen) (fresh : old ≡ opened (build_of ls g) workers []) where
+module _ (ls : List Local) (g : Numbered) (workers : ℕ) (old new : BoardValue) (fresh : old ≡ opened (build_of ls g) workers []) where
   fresh_build : new.build ≡ old.build → new.build ≡ build_of ls g
-  fresh_build same = same ∙ ap (λ (x : Seen). x.build) fresh
+  fresh_build same = same ∙ ap (λ (x : BoardValue). x.build) fresh
 
   fresh_start : new.opening ≡ old.opening → new.opening ≡ run_opening workers
-  fresh_start same = same ∙ ap (λ (x : Seen). x.opening) fresh ∙ ap (λ store. record { workers = workers; store = store }) no_rows
+  fresh_start same = same ∙ ap (λ (x : BoardValue). x.opening) fresh ∙ ap (λ store. record { workers = workers; store = store }) no_rows
 
   fresh_state : old.state ≡ opening (build_of ls g) (run_opening workers)
-  fresh_state = ap (λ (x : Seen). x.state) fresh ∙ ap (λ store. opening (build_of ls g) (record { workers = workers; store = store })) no_rows
+  fresh_state = ap (λ (x : BoardValue). x.state) fresh ∙ ap (λ store. opening (build_of ls g) (record { workers = workers; store = store })) no_rows
 
 -- where a run of a board that was just opened has ended
-pub finishes : (ls : List Local) (g : Numbered) (old new : Seen) → IsGraph old.build.graph → old ≡ opened (build_of ls g) 1 [] → Goes old new
+pub finishes : (ls : List Local) (g : Numbered) (old new : BoardValue) → IsGraph old.build.graph → old ≡ opened (build_of ls g) 1 [] → Goes old new
     → (old.events ≡ [] → EndsInClaimOrder new.build new.opening new.events new.state) → IsPlain new.build new.state → IsConsistent new.build new.state
     → IsFinished 1 ls g new
 finishes ls g old new over fresh goes ends plain here =
-    let same : old.build.graph ≡ g = ap (λ (x : Seen). x.build.graph) fresh in
+    let same : old.build.graph ≡ g = ap (λ (x : BoardValue). x.build.graph) fresh in
     let graph : IsGraph g = subst IsGraph same over in
     let build = fresh_build ls g 1 old new fresh goes.build in
     let start = fresh_start ls g 1 old new fresh goes.opening in
     let ended = subst (λ x. EndsInClaimOrder x (run_opening 1) new.events new.state) build (subst
-    (λ o. EndsInClaimOrder new.build o new.events new.state) start (ends (ap (λ (x : Seen). x.events) fresh))) in
+    (λ o. EndsInClaimOrder new.build o new.events new.state) start (ends (ap (λ (x : BoardValue). x.events) fresh))) in
     record {
       build = build;
       ended = record {
@@ -103,7 +103,8 @@ finishes ls g old new over fresh goes ends plain here =
     }
 
 -- and where one by several workers has
-pub finishes_by : (ls : List Local) (g : Numbered) (workers : ℕ) (old new : Seen) → (workers ≡ 1 → ⊥) → old ≡ opened (build_of ls g) workers [] → GoesOn old new
+pub finishes_by : (ls : List Local) (g : Numbered) (workers : ℕ) (old new : BoardValue) → (workers ≡ 1 → ⊥) → old ≡ opened (build_of ls g) workers []
+    → GoesOn old new
     → is_complete new.build new.state ≡ true → IsPlain new.build new.state → IsConsistent new.build new.state → IsFinished workers ls g new
 finishes_by ls g workers old new several fresh goes complete plain here =
     let build = fresh_build ls g workers old new fresh goes.build in
@@ -113,7 +114,7 @@ finishes_by ls g workers old new several fresh goes complete plain here =
         events = goes.more;
         replies = goes.replies;
         leads = subst (λ (s : State). run (build_of ls g) s goes.more ≡ Some (new.state, goes.replies)) (fresh_state ls g workers old new fresh)
-            (subst (λ (x : Build). run x old.state goes.more ≡ Some (new.state, goes.replies)) (ap (λ (x : Seen). x.build) fresh) goes.leads);
+            (subst (λ (x : Build). run x old.state goes.more ≡ Some (new.state, goes.replies)) (ap (λ (x : BoardValue). x.build) fresh) goes.leads);
         complete = subst (λ (x : Build). is_complete x new.state ≡ true) build complete;
         plain = subst (λ (x : Build). IsPlain x new.state) build plain;
         alone = λ one. absurd (several one);

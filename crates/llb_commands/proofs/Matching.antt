@@ -10,7 +10,7 @@ use Rattle.clap.specs.Words.{IsAmong, Kinds, Row, Text, all_of, matched_of, raw_
 use Rattle.clap.specs.declared.error.kind.ErrorKind.{ErrorKind}
 use Rattle.clap.specs.declared.error.kind.ErrorKind.TheVariants.{OutOfMemory}
 use Rattle.clap.specs.declared.parser.matches.Found.{Found}
-use Rattle.llb_commands.specs.CommandLine.{given, local_words, Refuses, RefusesWord, StandsFor}
+use Rattle.llb_commands.specs.CommandLine.{named_local_words, local_words, Refuses, RefusesWord, IsFaultOfKind}
 use Rattle.llb_commands.specs.Pages.{HasPage, IsByWordsWithPage, named_first, page_for}
 use Rattle.llb_commands.specs.declared.words.Line.{Line}
 use Rattle.llb_commands.specs.declared.words.Refusal.{Refusal}
@@ -34,7 +34,8 @@ pub words_in_rows : (f : Found) (id : Text) → option_map raw_values (matched_o
 words_in_rows f id = by_entries id f.entries.items
 
 -- the words for local sources are in the rows of the subcommand
-pub own_words : (met : Option (Text × List Row)) (rows : List Row) → Some rows ≡ option_map (λ (p : Text × List Row). p.1) met → local_words rows ≡ given met
+pub own_words : (met : Option (Text × List Row)) (rows : List Row) → Some rows ≡ option_map (λ (p : Text × List Row). p.1) met → local_words rows
+    ≡ named_local_words met
 own_words None rows is = absurd cc
 own_words (Some p) rows is = let same : rows ≡ p.1 = cc in ap local_words same
 
@@ -57,7 +58,7 @@ some_kind (x ∷ xs) k among = λ e. absurd cc
 
 -- where it refuses them, the page is that for its kind
 pub by_clap : (kinds : Kinds) (locals words : List Text) (k : ErrorKind) (fault : WordsFault) (page : Text)
-    → (k ≡ OutOfMemory) ⊎ IsAmong k kinds → StandsFor k fault → page ≡ page_for k (named_first words)
+    → (k ≡ OutOfMemory) ⊎ IsAmong k kinds → IsFaultOfKind k fault → page ≡ page_for k (named_first words)
     → Refuses kinds locals fault × HasPage kinds words fault page
 by_clap kinds locals words k (Words None) page (inl memory) other is = absurd (other memory)
 by_clap kinds locals words k (Words None) page (inr among) other is = (some_kind kinds k among, (k, among, is))

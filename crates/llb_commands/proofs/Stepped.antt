@@ -6,8 +6,8 @@ use Rattle.llb_loader.specs.Load.{IsGraphIn}
 use Rattle.llb_loader.specs.Locals.{Local}
 use Rattle.llb_cache.specs.Caches.{CachesValue}
 use Rattle.llb_model.specs.Program.{Build}
-use Rattle.llb_model.specs.State.{missing_local}
-use Rattle.llb_state.specs.Board.{Seen, opened}
+use Rattle.llb_loader.specs.Missing.{missing_local}
+use Rattle.llb_board.specs.Seen.{BoardValue, opened}
 use Rattle.llb_board.specs.Opening.{may_work, open_unless, open_of}
 use Rattle.llb_board.specs.declared.fault.OpenFault.{OpenFault}
 use Rattle.llb_board.specs.declared.fault.OpenFault.TheVariants as opening
@@ -25,17 +25,17 @@ use Rattle.llb_commands.proofs.Answering.{some_map, ends_told}
 
 -- why no board is opened
 module _ (b : Build) (c : CachesValue) (workers : ℕ) where
-  abbrev tells_opened : Result Seen OpenFault → Bool
+  abbrev tells_opened : Result BoardValue OpenFault → Bool
   tells_opened (Ok x) = true
   tells_opened (Err e) = false
 
-  abbrev name_in : Result Seen OpenFault → Option (List ℕ)
+  abbrev name_in : Result BoardValue OpenFault → Option (List ℕ)
   name_in (Ok x) = None
   name_in (Err (opening.MissingLocal name g ls d)) = Some name
   name_in (Err (opening.Workers g ls d)) = None
   name_in (Err (opening.Memory g ls d)) = None
 
-  abbrev few_in : Result Seen OpenFault → Bool
+  abbrev few_in : Result BoardValue OpenFault → Bool
   few_in (Ok x) = false
   few_in (Err (opening.MissingLocal name g ls d)) = false
   few_in (Err (opening.Workers g ls d)) = true
@@ -71,10 +71,10 @@ unmanned locals g h ls c d workers is =
     few (build_of locals g) c workers (missing_local locals g.vertices) (ap (few_in (build_of locals g) c workers) is)
 
 -- a stepper on a board that was just opened
-pub begins : (locals : List Local) (g : Numbered) (workers : ℕ) (s : Stepping) (b : Seen) → s ≡ record { board = b; past = []; breaks = [] }
+pub begins : (locals : List Local) (g : Numbered) (workers : ℕ) (s : Stepping) (b : BoardValue) → s ≡ record { board = b; past = []; breaks = [] }
     → b ≡ opened (build_of locals g) workers [] → s ≡ begun locals g workers
 begins locals g workers s b made is = made ∙ ap on is where
-  on : Seen → Stepping
+  on : BoardValue → Stepping
   on x = record { board = x; past = []; breaks = [] }
 
 module _ (workers : ℕ) (locals : List Local) (file : Option (List ℕ)) (commands output : Stream) where

@@ -2,13 +2,14 @@
 use Rattle.std.specs.Prelude.{◌≡◌, ◌≤◌, ◌<◌, ℕ, List, length, Some, Ok}
 use Rattle.llb_ops.specs.Definition.{definition_of}
 use Rattle.llb_asm.specs.Lines.{kept}
-use Rattle.llb_asm.specs.Reading.{StandsFor}
+use Rattle.llb_asm.specs.Reading.{SpellsEntries}
 use Rattle.llb_loader.specs.Graph.{Numbered}
 use Rattle.llb_loader.specs.Load.{IsGraphIn}
 use Rattle.llb_model.specs.State.{opening}
 use Rattle.llb_model.specs.Table.{Reply}
 use Rattle.llb_model.specs.Run.{run}
-use Rattle.llb_state.specs.Board.{Seen, Replays, SettledArePlain}
+use Rattle.llb_board.specs.Seen.{BoardValue, Replays}
+use Rattle.llb_board.specs.Laws.{SettledArePlain}
 use Rattle.llb_board.specs.Headline.{LockedOnce}
 use Rattle.llb_stepper.specs.Records.{RecordIsTheRun}
 use Rattle.llb_stepper.specs.Stepping.{Stepping, PastIsTheRecords, IsReplayed}
@@ -16,24 +17,24 @@ use Rattle.llb_session.specs.Told.{GoPrintsTheRun}
 use Rattle.llb_commands.specs.Assembly.{IsAssembled}
 
 -- The definition is accepted: it is loaded as the graph. The machine's board is over the graph, with some local trees, and so is the stepper's.
-pub record IsAccepted (definition : List ℕ) (graph : Numbered) (board : Seen) (stepper : Stepping) : Type 0 where
+pub record IsAccepted (definition : List ℕ) (graph : Numbered) (board : BoardValue) (stepper : Stepping) : Type 0 where
   pub loaded : IsGraphIn definition graph
   pub board_over : board.build.graph ≡ graph
   pub stepper_over : stepper.board.build.graph ≡ graph
 
 -- Each board over the graph whose state some run of the table reaches from the board's opening has the property: on all local trees, with any number of workers
 -- and after every interleaving of events.
-abbrev pub AfterAll : Numbered → (Seen → Type 0) → Type 0
-AfterAll graph Holds = (b : Seen) (replies : List Reply) → b.build.graph ≡ graph
+abbrev pub AfterAll : Numbered → (BoardValue → Type 0) → Type 0
+AfterAll graph Holds = (b : BoardValue) (replies : List Reply) → b.build.graph ≡ graph
     → run b.build (opening b.build b.opening) b.events ≡ Some (b.state, replies) → Holds b
 
 -- If a text is read as the entries of the definition, then the bytes that it is assembled to are loaded as the graph, and as no other.
 abbrev pub LoadsAsOne : List ℕ → List ℕ → List (List ℕ) → Numbered → Type 0
-LoadsAsOne text definition entries graph = StandsFor (kept text) entries → definition_of definition ≡ Ok entries → (assembled : List ℕ) (other : Numbered)
+LoadsAsOne text definition entries graph = SpellsEntries (kept text) entries → definition_of definition ≡ Ok entries → (assembled : List ℕ) (other : Numbered)
     → IsAssembled text assembled → IsGraphIn assembled graph × (IsGraphIn assembled other → other ≡ graph)
 
 -- what is proved about a text, a definition with its entries, the graph that it is loaded as, a board and a stepper
-pub record Aim (text definition : List ℕ) (entries : List (List ℕ)) (graph : Numbered) (board : Seen) (stepper : Stepping) : Type 0 where
+pub record Aim (text definition : List ℕ) (entries : List (List ℕ)) (graph : Numbered) (board : BoardValue) (stepper : Stepping) : Type 0 where
   -- any number of workers, from 1 to 64
   pub some_workers : 0 < length board.state.workers
   pub few_workers : length board.state.workers ≤ 64

@@ -10,7 +10,8 @@ use Rattle.llb_model.specs.declared.fault.VertexFault.{VertexFault}
 use Rattle.llb_model.specs.Caches.{no_instances}
 use Rattle.llb_model.specs.Program.{Build}
 use Rattle.llb_model.specs.Outcome.{Failed, ending_in, outcome, output_in}
-use Rattle.llb_model.specs.State.{State, Opening, opening, ending_at, missing_local}
+use Rattle.llb_model.specs.State.{State, Opening, opening, ending_at}
+use Rattle.llb_loader.specs.Missing.{missing_local}
 use Rattle.llb_model.specs.Table.{Event, Reply}
 use Rattle.llb_model.specs.Run.{run, is_complete, StandsPlainly}
 use Rattle.llb_model.specs.Laws.{HasNoCaches}

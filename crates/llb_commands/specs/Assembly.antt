@@ -4,7 +4,7 @@ use Rattle.llb_ops.specs.declared.fault.OpFault.{OpFault}
 use Rattle.llb_ops.specs.Definition.{definition_of, definition_bytes}
 use Rattle.llb_asm.specs.Lines.{kept}
 use Rattle.llb_asm.specs.Reading as asm
-use Rattle.llb_asm.specs.Reading.{StandsFor}
+use Rattle.llb_asm.specs.Reading.{SpellsEntries}
 use Rattle.llb_asm.specs.declared.fault.AsmFault.{AsmFault}
 use Rattle.llb_asm.specs.declared.fault.AsmFault.TheVariants.{Line, UnknownLabel, Memory, Write}
 use Rattle.llb_asm.specs.Plain.{Formed, AreFormed, plain_text}
@@ -21,7 +21,7 @@ use Rattle.llb_commands.specs.Sources.{limit}
 -- the definition that a text is assembled to: the canonical bytes of the entries that the text is read as
 pub record IsAssembled (text definition : List ℕ) : Type 0 where
   pub entries : List (List ℕ)
-  pub stands : StandsFor (kept text) entries
+  pub stands : SpellsEntries (kept text) entries
   pub same : definition ≡ definition_bytes entries
 
 -- a fault that refuses a line
@@ -79,5 +79,5 @@ Disassembles = Ends IsDisassembled IsUnread
 -- the definition that a text is assembled to, and any bytes whose entries are those that the text is read as, run to the same text of the result
 abbrev pub RunsAlike : List ℕ → List (List ℕ) → List ℕ → Type 0
 RunsAlike text entries bytes =
-    StandsFor (kept text) entries → definition_of bytes ≡ Ok entries → (locals : List Local) (definition one other : List ℕ)
+    SpellsEntries (kept text) entries → definition_of bytes ≡ Ok entries → (locals : List Local) (definition one other : List ℕ)
     → IsAssembled text definition → Yields 1 locals definition one → Yields 1 locals bytes other → one ≡ other

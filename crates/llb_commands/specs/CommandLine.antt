@@ -42,6 +42,7 @@ workers_rule = record (new_rule (codes "workers")) {
   parser = Some (Signed (pos 0) (pos 4294967295));
 }
 
+-- the command line of run
 abbrev pub run_app : App
 run_app = with_rule (with_rule (new_app (codes "run")) workers_rule) local_rule
 
@@ -61,6 +62,7 @@ graph_app = with_subcommand (with_plain (with_subcommand base_app run_app.top) (
 abbrev pub llbm_app : App
 llbm_app = with_plain (with_plain graph_app (codes "asm")) (codes "dis")
 
+-- the name of a command
 abbrev pub name_of : Command → Text
 name_of Run = codes "run"
 name_of Show = codes "show"
@@ -80,6 +82,7 @@ is_equals b = b == 61
 abbrev pub split_word : Text → Option (Text × Text)
 split_word word = if nat_lt (position_or_len is_equals word) (length word) then Some (before_first is_equals word, after_first is_equals word) else None
 
+-- a local tree by its name, and its file
 abbrev pub named_file : Local → Option (Text × Text)
 named_file l = Some (l.name.now, l.file.now)
 
@@ -87,6 +90,7 @@ named_file l = Some (l.name.now, l.file.now)
 abbrev pub AreSplit : List Text → List Local → Type 0
 AreSplit words locals = map split_word words ≡ map named_file locals
 
+-- whether a word has no =
 abbrev pub is_unsplit : Text → Bool
 is_unsplit word = not (is_some (split_word word))
 
@@ -103,9 +107,10 @@ named (Some p) = p.0
 abbrev pub local_words : List Row → List Text
 local_words rows = unwrap_or (all_of (codes "local") rows) []
 
-abbrev pub given : Option (Text × List Row) → List Text
-given None = []
-given (Some p) = local_words p.1
+-- the words that name the rows of a local tree
+abbrev pub named_local_words : Option (Text × List Row) → List Text
+named_local_words None = []
+named_local_words (Some p) = local_words p.1
 
 -- the number that a text is read as, where it is one of 32 bits: digits, after a plus or none
 abbrev pub number_of : Text → Option ℕ
@@ -157,10 +162,10 @@ RefusesWord words (Words (Some w)) = IsUnsplit words w.now
 RefusesWord words Memory = Unit {0}
 
 -- the program's fault for a refusal by `clap`
-abbrev pub StandsFor : ErrorKind → WordsFault → Type 0
-StandsFor kind (Words None) = kind ≢ OutOfMemory
-StandsFor kind (Words (Some w)) = ⊥
-StandsFor kind Memory = kind ≡ OutOfMemory
+abbrev pub IsFaultOfKind : ErrorKind → WordsFault → Type 0
+IsFaultOfKind kind (Words None) = kind ≢ OutOfMemory
+IsFaultOfKind kind (Words (Some w)) = ⊥
+IsFaultOfKind kind Memory = kind ≡ OutOfMemory
 
 -- the text after the word `fault`
 abbrev pub words_text : WordsFault → List ℕ
@@ -168,6 +173,7 @@ words_text (Words None) = codes "183"
 words_text (Words (Some word)) = codes "183 " ++ word.now
 words_text Memory = codes "184"
 
+-- the status of a refusal of the words
 abbrev pub words_status : WordsFault → ℕ
 words_status (Words w) = 2
 words_status Memory = 3

@@ -5,7 +5,7 @@ use Rattle.clap.specs.Words.{Text, fault_of, subcommand_of}
 use Rattle.llb_loader.specs.Locals.{Local}
 use Rattle.llb_commands.specs.Answer.{Runs, Draws}
 use Rattle.llb_commands.specs.Assembly.{Assembles, Disassembles}
-use Rattle.llb_commands.specs.CommandLine.{llbm_app, given, IsByWords, Says, TellsWords}
+use Rattle.llb_commands.specs.CommandLine.{llbm_app, named_local_words, IsByWords, Says, TellsWords}
 use Rattle.llb_commands.specs.Io.{Io, IsKept}
 use Rattle.llb_commands.specs.Pages.{HasPage, TellsWithPage}
 use Rattle.llb_commands.specs.Sources.{Gathers, TellsSource}
@@ -34,6 +34,7 @@ PerformsAs files Step line locals io = StepsAt files line.file line.workers loca
 PerformsAs files Assemble line locals io = Assembles io
 PerformsAs files Disassemble line locals io = Disassembles io
 
+-- a command has done what its line asks for, and its status is this
 abbrev pub Performs : Shelf → Line → List Local → Io → ℕ → Type 0
 Performs files line = PerformsAs files line.command line
 
@@ -41,7 +42,7 @@ Performs files line = PerformsAs files line.command line
 pub record IsRefusedByWords (words : List Text) (io : Io) (status : ℕ) : Type 0 where
   pub fault : WordsFault
   pub page : Text
-  pub refused : IsByWords (fault_of llbm_app words) (given (subcommand_of llbm_app words)) (Err fault)
+  pub refused : IsByWords (fault_of llbm_app words) (named_local_words (subcommand_of llbm_app words)) (Err fault)
   pub asked : HasPage (fault_of llbm_app words) words fault page
   pub none : IsKept io.output
   pub told : TellsWithPage io.errors.before io.errors.after fault page status
@@ -62,7 +63,7 @@ pub record IsDone (files : Shelf) (line : Line) (io : Io) (status : ℕ) : Type 
 -- The words are a line, and what it asks for is done, or cannot be for want of a local source's tree.
 pub record IsAsked (files : Shelf) (words : List Text) (io : Io) (status : ℕ) : Type 0 where
   pub line : Line
-  pub taken : IsByWords (fault_of llbm_app words) (given (subcommand_of llbm_app words)) (Ok line)
+  pub taken : IsByWords (fault_of llbm_app words) (named_local_words (subcommand_of llbm_app words)) (Ok line)
   pub says : Says (subcommand_of llbm_app words) line
   pub does : LacksSource files line io status ⊎ IsDone files line io status
 

@@ -14,10 +14,12 @@ use Rattle.llb_commands.specs.declared.fault.ProgramFault.TheVariants as fault
 use Rattle.llb_commands.specs.declared.sources.SourceFault.{SourceFault}
 use Rattle.llb_commands.specs.declared.sources.SourceFault.TheVariants as source
 
+-- the text of a fault of the output
 abbrev pub output_text : OutputFault → List ℕ
 output_text output.Write = codes "182"
 output_text output.Memory = codes "184"
 
+-- the text of a fault
 abbrev pub program_text : ProgramFault → List ℕ
 program_text (fault.Refused f) = load_text f
 program_text fault.Loading = codes "91"
@@ -35,6 +37,7 @@ program_text fault.TooLong = codes "185"
 program_text fault.Read = codes "181"
 program_text fault.Memory = codes "184"
 
+-- the text of a fault of what is read
 abbrev pub source_text : SourceFault → List ℕ
 source_text source.Read = codes "181"
 source_text source.TooLong = codes "185"
@@ -60,6 +63,7 @@ status_of _ = 3
 abbrev pub TellsLine : Option (List ℕ) → Option (List ℕ) → List ℕ → ℕ → ℕ → Type 0
 TellsLine err err' text of_fault status = ((status ≡ of_fault) × Appends err err' (fault_line text)) ⊎ (status ≡ 3)
 
+-- standard error has the line of a fault
 abbrev pub Tells : Option (List ℕ) → Option (List ℕ) → ProgramFault → ℕ → Type 0
 Tells err err' e = TellsLine err err' (program_text e) (status_of e)
 

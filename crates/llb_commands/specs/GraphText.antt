@@ -6,7 +6,7 @@ use Rattle.llb_wire.specs.Answer as answer
 use Rattle.llb_loader.specs.declared.graph.Edge.{Edge}
 use Rattle.llb_loader.specs.declared.graph.Vertex.{Vertex}
 use Rattle.llb_loader.specs.Graph.{Numbered}
-use Rattle.llb_stepper.specs.Records.{kind_text}
+use Rattle.llb_ops.specs.Kinds.{kind_text}
 use Rattle.llb_commands.specs.Output as output
 use Rattle.llb_commands.specs.declared.fault.OutputFault.{OutputFault}
 use Rattle.llb_commands.specs.declared.fault.OutputFault.TheVariants.{Write, Memory}
@@ -19,14 +19,17 @@ edge_text e = decimal e.vertex ++ (codes "." ++ decimal e.index)
 abbrev pub input_text : Edge → List ℕ
 input_text e = codes " " ++ edge_text e
 
+-- the inputs of a vertex in the graph's text
 abbrev pub inputs_text : List Edge → List ℕ
 inputs_text [] = codes " -"
 inputs_text (e ∷ es) = flat_map input_text (e ∷ es)
 
+-- the line of a vertex
 abbrev pub vertex_line : ℕ → Vertex → List ℕ
 vertex_line number v = decimal number ++ (codes " " ++ (kind_text v.op.kind ++ (codes " steps " ++ (decimal v.steps
     ++ (codes " outputs " ++ (decimal v.outputs ++ (codes " inputs" ++ (inputs_text v.inputs ++ codes "\n"))))))))
 
+-- the line of a vertex with its number
 abbrev pub numbered_line : ℕ × Vertex → List ℕ
 numbered_line v = vertex_line v.0 v.1
 
@@ -34,18 +37,23 @@ numbered_line v = vertex_line v.0 v.1
 abbrev pub vertex_lines : List Vertex → List ℕ
 vertex_lines vertices = flat_map numbered_line (enumerate_from 0 vertices)
 
+-- the line of the result
 abbrev pub result_line : Edge → List ℕ
 result_line e = codes "result " ++ (edge_text e ++ codes "\n")
 
+-- the text of a graph
 abbrev pub graph_text : Numbered → List ℕ
 graph_text g = vertex_lines g.vertices ++ result_line g.result
 
+-- whether a fault of the output is that of memory
 abbrev pub is_memory : OutputFault → Bool
 is_memory Memory = true
 is_memory Write = false
 
+-- a result is what the rule returns, but for want of memory
 abbrev pub Gives : {X Y : Type 0} → (X → Y) → Result X OutputFault → Result Y OutputFault → Type 0
 Gives = answer.Gives is_memory
 
+-- a sink has taken a text, or refused
 abbrev pub Writes : Option (List ℕ) → Option (List ℕ) → Bool → List ℕ → Result (Unit {0}) OutputFault → Type 0
 Writes = output.Writes is_memory

@@ -15,6 +15,7 @@ use Rattle.llb_commands.specs.declared.words.Refusal.{Refusal}
 use Rattle.llb_commands.specs.declared.words.WordsFault.{WordsFault}
 use Rattle.llb_commands.specs.declared.words.WordsFault.TheVariants.{Words}
 
+-- the command of a name
 abbrev pub command_named : Text → Option Command
 command_named name =
     if bytes_eq name (codes "run") then Some Run
@@ -23,10 +24,12 @@ command_named name =
     else if bytes_eq name (codes "asm") then Some Assemble
     else if bytes_eq name (codes "dis") then Some Disassemble else None
 
+-- the command that the first word names
 abbrev pub named_first : List Text → Option Command
 named_first [] = None
 named_first (w ∷ ws) = command_named w
 
+-- the page of a command, or of the program
 abbrev pub help_page : Option Command → Text
 help_page None = PROGRAM_PAGE.now
 help_page (Some Run) = RUN_PAGE.now

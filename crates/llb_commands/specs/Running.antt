@@ -4,7 +4,7 @@ use Rattle.llb_tree.specs.Tree.{TreeMap}
 use Rattle.llb_loader.specs.Graph.{Numbered}
 use Rattle.llb_loader.specs.Load.{IsGraphIn}
 use Rattle.llb_loader.specs.Locals.{Local}
-use Rattle.llb_state.specs.Board.{Seen, opened}
+use Rattle.llb_board.specs.Seen.{BoardValue, opened}
 use Rattle.llb_model.specs.Consistent.{IsConsistent}
 use Rattle.llb_treetext.specs.TreeText.{tree_text}
 use Rattle.llb_commands.specs.Answer.{build_of, IsEnd, YieldsNone, YieldsAll, YieldsPart, IsRefused, IsNotRun, DrawsAll, DrawsPart}
@@ -53,29 +53,29 @@ Loads input (Ok g) = IfSome input (λ bytes. IsGraphIn bytes g)
 Loads input (Err e) = TellsRefusal IsRefused input e
 
 -- the board that is opened on the graph of the input, or why there is none
-abbrev pub Opens : ℕ → List Local → Option (List ℕ) → Result Seen ProgramFault → Type 0
+abbrev pub Opens : ℕ → List Local → Option (List ℕ) → Result BoardValue ProgramFault → Type 0
 Opens workers locals input (Ok b) = (g : Numbered) × IfSome input (λ bytes. IsGraphIn bytes g) × (b ≡ opened (build_of locals g) workers [])
 Opens workers locals input (Err e) = TellsRefusal (IsNotRun workers locals) input e
 
 -- a board on which a run of the graph by a number of workers has ended
-pub record IsFinished (workers : ℕ) (locals : List Local) (g : Numbered) (b : Seen) : Type 0 where
+pub record IsFinished (workers : ℕ) (locals : List Local) (g : Numbered) (b : BoardValue) : Type 0 where
   pub build : b.build ≡ build_of locals g
   pub ended : IsEnd workers (build_of locals g) b.state
   pub here : IsConsistent (build_of locals g) b.state
 
 -- the board on which a run of the graph of the input has ended, or why there is none
-abbrev pub Finishes : ℕ → List Local → Option (List ℕ) → Result Seen ProgramFault → Type 0
+abbrev pub Finishes : ℕ → List Local → Option (List ℕ) → Result BoardValue ProgramFault → Type 0
 Finishes workers locals input (Ok b) = (g : Numbered) × IfSome input (λ bytes. IsGraphIn bytes g) × IsFinished workers locals g b
 Finishes workers locals input (Err e) = TellsRefusal (IsNotRun workers locals) input e
 
 -- a tree is written where there is one; where there is none, the board is handed back
-abbrev pub Shows : Seen → Stream → Option TreeMap → Result Ended ProgramFault → Type 0
+abbrev pub Shows : BoardValue → Stream → Option TreeMap → Result Ended ProgramFault → Type 0
 Shows board output tree (Ok Printed) = (t : TreeMap) × (tree ≡ Some t) × IsWritten output (tree_text t)
 Shows board output tree (Ok (Failed b)) = (b ≡ board) × (tree ≡ None) × IsKept output
 Shows board output tree (Err e) = (¬ IsRefusal e) × ((t : TreeMap) × (tree ≡ Some t) × IsPartWritten output (tree_text t))
 
 -- a board on which a run has ended whose result is no tree
-abbrev pub YieldsNoneOn : ℕ → List Local → Seen → List ℕ → Type 0
+abbrev pub YieldsNoneOn : ℕ → List Local → BoardValue → List ℕ → Type 0
 YieldsNoneOn workers locals b bytes = (y : YieldsNone workers locals bytes) × (y.state ≡ b.state) × (build_of locals y.graph ≡ b.build)
 
 -- the text is written; or the result is no tree, or there is a fault, and at most a prefix of the text is written

@@ -3,7 +3,7 @@ use Rattle.std.specs.Prelude.{◌≡◌, ◌⊎◌, ℕ, List, [], Option, Resul
 use Rattle.llb_loader.specs.Graph.{Numbered}
 use Rattle.llb_loader.specs.Load.{IsGraphIn}
 use Rattle.llb_loader.specs.Locals.{Local}
-use Rattle.llb_state.specs.Board.{opened}
+use Rattle.llb_board.specs.Seen.{opened}
 use Rattle.llb_stepper.specs.Stepping.{Stepping}
 use Rattle.llb_session.specs.Conversation.{Conversation, Converses}
 use Rattle.llb_session.specs.declared.fault.SessionFault.{SessionFault}

@@ -14,7 +14,7 @@ ghost use Rattle.llb_commands.specs.CommandLine.{
   file_rule,
   workers_rule,
   local_words,
-  given,
+  named_local_words,
   AreSplit,
   IsFile,
   IsName,
@@ -24,7 +24,7 @@ ghost use Rattle.llb_commands.specs.CommandLine.{
   SaysCommand,
   IsByWords,
   RefusesWord,
-  StandsFor,
+  IsFaultOfKind,
 };
 ghost use Rattle.llb_commands.specs.Pages.{IsByWordsWithPage};
 
@@ -147,7 +147,7 @@ pub fn llbm_command<'a>(alloc: Global) -> Result<clap::Command<'a>, AllocError>
     graph_commands(alloc)?.subcommand(asm)?.subcommand(dis)
 }
 
-// The command of that name; that there is none cannot be met.
+// The command of that name; that there is none is unreachable.
 fn command_named(name: &str) -> Command
     requires { IsName name.now }
     ensures { name_of result ≡ name.now }
@@ -234,7 +234,7 @@ fn bare_run<'a>(alloc: Global) -> Line<'a>
 
 // The fault for a refusal by `clap`.
 fn refused_by<'a>(error: Error) -> WordsFault<'a>
-    ensures { StandsFor (kind_of error) result }
+    ensures { IsFaultOfKind (kind_of error) result }
 {
     if error.kind() == ErrorKind::OutOfMemory {
         WordsFault::Memory
@@ -249,7 +249,8 @@ pub(crate) fn line_or_page<'a, S: AsStr>(
     words: &'a [S],
 ) -> Result<Line<'a>, Refusal<'a>>
     ensures says { IfOk result (Says (subcommand_of llbm_app (map S.text words.entry.now))) }
-    ensures refuses { IsByWordsWithPage (fault_of llbm_app (map S.text words.entry.now)) (given (subcommand_of llbm_app (map S.text words.entry.now)))
+    ensures refuses { IsByWordsWithPage (fault_of llbm_app (map S.text words.entry.now))
+        (named_local_words (subcommand_of llbm_app (map S.text words.entry.now)))
         (map S.text words.entry.now) result }
 {
     let command = llbm_command(alloc)?;
@@ -271,7 +272,8 @@ pub(crate) fn line_or_page<'a, S: AsStr>(
 /// request for help among them; with 183 and the first word for a local source that has no `=`; with 184.
 pub fn command_of<'a, S: AsStr>(alloc: Global, words: &'a [S]) -> Result<Line<'a>, WordsFault<'a>>
     ensures says { IfOk result (Says (subcommand_of llbm_app (map S.text words.entry.now))) }
-    ensures refuses { IsByWords (fault_of llbm_app (map S.text words.entry.now)) (given (subcommand_of llbm_app (map S.text words.entry.now))) result }
+    ensures refuses { IsByWords (fault_of llbm_app (map S.text words.entry.now))
+        (named_local_words (subcommand_of llbm_app (map S.text words.entry.now))) result }
 {
     match line_or_page(alloc, words) {
         Ok(line) => Ok(line),

@@ -6,7 +6,7 @@ ghost use Rattle.llb_commands.specs.GraphText.{Gives, inputs_text, input_text, v
 
 use crate::fault::OutputFault;
 use llb_loader::{Edge, Graph, Vertex};
-use llb_stepper::kind_name;
+use llb_ops::kind_name;
 use llb_wire::{Sink, write_all};
 use std::alloc::Global;
 

@@ -1,5 +1,5 @@
 //! What the program's commands do, over readers and writers: `run`, `show`, `step`, `asm` and `dis`, the words that ask for them, and the
-//! exit status of each. It is built on `llb_session` and `llb_work`; the process's own words, files and devices are in `llbm`.
+//! exit status of each. It is built on `llb_asm`, `llb_session` and `llb_work`; the process's own words, files and devices are in `llbm`.
 #![tactic(auto)]
 
 mod assembling;

@@ -13,6 +13,7 @@ use Rattle.llb_events.specs.declared.fault.CancelFault.TheVariants as cancel
 use Rattle.llb_events.specs.declared.fault.WalkFault.{WalkFault}
 use Rattle.llb_events.specs.declared.fault.WalkFault.TheVariants as walk
 
+-- the text of the refusal of a claim
 abbrev pub claim_text : ClaimFault → List ℕ
 claim_text claim.NoWorker = codes "131"
 claim_text claim.Busy = codes "132"
@@ -21,21 +22,25 @@ claim_text claim.NotReady = codes "134"
 claim_text (claim.Held key) = codes "135 " ++ key.id
 claim_text claim.Memory = codes "141"
 
+-- the text of the refusal of a step
 abbrev pub step_text : StepFault → List ℕ
 step_text step.NoWorker = codes "131"
 step_text step.NotRunning = codes "136"
 step_text step.NothingLeft = codes "137"
 step_text step.Memory = codes "141"
 
+-- the text of the refusal of a settle
 abbrev pub settle_text : SettleFault → List ℕ
 settle_text settle.NoWorker = codes "131"
 settle_text settle.NotRunning = codes "136"
 settle_text settle.NotFinished = codes "138"
 
+-- the text of the refusal of a cancel
 abbrev pub cancel_text : CancelFault → List ℕ
 cancel_text cancel.NoWorker = codes "131"
 cancel_text cancel.NotRunning = codes "136"
 
+-- the text of the refusal of any event
 abbrev pub walk_text : WalkFault → List ℕ
 walk_text (walk.Claim e) = claim_text e
 walk_text (walk.Step e) = step_text e
@@ -52,6 +57,7 @@ claim_refused claim.NoVertex = walk.Claim claim.NoVertex
 claim_refused claim.NotReady = walk.Claim claim.NotReady
 claim_refused (claim.Held k) = walk.Claim (claim.Held k)
 
+-- the refusal of a step as that of a walk
 abbrev pub step_refused : StepFault → WalkFault
 step_refused step.Memory = walk.Memory
 step_refused step.NoWorker = walk.Step step.NoWorker
@@ -70,6 +76,7 @@ claim_may_want (Err claim.NoVertex) = false
 claim_may_want (Err claim.NotReady) = false
 claim_may_want (Err claim.Memory) = false
 
+-- whether the refusal of a claim is that of memory
 abbrev pub claim_memory : ClaimFault → Bool
 claim_memory claim.Memory = true
 claim_memory claim.NoWorker = false
@@ -78,5 +85,6 @@ claim_memory claim.NoVertex = false
 claim_memory claim.NotReady = false
 claim_memory (claim.Held key) = false
 
+-- a result of a claim is what the rule returns, but for want of memory
 abbrev pub GivesClaim : {X Y : Type 0} → (X → Y) → Result X ClaimFault → Result Y ClaimFault → Type 0
 GivesClaim = answer.Gives claim_memory

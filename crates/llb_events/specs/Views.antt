@@ -14,8 +14,8 @@ use Rattle.llb_events.specs.declared.event.Settled.TheVariants as settled
 use Rattle.llb_events.specs.declared.event.Cancelled.{Cancelled}
 use Rattle.llb_events.specs.declared.event.Status.{Status}
 use Rattle.llb_events.specs.declared.event.Status.TheVariants as seen
-use Rattle.llb_events.specs.declared.event.At.{At}
-use Rattle.llb_events.specs.declared.event.At.TheVariants as at
+use Rattle.llb_events.specs.declared.event.WorkerStatus.{WorkerStatus}
+use Rattle.llb_events.specs.declared.event.WorkerStatus.TheVariants as worker
 
 -- the machine's event
 abbrev pub event_of : Event → table.Event
@@ -71,10 +71,10 @@ abbrev pub look_at : Build → model.State → ℕ → Option Status
 look_at b s v = look_in b s.statuses v
 
 -- how a worker looks that does this
-abbrev pub look_of : Build → model.At → At
-look_of b model.Idle = at.Idle
-look_of b (model.Runs x) = at.Runs x.vertex x.done (model.is_finished (model.program_in b x).steps x)
+abbrev pub look_of : Build → model.WorkerStatus → WorkerStatus
+look_of b model.Idle = worker.Idle
+look_of b (model.Runs x) = worker.Runs x.vertex x.done (model.is_finished (model.program_in b x).steps x)
 
 -- how worker w looks in a state
-abbrev pub worker_look : Build → model.State → ℕ → Option At
+abbrev pub worker_look : Build → model.State → ℕ → Option WorkerStatus
 worker_look b s w = option_map (look_of b) (slice_get s.workers w)

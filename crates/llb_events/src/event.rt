@@ -63,7 +63,7 @@ pub enum Status {
 
 /// How a worker looks.
 #[derive(Clone, Copy, Debug, PartialEq, Eq)]
-pub enum At {
+pub enum WorkerStatus {
     Idle,
     /// The vertex, the micro-steps done, and whether it is finished.
     Runs(u32, u32, bool),

@@ -5,5 +5,5 @@
 mod event;
 mod fault;
 
-pub use event::{At, Cancelled, Event, Settled, Status, Stepped};
+pub use event::{Cancelled, Event, Settled, Status, Stepped, WorkerStatus};
 pub use fault::{CancelFault, ClaimFault, Memory, SettleFault, StepFault, WalkFault};

@@ -2,7 +2,7 @@
 //! `llbm`).
 
 use super::told::is_so;
-use llb_asm::{assemble, disassemble, magnitude, one_answer, reads_back};
+use llb_asm::{assemble, disassemble, one_answer, reads_back};
 use llb_ops::Entries;
 use llb_wire::Over;
 use std::alloc::Global;
@@ -27,12 +27,4 @@ fn entries_are_written_and_read_again(rt: HostRuntime) {
     let entries = assembled(&rt, rt.alloc());
     let text = disassembled(&rt, rt.alloc(), &entries);
     is_so(&rt, text.as_slice() == TEXT.as_bytes());
-}
-
-#[test]
-fn a_number_is_read_by_its_digits(rt: HostRuntime) {
-    is_so(
-        &rt,
-        magnitude(b"007") == Some(7) && magnitude(b"+7").is_none(),
-    );
 }

@@ -139,7 +139,7 @@ fn instances(caches: &Caches, key: &Key) -> u32 {
 
 // None where a lease of the key would be refused.
 fn next_instance(caches: &Caches, key: &Key) -> Option<u32> {
-    if caches.is_shut(&key.by_ref()) {
+    if caches.is_locked_and_held(&key.by_ref()) {
         return None;
     }
     Some(caches.next_instance(key))

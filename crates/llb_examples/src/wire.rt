@@ -2,8 +2,8 @@
 
 use super::told::{holds, is_same, is_so, prints, row_holds};
 use llb_wire::{
-    Bytes, Failed, Field, Many, Over, Same, Sink, Text, Wire, WireFault, is_hex, next_record,
-    push_hex, read_hex, text_of_digest, varint, write_all, write_record, write_varint,
+    Bytes, Failed, Field, Many, Over, Same, Sink, Text, Wire, WireFault, is_hex, magnitude,
+    next_record, push_hex, read_hex, text_of_digest, varint, write_all, write_record, write_varint,
 };
 use std::alloc::Global;
 use std::io;
@@ -283,4 +283,12 @@ fn digest_text(rt: &impl Abort, alloc: Global) -> Text {
 fn a_digest_has_its_algorithm_in_front(rt: HostRuntime) {
     let wanted = "sha256:5d5d5d5d5d5d5d5d5d5d5d5d5d5d5d5d5d5d5d5d5d5d5d5d5d5d5d5d5d5d5d5d";
     is_same(&rt, digest_text(&rt, rt.alloc()).as_str(), wanted);
+}
+
+#[test]
+fn a_number_is_read_by_its_digits(rt: HostRuntime) {
+    is_so(
+        &rt,
+        magnitude(b"007") == Some(7) && magnitude(b"+7").is_none(),
+    );
 }

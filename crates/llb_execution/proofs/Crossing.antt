@@ -11,9 +11,9 @@ use Rattle.std.specs.contracts.vec.Vec as vec
 use Rattle.llb_tree.proofs.node.Node.TheLaws.TheKnot as knot
 use Rattle.llb_tree.specs.contracts.tree.Tree as tree
 use Rattle.llb_mount.specs.contracts.view.View as mounts
-use Rattle.llb_execution.specs.contracts.view.Own as own
-use Rattle.llb_execution.specs.contracts.view.View as view
-use Rattle.llb_execution.specs.contracts.view.View.TheInside as inside
+use Rattle.llb_execution.specs.contracts.workspace.Own as own
+use Rattle.llb_execution.specs.contracts.workspace.Workspace as workspace
+use Rattle.llb_execution.specs.contracts.workspace.Workspace.TheInside as inside
 
 -- all that a tree is made of may go to another thread, and so may the tree
 pub tree_send : IsSend tree.the_row
@@ -45,6 +45,6 @@ own_send =
 inside_send : IsSend inside.the_row
 inside_send = declared_send inside.the_type (own_send, tt)
 
--- all that a view owns may go to another thread, and so may the view
-pub view_crosses : IsSend view.the_row
-view_crosses = view_send inside.the_row _ _ _ _ inside_send
+-- all that a workspace owns may go to another thread, and so may the workspace
+pub workspace_crosses : IsSend workspace.the_row
+workspace_crosses = view_send inside.the_row _ _ _ _ inside_send

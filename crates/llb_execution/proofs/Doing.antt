@@ -8,21 +8,22 @@ use Rattle.std.proofs.lemmas.Option.{slice_get_within}
 use Rattle.llb_model.specs.declared.fault.VertexFault.{VertexFault}
 use Rattle.llb_tree.specs.Tree.{TreeMap}
 use Rattle.llb_model.specs.Caches.{Distinct}
-use Rattle.llb_model.specs.Program.{MicroStep, View, Left, step_on, go_on}
+use Rattle.llb_model.specs.Program.{MicroStep, Workspace, Left, step_on, go_on}
 use Rattle.llb_model.specs.Landing.{AreThere, AreLeft, further, is_over}
 use Rattle.llb_model.proofs.Landing.{further_last, one_more_there, go_clean}
 use Rattle.llb_execution.specs.Parts.{left_with, work_with, mounts_in, shown_in}
 
 -- the micro-steps before number k are done, and none has faulted
-pub record AreDone (steps : List MicroStep) (done : ℕ) (first : View) (trees : List TreeMap) (k : ℕ) (view : View) (now : List TreeMap) : Type 0 where
+pub record AreDone (steps : List MicroStep) (done : ℕ) (first : Workspace) (trees : List TreeMap) (k : ℕ) (workspace : Workspace)
+    (now : List TreeMap) : Type 0 where
   pub low : done ≤ k
   pub there : AreThere steps done (left_with first trees None) (k - done)
-  pub left : left_with view now None ≡ further steps done (left_with first trees None) (k - done)
-  pub mounts : mounts_in view ≡ mounts_in first
-  pub shown : shown_in view ≡ shown_in first
+  pub left : left_with workspace now None ≡ further steps done (left_with first trees None) (k - done)
+  pub mounts : mounts_in workspace ≡ mounts_in first
+  pub shown : shown_in workspace ≡ shown_in first
   pub count : length now ≡ length (shown_in first)
 
-pub none_done : (steps : List MicroStep) (done : ℕ) (first : View) (trees : List TreeMap) → length trees ≡ length (shown_in first)
+pub none_done : (steps : List MicroStep) (done : ℕ) (first : Workspace) (trees : List TreeMap) → length trees ≡ length (shown_in first)
     → AreDone steps done first trees done first trees
 none_done steps done first trees count =
     let none : zero ≡ done - done = omega arith in
@@ -35,15 +36,15 @@ none_done steps done first trees count =
       count = count;
     }
 
--- what a view is to be like for a micro-step
-pub record Fits (view : View) : Type 0 where
-  pub apart : Distinct (shown_in view)
-  pub within : All (λ n. n < mounts_in view) (shown_in view)
+-- what a workspace is to be like for a micro-step
+pub record Fits (workspace : Workspace) : Type 0 where
+  pub apart : Distinct (shown_in workspace)
+  pub within : All (λ n. n < mounts_in workspace) (shown_in workspace)
 
-pub still_fits : (first view : View) → Fits first → mounts_in view ≡ mounts_in first → shown_in view ≡ shown_in first → Fits view
-still_fits first view fits mounts shown = record {
+pub still_fits : (first workspace : Workspace) → Fits first → mounts_in workspace ≡ mounts_in first → shown_in workspace ≡ shown_in first → Fits workspace
+still_fits first workspace fits mounts shown = record {
   apart = subst Distinct (sym shown) fits.apart;
-  within = subst (λ (n : ℕ). All (λ m. m < n) (shown_in view)) (sym mounts)
+  within = subst (λ (n : ℕ). All (λ m. m < n) (shown_in workspace)) (sym mounts)
       (subst (λ (ms : List ℕ). All (λ m. m < mounts_in first) ms) (sym shown) fits.within);
 }
 
@@ -57,8 +58,8 @@ within_not n k low = go (nat_le n k) refl
     go false is = refl
     go true is = let le : n ≤ k = leb-true n k is in absurd (omega (arith, le, low))
 
-module _ (steps : List MicroStep) (done : ℕ) (first : View) (trees : List TreeMap) (k : ℕ) (view : View) (now : List TreeMap)
-    (are : AreDone steps done first trees k view now) where
+module _ (steps : List MicroStep) (done : ℕ) (first : Workspace) (trees : List TreeMap) (k : ℕ) (workspace : Workspace) (now : List TreeMap)
+    (are : AreDone steps done first trees k workspace now) where
   begun : Left
   begun = left_with first trees None
 
@@ -72,8 +73,8 @@ module _ (steps : List MicroStep) (done : ℕ) (first : View) (trees : List Tree
     over = ap (λ (l : Left). is_over steps (done + (k - done)) l) (sym are.left) ∙ le-leb (length steps) (done + (k - done)) (omega (arith, place, past));
   }
 
-  module _ (m : MicroStep) (at : slice_get steps k ≡ Some m) (view' : View) (now' : List TreeMap) (fault : Option VertexFault)
-      (does : left_with view' now' fault ≡ step_on k (Some m) (work_with view now)) where
+  module _ (m : MicroStep) (at : slice_get steps k ≡ Some m) (workspace' : Workspace) (now' : List TreeMap) (fault : Option VertexFault)
+      (does : left_with workspace' now' fault ≡ step_on k (Some m) (work_with workspace now)) where
     next : suc (k - done) ≡ k + 1 - done
     next = omega (arith, are.low)
 
@@ -87,22 +88,22 @@ module _ (steps : List MicroStep) (done : ℕ) (first : View) (trees : List Tree
         (one_more_there steps done (left_with first trees None) (k - done) are.there more)
 
     -- it leaves what the micro-steps leave together, from the first of them up to it
-    pub leaves : left_with view' now' fault ≡ further steps done (left_with first trees None) (k + 1 - done)
+    pub leaves : left_with workspace' now' fault ≡ further steps done (left_with first trees None) (k + 1 - done)
     leaves =
         does
-        ∙ sym (go_clean steps k (left_with view now None) m refl at)
+        ∙ sym (go_clean steps k (left_with workspace now None) m refl at)
         ∙ ap (go_on steps k) are.left
         ∙ ap (λ j. go_on steps j (further steps done (left_with first trees None) (k - done))) (sym place)
         ∙ sym (further_last steps done (left_with first trees None) (k - done))
         ∙ ap (further steps done (left_with first trees None)) next
 
     -- it has no fault, and the mounts are as they were: one more is done
-    pub goes_on : fault ≡ None → mounts_in view' ≡ mounts_in view → shown_in view' ≡ shown_in view → length now' ≡ length now
-        → AreDone steps done first trees (k + 1) view' now'
+    pub goes_on : fault ≡ None → mounts_in workspace' ≡ mounts_in workspace → shown_in workspace' ≡ shown_in workspace → length now' ≡ length now
+        → AreDone steps done first trees (k + 1) workspace' now'
     goes_on clean mounts shown count = record {
       low = let low = are.low in omega (arith, low);
       there = one_more;
-      left = ap (left_with view' now') (sym clean) ∙ leaves;
+      left = ap (left_with workspace' now') (sym clean) ∙ leaves;
       mounts = mounts ∙ are.mounts;
       shown = shown ∙ are.shown;
       count = count ∙ are.count;

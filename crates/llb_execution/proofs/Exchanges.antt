@@ -10,21 +10,9 @@ use Rattle.llb_mount.specs.declared.shown.Shown.{Shown}
 use Rattle.llb_mount.specs.View.{mount_at, with_tree_of, no_mount}
 use Rattle.llb_model.specs.Caches.{Has, Distinct}
 use Rattle.llb_model.specs.Program.{filled, taken, blanked}
-use Rattle.llb_model.proofs.Views.{parts_meet, parts_count}
+use Rattle.llb_model.proofs.Views.{parts_meet, parts_count, swap, again}
 
 -- ---- one mount
-
-swap : (mounts : List Shown) (m n : ℕ) (t u : TreeMap) → m ≢ n → with_tree_of (with_tree_of mounts m t) n u ≡ with_tree_of (with_tree_of mounts n u) m t
-swap [] m n t u apart = refl
-swap (s ∷ mounts) zero zero t u apart = absurd (apart refl)
-swap (s ∷ mounts) zero (suc n) t u apart = refl
-swap (s ∷ mounts) (suc m) zero t u apart = refl
-swap (s ∷ mounts) (suc m) (suc n) t u apart = ap (λ xs. s ∷ xs) (swap mounts m n t u (λ e. apart (ap suc e)))
-
-again : (mounts : List Shown) (m : ℕ) (t u : TreeMap) → with_tree_of (with_tree_of mounts m t) m u ≡ with_tree_of mounts m u
-again [] m t u = refl
-again (s ∷ mounts) zero t u = refl
-again (s ∷ mounts) (suc m) t u = ap (λ xs. s ∷ xs) (again mounts m t u)
 
 as_many : (mounts : List Shown) (m : ℕ) (t : TreeMap) → length (with_tree_of mounts m t) ≡ length mounts
 as_many mounts m t = length-set mounts m (record (mount_at mounts m) { tree = t })

@@ -1,6 +1,5 @@
 pub mod Crossing
 pub mod Lists
-pub mod Vertices
 pub mod Shown
 pub mod Commands
 pub mod Exchanges

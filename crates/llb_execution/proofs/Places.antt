@@ -158,7 +158,7 @@ pub shown_end : (ns : List ℤ) (mounts : List Shown) (n : ℕ) (outs : List Tre
 shown_end ns mounts n outs is =
     is ∙ same_map (λ i. tree_by i ns (trees_of mounts)) (λ i. tree_for i ns mounts) (λ i. shown_by i ns mounts) (range_with_len 0 n)
 
--- ---- the outputs of a view
+-- ---- the outputs of a workspace
 
 acted_by : (i : ℕ) (actions : List Action) (rs : List TreeMap) → tree_by i (numbers_of actions) rs ≡ result_for i (map Act actions) rs
 acted_by i [] rs = refl
@@ -191,7 +191,7 @@ by_kind i None script rs = refl
 abbrev pub program_with : Vertex → ℕ → Program
 program_with v n = record (program_of v) { outputs = n }
 
--- results that are placed by the numbers of their actions are the outputs of a file op's view
+-- results that are placed by the numbers of their actions are the outputs of a file op's workspace
 pub outputs_of_files : (v : Vertex) (inputs results outs : List TreeMap) (n : ℕ)
     → outs ≡ map (λ i. tree_by i (numbers_of (actions_in v.op.kind)) results) (range_with_len 0 n)
     → outs ≡ outputs_of (program_with v n) (Files inputs results)
@@ -200,12 +200,12 @@ outputs_of_files v inputs results outs n is =
     is ∙ same_map (λ i. tree_by i (numbers_of (actions_in v.op.kind)) results) (output_from (program_with v n) (Files inputs results))
     (λ i. by_kind i v.op.kind v.script results) (range_with_len 0 n)
 
--- trees of mounts that are placed by the numbers of an exec's outputs are the outputs of its view
-pub outputs_of_mounts : (v : Vertex) (mounts : List Shown) (caches : List ℕ) (last : ℕ) (given : List ℤ) (outs : List TreeMap) (n : ℕ)
-    → given ≡ (program_of v).given → outs ≡ map (λ i. tree_for i given mounts) (range_with_len 0 n)
+-- trees of mounts that are placed by the numbers of an exec's outputs are the outputs of its workspace
+pub outputs_of_mounts : (v : Vertex) (mounts : List Shown) (caches : List ℕ) (last : ℕ) (numbers : List ℤ) (outs : List TreeMap) (n : ℕ)
+    → numbers ≡ (program_of v).output_numbers → outs ≡ map (λ i. tree_for i numbers mounts) (range_with_len 0 n)
     → outs ≡ outputs_of (program_with v n) (Mounted mounts caches last)
 unfolding outputs_of
-outputs_of_mounts v mounts caches last given outs n same is = is ∙ ap (λ l. map (λ i. tree_for i l mounts) (range_with_len 0 n)) same
+outputs_of_mounts v mounts caches last numbers outs n same is = is ∙ ap (λ l. map (λ i. tree_for i l mounts) (range_with_len 0 n)) same
 
 -- after the first output all are empty
 behind_first : (f : ℕ → TreeMap) → ((i : ℕ) → f (suc i) ≡ empty_tree) → (n a : ℕ) → map f (range_with_len (a + 1) n) ≡ replicate n empty_tree
@@ -217,13 +217,13 @@ pub first_alone : (f : ℕ → TreeMap) (t : TreeMap) → f 0 ≡ t → ((i : �
 first_alone f t first rest zero outs is = ap (first_placed t) is
 first_alone f t first rest (suc n) outs is = ap (first_placed t) is ∙ (λ j. sym first j ∷ sym (behind_first f rest n 0) j)
 
--- the tree that is read, in the place of the first output, makes the outputs of a source's view
+-- the tree that is read, in the place of the first output, makes the outputs of a source's workspace
 pub outputs_of_local : (v : Vertex) (t : TreeMap) (n : ℕ) (outs : List TreeMap) → outs ≡ replicate n empty_tree
     → first_placed t outs ≡ outputs_of (program_with v n) (LocalTree t)
 unfolding outputs_of
 outputs_of_local v t n outs is = first_alone (output_from (program_with v n) (LocalTree t)) t refl (λ i. refl) n outs is
 
--- what is laid, in the place of the first output, makes the outputs of a merge's view
+-- what is laid, in the place of the first output, makes the outputs of a merge's workspace
 pub outputs_of_layers : (v : Vertex) (inputs : List TreeMap) (t : TreeMap) (n : ℕ) (outs : List TreeMap) → outs ≡ replicate n empty_tree
     → first_placed t outs ≡ outputs_of (program_with v n) (Layers inputs t)
 unfolding outputs_of

@@ -13,7 +13,8 @@ use Rattle.llb_applet.specs.declared.join.Joined.{Joined}
 use Rattle.llb_applet.specs.Commands.{run, status_of, left as left_of}
 use Rattle.llb_model.specs.declared.fault.VertexFault.{VertexFault}
 use Rattle.llb_model.specs.declared.fault.VertexFault.TheVariants as fault
-use Rattle.llb_model.specs.Program.{MicroStep, ReadLocal, Act, LayInput, Run, View, LocalTree, Files, Layers, Mounted, Work, Left, micro_step, tried, step_on}
+use Rattle.llb_model.specs.Program.{MicroStep, ReadLocal, Act, LayInput, Run, Workspace, LocalTree, Files, Layers, Mounted, Work, Left, micro_step, tried}
+use Rattle.llb_model.specs.Program.{step_on}
 use Rattle.llb_model.specs.Program.{trees_in, base_in, with_tree, act_among, with_result, fault_number, lay_on, last_of, is_run, no_fault, after_run}
 use Rattle.llb_model.specs.Program.{exit_of, ran, run_on, filled, taken, blanked}
 use Rattle.llb_model.proofs.Parts.{step_keeps}
@@ -23,52 +24,55 @@ use Rattle.llb_execution.proofs.Exchanges.{as_many_filled}
 
 -- ---- actions
 
--- what an action returns is put into the view: its tree as one result more, and then there is no fault
-pub put_tree : (k : ℕ) (view : View) (acted rule : Result TreeMap ActFault) (t : TreeMap) (trees : List TreeMap) → acted ≡ Ok t
+-- what an action returns is put into the workspace: its tree as one result more, and then there is no fault
+pub put_tree : (k : ℕ) (workspace : Workspace) (acted rule : Result TreeMap ActFault) (t : TreeMap) (trees : List TreeMap) → acted ≡ Ok t
     → Gives (λ t. t) acted rule
-    → left_with (with_tree view t) trees None ≡ tried (work_with view trees) (with_result k view rule)
-put_tree k view acted rule t trees is gives =
-    ap (λ r. tried (work_with view trees) (with_result k view r)) (sym (subst (λ a. Gives (λ t. t) a rule) is gives))
+    → left_with (with_tree workspace t) trees None ≡ tried (work_with workspace trees) (with_result k workspace rule)
+put_tree k workspace acted rule t trees is gives =
+    ap (λ r. tried (work_with workspace trees) (with_result k workspace r)) (sym (subst (λ a. Gives (λ t. t) a rule) is gives))
 
--- or its fault, which is not that of memory, and then the view is as it was
-pub put_fault : (k : ℕ) (view : View) (acted rule : Result TreeMap ActFault) (e : ActFault) (trees : List TreeMap) → acted ≡ Err e → is_memory e ≡ false
+-- or its fault, which is not that of memory, and then the workspace is as it was
+pub put_fault : (k : ℕ) (workspace : Workspace) (acted rule : Result TreeMap ActFault) (e : ActFault) (trees : List TreeMap) → acted ≡ Err e → is_memory e
+    ≡ false
     → Gives (λ t. t) acted rule
-    → left_with view trees (Some (fault.Action k (fault_number e))) ≡ tried (work_with view trees) (with_result k view rule)
-put_fault k view acted rule e trees is other gives =
-    ap (λ r. tried (work_with view trees) (with_result k view r)) (sym (subst (λ a. Gives (λ t. t) a rule) is gives other))
+    → left_with workspace trees (Some (fault.Action k (fault_number e))) ≡ tried (work_with workspace trees) (with_result k workspace rule)
+put_fault k workspace acted rule e trees is other gives =
+    ap (λ r. tried (work_with workspace trees) (with_result k workspace r)) (sym (subst (λ a. Gives (λ t. t) a rule) is gives other))
 
--- an action's result is that of its rule on the trees of a view, where it began with two of these
-pub acts_among : (a : Action) (view : View) (acted result : Result TreeMap ActFault) (base second : TreeMap) (n m : ℤ)
-    → n ≡ a.input → m ≡ a.secondary_input → base ≡ base_in n (trees_in view) → second ≡ base_in m (trees_in view)
-    → acted ≡ result → Gives (λ t. t) result (act a.kind base second) → Gives (λ t. t) acted (act_among a (trees_in view))
-acts_among a view acted result base second n m is_input is_secondary is_base is_second is gives =
-    subst (λ r. Gives (λ t. t) r (act_among a (trees_in view))) (sym is)
+-- an action's result is that of its rule on the trees of a workspace, where it began with two of these
+pub acts_among : (a : Action) (workspace : Workspace) (acted result : Result TreeMap ActFault) (base second : TreeMap) (n m : ℤ)
+    → n ≡ a.input → m ≡ a.secondary_input → base ≡ base_in n (trees_in workspace) → second ≡ base_in m (trees_in workspace)
+    → acted ≡ result → Gives (λ t. t) result (act a.kind base second) → Gives (λ t. t) acted (act_among a (trees_in workspace))
+acts_among a workspace acted result base second n m is_input is_secondary is_base is_second is gives =
+    subst (λ r. Gives (λ t. t) r (act_among a (trees_in workspace))) (sym is)
     (subst (λ rule. Gives (λ t. t) result rule)
-    (λ i. act a.kind ((is_base ∙ ap (λ z. base_in z (trees_in view)) is_input) i) ((is_second ∙ ap (λ z. base_in z (trees_in view)) is_secondary) i)) gives)
+    (λ i. act a.kind ((is_base ∙ ap (λ z. base_in z (trees_in workspace)) is_input) i)
+    ((is_second ∙ ap (λ z. base_in z (trees_in workspace)) is_secondary) i)) gives)
 
 -- an action leaves what its result leaves
-pub has_acted : (k : ℕ) (view : View) (a : Action) (trees : List TreeMap)
-    → tried (work_with view trees) (with_result k view (act_among a (trees_in view))) ≡ step_on k (Some (Act a)) (work_with view trees)
+pub has_acted : (k : ℕ) (workspace : Workspace) (a : Action) (trees : List TreeMap)
+    → tried (work_with workspace trees) (with_result k workspace (act_among a (trees_in workspace))) ≡ step_on k (Some (Act a)) (work_with workspace trees)
 unfolding micro_step
-has_acted k view a trees = refl
+has_acted k workspace a trees = refl
 
 -- ---- the other micro-steps
 
--- the read of a source leaves the work as it is, since its tree is in the view from the start
-pub read : (k : ℕ) (view : View) (trees : List TreeMap) → left_with view trees None ≡ step_on k (Some ReadLocal) (work_with view trees)
+-- the read of a source leaves the work as it is, since its tree is in the workspace from the start
+pub read : (k : ℕ) (workspace : Workspace) (trees : List TreeMap) → left_with workspace trees None ≡ step_on k (Some ReadLocal) (work_with workspace trees)
 unfolding micro_step
-read k view trees = refl
+read k workspace trees = refl
 
--- the laying of an input leaves the view with it over those before it, and never a fault
-pub laid : (k : ℕ) (i : ℤ) (view : View) (trees : List TreeMap) → left_with (lay_on i view) trees None ≡ step_on k (Some (LayInput i)) (work_with view trees)
+-- the laying of an input leaves the workspace with it over those before it, and never a fault
+pub laid : (k : ℕ) (i : ℤ) (workspace : Workspace) (trees : List TreeMap) → left_with (lay_on i workspace) trees None
+    ≡ step_on k (Some (LayInput i)) (work_with workspace trees)
 unfolding micro_step
-laid k i view trees = refl
+laid k i workspace trees = refl
 
--- a command leaves what its run makes of the view and the trees of the caches
-pub has_run : (k : ℕ) (s : Setting) (m : Joined) (ends : Bool) (view : View) (trees : List TreeMap)
-    → run_on k s m ends view trees ≡ step_on k (Some (Run s m ends)) (work_with view trees)
+-- a command leaves what its run makes of the workspace and the trees of the caches
+pub has_run : (k : ℕ) (s : Setting) (m : Joined) (ends : Bool) (workspace : Workspace) (trees : List TreeMap)
+    → run_on k s m ends workspace trees ≡ step_on k (Some (Run s m ends)) (work_with workspace trees)
 unfolding micro_step
-has_run k s m ends view trees = refl
+has_run k s m ends workspace trees = refl
 
 -- a command that ends with 0 leaves the work that it has made, and else the work stays, but for the last status
 pub command_left : (o : Option (List Shown)) (before started view after : List Shown) (status : ℕ) (ms : List ℕ) (ts trees : List TreeMap)
@@ -84,7 +88,7 @@ command_left (Some mounts) before started view after status ms ts trees is leave
     (λ i. work_with (Mounted (parts.0 i) ms (is i)) (parts.1 i))
     ∙ ap (λ xs. work_with (Mounted (blanked xs ms ts) ms 0) (taken xs ms ts)) leaves
 
--- a command that is skipped leaves the view as it is
+-- a command that is skipped leaves the workspace as it is
 pub skipped : (k : ℕ) (s : Setting) (m : Joined) (ends : Bool) (mounts : List Shown) (caches : List ℕ) (last : ℕ) (trees : List TreeMap)
     → is_run m.join last ≡ false → left_with (Mounted mounts caches last) trees None ≡ run_on k s m ends (Mounted mounts caches last) trees
 skipped k s m ends mounts caches last trees off =
@@ -111,12 +115,12 @@ run_left k s m ends mounts after caches last status trees now f on work fault =
     status_is (Some view) is = ap (λ (w : Work). last_of w.own) is
 
 -- where a micro-step is skipped nothing changes
-pub skip_leaves : (k : ℕ) (m : MicroStep) (view : View) (trees : List TreeMap) → is_skipped m view ≡ true
-    → left_with view trees None ≡ step_on k (Some m) (work_with view trees)
+pub skip_leaves : (k : ℕ) (m : MicroStep) (workspace : Workspace) (trees : List TreeMap) → is_skipped m workspace ≡ true
+    → left_with workspace trees None ≡ step_on k (Some m) (work_with workspace trees)
 unfolding micro_step
-skip_leaves k ReadLocal view trees skips = refl
-skip_leaves k (Act a) view trees skips = absurd (false≢true skips)
-skip_leaves k (LayInput i) view trees skips = absurd (false≢true skips)
+skip_leaves k ReadLocal workspace trees skips = refl
+skip_leaves k (Act a) workspace trees skips = absurd (false≢true skips)
+skip_leaves k (LayInput i) workspace trees skips = absurd (false≢true skips)
 skip_leaves k (Run s m ends) (LocalTree t) trees skips = refl
 skip_leaves k (Run s m ends) (Files inputs results) trees skips = refl
 skip_leaves k (Run s m ends) (Layers inputs t) trees skips = refl
@@ -129,22 +133,22 @@ skip_leaves k (Run s m ends) (Mounted mounts caches last) trees skips = skipped 
 -- ---- what every micro-step keeps
 
 -- as many mounts, of which the same show caches
-pub record IsSeenSo (before after : View) : Type 0 where
+pub record IsSeenSo (before after : Workspace) : Type 0 where
   pub mounts : mounts_in after ≡ mounts_in before
   pub shown : shown_in after ≡ shown_in before
 
-seen_with_tree : (view : View) (t : TreeMap) → IsSeenSo view (with_tree view t)
+seen_with_tree : (workspace : Workspace) (t : TreeMap) → IsSeenSo workspace (with_tree workspace t)
 seen_with_tree (LocalTree own) t = record { mounts = refl; shown = refl }
 seen_with_tree (Files inputs results) t = record { mounts = refl; shown = refl }
 seen_with_tree (Layers inputs laid) t = record { mounts = refl; shown = refl }
 seen_with_tree (Mounted mounts caches last) t = record { mounts = refl; shown = refl }
 
-seen_acted : (k : ℕ) (view : View) (trees : List TreeMap) (r : Result TreeMap ActFault)
-    → IsSeenSo view (tried (work_with view trees) (with_result k view r)).work.own
-seen_acted k view trees (Ok t) = seen_with_tree view t
-seen_acted k view trees (Err e) = record { mounts = refl; shown = refl }
+seen_acted : (k : ℕ) (workspace : Workspace) (trees : List TreeMap) (r : Result TreeMap ActFault)
+    → IsSeenSo workspace (tried (work_with workspace trees) (with_result k workspace r)).work.own
+seen_acted k workspace trees (Ok t) = seen_with_tree workspace t
+seen_acted k workspace trees (Err e) = record { mounts = refl; shown = refl }
 
-seen_laid : (i : ℤ) (view : View) → IsSeenSo view (lay_on i view)
+seen_laid : (i : ℤ) (workspace : Workspace) → IsSeenSo workspace (lay_on i workspace)
 seen_laid i (LocalTree own) = record { mounts = refl; shown = refl }
 seen_laid i (Files inputs results) = record { mounts = refl; shown = refl }
 seen_laid i (Layers inputs laid) = record { mounts = refl; shown = refl }
@@ -159,7 +163,8 @@ seen_parted mounts caches last trees (Some after) as_many = record {
   shown = refl;
 }
 
-seen_run : (k : ℕ) (s : Setting) (m : Joined) (ends : Bool) (view : View) (trees : List TreeMap) → IsSeenSo view (run_on k s m ends view trees).work.own
+seen_run : (k : ℕ) (s : Setting) (m : Joined) (ends : Bool) (workspace : Workspace) (trees : List TreeMap)
+    → IsSeenSo workspace (run_on k s m ends workspace trees).work.own
 seen_run k s m ends (LocalTree own) trees = record { mounts = refl; shown = refl }
 seen_run k s m ends (Files inputs results) trees = record { mounts = refl; shown = refl }
 seen_run k s m ends (Layers inputs laid) trees = record { mounts = refl; shown = refl }
@@ -174,25 +179,26 @@ seen_run k s m ends (Mounted mounts caches last) trees = by_run (is_run m.join l
     by_run false = record { mounts = refl; shown = refl }
 
 -- every micro-step leaves as many mounts, of which the same show caches
-pub seen_so : (k : ℕ) (m : MicroStep) (view : View) (trees : List TreeMap) → IsSeenSo view (step_on k (Some m) (work_with view trees)).work.own
+pub seen_so : (k : ℕ) (m : MicroStep) (workspace : Workspace) (trees : List TreeMap)
+    → IsSeenSo workspace (step_on k (Some m) (work_with workspace trees)).work.own
 unfolding micro_step
-seen_so k ReadLocal view trees = record { mounts = refl; shown = refl }
-seen_so k (Act a) view trees = seen_acted k view trees (act_among a (trees_in view))
-seen_so k (LayInput i) view trees = seen_laid i view
-seen_so k (Run s m ends) view trees = seen_run k s m ends view trees
+seen_so k ReadLocal workspace trees = record { mounts = refl; shown = refl }
+seen_so k (Act a) workspace trees = seen_acted k workspace trees (act_among a (trees_in workspace))
+seen_so k (LayInput i) workspace trees = seen_laid i workspace
+seen_so k (Run s m ends) workspace trees = seen_run k s m ends workspace trees
 
 -- what a micro-step leaves, and that it has as many mounts, of which the same show caches, and as many trees
-pub record HasStepped (k : ℕ) (m : MicroStep) (view after : View) (trees now : List TreeMap) (f : Option VertexFault) : Type 0 where
-  pub left : left_with after now f ≡ step_on k (Some m) (work_with view trees)
-  pub mounts : mounts_in after ≡ mounts_in view
-  pub shown : shown_in after ≡ shown_in view
+pub record HasStepped (k : ℕ) (m : MicroStep) (workspace after : Workspace) (trees now : List TreeMap) (f : Option VertexFault) : Type 0 where
+  pub left : left_with after now f ≡ step_on k (Some m) (work_with workspace trees)
+  pub mounts : mounts_in after ≡ mounts_in workspace
+  pub shown : shown_in after ≡ shown_in workspace
   pub count : length now ≡ length trees
 
-pub has_stepped : (k : ℕ) (m : MicroStep) (view after : View) (trees now : List TreeMap) (f : Option VertexFault)
-    → left_with after now f ≡ step_on k (Some m) (work_with view trees) → HasStepped k m view after trees now f
-has_stepped k m view after trees now f left = record {
+pub has_stepped : (k : ℕ) (m : MicroStep) (workspace after : Workspace) (trees now : List TreeMap) (f : Option VertexFault)
+    → left_with after now f ≡ step_on k (Some m) (work_with workspace trees) → HasStepped k m workspace after trees now f
+has_stepped k m workspace after trees now f left = record {
   left = left;
-  mounts = ap (λ (l : Left). mounts_in l.work.own) left ∙ (seen_so k m view trees).mounts;
-  shown = ap (λ (l : Left). shown_in l.work.own) left ∙ (seen_so k m view trees).shown;
-  count = ap (λ (l : Left). length l.work.trees) left ∙ step_keeps k (Some m) (work_with view trees);
+  mounts = ap (λ (l : Left). mounts_in l.work.own) left ∙ (seen_so k m workspace trees).mounts;
+  shown = ap (λ (l : Left). shown_in l.work.own) left ∙ (seen_so k m workspace trees).shown;
+  count = ap (λ (l : Left). length l.work.trees) left ∙ step_keeps k (Some m) (work_with workspace trees);
 }

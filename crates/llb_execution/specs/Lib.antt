@@ -1,4 +1,4 @@
--- Read first Parts (what a program, a view and the trees of instances represent in the machine's words), then Marks (a micro-step taken back), Outputs,
+-- Read first Parts (what a program, a workspace and the trees of instances represent in the machine's words), then Marks (a micro-step taken back), Outputs,
 -- and Jobs (what a worker takes away from a board, and what it brings back).
 pub mod Parts
 pub mod Outputs

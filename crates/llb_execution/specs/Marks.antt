@@ -1,8 +1,8 @@
--- What a micro-step can change of a view, and that put back.
+-- What a micro-step can change of a workspace, and that put back.
 use Rattle.std.specs.Prelude.{◌≡◌, ℕ, List, length, take, Option}
 use Rattle.llb_mount.specs.declared.shown.Shown.{Shown}
 use Rattle.llb_tree.specs.Tree.{TreeMap}
-use Rattle.llb_model.specs.Program.{MicroStep, View, LocalTree, Files, Layers, Mounted, step_on}
+use Rattle.llb_model.specs.Program.{MicroStep, Workspace, LocalTree, Files, Layers, Mounted, step_on}
 use Rattle.llb_execution.specs.Parts.{work_with}
 use Rattle.llb_execution.specs.declared.mark.Was.{Was}
 use Rattle.llb_execution.specs.declared.mark.Was.TheVariants as was
@@ -21,15 +21,17 @@ mark_in (was.Results count) = Results count
 mark_in (was.Laid t) = Laid t
 mark_in (was.Mounts mounts last) = Mounts mounts last
 
-abbrev pub mark_of : View → Mark
+-- what a micro-step can change of a workspace
+abbrev pub mark_of : Workspace → Mark
 mark_of (LocalTree t) = Nothing
 mark_of (Files inputs results) = Results (length results)
 mark_of (Layers inputs t) = Laid t
 mark_of (Mounted mounts caches last) = Mounts mounts last
 
--- a view with the first `count` results, or with what was laid, or with these mounts and this last status; a mark of another kind of view changes nothing
-abbrev pub put_back : Mark → View → View
-put_back Nothing view = view
+-- a workspace with the first `count` results, or with what was laid, or with these mounts and this last status; a mark of another kind of workspace changes
+-- nothing
+abbrev pub put_back : Mark → Workspace → Workspace
+put_back Nothing workspace = workspace
 put_back (Results count) (Files inputs results) = Files inputs (take count results)
 put_back (Results count) (LocalTree t) = LocalTree t
 put_back (Results count) (Layers inputs t) = Layers inputs t
@@ -43,6 +45,7 @@ put_back (Mounts were status) (LocalTree t) = LocalTree t
 put_back (Mounts were status) (Files inputs results) = Files inputs results
 put_back (Mounts were status) (Layers inputs t) = Layers inputs t
 
--- whatever micro-step is done on a view, with whatever trees of caches, the mark puts back the view before it
-abbrev pub PutsBack : View → Mark → Type 0
-PutsBack view mark = (k : ℕ) (step : Option MicroStep) (trees : List TreeMap) → put_back mark (step_on k step (work_with view trees)).work.own ≡ view
+-- whatever micro-step is done on a workspace, with whatever trees of caches, the mark puts back the workspace before it
+abbrev pub PutsBack : Workspace → Mark → Type 0
+PutsBack workspace mark = (k : ℕ) (step : Option MicroStep) (trees : List TreeMap) → put_back mark (step_on k step (work_with workspace trees)).work.own
+    ≡ workspace

@@ -10,8 +10,8 @@ use Rattle.llb_execution.specs.declared.micro_step.MicroStep.{MicroStep}
 use Rattle.llb_execution.specs.declared.micro_step.MicroStep.TheVariants as step
 use Rattle.llb_execution.specs.declared.program.Steps.{Steps}
 use Rattle.llb_execution.specs.declared.program.Steps.TheVariants as steps
-use Rattle.llb_execution.specs.declared.view.Own.{Own}
-use Rattle.llb_execution.specs.declared.view.Own.TheVariants as own
+use Rattle.llb_execution.specs.declared.workspace.Own.{Own}
+use Rattle.llb_execution.specs.declared.workspace.Own.TheVariants as own
 
 -- ---- programs
 
@@ -35,24 +35,24 @@ steps_in (steps.Actions actions) = map model.Act actions
 steps_in (steps.Inputs numbers) = map model.LayInput numbers.items
 steps_in (steps.Commands setting script) = model.runs_of setting script
 
--- ---- views
+-- ---- workspaces
 
--- what a view owns
-abbrev pub own_of : Own → model.View
+-- what a workspace owns
+abbrev pub own_of : Own → model.Workspace
 own_of (own.Local t) = model.LocalTree t
 own_of (own.Files inputs results) = model.Files inputs.items results.items
 own_of (own.Layers inputs t) = model.Layers inputs.items t
 own_of (own.Mounted mounts numbers last) = model.Mounted mounts numbers.items last
 
--- how many mounts the commands of a view see
-abbrev pub mounts_in : model.View → ℕ
+-- how many mounts the commands of a workspace see
+abbrev pub mounts_in : model.Workspace → ℕ
 mounts_in (model.Mounted mounts caches last) = length mounts
 mounts_in (model.LocalTree t) = 0
 mounts_in (model.Files inputs results) = 0
 mounts_in (model.Layers inputs t) = 0
 
--- the numbers of the mounts of a view that show caches
-abbrev pub shown_in : model.View → List ℕ
+-- the numbers of the mounts of a workspace that show caches
+abbrev pub shown_in : model.Workspace → List ℕ
 shown_in (model.Mounted mounts caches last) = caches
 shown_in (model.LocalTree t) = []
 shown_in (model.Files inputs results) = []
@@ -60,17 +60,17 @@ shown_in (model.Layers inputs t) = []
 
 -- ---- micro-steps
 
--- a view, with the trees of the caches that it shows
-abbrev pub work_with : model.View → List TreeMap → model.Work
-work_with view trees = record { own = view; trees = trees }
+-- a workspace, with the trees of the caches that it shows
+abbrev pub work_with : model.Workspace → List TreeMap → model.Work
+work_with workspace trees = record { own = workspace; trees = trees }
 
--- what a micro-step leaves: a view, these trees, and its fault
-abbrev pub left_with : model.View → List TreeMap → Option VertexFault → model.Left
-left_with view trees fault = record { work = work_with view trees; fault = fault }
+-- what a micro-step leaves: a workspace, these trees, and its fault
+abbrev pub left_with : model.Workspace → List TreeMap → Option VertexFault → model.Left
+left_with workspace trees fault = record { work = work_with workspace trees; fault = fault }
 
--- a command that is skipped after a view's last status
-abbrev pub is_skipped : model.MicroStep → model.View → Bool
-is_skipped (model.Run setting command ends) view = not (model.is_run command.join (model.last_of view))
-is_skipped model.ReadLocal view = false
-is_skipped (model.Act action) view = false
-is_skipped (model.LayInput number) view = false
+-- a command that is skipped after a workspace's last status
+abbrev pub is_skipped : model.MicroStep → model.Workspace → Bool
+is_skipped (model.Run setting command ends) workspace = not (model.is_run command.join (model.last_of workspace))
+is_skipped model.ReadLocal workspace = false
+is_skipped (model.Act action) workspace = false
+is_skipped (model.LayInput number) workspace = false

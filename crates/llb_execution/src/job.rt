@@ -6,7 +6,7 @@ ghost use Rattle.llb_execution.specs.Jobs.{IsWorkable};
 ghost use Rattle.llb_execution.specs.Parts.{work_with};
 
 use crate::program::Program;
-use crate::view::View;
+use crate::workspace::Workspace;
 use llb_tree::Tree;
 use llb_wire::Many;
 use std::marker::Model;
@@ -17,7 +17,7 @@ pub struct Job {
     pub(crate) vertex: u32,
     pub(crate) program: Program,
     pub(crate) done: u32,
-    pub(crate) view: View,
+    pub(crate) workspace: Workspace,
     pub(crate) trees: Many<Tree>,
     instances: Many<u32>,
 }
@@ -30,7 +30,7 @@ impl Drop for Job {
             vertex: _,
             program: _,
             done: _,
-            view: _,
+            workspace: _,
             trees: _,
             instances: _,
         } = self;
@@ -39,7 +39,7 @@ impl Drop for Job {
 
 impl Model for Job {
     ghost use Rattle.std.specs.Coded.{codes};
-    ghost use Rattle.llb_tree.specs.Tree.{coded_tree};
+    ghost use Rattle.llb_tree.specs.Coded.{coded_tree};
     ghost use Rattle.llb_execution.specs.Parts.{work_with};
     ghost use Rattle.llb_model.specs.Table as table;
     ghost use Rattle.llb_execution.specs.Jobs.{IsWorkable};
@@ -53,11 +53,11 @@ impl Model for Job {
       vertex = j.vertex;
       program = j.program;
       done = j.done;
-      work = work_with j.view j.trees;
+      work = work_with j.workspace j.trees;
       instances = j.instances;
     } };
 
-    ghost invariant = { λ j. IsWorkable j.program (work_with j.view j.trees) };
+    ghost invariant = { λ j. IsWorkable j.program (work_with j.workspace j.trees) };
 }
 
 impl Job {
@@ -67,17 +67,17 @@ impl Job {
         worker: u32,
         vertex: u32,
         program: Program,
-        view: View,
+        workspace: Workspace,
         trees: Many<Tree>,
         instances: Many<u32>,
     ) -> Job
-        requires { IsWorkable program (work_with view trees) }
+        requires { IsWorkable program (work_with workspace trees) }
         ensures { result ≡ record {
           worker = worker;
           vertex = vertex;
           program = program;
           done = 0;
-          work = work_with view trees;
+          work = work_with workspace trees;
           instances = instances;
         } }
     {
@@ -86,7 +86,7 @@ impl Job {
             vertex,
             program,
             done: 0,
-            view,
+            workspace,
             trees,
             instances,
         }
@@ -120,11 +120,11 @@ impl Job {
         self.done
     }
 
-    /// Returns the view that it works on, in which the mounts of caches are empty.
-    pub fn view(&self) -> &View
+    /// Returns the workspace that it works on, in which the mounts of caches are empty.
+    pub fn workspace(&self) -> &Workspace
         ensures { result.now ≡ self.now.work.own }
     {
-        &self.view
+        &self.workspace
     }
 
     /// Returns the trees of the cache instances as they are at the claim, in the order of the mounts that show them.

@@ -1,6 +1,6 @@
 //! One vertex's execution: its program of micro-steps, what they work on, the outputs that they leave, and the work of a whole job away
-//! from any board, behind a gate. It knows no state, and it keeps no caches. `missing_local` alone looks at all vertices of a graph. It is
-//! built on `llb_model`.
+//! from any board, behind a gate. It knows no state, and it keeps no caches. It is built on
+//! `llb_model`.
 #![tactic(auto)]
 
 mod fault;
@@ -10,14 +10,13 @@ mod gate;
 mod job;
 mod mark;
 mod micro_step;
-mod missing;
 mod mounting;
 mod outcome;
 mod outputs;
 mod program;
 mod refusal;
 mod same;
-mod view;
+mod workspace;
 
 pub use fault::WorkFault;
 pub use filling::empty_trees;
@@ -27,8 +26,7 @@ pub use job::Job;
 pub use llb_wire::Memory;
 pub use mark::Mark;
 pub use micro_step::{MicroStep, step_count, step_of};
-pub use missing::missing_local;
-pub use mounting::{input_tree, mounts_of, setting_of};
+pub use mounting::{input_tree, setting_of};
 pub use outcome::{Outcome, work};
 pub use program::Program;
-pub use view::View;
+pub use workspace::Workspace;

@@ -1,23 +1,24 @@
-//! What a micro-step can change of a view, kept before it and put back after it.
+//! What a micro-step can change of a workspace, kept before it and put back after it.
 
 ghost use Rattle.std.specs.Prelude.{◌≡◌, IfOk};
 ghost use Rattle.llb_execution.specs.Marks.{mark_in, mark_of, put_back, PutsBack};
 ghost use Rattle.llb_execution.specs.Parts.{own_of};
 
 use crate::refusal::NoMemory;
-use crate::view::{Own, View};
+use crate::workspace::{Own, Workspace};
 use llb_mount::View as Mounts;
 use llb_tree::Tree;
 use llb_wire::Memory;
 use std::marker::Model;
 
-/// What a micro-step can change of a view: for a source nothing, for a file op how many results there are, for a merge what is laid so
+/// What a micro-step can change of a workspace: for a source nothing, for a file op how many results there are, for a merge what is laid so
 /// far, for an exec its mounts and its last status.
 #[derive(Drop)]
 pub struct Mark {
     was: Was,
 }
 
+// What there was before a micro-step, by the kind of workspace.
 #[derive(Drop)]
 pub(crate) enum Was {
     Nothing,
@@ -28,7 +29,7 @@ pub(crate) enum Was {
 
 impl Model for Mark {
     ghost use Rattle.std.specs.Coded.{codes};
-    ghost use Rattle.llb_tree.specs.Tree.{coded_tree};
+    ghost use Rattle.llb_tree.specs.Coded.{coded_tree};
     ghost use Rattle.llb_execution.specs.Marks.{Mark as MarkValue, mark_in};
 
     ghost Value = { MarkValue };
@@ -38,8 +39,8 @@ impl Model for Mark {
     ghost view = { λ m. mark_in m.was };
 }
 
-impl View {
-    /// Returns what the next micro-step can change, and no more of the view: no input of a file op or of a merge. Trees are shared. Fails with
+impl Workspace {
+    /// Returns what the next micro-step can change, and no more of the workspace: no input of a file op or of a merge. Trees are shared. Fails with
     /// `Memory` alone.
     pub fn mark(&self) -> Result<Mark, Memory>
         ensures is { IfOk result (λ m. m ≡ mark_of self.now) }
@@ -49,7 +50,7 @@ impl View {
         Ok(Mark { was: held })
     }
 
-    /// Puts what a mark has into the view again. Does not allocate.
+    /// Puts what a mark has into the workspace again. Does not allocate.
     pub fn put_back(&mut self, mark: Mark)
         ensures { self.new ≡ put_back mark self.old }
     {
@@ -62,7 +63,7 @@ impl View {
     }
 }
 
-// What a micro-step can change of what a view has.
+// What a micro-step can change of what a workspace has.
 fn was_in(own: &Own) -> Result<Was, NoMemory>
     ensures { IfOk result (λ w. mark_in w ≡ mark_of (own_of own.now)) }
 {

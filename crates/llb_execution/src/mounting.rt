@@ -4,7 +4,6 @@
 ghost use Rattle.std.specs.Prelude.{◌≡◌, IfOk, map, option_map, unwrap_or};
 ghost use Rattle.llb_tree.specs.Tree.{empty_tree};
 ghost use Rattle.llb_mount.specs.View.{IsView};
-ghost use Rattle.llb_loader.specs.Rules.{kind_mounts};
 ghost use Rattle.llb_model.specs.Program.{path_in, setting_of, selector_of, tree_shown, shown_of, base_in};
 ghost use Rattle.llb_execution.specs.Parts.{kind_setting};
 
@@ -55,6 +54,7 @@ fn path_in(alloc: Global, text: &Text) -> Result<Path, NoMemory>
     match Path::read(alloc, text.as_str()) {
         Ok(path) => Ok(path),
         Err(TreeFault::Memory) => Err(NoMemory),
+        // Unreachable in a graph.
         Err(_) => Ok(Path::root(alloc)),
     }
 }
@@ -68,16 +68,6 @@ fn copies(alloc: Global, texts: &[Text]) -> Result<Vec<Text>, NoMemory>
         copied.push(text.copy()?)?;
     }
     Ok(copied)
-}
-
-/// Returns the mounts of a kind: those of an exec. Does not allocate.
-pub fn mounts_of(kind: &Option<Kind>) -> &[Mount]
-    ensures { result.now ≡ kind_mounts kind.now }
-{
-    match kind {
-        Some(Kind::Exec(exec)) => exec.get().mounts.as_slice(),
-        _ => &[],
-    }
 }
 
 /// Returns the view of mounts that show these inputs.

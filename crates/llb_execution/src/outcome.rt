@@ -9,27 +9,27 @@ use crate::fault::WorkFault;
 use crate::further::{Further, do_further};
 use crate::gate::Gate;
 use crate::job::Job;
-use crate::view::{View, tree_copies};
+use crate::workspace::{Workspace, tree_copies};
 use llb_model::VertexFault;
 use llb_tree::Tree;
 use llb_wire::Memory;
 use std::alloc::Global;
 use std::marker::Model;
 
-/// The outcome of a job: how many micro-steps it had left, and the view, the trees of the cache instances and the fault that they
+/// The outcome of a job: how many micro-steps it had left, and the workspace, the trees of the cache instances and the fault that they
 /// leave. By the type's invariant they are what the job's program leaves, so no board has to check it.
 #[derive(Drop)]
 pub struct Outcome {
     job: Job,
     count: u32,
-    view: View,
+    workspace: Workspace,
     trees: Vec<Tree>,
     fault: Option<VertexFault>,
 }
 
 impl Model for Outcome {
     ghost use Rattle.std.specs.Coded.{codes};
-    ghost use Rattle.llb_tree.specs.Tree.{coded_tree};
+    ghost use Rattle.llb_tree.specs.Coded.{coded_tree};
     ghost use Rattle.llb_execution.specs.Parts.{left_with};
     ghost use Rattle.llb_execution.specs.Jobs.{OutcomeValue, IsOutcome};
 
@@ -37,9 +37,9 @@ impl Model for Outcome {
 
     ghost coded = { Prim.hlevel (codes, coded_tree) };
 
-    ghost view = { λ o. record { job = o.job; count = o.count; left = left_with o.view o.trees.items o.fault } };
+    ghost view = { λ o. record { job = o.job; count = o.count; left = left_with o.workspace o.trees.items o.fault } };
 
-    ghost invariant = { λ o. IsOutcome o.job o.count (left_with o.view o.trees.items o.fault) };
+    ghost invariant = { λ o. IsOutcome o.job o.count (left_with o.workspace o.trees.items o.fault) };
 }
 
 impl Outcome {
@@ -71,24 +71,24 @@ impl Outcome {
         self.fault
     }
 
-    /// Returns how many micro-steps the job had left, and what they leave: the view, the trees of the cache instances, and the fault of the last.
-    pub fn into_left(self) -> (u32, View, Vec<Tree>, Option<VertexFault>)
+    /// Returns how many micro-steps the job had left, and what they leave: the workspace, the trees of the cache instances, and the fault of the last.
+    pub fn into_left(self) -> (u32, Workspace, Vec<Tree>, Option<VertexFault>)
         ensures count { result.0 ≡ self.count }
         ensures left { left_with result.1 result.2.items result.3 ≡ self.left }
     {
         let Outcome {
             job: _job,
             count,
-            view,
+            workspace,
             trees,
             fault,
         } = self;
-        (count, view, trees, fault)
+        (count, workspace, trees, fault)
     }
 }
 
 /// Does all micro-steps that a job has left, behind a gate. Fails with 143 `Stopped` where the gate stops the worker, which it does only
-/// where it may, and with 142 `Memory`; then the job is gone. It works on second owners of the job's view and trees.
+/// where it may, and with 142 `Memory`; then the job is gone. It works on second owners of the job's workspace and trees.
 pub fn work<G: Gate>(alloc: Global, job: Job, gate: &G) -> Result<Outcome, WorkFault>
     ensures job { IfOk result (λ o. o.job ≡ job) }
     ensures stopped { result ≡ Err work.Stopped → IsTrue (G.may_stop job.worker job.vertex) }
@@ -101,14 +101,14 @@ pub fn work<G: Gate>(alloc: Global, job: Job, gate: &G) -> Result<Outcome, WorkF
 fn worked(alloc: Global, job: Job) -> Result<Outcome, Memory>
     ensures { IfOk result (λ o. o.job ≡ job) }
 {
-    let mut view = job.view.copy()?;
+    let mut workspace = job.workspace.copy()?;
     let mut trees = tree_copies(alloc, job.trees.as_slice())?;
-    let further = do_further(alloc, &job.program, job.done, &mut view, &mut trees)?;
+    let further = do_further(alloc, &job.program, job.done, &mut workspace, &mut trees)?;
     let Further { count, fault } = further;
     Ok(Outcome {
         job,
         count,
-        view,
+        workspace,
         trees,
         fault,
     })

@@ -9,9 +9,8 @@ ghost use Rattle.llb_model.specs.Program.{program_of, tree_for, outputs_of};
 ghost use Rattle.llb_execution.specs.Parts.{own_of};
 ghost use Rattle.llb_execution.specs.Outputs.{actions_in, numbers_of, tree_by, first_placed, placed, placed_by};
 
-use crate::mounting::mounts_of;
-use crate::view::Own;
-use llb_loader::Vertex;
+use crate::workspace::Own;
+use llb_loader::{Vertex, mounts_of};
 use llb_mount::Shown;
 use llb_ops::{Action, Kind, Mount};
 use llb_tree::Tree;

@@ -8,10 +8,10 @@ ghost use Rattle.llb_ops.specs.declared.merge.MergeInput as merge_input;
 ghost use Rattle.llb_execution.specs.Parts.{step_in, steps_in};
 
 use crate::micro_step::{MicroStep, act_at, read_at, run_at};
-use crate::mounting::{mounts_of, setting_with};
+use crate::mounting::setting_with;
 use crate::refusal::NoMemory;
 use llb_applet::{Script, Setting};
-use llb_loader::Vertex;
+use llb_loader::{Vertex, mounts_of};
 use llb_ops::{Actions, Kind, MergeInput, Mount};
 use llb_wire::Memory;
 use std::alloc::Global;
@@ -22,7 +22,7 @@ use std::marker::Model;
 pub struct Program {
     pub(crate) steps: Steps,
     pub(crate) outputs: u32,
-    pub(crate) given: Vec<i64>,
+    pub(crate) output_numbers: Vec<i64>,
 }
 
 // Written out, so that the crates above drop one by this one function.
@@ -31,11 +31,12 @@ impl Drop for Program {
         let Program {
             steps: _,
             outputs: _,
-            given: _,
+            output_numbers: _,
         } = self;
     }
 }
 
+// The micro-steps of a program: none, the read of a source, actions, the numbers of a merge's inputs, or commands in their setting.
 #[derive(Drop)]
 pub(crate) enum Steps {
     Nothing,
@@ -51,7 +52,7 @@ impl Model for Program {
 
     ghost Value = { model.Program };
 
-    ghost view = { λ p. record { steps = steps_in p.steps; outputs = p.outputs; given = p.given.items } };
+    ghost view = { λ p. record { steps = steps_in p.steps; outputs = p.outputs; output_numbers = p.output_numbers.items } };
 }
 
 impl Program {
@@ -60,11 +61,11 @@ impl Program {
         ensures { IfOk result (λ p. p ≡ program_of vertex.now) }
     {
         let steps = steps_of(alloc, &vertex.op.kind, &vertex.script)?;
-        let given = given_by(alloc, mounts_of(&vertex.op.kind))?;
+        let output_numbers = output_numbers_of(alloc, mounts_of(&vertex.op.kind))?;
         Ok(Program {
             steps,
             outputs: vertex.outputs,
-            given,
+            output_numbers,
         })
     }
 
@@ -133,7 +134,7 @@ fn numbers_of(alloc: Global, inputs: &[MergeInput]) -> Result<Vec<i64>, NoMemory
 }
 
 // The output numbers of mounts.
-fn given_by(alloc: Global, mounts: &[Mount]) -> Result<Vec<i64>, NoMemory>
+fn output_numbers_of(alloc: Global, mounts: &[Mount]) -> Result<Vec<i64>, NoMemory>
     ensures { IfOk result (λ v. v.items ≡ mount_outputs mounts.now) }
 {
     let mut numbers = Vec::new(alloc);

@@ -1,4 +1,4 @@
-//! Whether two views are the same by value, and whether a program is that of a vertex. Nothing here allocates: the vertex's own
+//! Whether two workspaces are the same by value, and whether a program is that of a vertex. Nothing here allocates: the vertex's own
 //! program is not made, but each part of the one at hand is compared with what the vertex says.
 
 ghost use Rattle.std.specs.Prelude.{◌≡◌, ◌↔◌, IsTrue, [], ◌∷◌, map};
@@ -8,22 +8,21 @@ ghost use Rattle.llb_ops.specs.declared.merge.MergeInput as merge_input;
 ghost use Rattle.llb_execution.specs.Parts.{steps_in, own_of};
 
 use crate::micro_step::commands_of;
-use crate::mounting::mounts_of;
 use crate::program::{Program, Steps};
-use crate::view::{Own, View};
+use crate::workspace::{Own, Workspace};
 use llb_applet::{Joined, Script, Setting};
-use llb_loader::Vertex;
+use llb_loader::{Vertex, mounts_of};
 use llb_ops::{Action, Kind, MergeInput, Meta, Mount};
 use llb_tree::Path;
 use llb_wire::{Same, Text, all_same};
 
-impl Same for View {
-    fn same(&self, other: &View) -> bool {
+impl Same for Workspace {
+    fn same(&self, other: &Workspace) -> bool {
         same_own(&self.own, &other.own)
     }
 }
 
-// Whether two views own the same.
+// Whether two workspaces own the same.
 fn same_own(own: &Own, other: &Own) -> bool
     ensures { IsTrue result ↔ (own_of own.now ≡ own_of other.now) }
 {
@@ -49,7 +48,7 @@ impl Program {
         ensures { IsTrue result ↔ (self.now ≡ program_of vertex.now) }
     {
         self.outputs == vertex.outputs
-            && are_outputs(self.given.as_slice(), mounts_of(&vertex.op.kind))
+            && are_outputs(self.output_numbers.as_slice(), mounts_of(&vertex.op.kind))
             && are_steps(&self.steps, &vertex.op.kind, &vertex.script)
     }
 }

@@ -7,7 +7,8 @@ use Rattle.std.specs.Prelude.{slice_get}
 use Rattle.std.specs.Ordering.{is_lt, eq_by_cmp}
 use Rattle.std.specs.FinMap as finite
 use Rattle.std.specs.FinMap.Entries.{below_all}
-use Rattle.llb_wire.specs.Answer.{◌>>=◌, bind_ok}
+use Rattle.llb_wire.specs.Answer.{◌>>=◌}
+use Rattle.llb_wire.specs.Laws.Answers.{bind_ok}
 use Rattle.llb_tree.specs.Path.{path_cmp, is_within}
 use Rattle.llb_tree.specs.PathOrder.{path_cmp-IsTotalOrder, path_cmp-IsAntisymmetric}
 use Rattle.llb_tree.specs.Meta.{MetaValue, new_dir_meta}
@@ -90,7 +91,7 @@ module _ (given : MetaValue → MetaValue) (here source t : TreeMap) (goal : Lis
   short q there = by_side (finite.get here q) refl (finite.get source q) refl
     where
       by_side : (o : Option Entry) → finite.get here q ≡ o → (s : Option Entry) → finite.get source q ≡ s → length goal + length q ≤ 128
-      by_side (Some d) is s own = let can = tree.stands (goal ++ q) d (sym (same q) ∙ is) in omega (arith, can.path.short, length-append goal q)
+      by_side (Some d) is s own = let can = tree.allowed (goal ++ q) d (sym (same q) ∙ is) in omega (arith, can.path.short, length-append goal q)
       by_side None is (Some e) own = omega (arith, fits_short (goal ++ q) (lands q e own).fits, length-append goal q)
       by_side None is None own = absurd (true≢false (sym there ∙ ap is_some (get-whole given here source q ∙ (λ i. laid given (is i) (own i)))))
 

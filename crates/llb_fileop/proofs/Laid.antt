@@ -52,9 +52,9 @@ walked_free f g (p ∷ ps) free walks = by_dir (f p) refl walks (walked_free f g
     by_dir (Some (File m b)) is walks rest = absurd cc
     by_dir (Some (Dir m)) is walks rest = ap (λ x. x || list_any is_file (map g ps)) (free p m is) ∙ rest walks
 
-module _ (way : WayValue) (given : MetaValue → MetaValue) (gives : (m : MetaValue) → lay.given way m ≡ given m) (keeps : way.keeps ≡ true) where
+module _ (way : WayValue) (given : MetaValue → MetaValue) (gives : (m : MetaValue) → lay.laid_meta way m ≡ given m) (keeps : way.keeps ≡ true) where
   over_lands : (there : Option Entry) (e : Entry) → over way there e ≡ landed given there e
-  over_lands (Some (Dir m)) (Dir k) = ap (λ b. Dir (cond b m (lay.given way k))) keeps
+  over_lands (Some (Dir m)) (Dir k) = ap (λ b. Dir (cond b m (lay.laid_meta way k))) keeps
   over_lands (Some (File m b)) (Dir k) = ap Dir (gives k)
   over_lands None (Dir k) = ap Dir (gives k)
   over_lands (Some (Dir m)) (File k c) = ap (λ x. File x c) (gives k)

@@ -1,10 +1,11 @@
 -- An entry that is put, and the walk to it.
-use Rattle.std.proofs.Common.{◌≡◌, ℕ, Bool, true, false, cond, List, [], ◌∷◌, ◌++◌, map, Option, Some, None, Ok, refl, sym, ap, subst, ◌∙◌}
+use Rattle.std.proofs.Common.{◌≡◌, ℕ, Bool, true, false, cond, List, [], ◌∷◌, ◌++◌, map, Option, Some, None, Ok, refl, sym, subst, ◌∙◌}
 use Rattle.std.specs.Ordering.{eq_by_cmp}
 use Rattle.std.specs.FinMap as finite
 use Rattle.llb_tree.specs.Path.{path_cmp}
 use Rattle.llb_tree.specs.PathOrder.{path_cmp-IsTotalOrder}
 use Rattle.llb_tree.specs.Tree.{TreeMap, Entry, Dir, File, Look, parents, all_dirs, walk, IsDirAt}
+use Rattle.llb_tree.specs.Inside.{walk-cons}
 use Rattle.llb_fileop.proofs.Passing.{same_path}
 
 -- ---- what is there after an entry is put
@@ -19,13 +20,6 @@ get-insert_cases P t p e q here there = subst P (sym (finite.get-insert path_cmp
     by_test false is = there
 
 -- ---- the walk to it
-
-pub map-map : {A B C : Type 0} (g : B → C) (f : A → B) (xs : List A) → map g (map f xs) ≡ map (λ x. g (f x)) xs
-map-map g f [] = refl
-map-map g f (x ∷ xs) = ap (λ ys. g (f x) ∷ ys) (map-map g f xs)
-
-pub walk-cons : (look : Look) (n : List ℕ) (p : List (List ℕ)) → walk look (n ∷ p) ≡ all_dirs (look [] ∷ map (λ q. look (n ∷ q)) (parents p))
-walk-cons look n p = ap (λ ys. all_dirs (look [] ∷ ys)) (map-map look (λ q. n ∷ q) (parents p))
 
 -- each path that a walk passes is a directory
 pub walk_passes : (look : Look) (r : List (List ℕ)) (n : List ℕ) (s : List (List ℕ)) → walk look (r ++ n ∷ s) ≡ Ok tt → IsDirAt look r

@@ -12,12 +12,8 @@ use Rattle.llb_tree.specs.PathOrder.{path_cmp-IsTotalOrder, path_cmp-IsAntisymme
 use Rattle.llb_tree.specs.Meta.{MetaValue}
 use Rattle.llb_tree.specs.Tree.{TreeMap, Entry, Dir, File, moved, tree_at, with_tree, without, walk, IsTree}
 use Rattle.llb_fileop.specs.Copying.{at_target}
-use Rattle.llb_fileop.proofs.Passing.{Pair, same_path, ties_itself}
+use Rattle.llb_fileop.proofs.Passing.{Pair, same_path, ties_itself, and_first}
 use Rattle.llb_fileop.proofs.Made.{walk_passes}
-
-and_first : (a b : Bool) → T (a && b) → T a
-and_first true b h = tt
-and_first false b h = absurd h
 
 and_second : (a b : Bool) → T (a && b) → T b
 and_second true b h = h

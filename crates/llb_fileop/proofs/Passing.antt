@@ -26,7 +26,8 @@ less Less h = refl
 less Equal h = absurd h
 less Greater h = absurd h
 
-and_first : (a b : Bool) → T (a && b) → T a
+-- where two tests hold together, the first does
+pub and_first : (a b : Bool) → T (a && b) → T a
 and_first true b h = tt
 and_first false b h = absurd h
 

@@ -4,9 +4,9 @@
 ghost use Rattle.std.specs.Prelude.{◌≡◌, ◌≤◌, ◌++◌, length, IsSome};
 ghost use Rattle.std.specs.FinMap as finite;
 ghost use Rattle.llb_tree.specs.Tree as trees;
-ghost use Rattle.llb_fileop.specs.Faults.{Gives};
+ghost use Rattle.llb_fileop.specs.Faults.{Gives, on_tree};
 ghost use Rattle.llb_fileop.specs.Owners.{copied};
-ghost use Rattle.llb_fileop.specs.Copying.{copy, copy_one, copy_chosen, OnePath, EachMatch, target, last_name, at_target};
+ghost use Rattle.llb_fileop.specs.Copying.{copy, copy_one, copy_chosen, resolved, OnePath, EachMatch, target, last_name, at_target};
 ghost use Rattle.llb_fileop.specs.Parts.{land_at, placed};
 
 use crate::dest::resolve;
@@ -19,32 +19,47 @@ use llb_ops::CopyFile;
 use llb_tree::{Meta, Path, Tree, TreeFault};
 use std::alloc::Global;
 
+// The destination of a copy: the path that its text reads as, and whether the text ends in `/`, so that the sources go into the directory.
+#[derive(Drop)]
+struct Dest {
+    path: Path,
+    inside: bool,
+}
+
 /// Returns the tree with copies of what the source text names in the second tree.
 pub fn copy(alloc: Global, action: &CopyFile, base: &Tree, second: &Tree) -> Result<Tree, ActFault>
     ensures { Gives (λ t. t) result (copy action.now base.now second.now) }
 {
     if action.allow_wildcard {
         let pattern = Pattern::read(alloc, action.src.as_str())?;
-        let dest = resolve(alloc, action.dest.as_str())?;
+        let dest = dest_of(alloc, action)?;
         let tree = copy_matches(alloc, action, &dest, &pattern, base, second)?;
         return Ok(tree);
     }
     let source = Path::read(alloc, action.src.as_str())?;
-    let dest = resolve(alloc, action.dest.as_str())?;
+    let dest = dest_of(alloc, action)?;
     let tree = copy_path(alloc, action, &dest, &source, base, second)?;
     Ok(tree)
+}
+
+// Reads the destination of a copy.
+fn dest_of(alloc: Global, action: &CopyFile) -> Result<Dest, ActFault>
+    ensures { Gives (λ d. (d.path, d.inside)) result (on_tree (resolved action.now.dest)) }
+{
+    let (path, inside) = resolve(alloc, action.dest.as_str())?;
+    Ok(Dest { path, inside })
 }
 
 // Returns the tree after one path of the second tree is copied.
 fn copy_path(
     alloc: Global,
     action: &CopyFile,
-    dest: &(Path, bool),
+    dest: &Dest,
     source: &Path,
     base: &Tree,
     second: &Tree,
 ) -> Result<Tree, TreeFault>
-    ensures { trees.Gives (λ t. t) result (copy_chosen action.now dest.now base.now second.now (OnePath source.now)) }
+    ensures { trees.Gives (λ t. t) result (copy_chosen action.now (dest.now.path, dest.now.inside) base.now second.now (OnePath source.now)) }
 {
     if second.get(source).is_none() {
         return Err(TreeFault::NotFound);
@@ -58,12 +73,12 @@ fn copy_path(
 fn copy_matches(
     alloc: Global,
     action: &CopyFile,
-    dest: &(Path, bool),
+    dest: &Dest,
     pattern: &Pattern,
     base: &Tree,
     second: &Tree,
 ) -> Result<Tree, TreeFault>
-    ensures { trees.Gives (λ t. t) result (copy_chosen action.now dest.now base.now second.now (EachMatch pattern.now)) }
+    ensures { trees.Gives (λ t. t) result (copy_chosen action.now (dest.now.path, dest.now.inside) base.now second.now (EachMatch pattern.now)) }
 {
     let sources = second.passing(pattern.parts())?;
     if sources.is_empty() {
@@ -80,13 +95,13 @@ fn copy_matches(
 fn copy_one(
     alloc: Global,
     action: &CopyFile,
-    dest: &(Path, bool),
+    dest: &Dest,
     second: &Tree,
     source: &Path,
     tree: &mut Tree,
 ) -> Result<(), TreeFault>
     requires { IsSome (finite.get second.now source.now) }
-    ensures { trees.Gives (λ _. tree.new) result (copy_one action.now dest.now second.now source.now tree.old) }
+    ensures { trees.Gives (λ _. tree.new) result (copy_one action.now (dest.now.path, dest.now.inside) second.now source.now tree.old) }
 {
     let goal = target(action, dest, second, source, tree)?;
     if action.create_dest_path {
@@ -95,24 +110,23 @@ fn copy_one(
     land(alloc, action, second, source, &goal, tree)
 }
 
-// Returns the path that a source is copied to. The destination is the path that its text reads as, and whether the text ends in `/`.
+// Returns the path that a source is copied to.
 fn target(
     action: &CopyFile,
-    dest: &(Path, bool),
+    dest: &Dest,
     second: &Tree,
     source: &Path,
     tree: &Tree,
 ) -> Result<Path, TreeFault>
-    ensures { trees.Gives (λ p. p) result (placed (target action.now dest.now second.now source.now tree.now)) }
+    ensures { trees.Gives (λ p. p) result (placed (target action.now (dest.now.path, dest.now.inside) second.now source.now tree.now)) }
 {
-    let (path, inside) = dest;
     if action.dir_copy_contents && second.is_dir(source) {
-        return path.copy();
+        return dest.path.copy();
     }
-    if *inside || tree.is_dir(path) {
-        return place_in(path, source);
+    if dest.inside || tree.is_dir(&dest.path) {
+        return place_in(&dest.path, source);
     }
-    path.copy()
+    dest.path.copy()
 }
 
 // Returns the path of a source's last name in a directory; for the root, which has no name, the directory itself.

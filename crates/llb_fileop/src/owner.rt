@@ -2,7 +2,7 @@
 
 ghost use Rattle.std.specs.Prelude.{◌≡◌, ◌≤◌, ℕ, true, unwrap_or};
 ghost use Rattle.llb_tree.specs.Meta.{MetaValue};
-ghost use Rattle.llb_tree.specs.Overlay.{is_mode, given};
+ghost use Rattle.llb_tree.specs.Overlay.{is_mode, laid_meta};
 ghost use Rattle.llb_fileop.specs.Owners.{mode_of, mode_from, number_in, id_in, user_in, group_in, made, copied};
 
 use llb_ops::{ChownOpt, CopyFile, User, UserOpt};
@@ -30,7 +30,7 @@ pub fn copied(action: &CopyFile, own: Meta) -> Meta
 
 /// Returns how what is copied is laid over a tree: a directory that is there stays as it is.
 pub fn way(action: &CopyFile) -> Way
-    ensures given { (m : MetaValue) → given result m ≡ copied action.now.mode action.now.owner m }
+    ensures given { (m : MetaValue) → laid_meta result m ≡ copied action.now.mode action.now.owner m }
     ensures keeps { result.keeps ≡ true }
 {
     let uid = user_in(&action.owner);

@@ -179,6 +179,7 @@ some_count p (suc n) u low is = elim (cases_eq u n) [
   | inr apart ↦ omega (arith, some_count p n u (omega (arith, low, apart)) is)
 ]
 
+-- whether all inputs are done
 abbrev pub all_done : (ℕ → Bool) → List Edge → Bool
 all_done done edges = list_all (λ (e : Edge). done e.vertex) edges
 

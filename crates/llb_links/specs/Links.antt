@@ -62,6 +62,7 @@ pub record IsLinked (vs : List Vertex) (done : ℕ → Bool) (l : Linked) : Type
   pub users_are : (u : ℕ) → u < length vs → get_or l.users u [] ≡ users_of vs u
   pub counts_are : (v : ℕ) (x : Vertex) → slice_get vs v ≡ Some x → get_or l.counts v 0 ≡ open_inputs vs done x
 
+-- the users of vertex u
 abbrev pub users_at : Linked → ℕ → List ℕ
 users_at l u = get_or l.users u []
 
@@ -78,11 +79,13 @@ times x (y ∷ ys) = (if y == x then 1 else 0) + times x ys
 abbrev pub AreLowered : List ℕ → List ℕ → List ℕ → Type 0
 AreLowered users old new = (length new ≡ length old) × ((x : ℕ) → get_or new x 0 ≡ get_or old x 0 - times x users)
 
+-- each count is raised by how often its vertex is among the users
 abbrev pub AreRaised : List ℕ → List ℕ → List ℕ → Type 0
 AreRaised users old new = (length new ≡ length old) × ((x : ℕ) → x < length old → get_or new x 0 ≡ get_or old x 0 + times x users)
 
 -- ---- marks that spread from a vertex to those downstream
 
+-- whether vertex x is marked
 abbrev pub is_marked : List Bool → ℕ → Bool
 is_marked marks x = get_or marks x false
 

@@ -20,3 +20,4 @@ pub mod Lengths
 pub mod Executions
 pub mod Unread
 pub mod Copies
+pub mod MissingTrees

@@ -13,7 +13,7 @@ use Rattle.llb_loader.specs.Placing.{IsMarked}
 use Rattle.llb_loader.specs.RowLookup.{row_named, terminal_in}
 use Rattle.llb_loader.specs.Rules.{IsBelow, output_count}
 use Rattle.llb_loader.specs.Linking.{op_at, input_at, Plan, plan, links_in, input_row, ReachedRow, HasInput, outputs_there, IsBadIndex}
-use Rattle.llb_loader.specs.Linking.{Foremost, HasResult, IsStarted, IsNamed, IsOrdered, IsTaken, IsValid, start_in, IsPlanOf, Refuses}
+use Rattle.llb_loader.specs.Linking.{Foremost, HasResult, IsStarted, IsNamed, IsOrdered, IsSupported, IsValid, start_in, IsPlanOf, Refuses}
 use Rattle.llb_loader.specs.Linking.{Refused}
 use Rattle.llb_loader.specs.Checks.{NamesAll, RefusesUnknown, RefusesFeature, RefusesRule, RefusesIndex, FitsAll, FirstBad, asked_of, count_there}
 use Rattle.llb_loader.proofs.Plans.{named_below, in_range, graph_at, row_below, NamedAt, named_at}
@@ -114,7 +114,7 @@ refuses_feature rows ops t s order Marked ordered exact e (k, f, same, marked, f
     )
 
 -- where the marked rows are the reached ones, the first of them that breaks a rule refuses the plan
-pub refuses_rule : (rows : List Row) (ops : List Op) (t s : ℕ) (order : List ℕ) (Marked : ℕ → Type 0) → IsTaken (plan rows ops t s) order
+pub refuses_rule : (rows : List Row) (ops : List Op) (t s : ℕ) (order : List ℕ) (Marked : ℕ → Type 0) → IsSupported (plan rows ops t s) order
     → ((k : ℕ) → Marked k ↔ ReachedRow (plan rows ops t s) k) → (e : LoadFault) → RefusesRule ops Marked e → Refuses (plan rows ops t s) e
 refuses_rule rows ops t s order Marked taken exact e (k, r, same, marked, broken, before) =
     subst (λ (x : LoadFault). Refuses (plan rows ops t s) x) (sym same) (
@@ -252,4 +252,4 @@ pub refuses_index : (rows : List Row) (ops : List Op) (t s : ℕ) (order : List 
     → RefusesIndex ops (links_in (plan rows ops t s)) (map output_count ops) seen t e → Refuses (plan rows ops t s) e
 refuses_index rows ops t s order seen valid len exact e (k, i, same, h, first, before) =
     subst (λ (x : LoadFault). Refuses (plan rows ops t s) x) (sym same)
-    (order, valid, foremost_bad (plan rows ops t s) seen exact valid.taken.ordered.named len k i first before)
+    (order, valid, foremost_bad (plan rows ops t s) seen exact valid.supported.ordered.named len k i first before)

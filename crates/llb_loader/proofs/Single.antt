@@ -23,7 +23,7 @@ use Rattle.llb_loader.specs.Features.{feature_of}
 use Rattle.llb_loader.specs.Rules.{MeetsAll, Breaks, BreaksFirst, rules_on}
 use Rattle.llb_loader.specs.Graph.{Numbered}
 use Rattle.llb_loader.specs.Linking.{Plan, plan_of, op_at, links_in, input_row, Foremost, IsApart, HasResult, IsStarted, IsNamed, IsOrdered}
-use Rattle.llb_loader.specs.Linking.{IsTaken, IsValid, IsWhole, IsUnknown, IsBadIndex, IsUnsupported, IsInvalid, Refuses, Refused, GraphOf}
+use Rattle.llb_loader.specs.Linking.{IsSupported, IsValid, IsWhole, IsUnknown, IsBadIndex, IsUnsupported, IsInvalid, Refuses, Refused, GraphOf}
 use Rattle.llb_loader.specs.Linking.{numbered_of}
 use Rattle.llb_loader.specs.Reading.{AreOps, IsUnread, RefusesRow}
 use Rattle.llb_loader.specs.Link.{IsGraphOf, IsRefusalOf}
@@ -70,7 +70,7 @@ module _ (p : Plan) where
   Passes (suc (suc (suc zero))) = IsStarted p
   Passes (suc (suc (suc (suc zero)))) = IsNamed p
   Passes (suc (suc (suc (suc (suc zero))))) = (order : List ℕ) × IsOrdered p order
-  Passes (suc (suc (suc (suc (suc (suc zero)))))) = (order : List ℕ) × IsTaken p order
+  Passes (suc (suc (suc (suc (suc (suc zero)))))) = (order : List ℕ) × IsSupported p order
   Passes (suc (suc (suc (suc (suc (suc (suc zero))))))) = (order : List ℕ) × IsValid p order
   Passes (suc (suc (suc (suc (suc (suc (suc (suc n)))))))) = (order : List ℕ) × IsWhole p order
 
@@ -84,7 +84,7 @@ module _ (p : Plan) where
   Stops (suc (suc (suc (suc (suc zero))))) e = (e ≡ Cycle) × IsNamed p × HasCycle (links_in p) p.start
   Stops (suc (suc (suc (suc (suc (suc zero)))))) e = (order : List ℕ) × (k : ℕ) × (f : Feature) × (e ≡ Unsupported k f) × IsOrdered p order
       × IsUnsupported p k f
-  Stops (suc (suc (suc (suc (suc (suc (suc zero))))))) e = (order : List ℕ) × (k : ℕ) × (r : Rule) × (e ≡ Invalid k r) × IsTaken p order × IsInvalid p k r
+  Stops (suc (suc (suc (suc (suc (suc (suc zero))))))) e = (order : List ℕ) × (k : ℕ) × (r : Rule) × (e ≡ Invalid k r) × IsSupported p order × IsInvalid p k r
   Stops (suc (suc (suc (suc (suc (suc (suc (suc zero)))))))) e = (order : List ℕ) × (k : ℕ) × (i : ℕ) × (e ≡ BadIndex k i)
       × IsValid p order × Foremost (IsBadIndex p) k i
   Stops (suc (suc (suc (suc (suc (suc (suc (suc (suc n))))))))) e = ⊥
@@ -96,7 +96,7 @@ module _ (p : Plan) where
   passed_before (suc (suc (suc zero))) s = s.started
   passed_before (suc (suc (suc (suc zero)))) s = s.1.named
   passed_before (suc (suc (suc (suc (suc zero))))) s = (s.0, s.1.ordered)
-  passed_before (suc (suc (suc (suc (suc (suc zero)))))) s = (s.0, s.1.taken)
+  passed_before (suc (suc (suc (suc (suc (suc zero)))))) s = (s.0, s.1.supported)
   passed_before (suc (suc (suc (suc (suc (suc (suc zero))))))) s = (s.0, s.1.valid)
   passed_before (suc (suc (suc (suc (suc (suc (suc (suc n)))))))) s = s
 
@@ -224,7 +224,7 @@ module _ (p : Plan) where
   whole_not_refused order e w r = let s = refusal_stops e r in not_whole s.0 e s.1 (order, w)
 
   one_order : (xs ys : List ℕ) → IsWhole p xs → IsWhole p ys → xs ≡ ys
-  one_order xs ys a b = one_numbering (links_in p) p.start xs ys a.valid.taken.ordered.numbering b.valid.taken.ordered.numbering
+  one_order xs ys a b = one_numbering (links_in p) p.start xs ys a.valid.supported.ordered.numbering b.valid.supported.ordered.numbering
 
 graph_one : (rows : List Row) (ops : List Op) (g h : Numbered) → GraphOf rows ops g → GraphOf rows ops h → g ≡ h
 graph_one rows ops g h a b =

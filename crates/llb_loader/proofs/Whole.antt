@@ -29,7 +29,7 @@ use Rattle.llb_loader.specs.Mounts.{secret, ssh, has_type}
 use Rattle.llb_loader.specs.Scripts.{kind_script, script_in}
 use Rattle.llb_loader.specs.Rules.{kind_steps, kind_outputs, is_output, owner_of, owner_by_name, outputs_of, mount_outputs, step_count}
 use Rattle.llb_loader.specs.Rules.{output_count, IsBelow, MeetsAll, MeetsRules, rules_on}
-use Rattle.llb_loader.specs.Graph.{links, LeadsBelow, StandsFor, HasInputs, IsVertex, IsVertexOf, IsGraph}
+use Rattle.llb_loader.specs.Graph.{links, LeadsBelow, IsEdgeOfInput, HasInputs, IsVertex, IsVertexOf, IsGraph}
 use Rattle.llb_loader.specs.Linking.{Plan, op_at, input_at, links_in, input_row, ReachedRow, HasInput, outputs_there, IsNamed, IsWhole, edge_of, vertex_of}
 use Rattle.llb_loader.specs.Building.{IsBuildable, AreBuilt, edge_at, vertex_at, edge_to}
 use Rattle.llb_loader.proofs.Searching.{reached_step}
@@ -188,10 +188,10 @@ same_vertex v w a b s c d e =
 
 module _ (p : Plan) (order : List ℕ) (whole : IsWhole p order) (len : length p.ops ≡ length p.rows) (within : All IsWithinLimits p.ops) where
   named_in : IsNamed p
-  named_in = whole.valid.taken.ordered.named
+  named_in = whole.valid.supported.ordered.named
 
   pub row_reached : (k : ℕ) → k < length order → ReachedRow p (get_or order k 0)
-  row_reached k h = (whole.valid.taken.ordered.numbering.each k h).ready.reached
+  row_reached k h = (whole.valid.supported.ordered.numbering.each k h).ready.reached
 
   pub in_ops : (k : ℕ) → ReachedRow p k → k < length p.ops
   in_ops k r = let h = reached_in p named_in.started k r in omega (arith, h, len)
@@ -248,7 +248,7 @@ module _ (p : Plan) (order : List ℕ) (whole : IsWhole p order) (len : length p
   module _ (ranks : List ℕ) (inverse : (i : ℕ) → i < length order → get_or ranks (get_or order i 0) 0 ≡ i) where
     place : (b : ℕ) → ReachedRow p b → (i : ℕ) × (i < length order) × (get_or order i 0 ≡ b) × (get_or ranks b 0 ≡ i)
     place b r =
-        let c = whole.valid.taken.ordered.numbering.whole b r in
+        let c = whole.valid.supported.ordered.numbering.whole b r in
         let e = get_or_default order c.0 0 b c.1 ∙ c.2 in
         (c.0, c.1, e, sym (ap (λ (x : ℕ). get_or ranks x 0) e) ∙ inverse c.0 c.1)
 
@@ -286,7 +286,7 @@ module _ (p : Plan) (order : List ℕ) (whole : IsWhole p order) (len : length p
           let b = get_or (inputs (links_in p) (get_or order k 0)) i 0 in
           let f = full (get_or order k 0) (row_reached k h) in
           let li : i < length (inputs (links_in p) (get_or order k 0)) = omega (arith, l, f) in
-          let c = (whole.valid.taken.ordered.numbering.each k h).ready.inputs_done i 0 li in
+          let c = (whole.valid.supported.ordered.numbering.each k h).ready.inputs_done i 0 li in
           let n = length-take-le k order (omega (arith, h)) in
           let low : c.0 < k = (let m = c.1 in omega (arith, m, n)) in
           let at : get_or order c.0 0 ≡ get_or (inputs (links_in p) (get_or order k 0)) i 0 =
@@ -350,7 +350,7 @@ module _ (p : Plan) (order : List ℕ) (whole : IsWhole p order) (len : length p
           let r = row_reached k h in
           record {
             within = subst (λ (o : Op). IsWithinLimits o) (sym b.op) (within_at (get_or order k 0) r);
-            featureless = ap feature_of b.op ∙ whole.valid.taken.featureless (get_or order k 0) r;
+            featureless = ap feature_of b.op ∙ whole.valid.supported.featureless (get_or order k 0) r;
             valid = subst (λ (o : Op). MeetsRules o) (sym b.op) (whole.valid.valid (get_or order k 0) r);
             script = b.script ∙ sym (ap script_in b.op);
             steps = b.steps ∙ sym (ap step_count b.op);
@@ -368,7 +368,7 @@ module _ (p : Plan) (order : List ℕ) (whole : IsWhole p order) (len : length p
           ((built k h).len ∙ sym (ap (λ (o : Op). length o.inputs) (built k h).op)) v.script v.steps v.outputs
 
       stands_for : (k i : ℕ) → k < length order → i < length (op_at p.ops (get_or order k 0)).inputs
-          → StandsFor vs (input_at (op_at p.ops (get_or order k 0)) i) (edge_at (vertex_at vs k).inputs i)
+          → IsEdgeOfInput vs (input_at (op_at p.ops (get_or order k 0)) i) (edge_at (vertex_at vs k).inputs i)
       stands_for k i h l =
           let r = row_reached k h in
           let f = full (get_or order k 0) (row_reached k h) in
@@ -378,7 +378,7 @@ module _ (p : Plan) (order : List ℕ) (whole : IsWhole p order) (len : length p
           let c = place (get_or (inputs (links_in p) (get_or order k 0)) i 0) b in
           let e = (built k h).edges i l ∙ ap (λ (n : ℕ). edge_to n (input_at (op_at p.ops (get_or order k 0)) i)) c.3 in
           let named = value_there (input_row p (get_or order k 0) i) (input_named p named_in (get_or order k 0) i (record { reached = r; here = l })) in
-          subst (λ (x : Edge). StandsFor vs (input_at (op_at p.ops (get_or order k 0)) i) x) (sym e) (record {
+          subst (λ (x : Edge). IsEdgeOfInput vs (input_at (op_at p.ops (get_or order k 0)) i) x) (sym e) (record {
             digest = λ d.
                 ap (λ (v : Vertex). v.digest) (vertex_is c.0 d c.1)
                 ∙ (built c.0 c.1).digest
@@ -395,9 +395,9 @@ module _ (p : Plan) (order : List ℕ) (whole : IsWhole p order) (len : length p
             len = b.len ∙ sym (ap (λ (o : Op). length o.inputs) b.op);
             each = λ i input e l.
                 let m : i < length (op_at p.ops (get_or order k 0)).inputs = (let n = b.len in omega (arith, l, n)) in
-                subst (λ (x : Edge). StandsFor vs (get_or (vertex_at vs k).op.inputs i input) x) (get_or_default (vertex_at vs k).inputs i _ e l)
-                (subst (λ (o : Op). StandsFor vs (get_or o.inputs i input) (edge_at (vertex_at vs k).inputs i)) (sym b.op)
-                (subst (λ (x : Input). StandsFor vs x (edge_at (vertex_at vs k).inputs i))
+                subst (λ (x : Edge). IsEdgeOfInput vs (get_or (vertex_at vs k).op.inputs i input) x) (get_or_default (vertex_at vs k).inputs i _ e l)
+                (subst (λ (o : Op). IsEdgeOfInput vs (get_or o.inputs i input) (edge_at (vertex_at vs k).inputs i)) (sym b.op)
+                (subst (λ (x : Input). IsEdgeOfInput vs x (edge_at (vertex_at vs k).inputs i))
                 (get_or_default (op_at p.ops (get_or order k 0)).inputs i _ input m) (stands_for k i h m)));
           }
 

@@ -15,6 +15,7 @@ use Rattle.llb_loader.specs.Linking.{op_at, input_at}
 abbrev pub edge_at : List Edge → ℕ → Edge
 edge_at edges i = slice_index_or edges i (record { vertex = 0; index = 0 })
 
+-- vertex n; past the last one an empty one
 abbrev pub vertex_at : List Vertex → ℕ → Vertex
 vertex_at vertices n = slice_index_or vertices n
     (record { digest = []; op = record { inputs = []; kind = None; extra = [] }; script = None; inputs = []; steps = 0; outputs = 0 })
@@ -30,6 +31,7 @@ pub record IsBuildable (op : Op) (named : List ℕ) : Type 0 where
   pub len : length named ≡ length op.inputs
   pub indexes : (i : ℕ) → i < length op.inputs → IsBelow 1_025 (input_at op i).index
 
+-- v is the vertex of an op, its edges by the numbers of the rows
 pub record IsBuilt (text : List ℕ) (from : Op) (named ranks : List ℕ) (v : Vertex) : Type 0 where
   pub digest : v.digest ≡ text
   pub op : v.op ≡ from

@@ -12,9 +12,11 @@ use Rattle.llb_loader.specs.Rules.{MeetsAll, Breaks}
 abbrev pub IsFirstBroken : List Input → Option Kind → List Rule → Option Rule → Type 0
 IsFirstBroken inputs kind rs broken = MatchOption broken (MeetsAll inputs kind rs) (Breaks inputs kind rs)
 
+-- the rules of a source
 abbrev pub source_rules : List Rule
 source_rules = rule.LocalName ∷ []
 
+-- the rules of a file op
 abbrev pub file_rules : List Rule
 file_rules = rule.NoActions ∷ rule.ActionInput ∷ rule.ActionOutput ∷ []
 
@@ -30,6 +32,7 @@ path_rules = rule.NoRoot ∷ rule.BadPath ∷ rule.SameDest ∷ []
 abbrev pub mount_rules : List Rule
 mount_rules = rule.MountKind ∷ rule.MountInput ∷ rule.MountOutput ∷ []
 
+-- the rules of cache mounts
 abbrev pub cache_rules : List Rule
 cache_rules = rule.NoCacheOpt ∷ rule.Sharing ∷ rule.CacheTwice ∷ []
 
@@ -37,8 +40,10 @@ cache_rules = rule.NoCacheOpt ∷ rule.Sharing ∷ rule.CacheTwice ∷ []
 abbrev pub script_rules : Option Meta → List Rule
 script_rules meta = rule.Script (script_fault meta) ∷ []
 
+-- the rules of an exec, in the order in which they are checked
 abbrev pub exec_rules : Option Meta → List Rule
 exec_rules meta = word_rules ++ (path_rules ++ (mount_rules ++ (cache_rules ++ script_rules meta)))
 
+-- the rules of a merge
 abbrev pub merge_rules : List Rule
 merge_rules = rule.MergeInput ∷ []

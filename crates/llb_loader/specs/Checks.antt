@@ -12,6 +12,7 @@ use Rattle.llb_loader.specs.Linking.{op_at, input_at}
 use Rattle.llb_loader.specs.Features.{feature_of}
 use Rattle.llb_loader.specs.Rules.{MeetsRules, BreaksFirst, IsBelow}
 
+-- the first n inputs of an op are digests of rows
 abbrev pub NamesAll : List Row → ℕ → Op → ℕ → Type 0
 NamesAll rows t op n = (i : ℕ) → i < n → row_named rows t (input_at op i).digest ≢ None
 
@@ -21,14 +22,17 @@ pub record FirstUnknown (rows : List Row) (t : ℕ) (op : Op) (i : ℕ) : Type 0
   pub unknown : row_named rows t (input_at op i).digest ≡ None
   pub before : NamesAll rows t op i
 
+-- e names the first input of the least marked row that has one whose digest is that of no row
 abbrev pub RefusesUnknown : List Row → ℕ → List Op → (ℕ → Type 0) → LoadFault → Type 0
 RefusesUnknown rows t ops Marked e = (k : ℕ) × (i : ℕ) × (e ≡ UnknownDigest k i) × Marked k × FirstUnknown rows t (op_at ops k) i
     × ((j : ℕ) → j < k → Marked j → NamesAll rows t (op_at ops j) (length (op_at ops j).inputs))
 
+-- e names the feature of the least marked row that has one
 abbrev pub RefusesFeature : List Op → (ℕ → Type 0) → LoadFault → Type 0
 RefusesFeature ops Marked e = (k : ℕ) × (f : Feature) × (e ≡ Unsupported k f) × Marked k × (feature_of (op_at ops k) ≡ Some f)
     × ((j : ℕ) → j < k → Marked j → feature_of (op_at ops j) ≡ None)
 
+-- e names the first rule that the least marked row breaks
 abbrev pub RefusesRule : List Op → (ℕ → Type 0) → LoadFault → Type 0
 RefusesRule ops Marked e = (k : ℕ) × (r : Rule) × (e ≡ Invalid k r) × Marked k × BreaksFirst (op_at ops k) r
     × ((j : ℕ) → j < k → Marked j → MeetsRules (op_at ops j))
@@ -37,6 +41,7 @@ RefusesRule ops Marked e = (k : ℕ) × (r : Rule) × (e ≡ Invalid k r) × Mar
 abbrev pub count_there : List ℕ → List ℕ → ℕ → ℕ
 count_there counts named i = slice_index_or counts (slice_index_or named i 0) 0
 
+-- the first n inputs of an op are outputs that are there
 abbrev pub FitsAll : List ℕ → List ℕ → Op → ℕ → Type 0
 FitsAll counts named op n = (i : ℕ) → i < n → IsBelow (count_there counts named i) (input_at op i).index
 
@@ -50,6 +55,7 @@ pub record FirstBad (counts named : List ℕ) (op : Op) (n i : ℕ) : Type 0 whe
 abbrev pub asked_of : List Op → List Bool → ℕ → ℕ → ℕ
 asked_of ops seen terminal k = cond (slice_index_or seen k false) (length (op_at ops k).inputs) (cond (k == terminal) 1 0)
 
+-- e names the first input of the least row that has one which is no output of its vertex
 abbrev pub RefusesIndex : List Op → List (List ℕ) → List ℕ → List Bool → ℕ → LoadFault → Type 0
 RefusesIndex ops links counts seen t e = (k : ℕ) × (i : ℕ) × (e ≡ BadIndex k i) × (k < length ops)
     × FirstBad counts (inputs links k) (op_at ops k) (asked_of ops seen t k) i

@@ -34,6 +34,7 @@ row_fault k f = fault.Entry k f
 
 -- ---- what a fault prints: its number and its arguments, features and rules by their names
 
+-- the name of a feature
 abbrev pub feature_text : Feature → List ℕ
 feature_text feature.DiffOp = codes "DiffOp"
 feature_text feature.BuildOp = codes "BuildOp"
@@ -47,27 +48,34 @@ feature_text feature.Patterns = codes "Patterns"
 feature_text feature.OwnerByName = codes "OwnerByName"
 feature_text feature.CopyField = codes "CopyField"
 
-abbrev pub rule_text : Rule → List ℕ
-rule_text rule.NoKind = codes "NoKind"
-rule_text rule.LocalName = codes "LocalName"
-rule_text rule.NoActions = codes "NoActions"
-rule_text rule.ActionInput = codes "ActionInput"
-rule_text rule.ActionOutput = codes "ActionOutput"
-rule_text rule.NoMeta = codes "NoMeta"
-rule_text rule.NoArgs = codes "NoArgs"
-rule_text rule.NoMounts = codes "NoMounts"
-rule_text rule.NoRoot = codes "NoRoot"
-rule_text rule.BadPath = codes "BadPath"
-rule_text rule.SameDest = codes "SameDest"
-rule_text rule.MountKind = codes "MountKind"
-rule_text rule.MountInput = codes "MountInput"
-rule_text rule.MountOutput = codes "MountOutput"
-rule_text rule.NoCacheOpt = codes "NoCacheOpt"
-rule_text rule.Sharing = codes "Sharing"
-rule_text rule.CacheTwice = codes "CacheTwice"
-rule_text (rule.Script f) = codes "Script " ++ script_text f
-rule_text rule.MergeInput = codes "MergeInput"
+-- the name of a rule
+abbrev pub rule_name : Rule → List ℕ
+rule_name rule.NoKind = codes "NoKind"
+rule_name rule.LocalName = codes "LocalName"
+rule_name rule.NoActions = codes "NoActions"
+rule_name rule.ActionInput = codes "ActionInput"
+rule_name rule.ActionOutput = codes "ActionOutput"
+rule_name rule.NoMeta = codes "NoMeta"
+rule_name rule.NoArgs = codes "NoArgs"
+rule_name rule.NoMounts = codes "NoMounts"
+rule_name rule.NoRoot = codes "NoRoot"
+rule_name rule.BadPath = codes "BadPath"
+rule_name rule.SameDest = codes "SameDest"
+rule_name rule.MountKind = codes "MountKind"
+rule_name rule.MountInput = codes "MountInput"
+rule_name rule.MountOutput = codes "MountOutput"
+rule_name rule.NoCacheOpt = codes "NoCacheOpt"
+rule_name rule.Sharing = codes "Sharing"
+rule_name rule.CacheTwice = codes "CacheTwice"
+rule_name (rule.Script f) = codes "Script"
+rule_name rule.MergeInput = codes "MergeInput"
 
+-- that of scripts is followed by the script's fault
+abbrev pub rule_text : Rule → List ℕ
+rule_text (rule.Script f) = codes "Script " ++ script_text f
+rule_text r = rule_name r
+
+-- the text of a fault: its number and what it is about
 abbrev pub load_text : LoadFault → List ℕ
 load_text (fault.Definition f) = codes "81 " ++ op_text f
 load_text (fault.Entry row f) = codes "82 " ++ (decimal row ++ (codes " " ++ op_text f))

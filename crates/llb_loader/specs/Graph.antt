@@ -38,14 +38,15 @@ pub record LeadsBelow (vertices : List Vertex) (k : ℕ) (e : Edge) : Type 0 whe
   pub index : HoldsAt (λ v. e.index < v.outputs) vertices e.vertex
 
 -- the edge of an input leads to the vertex whose digest the input names, and has the input's index
-pub record StandsFor (vertices : List Vertex) (input : Input) (e : Edge) : Type 0 where
+pub record IsEdgeOfInput (vertices : List Vertex) (input : Input) (e : Edge) : Type 0 where
   pub digest : HoldsAt (λ v. v.digest ≡ input.digest) vertices e.vertex
   pub index : input.index ≡ pos e.index
 
 -- a vertex has an edge for each input of its op, in their order
 pub record HasInputs (vertices : List Vertex) (v : Vertex) : Type 0 where
   pub len : length v.inputs ≡ length v.op.inputs
-  pub each : (i : ℕ) (input : Input) (e : Edge) → i < length v.inputs → StandsFor vertices (slice_index_or v.op.inputs i input) (slice_index_or v.inputs i e)
+  pub each : (i : ℕ) (input : Input) (e : Edge) → i < length v.inputs
+      → IsEdgeOfInput vertices (slice_index_or v.op.inputs i input) (slice_index_or v.inputs i e)
 
 -- a vertex by itself: its op is within the limits, is taken and meets the rules, and its counts, which are small, are those of the op
 pub record IsVertex (v : Vertex) : Type 0 where
@@ -128,6 +129,7 @@ IsVertexOf v (Some (Merge m)) = IsMergeVertex v m
 IsVertexOf v (Some (Exec x)) = IsExecVertex v x
 IsVertexOf v _ = ⊥
 
+-- vertices in an order in which edges lead down
 pub record IsGraph (g : Numbered) : Type 0 where
   -- every edge leads to an output of a lower vertex, and so does the result
   pub down : (k : ℕ) (d : Vertex) → k < length g.vertices → All (LeadsBelow g.vertices k) (slice_index_or g.vertices k d).inputs

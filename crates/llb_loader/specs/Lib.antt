@@ -1,5 +1,5 @@
--- Read first Load and Link (what loading returns), Linking (the graph of the rows, or the first fault) with Rows and Numbering, Graph (what is true of
--- every graph), Features and Rules (what is not taken, and what an op has to be) with Mounts, MountTypes and Scripts, then Locals, Faults and Laws.
+-- Read first Load and Link (what loading returns), Linking (the graph of the rows, or the first fault) with Rows and Numbering, Graph (what is true of every
+-- graph), Features and Rules (what is not taken, and what an op has to be) with Mounts, MountTypes and Scripts, then Locals, Missing, Faults and Laws.
 -- Checking, Checks, Placing, RowLookup, Reading, Building and KeyOrder are the parts of the code's own way.
 pub mod Rows
 pub mod Mounts
@@ -14,6 +14,7 @@ pub mod Placing
 pub mod Faults
 pub mod RowLookup
 pub mod Locals
+pub mod Missing
 pub mod Features
 pub mod Linking
 pub mod Reading

@@ -114,13 +114,13 @@ pub record IsOrdered (p : Plan) (order : List ℕ) : Type 0 where
   pub numbering : IsNumbering (links_in p) p.start order
 
 -- The reached rows are numbered, and none of them has an unsupported feature.
-pub record IsTaken (p : Plan) (order : List ℕ) : Type 0 where
+pub record IsSupported (p : Plan) (order : List ℕ) : Type 0 where
   pub ordered : IsOrdered p order
   pub featureless : (k : ℕ) → ReachedRow p k → feature_of (op_at p.ops k) ≡ None
 
 -- The reached rows are numbered and supported, and each of them meets the rules.
 pub record IsValid (p : Plan) (order : List ℕ) : Type 0 where
-  pub taken : IsTaken p order
+  pub supported : IsSupported p order
   pub valid : (k : ℕ) → ReachedRow p k → MeetsRules (op_at p.ops k)
 
 -- No refusal applies: the reached rows are numbered, supported and valid, and each index of an input is that of an output.
@@ -130,11 +130,13 @@ pub record IsWhole (p : Plan) (order : List ℕ) : Type 0 where
 
 -- ---- the refusals
 
+-- row k is the least one reached that has a feature, f
 pub record IsUnsupported (p : Plan) (k : ℕ) (f : Feature) : Type 0 where
   pub reached : ReachedRow p k
   pub feature : feature_of (op_at p.ops k) ≡ Some f
   pub least : (j : ℕ) → j < k → ReachedRow p j → feature_of (op_at p.ops j) ≡ None
 
+-- row k is the least one reached that breaks a rule, r first
 pub record IsInvalid (p : Plan) (k : ℕ) (r : Rule) : Type 0 where
   pub reached : ReachedRow p k
   pub broken : BreaksFirst (op_at p.ops k) r
@@ -155,7 +157,7 @@ Refuses p NoResult = IsApart p.rows × IsTerminal p.rows p.terminal × ((op_at p
 Refuses p (UnknownDigest k i) = HasNoStart p k i ⊎ (IsStarted p × Foremost (IsUnknown p) k i)
 Refuses p Cycle = IsNamed p × HasCycle (links_in p) p.start
 Refuses p (Unsupported k f) = (order : List ℕ) × IsOrdered p order × IsUnsupported p k f
-Refuses p (Invalid k r) = (order : List ℕ) × IsTaken p order × IsInvalid p k r
+Refuses p (Invalid k r) = (order : List ℕ) × IsSupported p order × IsInvalid p k r
 Refuses p (BadIndex k i) = (order : List ℕ) × IsValid p order × Foremost (IsBadIndex p) k i
 Refuses p _ = ⊥
 

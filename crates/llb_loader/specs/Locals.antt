@@ -19,13 +19,13 @@ abbrev pub source_name : SourceOp → Option (List ℕ)
 source_name s = behind (codes "local://") s.identifier
 
 -- the name of a local source, by the kind of its op
-abbrev pub kind_name : Option Kind → Option (List ℕ)
-kind_name (Some (Source s)) = source_name s
-kind_name _ = None
+abbrev pub name_by_kind : Option Kind → Option (List ℕ)
+name_by_kind (Some (Source s)) = source_name s
+name_by_kind _ = None
 
 -- the name of a local source; none for another op
 abbrev pub local_name : Op → Option (List ℕ)
-local_name op = kind_name op.kind
+local_name op = name_by_kind op.kind
 
 -- ---- the trees that are given
 

@@ -20,5 +20,6 @@ pub record IsUnread (rows : List Row) (k : ℕ) (f : OpFault) : Type 0 where
   pub fault : op_of (row_at rows k).bytes ≡ Err f
   pub before : (j : ℕ) → j < k → IsOk (op_of (row_at rows j).bytes)
 
+-- e says what is wrong with the first row that cannot be read
 abbrev pub RefusesRow : List Row → LoadFault → Type 0
 RefusesRow rows e = (k : ℕ) × (f : OpFault) × (e ≡ Entry k f) × IsUnread rows k f

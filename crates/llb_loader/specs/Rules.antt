@@ -40,6 +40,7 @@ abbrev pub kind_actions : Option Kind → List Action
 kind_actions (Some (File f)) = f.actions
 kind_actions _ = []
 
+-- the actions of an op; none where it is no file op
 abbrev pub actions_of : Op → List Action
 actions_of op = kind_actions op.kind
 

@@ -103,6 +103,7 @@ fn commands_in(alloc: Global, meta: &Option<Meta>) -> Result<Option<Script>, Mem
     match read_script(alloc, meta.args.as_slice()) {
         Ok(script) => Ok(Some(script)),
         Err(ScriptFault::Memory) => Err(Memory),
+        // Unreachable in a graph.
         Err(_) => Ok(None),
     }
 }

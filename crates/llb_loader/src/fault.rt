@@ -1,8 +1,9 @@
 //! Why rows are no graph. A fault prints what comes after the word `fault` in a refusal: its number and
 //! its arguments, features and rules by their names. Refusals of memory of any kind become `Memory` by `?`.
 
-ghost use Rattle.std.specs.Prelude.{Some};
-ghost use Rattle.llb_loader.specs.Faults.{load_text, feature_text, rule_text};
+ghost use Rattle.std.specs.Prelude.{◌≡◌, Some, codes};
+ghost use Rattle.std.specs.Fmt.{◌++?◌, DisplaysOnOk, decimal};
+ghost use Rattle.llb_loader.specs.Faults.{load_text, feature_text, rule_name, rule_text};
 
 use llb_applet::ScriptFault;
 use llb_ops::OpFault;
@@ -12,7 +13,7 @@ use std::{error, fmt};
 use thiserror::Error;
 
 /// Why rows are no graph: the first fault in this order, the least row, then the least input.
-#[derive(Debug, Drop)]
+#[derive(Drop)]
 pub enum LoadFault {
     /// 81: the definition is not readable; its fault follows.
     Definition(OpFault),
@@ -44,17 +45,37 @@ impl fmt::Display for LoadFault {
     fn fmt<W: fmt::Write>(&self, f: &mut fmt::Formatter<W>) -> fmt::Result {
         match self {
             LoadFault::Definition(fault) => write!(f, "81 {fault}"),
-            LoadFault::Entry(row, fault) => write!(f, "82 {row} {fault}"),
-            LoadFault::TooFew => write!(f, "83"),
+            LoadFault::Entry(row, fault) => at_row(f, "82", row, fault),
+            LoadFault::TooFew => f.write_str("83"),
             LoadFault::Collision(row) => write!(f, "84 {row}"),
-            LoadFault::NoResult => write!(f, "85"),
-            LoadFault::UnknownDigest(row, input) => write!(f, "86 {row} {input}"),
-            LoadFault::Cycle => write!(f, "87"),
-            LoadFault::Unsupported(row, feature) => write!(f, "88 {row} {feature}"),
-            LoadFault::Invalid(row, rule) => write!(f, "89 {row} {rule}"),
-            LoadFault::BadIndex(row, input) => write!(f, "90 {row} {input}"),
-            LoadFault::Memory => write!(f, "91"),
+            LoadFault::NoResult => f.write_str("85"),
+            LoadFault::UnknownDigest(row, input) => at_row(f, "86", row, input),
+            LoadFault::Cycle => f.write_str("87"),
+            LoadFault::Unsupported(row, feature) => at_row(f, "88", row, feature),
+            LoadFault::Invalid(row, rule) => at_row(f, "89", row, rule),
+            LoadFault::BadIndex(row, input) => at_row(f, "90", row, input),
+            LoadFault::Memory => f.write_str("91"),
         }
+    }
+}
+
+// Writes the number of a fault, the row that it is in, and what is wrong there.
+fn at_row<W: fmt::Write, T: fmt::Display>(
+    f: &mut fmt::Formatter<W>,
+    number: &str,
+    row: &u32,
+    what: &T,
+) -> fmt::Result
+    ensures { DisplaysOnOk W.write_str_gives f.old result
+        (Some number.now ++? Some (codes " ") ++? Some (decimal row.now) ++? Some (codes " ") ++? T.output what.now) f.new }
+{
+    write!(f, "{number} {row} {what}")
+}
+
+// Written out: prints what `Display` does.
+impl fmt::Debug for LoadFault {
+    fn fmt<W: fmt::Write>(&self, f: &mut fmt::Formatter<W>) -> fmt::Result {
+        fmt::Display::fmt(self, f)
     }
 }
 
@@ -87,29 +108,38 @@ pub enum Feature {
     CopyField,
 }
 
+impl Feature {
+    // The name that it prints.
+    fn name(&self) -> &'static str
+        ensures { result.now ≡ feature_text self.now }
+    {
+        match self {
+            Feature::DiffOp => "DiffOp",
+            Feature::BuildOp => "BuildOp",
+            Feature::Source => "Source",
+            Feature::SecretMount => "SecretMount",
+            Feature::SshMount => "SshMount",
+            Feature::SecretEnv => "SecretEnv",
+            Feature::Action => "Action",
+            Feature::Unpack => "Unpack",
+            Feature::Patterns => "Patterns",
+            Feature::OwnerByName => "OwnerByName",
+            Feature::CopyField => "CopyField",
+        }
+    }
+}
+
 /// A feature prints its name.
 impl fmt::Display for Feature {
     ghost output = { λ x. Some (feature_text x) };
 
     fn fmt<W: fmt::Write>(&self, f: &mut fmt::Formatter<W>) -> fmt::Result {
-        match self {
-            Feature::DiffOp => write!(f, "DiffOp"),
-            Feature::BuildOp => write!(f, "BuildOp"),
-            Feature::Source => write!(f, "Source"),
-            Feature::SecretMount => write!(f, "SecretMount"),
-            Feature::SshMount => write!(f, "SshMount"),
-            Feature::SecretEnv => write!(f, "SecretEnv"),
-            Feature::Action => write!(f, "Action"),
-            Feature::Unpack => write!(f, "Unpack"),
-            Feature::Patterns => write!(f, "Patterns"),
-            Feature::OwnerByName => write!(f, "OwnerByName"),
-            Feature::CopyField => write!(f, "CopyField"),
-        }
+        f.write_str(self.name())
     }
 }
 
 /// The rules that ops meet, in the order in which they are checked.
-#[derive(Debug, Drop)]
+#[derive(Drop)]
 pub enum Rule {
     /// The op is of some kind.
     NoKind,
@@ -151,32 +181,51 @@ pub enum Rule {
     MergeInput,
 }
 
+impl Rule {
+    // What it prints, but for the fault of a script.
+    fn name(&self) -> &'static str
+        ensures { result.now ≡ rule_name self.now }
+    {
+        match self {
+            Rule::NoKind => "NoKind",
+            Rule::LocalName => "LocalName",
+            Rule::NoActions => "NoActions",
+            Rule::ActionInput => "ActionInput",
+            Rule::ActionOutput => "ActionOutput",
+            Rule::NoMeta => "NoMeta",
+            Rule::NoArgs => "NoArgs",
+            Rule::NoMounts => "NoMounts",
+            Rule::NoRoot => "NoRoot",
+            Rule::BadPath => "BadPath",
+            Rule::SameDest => "SameDest",
+            Rule::MountKind => "MountKind",
+            Rule::MountInput => "MountInput",
+            Rule::MountOutput => "MountOutput",
+            Rule::NoCacheOpt => "NoCacheOpt",
+            Rule::Sharing => "Sharing",
+            Rule::CacheTwice => "CacheTwice",
+            Rule::Script(_) => "Script",
+            Rule::MergeInput => "MergeInput",
+        }
+    }
+}
+
 /// A rule prints its name, and that of scripts the script's fault after it.
 impl fmt::Display for Rule {
     ghost output = { λ r. Some (rule_text r) };
 
     fn fmt<W: fmt::Write>(&self, f: &mut fmt::Formatter<W>) -> fmt::Result {
         match self {
-            Rule::NoKind => write!(f, "NoKind"),
-            Rule::LocalName => write!(f, "LocalName"),
-            Rule::NoActions => write!(f, "NoActions"),
-            Rule::ActionInput => write!(f, "ActionInput"),
-            Rule::ActionOutput => write!(f, "ActionOutput"),
-            Rule::NoMeta => write!(f, "NoMeta"),
-            Rule::NoArgs => write!(f, "NoArgs"),
-            Rule::NoMounts => write!(f, "NoMounts"),
-            Rule::NoRoot => write!(f, "NoRoot"),
-            Rule::BadPath => write!(f, "BadPath"),
-            Rule::SameDest => write!(f, "SameDest"),
-            Rule::MountKind => write!(f, "MountKind"),
-            Rule::MountInput => write!(f, "MountInput"),
-            Rule::MountOutput => write!(f, "MountOutput"),
-            Rule::NoCacheOpt => write!(f, "NoCacheOpt"),
-            Rule::Sharing => write!(f, "Sharing"),
-            Rule::CacheTwice => write!(f, "CacheTwice"),
             Rule::Script(fault) => write!(f, "Script {fault}"),
-            Rule::MergeInput => write!(f, "MergeInput"),
+            _ => f.write_str(self.name()),
         }
+    }
+}
+
+// Written out: prints what `Display` does.
+impl fmt::Debug for Rule {
+    fn fmt<W: fmt::Write>(&self, f: &mut fmt::Formatter<W>) -> fmt::Result {
+        fmt::Display::fmt(self, f)
     }
 }
 

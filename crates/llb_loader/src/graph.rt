@@ -89,6 +89,7 @@ impl Model for Graph {
 }
 
 impl Graph {
+    // The graph of these vertices, with its result.
     pub(crate) fn of_parts(
         alloc: Global,
         vertices: Vec<Vertex>,

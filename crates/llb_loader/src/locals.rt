@@ -26,7 +26,7 @@ impl Drop for Locals {
 impl Model for Locals {
     ghost use Rattle.std.specs.Prelude.{List};
     ghost use Rattle.std.specs.Coded.{codes};
-    ghost use Rattle.llb_tree.specs.Tree.{coded_tree};
+    ghost use Rattle.llb_tree.specs.Coded.{coded_tree};
     ghost use Rattle.llb_loader.specs.Locals.{Local, locals_of};
 
     ghost Value = { List Local };

@@ -1,11 +1,12 @@
-//! The types of mounts, and the options of the cache that a mount shows.
+//! The mounts of an op, their types, and the options of the cache that a mount shows.
 
 ghost use Rattle.std.specs.Prelude.{◌≡◌};
 ghost use Rattle.std.specs.Option.{option_copied};
 ghost use Rattle.llb_loader.specs.Mounts.{cache_in, has_type};
 ghost use Rattle.llb_loader.specs.MountTypes.{number_of};
+ghost use Rattle.llb_loader.specs.Rules.{kind_mounts};
 
-use llb_ops::{CacheOpt, Mount};
+use llb_ops::{CacheOpt, Kind, Mount};
 
 /// What a mount shows.
 #[derive(Clone, Copy, Debug, PartialEq, Eq)]
@@ -41,6 +42,16 @@ impl MountType {
         ensures { result ≡ has_type (number_of self) mount.now }
     {
         mount.mount_type == self.number()
+    }
+}
+
+/// Returns the mounts of a kind: those of an exec. Does not allocate.
+pub fn mounts_of(kind: &Option<Kind>) -> &[Mount]
+    ensures { result.now ≡ kind_mounts kind.now }
+{
+    match kind {
+        Some(Kind::Exec(exec)) => exec.get().mounts.as_slice(),
+        _ => &[],
     }
 }
 

@@ -66,6 +66,7 @@ pub(crate) fn terminal_of(rows: &[Row], index: &BTreeMap<&str, usize>) -> usize
 {
     match index.get(rows[rows.len() - 1].digest.as_str()) {
         Some(row) => *row,
+        // Unreachable.
         None => 0,
     }
 }
@@ -85,7 +86,7 @@ pub(crate) fn row_of(
 }
 
 /// Returns the rows that the op's inputs name.
-pub(crate) fn rows_of(
+pub(crate) fn rows_named_by(
     alloc: Global,
     rows: &[Row],
     index: &BTreeMap<&str, usize>,
@@ -117,7 +118,7 @@ pub(crate) fn links_of(
 {
     let mut links = Vec::with_capacity(alloc, ops.len())?;
     for op in ops {
-        links.push(rows_of(alloc, rows, index, terminal, op)?)?;
+        links.push(rows_named_by(alloc, rows, index, terminal, op)?)?;
     }
     Ok(links)
 }

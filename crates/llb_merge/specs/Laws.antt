@@ -9,8 +9,9 @@ use Rattle.std.specs.FinMap.Entries.{where_key, find-where_key}
 use Rattle.llb_tree.specs.Meta.{new_dir_meta}
 use Rattle.llb_tree.specs.Path.{path_cmp}
 use Rattle.llb_tree.specs.PathOrder.{path_cmp-IsTotalOrder, path_cmp-IsAntisymmetric}
-use Rattle.llb_tree.specs.Tree.{Entry, Dir, File, TreeMap, Look, parents, all_dirs, walk, IsDirAt, CanStand, IsTree, empty_tree}
+use Rattle.llb_tree.specs.Tree.{Entry, Dir, File, TreeMap, Look, parents, all_dirs, walk, IsDirAt, IsAllowedAt, IsTree, empty_tree}
 use Rattle.llb_tree.specs.Overlay.{WayValue, way_of, laid_over, over_at}
+use Rattle.llb_tree.specs.Inside.{map-map, walk-cons}
 use Rattle.llb_merge.specs.Laying.{is_file, below_file, or_else, lay_at, lay}
 
 abbrev Pair : Type 0
@@ -69,14 +70,6 @@ over_is_lay w is a b t over = lay_only a b t (λ q.
     ∙ over_plain (finite.get a) (finite.get b) q)
 
 -- ---- walks
-
-map-map : {A B C : Type 0} (g : B → C) (f : A → B) (xs : List A) → map g (map f xs) ≡ map (λ x. g (f x)) xs
-map-map g f [] = refl
-map-map g f (x ∷ xs) = ap (λ ys. g (f x) ∷ ys) (map-map g f xs)
-
--- the root first, and then the rest below the first name
-pub walk-cons : (look : Look) (n : List ℕ) (p : List (List ℕ)) → walk look (n ∷ p) ≡ all_dirs (look [] ∷ map (λ q. look (n ∷ q)) (parents p))
-walk-cons look n p = ap (λ ys. all_dirs (look [] ∷ ys)) (map-map look (λ q. n ∷ q) (parents p))
 
 pub below_file-cons : (look : Look) (n : List ℕ) (p : List (List ℕ)) → below_file look (n ∷ p) ≡ (is_file (look []) || below_file (λ q. look (n ∷ q)) p)
 below_file-cons look n p = ap (λ ys. list_any is_file (look [] ∷ ys)) (map-map look (λ q. n ∷ q) (parents p))
@@ -150,8 +143,9 @@ module _ (a b : TreeMap) (lower : IsTree a) (upper : IsTree b) where
   IsTree-lay = record {
     root = (upper.root.0, get-lay a b [] ∙ (dir_over (finite.get a) (finite.get b) [] upper.root).1);
     closed = λ p there. let some = some_is (finite.get (lay a b) p) there in looks p ∙ closed p some.0 (sym (get-lay a b p) ∙ some.1);
-    stands = λ p e is.
-        laid_cases (CanStand p e) (finite.get a) (finite.get b) p e (upper.stands p e) (λ none clear there. lower.stands p e there) (sym (get-lay a b p) ∙ is);
+    allowed = λ p e is.
+        laid_cases (IsAllowedAt p e) (finite.get a) (finite.get b) p e (upper.allowed p e) (λ none clear there. lower.allowed p e there)
+        (sym (get-lay a b p) ∙ is);
   }
 
 -- ---- the empty tree, and a tree over itself

@@ -12,8 +12,8 @@ use Rattle.llb_loader.specs.Graph.{LeadsBelow, IsGraph}
 use Rattle.llb_loader.specs.declared.graph.Edge.{Edge}
 use Rattle.llb_model.specs.Caches.{Store}
 use Rattle.llb_model.specs.Program.{Build, Need, Start, needs_of, step_on}
-use Rattle.llb_model.specs.State.{Status, Waiting, Running, Settled, Execution, At, Idle, Runs, State, ending_of, ending_at, ready}
-use Rattle.llb_model.specs.State.{is_ready, is_waiting, is_failed, program_in, work_of, is_finished, ending_from, held, is_shut, held_key}
+use Rattle.llb_model.specs.State.{Status, Waiting, Running, Settled, Execution, WorkerStatus, Idle, Runs, State, ending_of, ending_at, ready}
+use Rattle.llb_model.specs.State.{is_ready, is_waiting, is_failed, program_in, work_of, is_finished, ending_from, held, is_locked_and_held, held_key}
 use Rattle.llb_model.specs.State.{is_stopped}
 use Rattle.llb_model.specs.Table.{Event, Claim, Step, Settle, Cancel, Reply, claim_at, step_by, settle_with, after_end, table}
 use Rattle.llb_model.specs.Run.{next_of, least, next_claim, or_else, chosen, is_settled, claims_of, AllAbove, AreAscending}
@@ -43,7 +43,7 @@ pub record IsChosenClaim (b : Build) (s : State) (v : ℕ) : Type 0 where
   pub idle : (u : ℕ) (x : Execution) → slice_get s.workers u ≢ Some (Runs x)
   pub least : IsLeast (is_ready b s.statuses) 0 (length b.graph.vertices) v
 
-next_is : (b : Build) (ws : List At) (w : ℕ) (e : Event) → next_of b w ws ≡ Some e
+next_is : (b : Build) (ws : List WorkerStatus) (w : ℕ) (e : Event) → next_of b w ws ≡ Some e
     → (u : ℕ) × (x : Execution) × (slice_get ws u ≡ Some (Runs x)) × (e ≡ cond (is_finished (program_in b x).steps x) (Settle (w + u)) (Step (w + u)))
 next_is b [] w e is = absurd cc
 next_is b (Idle ∷ ws) w e is =
@@ -119,21 +119,21 @@ next_granted b s e n = subst (IsGranted b s) (sym n.is) (by_test (is_finished (p
         (step_granted b s n.worker n.execution m.0 n.there m.1)
 
 -- where nothing runs, nothing is held
-none_held : (ws : List At) → ((u : ℕ) (x : Execution) → slice_get ws u ≢ Some (Runs x)) → held ws ≡ []
+none_held : (ws : List WorkerStatus) → ((u : ℕ) (x : Execution) → slice_get ws u ≢ Some (Runs x)) → held ws ≡ []
 none_held [] none = refl
 none_held (Idle ∷ ws) none = none_held ws (λ u x. none (suc u) x)
 none_held (Runs x ∷ ws) none = absurd (none 0 x refl)
 
-none_shut : (needs : List Need) → held_key [] needs ≡ None
-none_shut [] = refl
-none_shut (n ∷ needs) = ap (λ t. cond t (Some n.key) (held_key [] needs)) (open_key n.key n.key.mode) ∙ none_shut needs
+none_locked_and_held : (needs : List Need) → held_key [] needs ≡ None
+none_locked_and_held [] = refl
+none_locked_and_held (n ∷ needs) = ap (λ t. cond t (Some n.key) (held_key [] needs)) (open_key n.key n.key.mode) ∙ none_locked_and_held needs
   where
-    open_key : (k : Key) (m : Mode) → is_shut [] k m ≡ false
+    open_key : (k : Key) (m : Mode) → is_locked_and_held [] k m ≡ false
     open_key k Shared = refl
     open_key k Private = refl
     open_key k Locked = refl
 
-first_claim : (b : Build) (s : State) (v : ℕ) (a : At) → slice_get s.workers 0 ≡ Some a → IsChosenClaim b s v → IsGranted b s (Claim 0 v)
+first_claim : (b : Build) (s : State) (v : ℕ) (a : WorkerStatus) → slice_get s.workers 0 ≡ Some a → IsChosenClaim b s v → IsGranted b s (Claim 0 v)
 first_claim b s v (Runs x) there c = absurd (c.idle 0 x there)
 first_claim b s v Idle there c = by_start (ready b s.statuses v) refl c.least.passes
   where
@@ -142,10 +142,10 @@ first_claim b s v Idle there c = by_start (ready b s.statuses v) refl c.least.pa
     by_start (Some start) is some =
         granted_with b s (Claim 0 v) (claim_at b s 0 v start (claim_places s start))
         (claim_granted b s 0 v start there (ready_is b s.statuses v start is)
-        (ap (λ ps. held_key ps (needs_of start.vertex)) (none_held s.workers c.idle) ∙ none_shut (needs_of start.vertex)))
+        (ap (λ ps. held_key ps (needs_of start.vertex)) (none_held s.workers c.idle) ∙ none_locked_and_held (needs_of start.vertex)))
 
 -- the event that is chosen is granted, where there is a worker
-pub chosen_granted : (b : Build) (s : State) (e : Event) (a : At) → slice_get s.workers 0 ≡ Some a → chosen b s ≡ Some e → IsGranted b s e
+pub chosen_granted : (b : Build) (s : State) (e : Event) (a : WorkerStatus) → slice_get s.workers 0 ≡ Some a → chosen b s ≡ Some e → IsGranted b s e
 chosen_granted b s e a there is = elim (chosen_is b s e is) [
   | inl n ↦ next_granted b s e n
   | inr c ↦ subst (IsGranted b s) (sym c.1) (first_claim b s c.0 a there c.2)
@@ -208,7 +208,7 @@ module _ (b : Build) (graph : IsGraph b.graph) where
 
   -- a status that is written where nothing was over
   written : (s : State) (v : ℕ) (old new : Status) → slice_get s.statuses v ≡ Some old → is_failed (ending_of (Some old)) ≡ false → is_over b s v ≡ false
-      → (ws : List At) (store : Store) → Keeps s (record { statuses = slice_set s.statuses v new; workers = ws; store = store })
+      → (ws : List WorkerStatus) (store : Store) → Keeps s (record { statuses = slice_set s.statuses v new; workers = ws; store = store })
   written s v old new there unfailed open_ ws store = record {
     failures = λ j failed. elim (eq_or j v) [
       | inl h ↦ absurd (cc (sym (ap (λ o. is_failed (ending_of o)) (ap (slice_get s.statuses) h ∙ there)) ∙ failed, unfailed))

@@ -10,7 +10,7 @@ use Rattle.llb_loader.specs.declared.graph.Vertex.{Vertex}
 use Rattle.llb_tree.specs.Tree.{TreeMap}
 use Rattle.llb_model.specs.Program.{Build}
 use Rattle.llb_model.specs.Outcome.{Done, Failed, output_in, inputs_from, outcome, is_plain}
-use Rattle.llb_model.specs.State.{Status, Waiting, Running, Settled, Execution, At, Idle, Runs, State, ending_of, ending_at, is_ready}
+use Rattle.llb_model.specs.State.{Status, Waiting, Running, Settled, Execution, WorkerStatus, Idle, Runs, State, ending_of, ending_at, is_ready}
 use Rattle.llb_model.specs.State.{is_waiting, is_done, is_blocked, is_failed, is_stopped}
 use Rattle.llb_model.specs.Table.{Event, Claim}
 use Rattle.llb_model.specs.Run.{next_of, least, next_claim, or_else, chosen, is_settled, each, is_complete, StandsPlainly}
@@ -87,7 +87,7 @@ least_some test v (suc n) k e = go (test v) refl e (λ e. least_some test (v + 1
         }
 
 -- no worker runs where none has a next event
-pub nothing_runs : (b : Build) (ws : List At) (w : ℕ) → next_of b w ws ≡ None → (u : ℕ) (x : Execution) → slice_get ws u ≢ Some (Runs x)
+pub nothing_runs : (b : Build) (ws : List WorkerStatus) (w : ℕ) → next_of b w ws ≡ None → (u : ℕ) (x : Execution) → slice_get ws u ≢ Some (Runs x)
 nothing_runs b [] w e u x there = cc
 nothing_runs b (Idle ∷ ws) w e zero x there = cc
 nothing_runs b (Idle ∷ ws) w e (suc u) x there = nothing_runs b ws (w + 1) e u x there
@@ -174,7 +174,7 @@ module _ (b : Build) (graph : IsGraph b.graph) (s : State) (here : IsConsistent 
 
   -- ---- the chosen event
 
-  all_idle : (ws : List At) (w : ℕ) → ((u : ℕ) (x : Execution) → slice_get ws u ≢ Some (Runs x)) → next_of b w ws ≡ None
+  all_idle : (ws : List WorkerStatus) (w : ℕ) → ((u : ℕ) (x : Execution) → slice_get ws u ≢ Some (Runs x)) → next_of b w ws ≡ None
   all_idle [] w none = refl
   all_idle (Idle ∷ ws) w none = all_idle ws (w + 1) (λ u x. none (suc u) x)
   all_idle (Runs y ∷ ws) w none = absurd (none zero y refl)

@@ -5,7 +5,7 @@ use Rattle.std.proofs.lemmas.List.{length-replicate}
 use Rattle.llb_loader.specs.declared.graph.Edge.{Edge}
 use Rattle.llb_loader.specs.declared.graph.Vertex.{Vertex}
 use Rattle.llb_tree.specs.Tree.{TreeMap}
-use Rattle.llb_model.specs.Caches.{Place}
+use Rattle.llb_model.specs.Caches.{Instance}
 use Rattle.llb_model.specs.Program.{Build, Work, Left, Start, program_at, step_on}
 use Rattle.llb_model.specs.Outcome.{Ending, Done, inputs_from}
 use Rattle.llb_model.specs.State.{Status, Waiting, Running, Settled, Execution, Idle, Runs, State, Opening, opening, ending_of, ending_at}
@@ -63,7 +63,7 @@ module _ (b : Build) (s : State) (here : IsConsistent b s) where
         | inr h ↦ here.inputs k x at (sym (ap is_waiting (get_set_other s.statuses v new k h)) ∙ moved)
       ])
 
-  claim_keeps : (w v : ℕ) (start : Start) (work : Work) (ps : List Place) → slice_get s.workers w ≡ Some Idle
+  claim_keeps : (w v : ℕ) (start : Start) (work : Work) (ps : List Instance) → slice_get s.workers w ≡ Some Idle
       → IsReady b s.statuses v start → IsConsistent b (after_claim s w v work ps)
   claim_keeps w v start work ps idle ready = record {
     count = length_set s.statuses v (Running w) ∙ here.count;

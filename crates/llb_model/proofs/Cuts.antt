@@ -2,7 +2,7 @@
 use Rattle.std.proofs.Common.{◌≡◌, ◌≢◌, ℕ, Bool, true, false, List, ◌∷◌, Option, Some, None, refl, sym, ap, cond}
 use Rattle.std.proofs.lemmas.Bool.{ne_eqb, eq-eqb}
 use Rattle.llb_model.specs.declared.fault.VertexFault.{VertexFault}
-use Rattle.llb_model.specs.Program.{Build, MicroStep, ReadLocal, Act, LayInput, Run, View, Left, last_of, is_run}
+use Rattle.llb_model.specs.Program.{Build, MicroStep, ReadLocal, Act, LayInput, Run, Workspace, Left, last_of, is_run}
 use Rattle.llb_model.specs.Outcome.{Ending, Done, Failed}
 use Rattle.llb_model.specs.Table.{Reply, Claimed, HasRead, Acted, HasMerged, HasRun, Skipped, Faulted, SettledDone, SettledFailed, Cancelled}
 use Rattle.llb_model.specs.Table.{unless_failed, step_reply, settle_reply}
@@ -18,7 +18,7 @@ unless_cuts : (f : Option VertexFault) (r : Reply) (rs : List Reply) → cuts (r
 unless_cuts None r rs same = same
 unless_cuts (Some f) r rs same = refl
 
-pub step_cuts : (k : ℕ) (m : MicroStep) (own : View) (left : Left) (rs : List Reply) → cuts (step_reply k m own left ∷ rs) ≡ cuts rs
+pub step_cuts : (k : ℕ) (m : MicroStep) (own : Workspace) (left : Left) (rs : List Reply) → cuts (step_reply k m own left ∷ rs) ≡ cuts rs
 step_cuts k ReadLocal own left rs = unless_cuts left.fault HasRead rs refl
 step_cuts k (Act action) own left rs = unless_cuts left.fault (Acted k) rs refl
 step_cuts k (LayInput i) own left rs = unless_cuts left.fault (HasMerged k) rs refl
@@ -62,7 +62,8 @@ unless_stays : (b : Build) (o : Order) (f : Option VertexFault) (r : Reply) (rs 
 unless_stays b o None r rs same = same
 unless_stays b o (Some f) r rs same = refl
 
-pub step_stays : (b : Build) (o : Order) (k : ℕ) (m : MicroStep) (own : View) (left : Left) (rs : List Reply) → after_reply b o (step_reply k m own left) rs ≡ o
+pub step_stays : (b : Build) (o : Order) (k : ℕ) (m : MicroStep) (own : Workspace) (left : Left) (rs : List Reply)
+    → after_reply b o (step_reply k m own left) rs ≡ o
 step_stays b o k ReadLocal own left rs = unless_stays b o left.fault HasRead rs refl
 step_stays b o k (Act action) own left rs = unless_stays b o left.fault (Acted k) rs refl
 step_stays b o k (LayInput i) own left rs = unless_stays b o left.fault (HasMerged k) rs refl

@@ -8,9 +8,9 @@ use Rattle.llb_cache.specs.declared.key.Mode.{Mode}
 use Rattle.llb_cache.specs.declared.key.Mode.TheVariants.{Shared, Private, Locked}
 use Rattle.llb_loader.specs.declared.graph.Vertex.{Vertex}
 use Rattle.llb_tree.specs.Tree.{TreeMap}
-use Rattle.llb_model.specs.Caches.{Place, place, place_cmp, Store, content, put_all, Has, is_in}
+use Rattle.llb_model.specs.Caches.{Instance, place, place_cmp, Store, content, put_all, Has, is_in}
 use Rattle.llb_model.specs.Program.{Build, Need, needs_of, step_on}
-use Rattle.llb_model.specs.State.{Execution, At, Idle, Runs, State, Opening, opening, work_of, held, above, first_free, number_for}
+use Rattle.llb_model.specs.State.{Execution, WorkerStatus, Idle, Runs, State, Opening, opening, work_of, held, above, first_free, number_for}
 use Rattle.llb_model.specs.State.{place_for, places_for, begin_at, places_by}
 use Rattle.llb_model.specs.Table.{Event, Claim, Step, Settle, Cancel, Reply, Claimed, execution_on, claim_at, table}
 use Rattle.llb_model.specs.Laws.{IsDense, StaysDense, ClaimsLeast}
@@ -24,7 +24,7 @@ use Rattle.llb_model.proofs.Separate.{stepped_back, ended_back}
 -- ---- below the least free one
 
 -- a place that the test finds is one of the list
-pub in_has : (ps : List Place) (p : Place) → is_in ps p ≡ true → Has ps p
+pub in_has : (ps : List Instance) (p : Instance) → is_in ps p ≡ true → Has ps p
 in_has [] p e = absurd cc
 in_has (q ∷ ps) p e = go (eq_by_cmp place_cmp p q) refl e (in_has ps p)
   where
@@ -32,7 +32,7 @@ in_has (q ∷ ps) p e = go (eq_by_cmp place_cmp p q) refl e (in_has ps p)
     go true is e rest = inl (place_test p q is)
     go false is e rest = inr (rest e)
 
-below_free : (ps : List Place) (k : Key) (n tries m : ℕ) → n ≤ m → m < first_free ps k n tries → Has ps (place k m)
+below_free : (ps : List Instance) (k : Key) (n tries m : ℕ) → n ≤ m → m < first_free ps k n tries → Has ps (place k m)
 below_free ps k n zero m le lt = absurd (omega (arith, le, lt))
 below_free ps k n (suc tries) m le lt = go (is_in ps (place k n)) refl lt (below_free ps k (n + 1) tries m)
   where
@@ -48,17 +48,17 @@ below_free ps k n (suc tries) m le lt = go (is_in ps (place k n)) refl lt (below
     go false is lt rest = absurd (omega (arith, le, lt))
 
 -- all instances of a key below the one that a claim takes are held
-pub below_number : (ps : List Place) (k : Key) (mode : Mode) (m : ℕ) → m < number_for ps k mode → Has ps (place k m)
+pub below_number : (ps : List Instance) (k : Key) (mode : Mode) (m : ℕ) → m < number_for ps k mode → Has ps (place k m)
 below_number ps k Shared m lt = absurd (omega (arith, lt))
 below_number ps k Locked m lt = absurd (omega (arith, lt))
 below_number ps k Private m lt = below_free ps k 0 (above ps) m (omega arith) lt
 
 -- below each instance that a claim takes, all are held
-pub below_held : (ps : List Place) (ns : List Need) (p : Place) → Has (places_for ps ns) p → (m : ℕ) → m < p.number → Has ps (place p.key m)
+pub below_held : (ps : List Instance) (ns : List Need) (p : Instance) → Has (places_for ps ns) p → (m : ℕ) → m < p.number → Has ps (place p.key m)
 below_held ps ns p h m lt =
     let f = has_map (place_for ps) ns p h in
-    let number : p.number ≡ number_for ps f.0.key f.0.key.mode = ap (λ (q : Place). q.number) f.2 in
-    subst (λ (k : Key). Has ps (place k m)) (sym (ap (λ (q : Place). q.key) f.2)) (below_number ps f.0.key f.0.key.mode m (omega (arith, number, lt)))
+    let number : p.number ≡ number_for ps f.0.key f.0.key.mode = ap (λ (q : Instance). q.number) f.2 in
+    subst (λ (k : Key). Has ps (place k m)) (sym (ap (λ (q : Instance). q.key) f.2)) (below_number ps f.0.key f.0.key.mode m (omega (arith, number, lt)))
 
 split_has : {A : Type 0} (xs ys : List A) (x : A) → Has (xs ++ ys) x → Has xs x ⊎ Has ys x
 split_has [] ys x h = inr h
@@ -66,7 +66,7 @@ split_has (a ∷ xs) ys x (inl h) = inl (inl h)
 split_has (a ∷ xs) ys x (inr h) = elim (split_has xs ys x h) [ inl k ↦ inl (inr k) | inr k ↦ inr k ]
 
 -- a place that is held has a holder
-pub holder_of : (ws : List At) (p : Place) → Has (held ws) p → (w : ℕ) × (x : Execution) × (slice_get ws w ≡ Some (Runs x)) × Has x.places p
+pub holder_of : (ws : List WorkerStatus) (p : Instance) → Has (held ws) p → (w : ℕ) × (x : Execution) × (slice_get ws w ≡ Some (Runs x)) × Has x.places p
 holder_of [] p h = absurd h
 holder_of (Idle ∷ ws) p h = let r = holder_of ws p h in (suc r.0, r.1, r.2, r.3)
 holder_of (Runs x ∷ ws) p h = elim (split_has x.places (held ws) p h) [
@@ -76,28 +76,28 @@ holder_of (Runs x ∷ ws) p h = elim (split_has x.places (held ws) p h) [
 
 -- ---- what is at places after writes
 
-abbrev Stands : Store → Place → Type 0
+abbrev Stands : Store → Instance → Type 0
 Stands s p = is_some (content s p) ≡ true
 
-stays_one : (s : Store) (p : Place) (t : TreeMap) (q : Place) → Stands s q → is_some (content (put_all s (p ∷ []) (t ∷ [])) q) ≡ true
+stays_one : (s : Store) (p : Instance) (t : TreeMap) (q : Instance) → Stands s q → is_some (content (put_all s (p ∷ []) (t ∷ [])) q) ≡ true
 stays_one s p t q h = elim (place_or q p) [
   | inl k ↦ ap is_some (ap (content (put_all s (p ∷ []) (t ∷ []))) k ∙ content_same s p t)
   | inr k ↦ ap is_some (content_other s p t q k) ∙ h
 ]
 
-stays : (s : Store) (ps : List Place) (ts : List TreeMap) (q : Place) → Stands s q → Stands (put_all s ps ts) q
+stays : (s : Store) (ps : List Instance) (ts : List TreeMap) (q : Instance) → Stands s q → Stands (put_all s ps ts) q
 stays s [] ts q h = h
 stays s (p ∷ ps) [] q h = h
 stays s (p ∷ ps) (t ∷ ts) q h = stays (put_all s (p ∷ []) (t ∷ [])) ps ts q (stays_one s p t q h)
 
-written : (s : Store) (ps : List Place) (ts : List TreeMap) → length ts ≡ length ps → (q : Place) → Has ps q → Stands (put_all s ps ts) q
+written : (s : Store) (ps : List Instance) (ts : List TreeMap) → length ts ≡ length ps → (q : Instance) → Has ps q → Stands (put_all s ps ts) q
 written s [] ts len q h = absurd h
 written s (p ∷ ps) [] len q h = absurd (omega (arith, len))
 written s (p ∷ ps) (t ∷ ts) len q (inl h) =
     stays (put_all s (p ∷ []) (t ∷ [])) ps ts q (ap is_some (ap (content (put_all s (p ∷ []) (t ∷ []))) h ∙ content_same s p t))
 written s (p ∷ ps) (t ∷ ts) len q (inr h) = written (put_all s (p ∷ []) (t ∷ [])) ps ts (omega (arith, len)) q h
 
-stood : (s : Store) (ps : List Place) (ts : List TreeMap) (q : Place) → Stands (put_all s ps ts) q → Has ps q ⊎ Stands s q
+stood : (s : Store) (ps : List Instance) (ts : List TreeMap) (q : Instance) → Stands (put_all s ps ts) q → Has ps q ⊎ Stands s q
 stood s [] ts q h = inr h
 stood s (p ∷ ps) [] q h = inr h
 stood s (p ∷ ps) (t ∷ ts) q h = elim (place_or q p) [
@@ -112,19 +112,20 @@ stood s (p ∷ ps) (t ∷ ts) q h = elim (place_or q p) [
 
 record IsFilled (s : State) : Type 0 where
   dense : IsDense s.store
-  there : (w : ℕ) (x : Execution) (p : Place) → slice_get s.workers w ≡ Some (Runs x) → Has x.places p → Stands s.store p
+  there : (w : ℕ) (x : Execution) (p : Instance) → slice_get s.workers w ≡ Some (Runs x) → Has x.places p → Stands s.store p
 
 -- there is an instance, or it is the next one of its key
-abbrev IsAtEnd : Store → Place → Type 0
+abbrev IsAtEnd : Store → Instance → Type 0
 IsAtEnd store p = (n : ℕ) → n < p.number → Stands store (place p.key n)
 
-at_end : (s : State) → IsFilled s → (ns : List Need) (p : Place) → Has (places_for (held s.workers) ns) p → IsAtEnd s.store p
+at_end : (s : State) → IsFilled s → (ns : List Need) (p : Instance) → Has (places_for (held s.workers) ns) p → IsAtEnd s.store p
 at_end s f ns p h n lt =
     let r = holder_of s.workers (place p.key n) (below_held (held s.workers) ns p h n lt) in
     f.there r.0 r.1 (place p.key n) r.2 r.3
 
 -- writes at places of which each has an instance or comes next
-dense_after : (store : Store) (ps : List Place) (ts : List TreeMap) → IsDense store → ((p : Place) → Has ps p → IsAtEnd store p) → IsDense (put_all store ps ts)
+dense_after : (store : Store) (ps : List Instance) (ts : List TreeMap) → IsDense store → ((p : Instance) → Has ps p → IsAtEnd store p)
+    → IsDense (put_all store ps ts)
 dense_after store ps ts dense ends k n h = elim (stood store ps ts (place k (n + 1)) h) [
   | inl j ↦ stays store ps ts (place k n) (ends (place k (n + 1)) j n (omega arith))
   | inr j ↦ stays store ps ts (place k n) (dense k n j)
@@ -162,7 +163,8 @@ event_filled b s (Step w) a f given =
         one : (n m : ℕ) → n + suc m ≡ n + m + 1
         one n m = omega arith
 
-    filled_below : (s : State) → IsFilled s → (w : ℕ) (x : Execution) → slice_get s.workers w ≡ Some (Runs x) → (p : Place) → Has x.places p → IsAtEnd s.store p
+    filled_below : (s : State) → IsFilled s → (w : ℕ) (x : Execution) → slice_get s.workers w ≡ Some (Runs x) → (p : Instance) → Has x.places p
+        → IsAtEnd s.store p
     filled_below s f w x at_w p h n lt =
         let sum = reaches n p.number lt in
         below s.store f.dense p.key sum.0 n (subst (λ j. Stands s.store (place p.key j)) sum.1 (f.there w x p at_w h))

@@ -14,7 +14,7 @@ use Rattle.llb_tree.specs.Tree.{TreeMap}
 use Rattle.llb_model.specs.declared.fault.VertexFault.{VertexFault}
 use Rattle.llb_model.specs.declared.fault.VertexFault.TheVariants as fault
 use Rattle.llb_model.specs.Caches.{trees_at}
-use Rattle.llb_model.specs.Program.{Build, MicroStep, Run, View, Mounted, Left, all_and, runs_of, setting_of, steps_of, program_at, view_on, filled}
+use Rattle.llb_model.specs.Program.{Build, MicroStep, Run, Workspace, Mounted, Left, all_and, runs_of, setting_of, steps_of, program_at, workspace_on, filled}
 use Rattle.llb_model.specs.Program.{blanked, last_of, is_run, no_fault, ran, micro_step, step_on}
 use Rattle.llb_model.specs.State.{Execution, Idle, Runs, State, opening, program_in, work_of, is_finished, begin_at}
 use Rattle.llb_model.specs.Table.{Event, Claim, Step, Settle, Cancel, execution_on, with_step, table}
@@ -26,8 +26,8 @@ use Rattle.llb_model.proofs.Runs.{run_keeps}
 use Rattle.llb_model.proofs.Scripts.{IsPast, IsHere, place, Agree, skips, finished_by, fails_by}
 use Rattle.llb_model.proofs.Vertices.{length_runs}
 
--- an exec's view, and a last status that agrees with the fault
-record IsSo (cs : List Joined) (c k : ℕ) (own : View) (f : Option VertexFault) : Type 0 where
+-- an exec's workspace, and a last status that agrees with the fault
+record IsSo (cs : List Joined) (c k : ℕ) (own : Workspace) (f : Option VertexFault) : Type 0 where
   mounts : List Shown
   caches : List ℕ
   last : ℕ
@@ -97,10 +97,10 @@ claim_so b s w v a so given =
     })
   where
     begun : (own : Vertex) (inputs : List TreeMap) (vertex : Vertex) (e : ExecOp) → own ≡ vertex → vertex.op.kind ≡ Some (kind.Exec e)
-        → IsSo (unwrap_or vertex.script []) (0 - 1) 0 (view_on b.locals own own.op.kind inputs) None
+        → IsSo (unwrap_or vertex.script []) (0 - 1) 0 (workspace_on b.locals own own.op.kind inputs) None
     begun own inputs vertex e same is =
-        subst (λ (t : Vertex). IsSo (unwrap_or vertex.script []) (0 - 1) 0 (view_on b.locals t t.op.kind inputs) None) (sym same)
-        (subst (λ (k : Option Kind). IsSo (unwrap_or vertex.script []) (0 - 1) 0 (view_on b.locals vertex k inputs) None) (sym is)
+        subst (λ (t : Vertex). IsSo (unwrap_or vertex.script []) (0 - 1) 0 (workspace_on b.locals t t.op.kind inputs) None) (sym same)
+        (subst (λ (k : Option Kind). IsSo (unwrap_or vertex.script []) (0 - 1) 0 (workspace_on b.locals vertex k inputs) None) (sym is)
         (record { mounts = _; caches = _; last = 0; is = refl; agrees = inl refl }))
 
 step_as : (b : Build) (s : State) (w : ℕ) (a : Answer) → AreSo b s → table b s (Step w) ≡ Some a → AreSo b a.0
@@ -145,7 +145,7 @@ step_as b s w a so given =
             let same : Run (setting_of e.meta) h.c (all_and h.later) ≡ m = inside (sym h.step ∙ here) in
             subst (λ (n : MicroStep). IsSo (unwrap_or v.script []) x.done (suc x.done) (step_on x.done (Some n) (work_of s x)).work.own
             (step_on x.done (Some n) (work_of s x)).fault) same
-            (subst (λ (own : View). IsSo (unwrap_or v.script []) x.done (suc x.done)
+            (subst (λ (own : Workspace). IsSo (unwrap_or v.script []) x.done (suc x.done)
             (micro_step x.done (Run (setting_of e.meta) h.c (all_and h.later)) (record { own = own; trees = trees_at s.store x.places })).work.own
             (micro_step x.done (Run (setting_of e.meta) h.c (all_and h.later)) (record { own = own; trees = trees_at s.store x.places })).fault) (sym before.is)
             (step_so (setting_of e.meta) (unwrap_or v.script []) x.done h before.mounts before.caches before.last (trees_at s.store x.places) none))

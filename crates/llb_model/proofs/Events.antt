@@ -5,10 +5,10 @@ use Rattle.std.specs.Result.{result_ok}
 use Rattle.llb_cache.specs.declared.key.Key.{Key}
 use Rattle.llb_loader.specs.declared.graph.Vertex.{Vertex}
 use Rattle.llb_tree.specs.Tree.{TreeMap}
-use Rattle.llb_model.specs.Caches.{Place}
+use Rattle.llb_model.specs.Caches.{Instance}
 use Rattle.llb_model.specs.Program.{Build, MicroStep, Start, start_with, needs_of, step_on}
 use Rattle.llb_model.specs.Outcome.{inputs_from}
-use Rattle.llb_model.specs.State.{Status, Waiting, Running, Settled, Execution, At, Idle, Runs, State, ending_at, start_from, ready}
+use Rattle.llb_model.specs.State.{Status, Waiting, Running, Settled, Execution, WorkerStatus, Idle, Runs, State, ending_at, start_from, ready}
 use Rattle.llb_model.specs.State.{program_in, work_of, is_finished, next_step, ending_from, held, places_for, held_key, begin_at}
 use Rattle.llb_model.specs.SettleCause.{SettleCause, NotFinished}
 use Rattle.llb_model.specs.Table.{Event, Claim, Step, Settle, Cancel, Reply, or_not_ready, claim_start, claim_at, claim_unless, claimed}
@@ -26,7 +26,7 @@ pub record IsReady (b : Build) (statuses : List Status) (v : ℕ) (start : Start
   pub inputs : inputs_from (ending_at statuses) start.vertex.inputs ≡ Some start.inputs
 
 -- the instances that a claim takes
-abbrev pub claim_places : State → Start → List Place
+abbrev pub claim_places : State → Start → List Instance
 claim_places s start = places_for (held s.workers) (needs_of start.vertex)
 
 pub record IsClaim (b : Build) (s : State) (w v : ℕ) (a : Answer) : Type 0 where
@@ -111,7 +111,7 @@ claim_is b s w v a e =
     by_ready idle None is e = absurd cc
     by_ready idle (Some start) is e = by_key idle start (ready_is b s.statuses v start is) (held_key (held s.workers) (needs_of start.vertex)) refl e
 
-    by_worker : (o : Option At) → slice_get s.workers w ≡ o → (u : Option Vertex) → slice_get b.graph.vertices v ≡ u
+    by_worker : (o : Option WorkerStatus) → slice_get s.workers w ≡ o → (u : Option Vertex) → slice_get b.graph.vertices v ≡ u
         → claimed b s w v (claim_start s.statuses v o u) ≡ Ok a → IsClaim b s w v a
     by_worker None is u there e = absurd cc
     by_worker (Some (Runs x)) is u there e = absurd cc
@@ -129,7 +129,7 @@ step_is b s w a e = by_worker (slice_get s.workers w) refl (granted_ok (stepped 
     by_next x there None is e = absurd cc
     by_next x there (Some m) is e = record { x = x; there = there; step = m; next = is; gives = sym (inside_ok e) }
 
-    by_worker : (o : Option At) → slice_get s.workers w ≡ o → stepped b s w o ≡ Ok a → IsStep b s w a
+    by_worker : (o : Option WorkerStatus) → slice_get s.workers w ≡ o → stepped b s w o ≡ Ok a → IsStep b s w a
     by_worker None is e = absurd cc
     by_worker (Some Idle) is e = absurd cc
     by_worker (Some (Runs x)) is e = by_next x is (next_step (program_in b x).steps x) refl e
@@ -147,7 +147,7 @@ settle_is b s w a e = by_worker (slice_get s.workers w) refl (granted_ok (settle
     by_test x there false is e = absurd cc
     by_test x there true is e = record { x = x; there = there; finished = is; gives = sym (inside_ok e) }
 
-    by_worker : (o : Option At) → slice_get s.workers w ≡ o → settled b s w o ≡ Ok a → IsSettle b s w a
+    by_worker : (o : Option WorkerStatus) → slice_get s.workers w ≡ o → settled b s w o ≡ Ok a → IsSettle b s w a
     by_worker None is e = absurd cc
     by_worker (Some Idle) is e = absurd cc
     by_worker (Some (Runs x)) is e = by_test x is (is_finished (program_in b x).steps x) refl e
@@ -157,7 +157,7 @@ pub cancel_is : (b : Build) (s : State) (w : ℕ) (a : Answer) → table b s (Ca
 unfolding table
 cancel_is b s w a e = by_worker (slice_get s.workers w) refl (granted_ok (cancelled s w (slice_get s.workers w)) a e)
   where
-    by_worker : (o : Option At) → slice_get s.workers w ≡ o → cancelled s w o ≡ Ok a → IsCancel s w a
+    by_worker : (o : Option WorkerStatus) → slice_get s.workers w ≡ o → cancelled s w o ≡ Ok a → IsCancel s w a
     by_worker None is e = absurd cc
     by_worker (Some Idle) is e = absurd cc
     by_worker (Some (Runs x)) is e = record { x = x; there = is; gives = sym (inside_ok e) }

@@ -6,22 +6,23 @@ use Rattle.std.specs.Map.{lookup}
 use Rattle.std.specs.FinMap as finite
 use Rattle.std.proofs.lemmas.Bool.{ltb-true, ltb-false}
 use Rattle.llb_cache.specs.declared.key.Key.{Key}
-use Rattle.llb_cache.specs.Key.{same_key, same_keys, key_itself}
+use Rattle.llb_cache.specs.Key.{same_key}
+use Rattle.llb_cache.specs.LawsOfKeys.{same_keys, key_itself}
 use Rattle.llb_cache.specs.Caches as cache
 use Rattle.llb_cache.specs.Caches.{Row, trees_of, tree_at, made}
 use Rattle.llb_cache.specs.Rows.{same_trees, other_trees}
 use Rattle.llb_tree.specs.Tree.{TreeMap}
-use Rattle.llb_model.specs.Caches.{Place, place, place_cmp, Store, content, put}
+use Rattle.llb_model.specs.Caches.{Instance, place, place_cmp, Store, content, put}
 use Rattle.llb_model.specs.Laws.{IsDense}
 use Rattle.llb_model.specs.Kept.{with_trees, store_from, store_of, ShowsInstances, EditIsPut}
 use Rattle.llb_model.proofs.Lists.{get_set_same, get_set_other, get_within, get_past}
 use Rattle.llb_model.proofs.Stores.{content_same, content_other, same_store, place_or}
 
 number_apart : (k l : Key) (m n : ℕ) → m ≢ n → place k m ≢ place l n
-number_apart k l m n apart e = apart (ap (λ (p : Place). p.number) e)
+number_apart k l m n apart e = apart (ap (λ (p : Instance). p.number) e)
 
 key_apart : (k l : Key) (m n : ℕ) → k ≢ l → place k m ≢ place l n
-key_apart k l m n apart e = apart (ap (λ (p : Place). p.key) e)
+key_apart k l m n apart e = apart (ap (λ (p : Instance). p.key) e)
 
 -- ---- the trees of one key
 
@@ -99,7 +100,7 @@ edit_is_put rows new p t e = same_store (store_of new) (put (store_of rows) p t)
         go true is = inl (same_keys k l is)
         go false is = inr (λ e. let both : true ≡ false = sym (ap (same_key k) (sym e) ∙ key_itself k) ∙ is in cc)
 
-    other : (q : Place) → q ≢ p → tree_at new q ≡ tree_at rows q
+    other : (q : Instance) → q ≢ p → tree_at new q ≡ tree_at rows q
     other q apart = elim (key_or q.key p.key) [
       | inl h ↦
           ap (λ k. slice_get (trees_of new k) q.number) h
@@ -108,7 +109,7 @@ edit_is_put rows new p t e = same_store (store_of new) (put (store_of rows) p t)
       | inr h ↦ ap (λ ts. slice_get ts q.number) (e.others q.key h)
     ]
 
-    each : (q : Place) → tree_at new q ≡ content (put (store_of rows) p t) q
+    each : (q : Instance) → tree_at new q ≡ content (put (store_of rows) p t) q
     each q = elim (place_or q p) [
       | inl h ↦ ap (tree_at new) h ∙ e.here ∙ sym (content_same (store_of rows) p t) ∙ ap (content (put (store_of rows) p t)) (sym h)
       | inr h ↦ other q h ∙ sym (shows_instances rows q) ∙ sym (content_other (store_of rows) p t q h)
@@ -122,7 +123,8 @@ apart_keys k l apart = go (same_key k l) refl
     go false is = refl
 
 -- a write of an instance that is there
-pub put_stands : (rows : List Row) (p : Place) (t : TreeMap) → p.number < length (trees_of rows p.key) → store_of (cache.put rows p t) ≡ put (store_of rows) p t
+pub put_stands : (rows : List Row) (p : Instance) (t : TreeMap) → p.number < length (trees_of rows p.key) → store_of (cache.put rows p t)
+    ≡ put (store_of rows) p t
 put_stands rows p t within =
     let own = same_trees rows p.key (slice_set (trees_of rows p.key) p.number t) in
     let old = get_within (trees_of rows p.key) p.number within in
@@ -133,7 +135,7 @@ put_stands rows p t within =
     })
 
 -- an instance that is there, or comes next
-pub made_stands : (rows : List Row) (p : Place) (t : TreeMap) → p.number ≤ length (trees_of rows p.key)
+pub made_stands : (rows : List Row) (p : Instance) (t : TreeMap) → p.number ≤ length (trees_of rows p.key)
     → store_of (made rows p t) ≡ put (store_of rows) p (unwrap_or (content (store_of rows) p) t)
 made_stands rows p t reached = go (nat_lt p.number (length (trees_of rows p.key))) refl
   where

@@ -4,10 +4,10 @@ use Rattle.std.proofs.Common.{add-zero}
 use Rattle.std.specs.Prelude.{slice_get, slice_set}
 use Rattle.llb_tree.specs.Tree.{TreeMap}
 use Rattle.llb_model.specs.declared.fault.VertexFault.{VertexFault}
-use Rattle.llb_model.specs.Caches.{Place, Store, put_all, Hold, Distinct}
+use Rattle.llb_model.specs.Caches.{Instance, Store, put_all, Hold, Distinct}
 use Rattle.llb_model.specs.Program.{Build, MicroStep, Left, step_on, unless_faulted, go_on}
 use Rattle.llb_model.specs.Outcome.{ending}
-use Rattle.llb_model.specs.State.{Execution, At, Idle, Runs, State, program_in}
+use Rattle.llb_model.specs.State.{Execution, WorkerStatus, Idle, Runs, State, program_in}
 use Rattle.llb_model.specs.Table.{Step, Settle, Reply, step_by, settle_reply, settle_with, table}
 use Rattle.llb_model.specs.Run.{run, after}
 use Rattle.llb_model.specs.Landing.{steps_by, further, is_over, AreThere, left_so_far, with_steps, after_steps, landed, StepsAsBlock, LandsAsBlock}
@@ -20,14 +20,14 @@ use Rattle.llb_model.proofs.Runs.{run_one, run_on}
 -- ---- writes
 
 -- what is there is written again
-pub put_all_nothing : (s : Store) (ps : List Place) (ts : List TreeMap) → Distinct ps → Hold s ps ts → put_all s ps ts ≡ s
+pub put_all_nothing : (s : Store) (ps : List Instance) (ts : List TreeMap) → Distinct ps → Hold s ps ts → put_all s ps ts ≡ s
 put_all_nothing s ps ts apart hold = same_store (put_all s ps ts) s (λ q. elim (has_or ps q) [
   | inl h ↦ hold_same (put_all s ps ts) s ps ts (hold_all s ps ts apart (hold_length s ps ts hold)) hold q h
   | inr h ↦ kept_all s ps ts q h
 ])
 
 -- the last write is what counts
-pub put_all_again : (s : Store) (ps : List Place) (ts us : List TreeMap) → Distinct ps → length us ≡ length ps
+pub put_all_again : (s : Store) (ps : List Instance) (ts us : List TreeMap) → Distinct ps → length us ≡ length ps
     → put_all (put_all s ps ts) ps us ≡ put_all s ps us
 put_all_again s ps ts us apart count = same_store (put_all (put_all s ps ts) ps us) (put_all s ps us) (λ q. elim (has_or ps q) [
   | inl h ↦ hold_same (put_all (put_all s ps ts) ps us) (put_all s ps us) ps us (hold_all (put_all s ps ts) ps us apart count) (hold_all s ps us apart count)
@@ -159,6 +159,6 @@ module _ (b : Build) where
         steps.0,
         run_on b s t (settle_with t w x.vertex e).0 (steps_by w n) (Settle w ∷ []) steps.0 (settle_reply x.vertex e ∷ []) steps.1
             (run_one b t (settle_with t w x.vertex e).0 (Settle w) (settle_reply x.vertex e) settles)
-            ∙ ap (λ (ws : List At). Some (record (landed b s w x last) { workers = ws }, steps.0 ++ settle_reply x.vertex e ∷ []))
+            ∙ ap (λ (ws : List WorkerStatus). Some (record (landed b s w x last) { workers = ws }, steps.0 ++ settle_reply x.vertex e ∷ []))
             (set_set s.workers w (Runs y) Idle),
       )

@@ -12,9 +12,9 @@ use Rattle.llb_cache.specs.Caches.{Row, Leases, Taken, trees_of, is_held, leases
 use Rattle.llb_cache.specs.Numbers.{number_free, number_next}
 use Rattle.llb_cache.specs.Rows.{put_counts, makes}
 use Rattle.llb_tree.specs.Tree.{TreeMap}
-use Rattle.llb_model.specs.Caches.{Place, place, content, put, put_all, Has, Distinct, is_in}
+use Rattle.llb_model.specs.Caches.{Instance, place, content, put, put_all, Has, Distinct, is_in}
 use Rattle.llb_model.specs.Program.{Need, base_in}
-use Rattle.llb_model.specs.State.{At, held, above, number_for, place_for, places_for, is_shut, held_key, first_trees}
+use Rattle.llb_model.specs.State.{WorkerStatus, held, above, number_for, place_for, places_for, is_locked_and_held, held_key, first_trees}
 use Rattle.llb_model.specs.Kept.{store_of}
 use Rattle.llb_model.specs.Leases.{HoldsAs, asked, RefusesAlike, TakesAlike, MakesAlike, WritesAlike}
 use Rattle.llb_model.proofs.Stores.{has_in, has_map}
@@ -47,15 +47,15 @@ lease_below out k n (suc more) m low lt = go (is_held out (place k n)) refl lt (
       | inr h ↦ rest h lt
     ]
 
-module _ (out : Leases) (workers : List At) (same : HoldsAs out workers) where
-  held_same : (p : Place) → is_held out p ≡ is_in (held workers) p
+module _ (out : Leases) (workers : List WorkerStatus) (same : HoldsAs out workers) where
+  held_same : (p : Instance) → is_held out p ≡ is_in (held workers) p
   held_same p = same_bool (is_held out p) (is_in (held workers) p) (λ h. has_in (held workers) p (same.running p h))
       (λ h. same.leased p (in_has (held workers) p h))
 
-  shut_same : (k : Key) (m : Mode) → (is_locked m && is_held out (place k 0)) ≡ is_shut (held workers) k m
-  shut_same k Shared = refl
-  shut_same k Private = refl
-  shut_same k Locked = held_same (place k 0)
+  locked_and_held_same : (k : Key) (m : Mode) → (is_locked m && is_held out (place k 0)) ≡ is_locked_and_held (held workers) k m
+  locked_and_held_same k Shared = refl
+  locked_and_held_same k Private = refl
+  locked_and_held_same k Locked = held_same (place k 0)
 
   -- both are the least that is not held
   number_same : AreApart out → (k : Key) (m : Mode) → cache.number_for out k m ≡ number_for (held workers) k m
@@ -87,30 +87,31 @@ module _ (out : Leases) (workers : List At) (same : HoldsAs out workers) where
   place_same apart k = ap (place k) (number_same apart k k.mode)
 
 -- a lease is refused for the same locked key as a claim: the first among the needs whose instance is held
-pub refuses_alike : (out : Leases) (workers : List At) → RefusesAlike out workers
+pub refuses_alike : (out : Leases) (workers : List WorkerStatus) → RefusesAlike out workers
 refuses_alike out workers inputs [] same = refl
-refuses_alike out workers inputs (n ∷ needs) same = go (is_shut (held workers) n.key n.key.mode)
-    (shut_same out workers same n.key n.key.mode) (refuses_alike out workers inputs needs same)
+refuses_alike out workers inputs (n ∷ needs) same = go (is_locked_and_held (held workers) n.key n.key.mode)
+    (locked_and_held_same out workers same n.key n.key.mode) (refuses_alike out workers inputs needs same)
   where
-    go : (b : Bool) → cache.is_shut out (record { key = n.key; tree = base_in n.input inputs }) ≡ b
-        → option_map (λ (n : cache_need.Need). n.key) (find (cache.is_shut out) (asked inputs needs)) ≡ held_key (held workers) needs
-        → option_map (λ (n : cache_need.Need). n.key) (find (cache.is_shut out) (asked inputs (n ∷ needs)))
+    go : (b : Bool) → cache.is_locked_and_held out (record { key = n.key; tree = base_in n.input inputs }) ≡ b
+        → option_map (λ (n : cache_need.Need). n.key) (find (cache.is_locked_and_held out) (asked inputs needs)) ≡ held_key (held workers) needs
+        → option_map (λ (n : cache_need.Need). n.key) (find (cache.is_locked_and_held out) (asked inputs (n ∷ needs)))
         ≡ cond b (Some n.key) (held_key (held workers) needs)
     go b is rest =
         ap (λ t. option_map (λ (n : cache_need.Need). n.key)
-        (cond t (Some (need_with n.key (base_in n.input inputs))) (find (cache.is_shut out) (asked inputs needs)))) is ∙ by_test b rest
+        (cond t (Some (need_with n.key (base_in n.input inputs))) (find (cache.is_locked_and_held out) (asked inputs needs)))) is ∙ by_test b rest
       where
         need_with : Key → TreeMap → cache_need.Need
         need_with k t = record { key = k; tree = t }
 
-        by_test : (b : Bool) → option_map (λ (n : cache_need.Need). n.key) (find (cache.is_shut out) (asked inputs needs)) ≡ held_key (held workers) needs
+        by_test : (b : Bool) → option_map (λ (n : cache_need.Need). n.key) (find (cache.is_locked_and_held out) (asked inputs needs))
+            ≡ held_key (held workers) needs
             → option_map (λ (n : cache_need.Need). n.key) (cond b (Some (need_with n.key (base_in n.input inputs)))
-            (find (cache.is_shut out) (asked inputs needs))) ≡ cond b (Some n.key) (held_key (held workers) needs)
+            (find (cache.is_locked_and_held out) (asked inputs needs))) ≡ cond b (Some n.key) (held_key (held workers) needs)
         by_test true rest = refl
         by_test false rest = rest
 
 -- a lease takes the instances that a claim takes, by one rule of the least number that nobody has
-pub takes_alike : (out : Leases) (workers : List At) → TakesAlike out workers
+pub takes_alike : (out : Leases) (workers : List WorkerStatus) → TakesAlike out workers
 takes_alike out workers inputs [] same apart = refl
 takes_alike out workers inputs (n ∷ needs) same apart =
     ap (λ p. p ∷ map (λ (t : Taken). t.0) (cache.taken out (asked inputs needs))) (place_same out workers same apart n.key)
@@ -119,20 +120,20 @@ takes_alike out workers inputs (n ∷ needs) same apart =
 -- ---- contents
 
 -- places, each with the tree that it begins with
-abbrev paired : List TreeMap → List Place → List Need → List Taken
+abbrev paired : List TreeMap → List Instance → List Need → List Taken
 paired inputs [] needs = []
 paired inputs (p ∷ ps) [] = []
 paired inputs (p ∷ ps) (n ∷ needs) = (p, base_in n.input inputs) ∷ paired inputs ps needs
 
-taken_paired : (out : Leases) (workers : List At) (inputs : List TreeMap) (needs : List Need) → HoldsAs out workers → AreApart out
+taken_paired : (out : Leases) (workers : List WorkerStatus) (inputs : List TreeMap) (needs : List Need) → HoldsAs out workers → AreApart out
     → cache.taken out (asked inputs needs) ≡ paired inputs (places_for (held workers) needs) needs
 taken_paired out workers inputs [] same apart = refl
 taken_paired out workers inputs (n ∷ needs) same apart =
-    ap (λ (p : Place). (p, base_in n.input inputs) ∷ cache.taken out (asked inputs needs)) (place_same out workers same apart n.key)
+    ap (λ (p : Instance). (p, base_in n.input inputs) ∷ cache.taken out (asked inputs needs)) (place_same out workers same apart n.key)
     ∙ ap (λ (ts : List Taken). (place_for (held workers) n, base_in n.input inputs) ∷ ts) (taken_paired out workers inputs needs same apart)
 
-all_made : (rows : List Row) (inputs : List TreeMap) (ps : List Place) (needs : List Need) → Distinct ps
-    → ((p : Place) → Has ps p → p.number ≤ length (trees_of rows p.key)) → length ps ≡ length needs
+all_made : (rows : List Row) (inputs : List TreeMap) (ps : List Instance) (needs : List Need) → Distinct ps
+    → ((p : Instance) → Has ps p → p.number ≤ length (trees_of rows p.key)) → length ps ≡ length needs
     → store_of (made_all rows (paired inputs ps needs)) ≡ put_all (store_of rows) ps (first_trees (store_of rows) inputs ps needs)
 all_made rows inputs [] needs apart reached count = refl
 all_made rows inputs (p ∷ ps) [] apart reached count = absurd (omega (arith, count))
@@ -147,17 +148,17 @@ all_made rows inputs (p ∷ ps) (n ∷ needs) apart reached count =
     ∙ ap (put_all (put (store_of rows) p u) ps) (first_same (store_of rows) p u inputs ps needs apart.0)
 
 -- the instances that a lease makes, and the trees that they begin with, are those of a claim
-pub makes_alike : (rows : List Row) (out : Leases) (workers : List At) → MakesAlike rows out workers
+pub makes_alike : (rows : List Row) (out : Leases) (workers : List WorkerStatus) → MakesAlike rows out workers
 makes_alike rows out workers inputs needs same apart there differ =
     ap (λ ts. store_of (made_all rows ts)) (taken_paired out workers inputs needs same apart)
     ∙ all_made rows inputs (places_for (held workers) needs) needs (places_distinct (held workers) needs differ) reached (count needs)
   where
-    reached : (p : Place) → Has (places_for (held workers) needs) p → p.number ≤ length (trees_of rows p.key)
+    reached : (p : Instance) → Has (places_for (held workers) needs) p → p.number ≤ length (trees_of rows p.key)
     reached p h =
         let m = has_map (place_for (held workers)) needs p h in
         let low = number_next rows out m.0.key m.0.key.mode there in
         let number = number_same out workers same apart m.0.key m.0.key.mode in
-        subst (λ (q : Place). q.number ≤ length (trees_of rows q.key)) (sym m.2) (omega (arith, low, number))
+        subst (λ (q : Instance). q.number ≤ length (trees_of rows q.key)) (sym m.2) (omega (arith, low, number))
 
     count : (needs : List Need) → length (places_for (held workers) needs) ≡ length needs
     count [] = refl

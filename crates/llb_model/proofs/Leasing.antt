@@ -6,8 +6,8 @@ use Rattle.std.proofs.lemmas.Bool.{ltb-false, ltb-true}
 use Rattle.llb_cache.specs.Caches as cache
 use Rattle.llb_cache.specs.Caches.{Leases, with_lease, free_lease, before, trimmed}
 use Rattle.llb_cache.specs.Leased.{held_by, holder, free_within, lease_cases}
-use Rattle.llb_model.specs.Caches.{Place, Has}
-use Rattle.llb_model.specs.State.{Execution, At, Idle, Runs}
+use Rattle.llb_model.specs.Caches.{Instance, Has}
+use Rattle.llb_model.specs.State.{Execution, WorkerStatus, Idle, Runs}
 use Rattle.llb_model.specs.Leases.{AreLeased, LeasedHoldsAs, ClaimLeases, ClaimWithout, StepKeepsLease, EndGivesBack, EndWithout}
 use Rattle.llb_model.proofs.Lists.{some_of, eq_or, got_set, get_set_same, get_set_other, length_set, get_within, got_within, get_middle}
 use Rattle.llb_model.proofs.Claims.{held_has}
@@ -16,7 +16,7 @@ use Rattle.llb_model.proofs.Dense.{holder_of}
 -- ---- leases
 
 -- the number of a new lease is not out
-free_apart : (out : Leases) (a : ℕ) (qs : List Place) → cache.Has out a qs → a ≢ free_lease out
+free_apart : (out : Leases) (a : ℕ) (qs : List Instance) → cache.Has out a qs → a ≢ free_lease out
 free_apart [] a qs at e = cc
 free_apart (None ∷ out) zero qs at e = cc
 free_apart (None ∷ out) (suc a) qs at e = let first : free_lease (None ∷ out) ≡ 0 = refl in omega (arith, e, first)
@@ -30,7 +30,7 @@ get_front [] ys i lt = absurd (omega (arith, lt))
 get_front (x ∷ xs) ys zero lt = refl
 get_front (x ∷ xs) ys (suc i) lt = get_front xs ys i (omega (arith, lt))
 
-lease_there : (out : Leases) (ps : List Place) → cache.Has (with_lease out (free_lease out) ps) (free_lease out) ps
+lease_there : (out : Leases) (ps : List Instance) → cache.Has (with_lease out (free_lease out) ps) (free_lease out) ps
 lease_there out ps = go (nat_lt (free_lease out) (length out)) refl
   where
     go : (b : Bool) → nat_lt (free_lease out) (length out) ≡ b
@@ -42,30 +42,30 @@ lease_there out ps = go (nat_lt (free_lease out) (length out)) refl
         let within = free_within out in
         ap (slice_get (out ++ Some ps ∷ [])) (let e : free_lease out ≡ length out = omega (arith, past, within) in e) ∙ get_middle out (Some ps) []
 
-lease_stays : (out : Leases) (ps : List Place) (a : ℕ) (qs : List Place) → cache.Has out a qs → cache.Has (with_lease out (free_lease out) ps) a qs
+lease_stays : (out : Leases) (ps : List Instance) (a : ℕ) (qs : List Instance) → cache.Has out a qs → cache.Has (with_lease out (free_lease out) ps) a qs
 lease_stays out ps a qs at = go (nat_lt (free_lease out) (length out))
   where
     go : (b : Bool) → cache.Has (cond b (slice_set out (free_lease out) (Some ps)) (out ++ Some ps ∷ [])) a qs
     go true = get_set_other out (free_lease out) (Some ps) a (free_apart out a qs at) ∙ at
     go false = get_front out (Some ps ∷ []) a (got_within out a (Some qs) at) ∙ at
 
-before_is : (r : Leases) (a : ℕ) (qs : List Place) → cache.Has (before r) a qs → (b : ℕ) × (a ≡ suc b) × cache.Has r b qs
+before_is : (r : Leases) (a : ℕ) (qs : List Instance) → cache.Has (before r) a qs → (b : ℕ) × (a ≡ suc b) × cache.Has r b qs
 before_is [] a qs at = absurd cc
 before_is (o ∷ r) zero qs at = absurd cc
 before_is (o ∷ r) (suc a) qs at = (a, refl, at)
 
-before_stays : (r : Leases) (b : ℕ) (qs : List Place) → cache.Has r b qs → cache.Has (before r) (suc b) qs
+before_stays : (r : Leases) (b : ℕ) (qs : List Instance) → cache.Has r b qs → cache.Has (before r) (suc b) qs
 before_stays [] b qs at = absurd cc
 before_stays (o ∷ r) b qs at = at
 
-trim_is : (out : Leases) (a : ℕ) (qs : List Place) → cache.Has (trimmed out) a qs → cache.Has out a qs
+trim_is : (out : Leases) (a : ℕ) (qs : List Instance) → cache.Has (trimmed out) a qs → cache.Has out a qs
 unfolding trimmed
 trim_is [] a qs at = at
 trim_is (Some ps ∷ out) zero qs at = at
 trim_is (Some ps ∷ out) (suc a) qs at = trim_is out a qs at
 trim_is (None ∷ out) a qs at = let b = before_is (trimmed out) a qs at in ap (slice_get (None ∷ out)) b.1 ∙ trim_is out b.0 qs b.2
 
-trim_stays : (out : Leases) (a : ℕ) (qs : List Place) → cache.Has out a qs → cache.Has (trimmed out) a qs
+trim_stays : (out : Leases) (a : ℕ) (qs : List Instance) → cache.Has out a qs → cache.Has (trimmed out) a qs
 unfolding trimmed
 trim_stays [] a qs at = at
 trim_stays (Some ps ∷ out) zero qs at = at
@@ -74,13 +74,13 @@ trim_stays (None ∷ out) zero qs at = absurd cc
 trim_stays (None ∷ out) (suc a) qs at = before_stays (trimmed out) a qs (trim_stays out a qs at)
 
 -- who has what after a lease that is given back
-back_is : (out : Leases) (l a : ℕ) (qs : List Place) → cache.Has (trimmed (slice_set out l None)) a qs → (a ≢ l) × cache.Has out a qs
+back_is : (out : Leases) (l a : ℕ) (qs : List Instance) → cache.Has (trimmed (slice_set out l None)) a qs → (a ≢ l) × cache.Has out a qs
 back_is out l a qs at = elim (got_set out l None a (Some qs) (trim_is (slice_set out l None) a qs at)) [
   | inl h ↦ absurd (cc (h.1))
   | inr h ↦ h
 ]
 
-back_stays : (out : Leases) (l a : ℕ) (qs : List Place) → a ≢ l → cache.Has out a qs → cache.Has (trimmed (slice_set out l None)) a qs
+back_stays : (out : Leases) (l a : ℕ) (qs : List Instance) → a ≢ l → cache.Has out a qs → cache.Has (trimmed (slice_set out l None)) a qs
 back_stays out l a qs apart at = trim_stays (slice_set out l None) a qs (get_set_other out l None a apart ∙ at)
 
 -- ---- workers
@@ -91,14 +91,14 @@ some_lease l = Some (Some l)
 same_lease : {k l : ℕ} → ◌≡◌ {A = Option (Option ℕ)} (Some (Some k)) (Some (Some l)) → k ≡ l
 same_lease e = cc
 
-runs_same : {x y : Execution} → ◌≡◌ {A = Option At} (Some (Runs x)) (Some (Runs y)) → x ≡ y
+runs_same : {x y : Execution} → ◌≡◌ {A = Option WorkerStatus} (Some (Runs x)) (Some (Runs y)) → x ≡ y
 runs_same e = cc
 
 -- having no lease differs from having one
 some_apart : (l : ℕ) → ◌≡◌ {A = Option (Option ℕ)} (Some None) (Some (Some l)) → ⊥
 some_apart l e = cc
 
-module _ (out : Leases) (workers : List At) (ls : List (Option ℕ)) (are : AreLeased out workers ls) where
+module _ (out : Leases) (workers : List WorkerStatus) (ls : List (Option ℕ)) (are : AreLeased out workers ls) where
   -- the lease of a worker is out, of what it has
   leased_at : (w l : ℕ) (x : Execution) → slice_get ls w ≡ Some (Some l) → slice_get workers w ≡ Some (Runs x) → cache.Has out l x.places
   leased_at w l x at there =
@@ -133,8 +133,8 @@ leased_holds_as out workers ls are = record {
       held_has workers w.0 r.0 p r.1 (subst (λ ps. Has ps p) same h.3);
 }
   where
-    places_same : (l : ℕ) (ps qs : List Place) → cache.Has out l ps → cache.Has out l qs → ps ≡ qs
-    places_same l ps qs at here = let both : ◌≡◌ {A = Option (Option (List Place))} (Some (Some ps)) (Some (Some qs)) = sym at ∙ here in cc
+    places_same : (l : ℕ) (ps qs : List Instance) → cache.Has out l ps → cache.Has out l qs → ps ≡ qs
+    places_same l ps qs at here = let both : ◌≡◌ {A = Option (Option (List Instance))} (Some (Some ps)) (Some (Some qs)) = sym at ∙ here in cc
 
 -- an idle worker that takes instances has a new lease of them, whose number no other worker has
 pub claim_leases : ClaimLeases

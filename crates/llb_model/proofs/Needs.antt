@@ -16,7 +16,7 @@ use Rattle.llb_ops.specs.declared.op.Kind.{Kind}
 use Rattle.llb_ops.specs.declared.op.Kind.TheVariants.{Exec, Source, File, Merge, Build, Diff}
 use Rattle.llb_ops.specs.declared.exec.Mount.{Mount}
 use Rattle.llb_ops.specs.declared.exec.CacheOpt.{CacheOpt}
-use Rattle.llb_loader.specs.Graph.{IsGraph, IsVertex, HasInputs, StandsFor}
+use Rattle.llb_loader.specs.Graph.{IsGraph, IsVertex, HasInputs, IsEdgeOfInput}
 use Rattle.llb_loader.specs.Mounts as mounts
 use Rattle.llb_loader.specs.Mounts.{cache, has_type, CacheKey, AreApart, Share, value_at, seed_by, seed_of, key_by, keys_of}
 use Rattle.llb_loader.specs.Rules.{IsBelow, IsShared, IsKnownSharing, kind_mounts, MeetsAll, rules_on}
@@ -152,7 +152,7 @@ inputs_indexed vertices v has i input there =
     let e = get_within v.inputs i within in (
       e.0.index,
       subst (λ (x : Input). x.index ≡ pos e.0.index) (get_or_from_slice_get v.op.inputs i input input there)
-          (subst (λ (x : Edge). StandsFor vertices (slice_index_or v.op.inputs i input) x) (get_or_from_slice_get v.inputs i e.0 e.0 e.1)
+          (subst (λ (x : Edge). IsEdgeOfInput vertices (slice_index_or v.op.inputs i input) x) (get_or_from_slice_get v.inputs i e.0 e.0 e.1)
           (has.each i input e.0 within)).index,
     )
 

@@ -6,11 +6,11 @@ use Rattle.llb_cache.specs.declared.key.Key.{Key}
 use Rattle.llb_cache.specs.declared.key.Mode.{Mode}
 use Rattle.llb_cache.specs.declared.key.Mode.TheVariants.{Shared, Private, Locked}
 use Rattle.llb_tree.specs.Tree.{TreeMap}
-use Rattle.llb_model.specs.Caches.{Place, Store, content, put, Has, IsExclusive}
+use Rattle.llb_model.specs.Caches.{Instance, Store, content, put, Has, IsExclusive}
 use Rattle.llb_model.specs.ClaimCause.{ClaimCause}
 use Rattle.llb_model.specs.SettleCause.{SettleCause, NotFinished}
 use Rattle.llb_model.specs.Program.{Build, MicroStep, Need, Work, Left, Start, needs_of, base_in, begin, step_on}
-use Rattle.llb_model.specs.State.{Execution, At, Idle, Runs, State, opening, program_in, work_of, is_finished, next_step, ending_from, held}
+use Rattle.llb_model.specs.State.{Execution, WorkerStatus, Idle, Runs, State, opening, program_in, work_of, is_finished, next_step, ending_from, held}
 use Rattle.llb_model.specs.State.{number_for, place_for, places_for, held_key, first_trees, begin_at}
 use Rattle.llb_model.specs.Table.{Event, Claim, Step, Settle, Cancel, Claimed, claim_start, execution_on, job_on, claim_with, claim_at}
 use Rattle.llb_model.specs.Table.{claim_unless, claimed, with_step, step_reply, step_by, step_with, stepped, settle_with, settled, cancelled, table}
@@ -47,7 +47,7 @@ others_keep b s t (Cancel u) r reached given w x p there has exclusive other =
 -- ---- what is not looked at
 
 -- what a claim begins with does not depend on what is at a place that it does not take
-pub first_same : (s : Store) (p : Place) (t : TreeMap) (inputs : List TreeMap) (ps : List Place) (ns : List Need) → (Has ps p → ⊥)
+pub first_same : (s : Store) (p : Instance) (t : TreeMap) (inputs : List TreeMap) (ps : List Instance) (ns : List Need) → (Has ps p → ⊥)
     → first_trees (put s p t) inputs ps ns ≡ first_trees s inputs ps ns
 first_same s p t inputs [] ns apart = refl
 first_same s p t inputs (q ∷ ps) [] apart = refl
@@ -55,7 +55,7 @@ first_same s p t inputs (q ∷ ps) (n ∷ ns) apart =
     ap (λ o. unwrap_or o (base_in n.input inputs) ∷ first_trees (put s p t) inputs ps ns) (content_other s p t q (λ e. apart (inl (sym e))))
     ∙ ap (λ ts. unwrap_or (content s q) (base_in n.input inputs) ∷ ts) (first_same s p t inputs ps ns (λ h. apart (inr h)))
 
-claim_same : (b : Build) (s : State) (p : Place) (t : TreeMap) (u v : ℕ) (start : Start) (ps : List Place) → (Has ps p → ⊥)
+claim_same : (b : Build) (s : State) (p : Instance) (t : TreeMap) (u v : ℕ) (start : Start) (ps : List Instance) → (Has ps p → ⊥)
     → claim_at b (with_content p t s) u v start ps ≡ with_content_after p t (claim_at b s u v start ps)
 claim_same b s p t u v start ps apart =
     ap (λ ts. claim_with (with_content p t s) u v start.vertex (begin b start ts) ps) (first_same s.store p t start.inputs ps (needs_of start.vertex) apart)
@@ -67,7 +67,7 @@ claim_same b s p t u v start ps apart =
       Claimed (job_on u v start.vertex work ps),
     )) (put_all_put s.store p t ps work.trees apart)
 
-step_same : (s : State) (p : Place) (t : TreeMap) (u : ℕ) (x : Execution) (m : MicroStep) → (Has x.places p → ⊥)
+step_same : (s : State) (p : Instance) (t : TreeMap) (u : ℕ) (x : Execution) (m : MicroStep) → (Has x.places p → ⊥)
     → step_by (with_content p t s) u x m (step_on x.done (Some m) (work_of (with_content p t s) x))
     ≡ with_content_after p t (step_by s u x m (step_on x.done (Some m) (work_of s x)))
 step_same s p t u x m apart =
@@ -80,10 +80,10 @@ step_same s p t u x m apart =
         (put_all_put s.store p t x.places left.work.trees apart)
 
 -- the same event, with another tree there
-Ignored : Build → State → Event → Place → TreeMap → Type 0
+Ignored : Build → State → Event → Instance → TreeMap → Type 0
 Ignored b s e p t = table b (with_content p t s) e ≡ option_map (with_content_after p t) (table b s e)
 
-claim_ignores : (b : Build) (s : State) (u v : ℕ) (p : Place) (t : TreeMap)
+claim_ignores : (b : Build) (s : State) (u v : ℕ) (p : Instance) (t : TreeMap)
     → ((start : Start) → held_key (held s.workers) (needs_of start.vertex) ≡ None → Has (claim_places s start) p → ⊥) → Ignored b s (Claim u v) p t
 unfolding table Ignored
 claim_ignores b s u v p t apart = go (claim_start s.statuses v (slice_get s.workers u) (slice_get b.graph.vertices v))
@@ -97,7 +97,7 @@ claim_ignores b s u v p t apart = go (claim_start s.statuses v (slice_get s.work
     go (Err cause) = refl
     go (Ok start) = by_key start (held_key (held s.workers) (needs_of start.vertex)) refl
 
-step_ignores : (b : Build) (s : State) (u : ℕ) (p : Place) (t : TreeMap)
+step_ignores : (b : Build) (s : State) (u : ℕ) (p : Instance) (t : TreeMap)
     → ((x : Execution) → slice_get s.workers u ≡ Some (Runs x) → Has x.places p → ⊥) → Ignored b s (Step u) p t
 unfolding table Ignored
 step_ignores b s u p t apart = go (slice_get s.workers u) refl
@@ -107,13 +107,13 @@ step_ignores b s u p t apart = go (slice_get s.workers u) refl
     by_next x there None = refl
     by_next x there (Some m) = ap (λ (a : Answer). Some a) (step_same s p t u x m (apart x there))
 
-    go : (o : Option At) → slice_get s.workers u ≡ o → result_ok (stepped b (with_content p t s) u o)
+    go : (o : Option WorkerStatus) → slice_get s.workers u ≡ o → result_ok (stepped b (with_content p t s) u o)
         ≡ option_map (with_content_after p t) (result_ok (stepped b s u o))
     go None is = refl
     go (Some Idle) is = refl
     go (Some (Runs x)) is = by_next x is (next_step (program_in b x).steps x)
 
-settle_ignores : (b : Build) (s : State) (u : ℕ) (p : Place) (t : TreeMap) → Ignored b s (Settle u) p t
+settle_ignores : (b : Build) (s : State) (u : ℕ) (p : Instance) (t : TreeMap) → Ignored b s (Settle u) p t
 unfolding table Ignored
 settle_ignores b s u p t = go (slice_get s.workers u)
   where
@@ -125,16 +125,16 @@ settle_ignores b s u p t = go (slice_get s.workers u)
     by_test x true = refl
     by_test x false = refl
 
-    go : (o : Option At) → result_ok (settled b (with_content p t s) u o) ≡ option_map (with_content_after p t) (result_ok (settled b s u o))
+    go : (o : Option WorkerStatus) → result_ok (settled b (with_content p t s) u o) ≡ option_map (with_content_after p t) (result_ok (settled b s u o))
     go None = refl
     go (Some Idle) = refl
     go (Some (Runs x)) = by_test x (is_finished (program_in b x).steps x)
 
-cancel_ignores : (b : Build) (s : State) (u : ℕ) (p : Place) (t : TreeMap) → Ignored b s (Cancel u) p t
+cancel_ignores : (b : Build) (s : State) (u : ℕ) (p : Instance) (t : TreeMap) → Ignored b s (Cancel u) p t
 unfolding table Ignored
 cancel_ignores b s u p t = go (slice_get s.workers u)
   where
-    go : (o : Option At) → result_ok (cancelled (with_content p t s) u o) ≡ option_map (with_content_after p t) (result_ok (cancelled s u o))
+    go : (o : Option WorkerStatus) → result_ok (cancelled (with_content p t s) u o) ≡ option_map (with_content_after p t) (result_ok (cancelled s u o))
     go None = refl
     go (Some Idle) = refl
     go (Some (Runs x)) = refl
@@ -152,20 +152,20 @@ others_ignore b s (Cancel u) t reached w x p there has exclusive other = cancel_
 -- ---- locked keys
 
 -- a locked key has one instance
-record IsFirst (ws : List At) : Type 0 where
-  first : (w : ℕ) (x : Execution) (p : Place) → slice_get ws w ≡ Some (Runs x) → Has x.places p → p.key.mode ≡ Locked → p.number ≡ 0
+record IsFirst (ws : List WorkerStatus) : Type 0 where
+  first : (w : ℕ) (x : Execution) (p : Instance) → slice_get ws w ≡ Some (Runs x) → Has x.places p → p.key.mode ≡ Locked → p.number ≡ 0
 
-number_locked : (ps : List Place) (k : Key) (m : Mode) → m ≡ Locked → number_for ps k m ≡ 0
+number_locked : (ps : List Instance) (k : Key) (m : Mode) → m ≡ Locked → number_for ps k m ≡ 0
 number_locked ps k Shared e = refl
 number_locked ps k Locked e = refl
 number_locked ps k Private e = absurd cc
 
-places_first : (ps : List Place) (ns : List Need) (p : Place) → Has (places_for ps ns) p → p.key.mode ≡ Locked → p.number ≡ 0
+places_first : (ps : List Instance) (ns : List Need) (p : Instance) → Has (places_for ps ns) p → p.key.mode ≡ Locked → p.number ≡ 0
 places_first ps ns p h locked =
     let m = has_map (place_for ps) ns p h in
-    ap (λ (q : Place). q.number) m.2 ∙ number_locked ps m.0.key m.0.key.mode (ap (λ (q : Place). q.key.mode) (sym m.2) ∙ locked)
+    ap (λ (q : Instance). q.number) m.2 ∙ number_locked ps m.0.key m.0.key.mode (ap (λ (q : Instance). q.key.mode) (sym m.2) ∙ locked)
 
-fewer_first : (ws vs : List At) → ((w : ℕ) (x : Execution) → slice_get vs w ≡ Some (Runs x)
+fewer_first : (ws vs : List WorkerStatus) → ((w : ℕ) (x : Execution) → slice_get vs w ≡ Some (Runs x)
     → (y : Execution) × (slice_get ws w ≡ Some (Runs y)) × (y.places ≡ x.places)) → IsFirst ws → IsFirst vs
 fewer_first ws vs back f = record { first = λ w x p there h. let m = back w x there in f.first w m.0 p m.1 (subst (λ ps. Has ps p) (sym m.2) h) }
 
@@ -176,7 +176,7 @@ event_first b s (Claim w v) a f given =
     subst (λ (a : Answer). IsFirst a.0.workers) (sym c.gives)
     (taken s.workers (execution_on v (begin_at b s.store c.start ps) ps) f (places_first (held s.workers) (needs_of c.start.vertex)))
   where
-    taken : (ws : List At) (z : Execution) → IsFirst ws → ((p : Place) → Has z.places p → p.key.mode ≡ Locked → p.number ≡ 0)
+    taken : (ws : List WorkerStatus) (z : Execution) → IsFirst ws → ((p : Instance) → Has z.places p → p.key.mode ≡ Locked → p.number ≡ 0)
         → IsFirst (slice_set ws w (Runs z))
     taken ws z f new = record {
       first = λ u x p there h locked. elim (got_set ws w (Runs z) u (Runs x) there) [

@@ -16,7 +16,7 @@ use Rattle.llb_loader.specs.declared.graph.Edge.{Edge}
 use Rattle.llb_loader.specs.declared.graph.Vertex.{Vertex}
 use Rattle.llb_tree.specs.Tree.{TreeMap}
 use Rattle.llb_model.specs.declared.fault.VertexFault.{VertexFault}
-use Rattle.llb_model.specs.Program.{Build, Program, View, needs_from, needs_of, with_need, has_cache, outputs_of, output_from}
+use Rattle.llb_model.specs.Program.{Build, Program, Workspace, needs_from, needs_of, with_need, has_cache, outputs_of, output_from}
 use Rattle.llb_model.specs.Outcome.{Ending, Done, Failed, ended, output_in, both, all_there, inputs_from, outcome_on, ending_in}
 use Rattle.llb_model.specs.Outcome.{next_outcome, outcomes, outcome, next_plain, is_plain}
 use Rattle.llb_model.specs.Laws.{HasNoCaches}
@@ -231,11 +231,12 @@ module _ (b : Build) (graph : IsGraph b.graph) where
 
 -- ---- the number of outputs
 
-outputs_count : (p : Program) (view : View) → length (outputs_of p view) ≡ p.outputs
+outputs_count : (p : Program) (workspace : Workspace) → length (outputs_of p workspace) ≡ p.outputs
 unfolding outputs_of
-outputs_count p view = length-map-range_with_len (output_from p view) 0 p.outputs
+outputs_count p workspace = length-map-range_with_len (output_from p workspace) 0 p.outputs
 
 -- what ends done has as many trees as its program has outputs
-pub ended_count : (p : Program) (view : View) (fault : Option VertexFault) (trees : List TreeMap) → ended p view fault ≡ Done trees → length trees ≡ p.outputs
-ended_count p view None trees e = let same : outputs_of p view ≡ trees = cc in ap length (sym same) ∙ outputs_count p view
-ended_count p view (Some f) trees e = absurd cc
+pub ended_count : (p : Program) (workspace : Workspace) (fault : Option VertexFault) (trees : List TreeMap) → ended p workspace fault ≡ Done trees
+    → length trees ≡ p.outputs
+ended_count p workspace None trees e = let same : outputs_of p workspace ≡ trees = cc in ap length (sym same) ∙ outputs_count p workspace
+ended_count p workspace (Some f) trees e = absurd cc

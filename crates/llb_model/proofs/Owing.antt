@@ -6,7 +6,7 @@ use Rattle.std.proofs.lemmas.Bool.{ne_eqb, eq-eqb}
 use Rattle.std.proofs.lemmas.List.Sums.{sum_by-append}
 use Rattle.llb_loader.specs.declared.graph.Vertex.{Vertex}
 use Rattle.llb_model.specs.Program.{Build}
-use Rattle.llb_model.specs.State.{Status, Waiting, Running, Settled, Execution, At, Idle, Runs, State, Opening, opening, program_in, ending_from}
+use Rattle.llb_model.specs.State.{Status, Waiting, Running, Settled, Execution, WorkerStatus, Idle, Runs, State, Opening, opening, program_in, ending_from}
 use Rattle.llb_model.specs.Table.{Event, Claim, Step, Settle, Cancel, Reply, Cancelled, table}
 use Rattle.llb_model.specs.Run.{run}
 use Rattle.llb_model.specs.Room.{events_of, is_cancel_of, cancels_in, most_events, to_come, all_to_come, all_left, still_to_come}
@@ -186,7 +186,7 @@ owed_apart vs ss k v x rs there at =
     let come = come_set vs ss v x Waiting (Running 0) there at in
     omega (arith, set, come, owed_few vs (slice_set ss v (Running 0)) k rs)
 
-left_one : (b : Build) (ws : List At) (w : ℕ) (x : Execution) → slice_get ws w ≡ Some (Runs x) → 1 ≤ all_left b ws
+left_one : (b : Build) (ws : List WorkerStatus) (w : ℕ) (x : Execution) → slice_get ws w ≡ Some (Runs x) → 1 ≤ all_left b ws
 left_one b ws w x at = omega (arith, left_set b ws w (Runs x) Idle at)
 
 -- beside what claims have still to take there is room for the event, where it takes its own

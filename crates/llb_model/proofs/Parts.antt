@@ -9,7 +9,7 @@ use Rattle.llb_applet.specs.declared.setting.Setting.{Setting}
 use Rattle.llb_mount.specs.declared.shown.Shown.{Shown}
 use Rattle.llb_tree.specs.Tree.{TreeMap}
 use Rattle.llb_model.specs.declared.fault.VertexFault.{VertexFault}
-use Rattle.llb_model.specs.Program.{MicroStep, ReadLocal, Act, LayInput, Run, View, LocalTree, Files, Layers, Mounted, Work, Left}
+use Rattle.llb_model.specs.Program.{MicroStep, ReadLocal, Act, LayInput, Run, Workspace, LocalTree, Files, Layers, Mounted, Work, Left}
 use Rattle.llb_model.specs.Program.{is_run, no_fault, micro_step, tried, act_on, filled, ran, run_on, step_on, unless_faulted, go_on, part, whole}
 use Rattle.llb_model.specs.State.{Execution, is_finished, next_step}
 use Rattle.llb_model.proofs.Lists.{some_of, get_past, get_within}
@@ -104,7 +104,7 @@ none_finished steps x e = by_test (is_finished steps x) refl
 
 -- ---- the trees of instances
 
-command_keeps : (k : ℕ) (setting : Setting) (command : Joined) (ends : Bool) (own : View) (trees : List TreeMap)
+command_keeps : (k : ℕ) (setting : Setting) (command : Joined) (ends : Bool) (own : Workspace) (trees : List TreeMap)
     → length (run_on k setting command ends own trees).work.trees ≡ length trees
 command_keeps k setting command ends (LocalTree t) trees = refl
 command_keeps k setting command ends (Files inputs results) trees = refl
@@ -121,7 +121,7 @@ command_keeps k setting command ends (Mounted mounts caches last) trees = by_run
     by_run false = refl
 
 -- there are as many trees as before
-own_keeps : (work : Work) (r : Result View VertexFault) → length (tried work r).work.trees ≡ length work.trees
+own_keeps : (work : Work) (r : Result Workspace VertexFault) → length (tried work r).work.trees ≡ length work.trees
 own_keeps work (Ok view) = refl
 own_keeps work (Err f) = refl
 

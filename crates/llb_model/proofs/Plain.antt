@@ -6,7 +6,8 @@ use Rattle.llb_loader.specs.Graph.{IsGraph}
 use Rattle.llb_tree.specs.Tree.{TreeMap}
 use Rattle.llb_model.specs.declared.fault.VertexFault.{VertexFault}
 use Rattle.llb_model.specs.Caches.{trees_at}
-use Rattle.llb_model.specs.Program.{Build, Program, View, Work, Left, Start, program_of, program_at, start_with, begin, step_on, unless_faulted, go_on, part}
+use Rattle.llb_model.specs.Program.{Build, Program, Workspace, Work, Left, Start, program_of, program_at, start_with, begin, step_on, unless_faulted, go_on}
+use Rattle.llb_model.specs.Program.{part}
 use Rattle.llb_model.specs.Outcome.{Ending, Ended, ending, ending_in, outcome_on, outcome, is_plain}
 use Rattle.llb_model.specs.State.{Status, Waiting, Running, Settled, Execution, Idle, Runs, State, Opening, opening, ending_of, ending_at}
 use Rattle.llb_model.specs.State.{program_in, work_of, is_finished, ending_from, held, places_for, begin_at}
@@ -37,7 +38,7 @@ ending_settled (Some (Settled x)) e h = ap (λ y. some_of (Settled y)) (inside h
 bare_work : (s : State) (x : Execution) → x.places ≡ [] → work_of s x ≡ record { own = x.own; trees = [] }
 bare_work s x bare = ap (λ ps. work_with x.own (trees_at s.store ps)) bare
   where
-    work_with : View → List TreeMap → Work
+    work_with : Workspace → List TreeMap → Work
     work_with own trees = record { own = own; trees = trees }
 
 module _ (b : Build) (graph : IsGraph b.graph) (s : State) (stands : StandsByOutcomes b s) where

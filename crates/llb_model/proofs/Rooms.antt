@@ -6,9 +6,10 @@ use Rattle.std.proofs.lemmas.Bool.{ne_eqb, eq-eqb}
 use Rattle.std.proofs.lemmas.List.Sums.{sum_by-cons}
 use Rattle.llb_loader.specs.declared.graph.Vertex.{Vertex}
 use Rattle.llb_model.specs.declared.fault.VertexFault.{VertexFault}
-use Rattle.llb_model.specs.Program.{Build, MicroStep, ReadLocal, Act, LayInput, Run, View, Left, last_of, is_run, program_at, step_on}
+use Rattle.llb_model.specs.Program.{Build, MicroStep, ReadLocal, Act, LayInput, Run, Workspace, Left, last_of, is_run, program_at, step_on}
 use Rattle.llb_model.specs.Outcome.{Ending, Done, Failed}
-use Rattle.llb_model.specs.State.{Status, Waiting, Running, Settled, At, Idle, Runs, State, Opening, opening, program_in, work_of, ending_from, begin_at}
+use Rattle.llb_model.specs.State.{Status, Waiting, Running, Settled, WorkerStatus, Idle, Runs, State, Opening, opening, program_in, work_of, ending_from}
+use Rattle.llb_model.specs.State.{begin_at}
 use Rattle.llb_model.specs.Table.{Event, Claim, Step, Settle, Cancel, Reply, HasRead, Acted, HasMerged, HasRun, Skipped, Cancelled}
 use Rattle.llb_model.specs.Table.{execution_on, with_step, unless_failed, step_reply, settle_reply, table}
 use Rattle.llb_model.specs.Run.{run}
@@ -51,10 +52,10 @@ come_waiting (y ∷ vs) [] v = omega arith
 come_waiting (y ∷ vs) (r ∷ ss) zero = omega arith
 come_waiting (y ∷ vs) (r ∷ ss) (suc v) = omega (arith, come_waiting vs ss v)
 
-first : (c a : At) (ws : List At) → slice_get (c ∷ ws) 0 ≡ Some a → c ≡ a
+first : (c a : WorkerStatus) (ws : List WorkerStatus) → slice_get (c ∷ ws) 0 ≡ Some a → c ≡ a
 first c a ws at = cc
 
-pub left_set : (b : Build) (ws : List At) (w : ℕ) (a c : At) → slice_get ws w ≡ Some a
+pub left_set : (b : Build) (ws : List WorkerStatus) (w : ℕ) (a c : WorkerStatus) → slice_get ws w ≡ Some a
     → all_left b (slice_set ws w c) + left_by b a ≡ all_left b ws + left_by b c
 left_set b [] w a c at = absurd (cc)
 left_set b (d ∷ ws) zero a c at = let p : left_by b d ≡ left_by b a = ap (left_by b) (first d a ws at) in omega (arith, p)
@@ -137,7 +138,7 @@ unless_no_cancel : (v : ℕ) (f : Option VertexFault) (r : Reply) → is_cancel_
 unless_no_cancel v None r same = same
 unless_no_cancel v (Some f) r same = refl
 
-step_no_cancel : (v k : ℕ) (m : MicroStep) (own : View) (left : Left) → is_cancel_of v (step_reply k m own left) ≡ false
+step_no_cancel : (v k : ℕ) (m : MicroStep) (own : Workspace) (left : Left) → is_cancel_of v (step_reply k m own left) ≡ false
 step_no_cancel v k ReadLocal own left = unless_no_cancel v left.fault HasRead refl
 step_no_cancel v k (Act action) own left = unless_no_cancel v left.fault (Acted k) refl
 step_no_cancel v k (LayInput i) own left = unless_no_cancel v left.fault (HasMerged k) refl

@@ -1,9 +1,9 @@
 -- No two running workers hold one instance exclusively.
 use Rattle.std.proofs.Common.{◌≡◌, ℕ, List, Option, Some, inl, inr, refl, sym, ap, subst, ◌∙◌}
 use Rattle.std.specs.Prelude.{slice_get, slice_set, replicate}
-use Rattle.llb_model.specs.Caches.{Place, Has, IsExclusive}
+use Rattle.llb_model.specs.Caches.{Instance, Has, IsExclusive}
 use Rattle.llb_model.specs.Program.{Build, Left, needs_of, step_on}
-use Rattle.llb_model.specs.State.{Execution, At, Idle, Runs, State, opening, work_of, held, IsFree, begin_at}
+use Rattle.llb_model.specs.State.{Execution, WorkerStatus, Idle, Runs, State, opening, work_of, held, IsFree, begin_at}
 use Rattle.llb_model.specs.Table.{Event, Claim, Step, Settle, Cancel, execution_on, with_step, table}
 use Rattle.llb_model.specs.Laws.{IsReached, IsHeldOnce}
 use Rattle.llb_model.proofs.Lists.{got_set, got_replicate}
@@ -12,22 +12,22 @@ use Rattle.llb_model.proofs.Events.{Answer, IsClaim, claim_places, claim_is, ste
 use Rattle.llb_model.proofs.Runs.{run_keeps}
 
 -- no two workers have one of the places that count
-pub record IsSeparate (E : Place → Type 0) (ws : List At) : Type 0 where
-  pub once : (w u : ℕ) (x y : Execution) (p : Place) → slice_get ws w ≡ Some (Runs x) → slice_get ws u ≡ Some (Runs y) → Has x.places p
+pub record IsSeparate (E : Instance → Type 0) (ws : List WorkerStatus) : Type 0 where
+  pub once : (w u : ℕ) (x y : Execution) (p : Instance) → slice_get ws w ≡ Some (Runs x) → slice_get ws u ≡ Some (Runs y) → Has x.places p
       → Has y.places p → E p → w ≡ u
 
-unfoldable pub alone : Place → Type 0
+unfoldable pub alone : Instance → Type 0
 alone p = IsExclusive p.key.mode
 
-abbrev some_at : At → Option At
+abbrev some_at : WorkerStatus → Option WorkerStatus
 some_at a = Some a
 
 -- idle workers have no places, so no two of them have one
-pub opening_separate : (E : Place → Type 0) (n : ℕ) → IsSeparate E (replicate n Idle)
+pub opening_separate : (E : Instance → Type 0) (n : ℕ) → IsSeparate E (replicate n Idle)
 opening_separate E n = record { once = λ w u x y p there. absurd (let h : Runs x ≡ Idle = got_replicate n Idle w (Runs x) there in cc) }
 
 -- a worker that takes places which are free, of those that count
-pub taken_separate : (E : Place → Type 0) (ws : List At) (w : ℕ) (z : Execution) → ((p : Place) → Has z.places p → E p → IsFree ws p)
+pub taken_separate : (E : Instance → Type 0) (ws : List WorkerStatus) (w : ℕ) (z : Execution) → ((p : Instance) → Has z.places p → E p → IsFree ws p)
     → IsSeparate E ws → IsSeparate E (slice_set ws w (Runs z))
 taken_separate E ws w z free sep = record {
   once = λ a b x y p at_a at_b has_a has_b counts. elim (got_set ws w (Runs z) a (Runs x) at_a) [
@@ -46,7 +46,7 @@ taken_separate E ws w z free sep = record {
     same_run x e = cc
 
 -- workers of which each that runs ran on the same places before
-pub fewer_separate : (E : Place → Type 0) (ws vs : List At)
+pub fewer_separate : (E : Instance → Type 0) (ws vs : List WorkerStatus)
     → ((w : ℕ) (x : Execution) → slice_get vs w ≡ Some (Runs x) → (y : Execution) × (slice_get ws w ≡ Some (Runs y)) × (y.places ≡ x.places))
     → IsSeparate E ws → IsSeparate E vs
 fewer_separate E ws vs back sep = record {
@@ -57,7 +57,7 @@ fewer_separate E ws vs back sep = record {
 }
 
 -- what runs after a step of a worker ran before it, on the same places
-pub stepped_back : (ws : List At) (w : ℕ) (x : Execution) (left : Left) → slice_get ws w ≡ Some (Runs x)
+pub stepped_back : (ws : List WorkerStatus) (w : ℕ) (x : Execution) (left : Left) → slice_get ws w ≡ Some (Runs x)
     → (u : ℕ) (y : Execution) → slice_get (slice_set ws w (Runs (with_step x left))) u ≡ Some (Runs y)
     → (z : Execution) × (slice_get ws u ≡ Some (Runs z)) × (z.places ≡ y.places)
 stepped_back ws w x left there u y at_u = elim (got_set ws w (Runs (with_step x left)) u (Runs y) at_u) [
@@ -71,19 +71,19 @@ stepped_back ws w x left there u y at_u = elim (got_set ws w (Runs (with_step x 
     inside e = cc
 
 -- what runs after the end of what a worker ran did run before it, on the same places
-pub ended_back : (ws : List At) (w u : ℕ) (y : Execution) → slice_get (slice_set ws w Idle) u ≡ Some (Runs y)
+pub ended_back : (ws : List WorkerStatus) (w u : ℕ) (y : Execution) → slice_get (slice_set ws w Idle) u ≡ Some (Runs y)
     → (z : Execution) × (slice_get ws u ≡ Some (Runs z)) × (z.places ≡ y.places)
 ended_back ws w u y at_u = elim (got_set ws w Idle u (Runs y) at_u) [ inl h ↦ absurd (cc (h.1)) | inr h ↦ (y, h.1, refl) ]
 
 -- what a claim takes is free, of the places that count
-abbrev pub TakesFree : (Place → Type 0) → Build → State → Answer → Event → Type 0
-TakesFree E b s a (Claim w v) = (c : IsClaim b s w v a) (p : Place) → Has (claim_places s c.start) p → E p → IsFree s.workers p
+abbrev pub TakesFree : (Instance → Type 0) → Build → State → Answer → Event → Type 0
+TakesFree E b s a (Claim w v) = (c : IsClaim b s w v a) (p : Instance) → Has (claim_places s c.start) p → E p → IsFree s.workers p
 TakesFree E b s a (Step w) = Unit {0}
 TakesFree E b s a (Settle w) = Unit {0}
 TakesFree E b s a (Cancel w) = Unit {0}
 
 -- an event keeps workers apart, where what a claim takes is free
-pub event_separate : (E : Place → Type 0) (b : Build) (s : State) (e : Event) (a : Answer) → IsSeparate E s.workers → TakesFree E b s a e
+pub event_separate : (E : Instance → Type 0) (b : Build) (s : State) (e : Event) (a : Answer) → IsSeparate E s.workers → TakesFree E b s a e
     → table b s e ≡ Some a → IsSeparate E a.0.workers
 event_separate E b s (Claim w v) a sep free given =
     let c = claim_is b s w v a given in
@@ -102,7 +102,7 @@ event_separate E b s (Cancel w) a sep free given =
     subst (λ (t : Answer). IsSeparate E t.0.workers) (sym c.gives) (fewer_separate E s.workers (slice_set s.workers w Idle) (ended_back s.workers w) sep)
 
 -- what a claim takes alone is free
-pub alone_free : (b : Build) (s : State) (w v : ℕ) (a : Answer) (c : IsClaim b s w v a) (p : Place) → Has (claim_places s c.start) p
+pub alone_free : (b : Build) (s : State) (w v : ℕ) (a : Answer) (c : IsClaim b s w v a) (p : Instance) → Has (claim_places s c.start) p
     → alone p → IsFree s.workers p
 unfolding alone
 alone_free b s w v a c p h counts = free_from s.workers p (places_free (held s.workers) (needs_of c.start.vertex) c.unheld p h counts)

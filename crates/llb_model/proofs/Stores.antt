@@ -12,7 +12,7 @@ use Rattle.llb_cache.specs.declared.key.Seed.{Seed}
 use Rattle.llb_cache.specs.declared.key.Mode.{Mode}
 use Rattle.llb_cache.specs.declared.key.Mode.TheVariants.{Shared, Private, Locked}
 use Rattle.llb_tree.specs.Tree.{TreeMap, empty_tree}
-use Rattle.llb_model.specs.Caches.{Place, mode_number, seed_name, key_name, name_of, place_cmp, Store, content, put, put_all, trees_at}
+use Rattle.llb_model.specs.Caches.{Instance, mode_number, seed_name, key_name, name_of, place_cmp, Store, content, put, put_all, trees_at}
 use Rattle.llb_model.specs.Caches.{Hold, Has, Distinct, is_in}
 
 -- ---- places
@@ -47,7 +47,7 @@ key_same k l e =
     let mode : mode_number k.mode ∷ [] ≡ mode_number l.mode ∷ [] = cc in
     (λ i. record { id = id i; seed = seed_same k.seed l.seed seed i; mode = mode_of_name k.mode l.mode mode i })
 
-place_same : (p q : Place) → name_of p ≡ name_of q → p ≡ q
+place_same : (p q : Instance) → name_of p ≡ name_of q → p ≡ q
 place_same p q e =
     let number : p.number ≡ q.number = cc in
     let key : key_name p.key ≡ key_name q.key = cc in
@@ -60,21 +60,21 @@ place_antisymmetric : IsAntisymmetric place_cmp
 place_antisymmetric p q e = place_same p q (slice_cmp-IsAntisymmetric (slice_cmp-IsAntisymmetric nat_cmp-IsAntisymmetric) (name_of p) (name_of q) e)
 
 -- places that compare as equal are the same place
-pub place_test : (p q : Place) → eq_by_cmp place_cmp p q ≡ true → p ≡ q
+pub place_test : (p q : Instance) → eq_by_cmp place_cmp p q ≡ true → p ≡ q
 place_test p q e = place_antisymmetric p q ((Equal-is (place_cmp p q)).0 e)
 
-pub place_itself : (p : Place) → eq_by_cmp place_cmp p p ≡ true
+pub place_itself : (p : Instance) → eq_by_cmp place_cmp p p ≡ true
 place_itself p = (eq_by_cmp_equiv place_total).refl p
 
 -- for any two places it is decided whether they are the same
-pub place_or : (p q : Place) → (p ≡ q) ⊎ (p ≢ q)
+pub place_or : (p q : Instance) → (p ≡ q) ⊎ (p ≢ q)
 place_or p q = go (eq_by_cmp place_cmp p q) refl
   where
     go : (b : Bool) → eq_by_cmp place_cmp p q ≡ b → (p ≡ q) ⊎ (p ≢ q)
     go true is = inl (place_test p q is)
     go false is = inr (λ same. let h : false ≡ true = sym is ∙ ap (eq_by_cmp place_cmp p) (sym same) ∙ place_itself p in cc)
 
-place_apart : (p q : Place) → p ≢ q → eq_by_cmp place_cmp p q ≡ false
+place_apart : (p q : Instance) → p ≢ q → eq_by_cmp place_cmp p q ≡ false
 place_apart p q apart = go (eq_by_cmp place_cmp p q) refl
   where
     go : (b : Bool) → eq_by_cmp place_cmp p q ≡ b → b ≡ false
@@ -84,24 +84,24 @@ place_apart p q apart = go (eq_by_cmp place_cmp p q) refl
 -- ---- one write
 
 -- the tree that is written is at its place
-pub content_same : (s : Store) (p : Place) (t : TreeMap) → content (put s p t) p ≡ Some t
+pub content_same : (s : Store) (p : Instance) (t : TreeMap) → content (put s p t) p ≡ Some t
 unfolding content put
 content_same s p t = finite.get-insert place_total s p t p ∙ ap (λ b. cond b (Some t) (finite.get s p)) (place_itself p)
 
 -- a write leaves what is at every other place
-pub content_other : (s : Store) (p : Place) (t : TreeMap) (q : Place) → q ≢ p → content (put s p t) q ≡ content s q
+pub content_other : (s : Store) (p : Instance) (t : TreeMap) (q : Instance) → q ≢ p → content (put s p t) q ≡ content s q
 unfolding content put
 content_other s p t q apart = finite.get-insert place_total s p t q ∙ ap (λ b. cond b (Some t) (finite.get s q)) (place_apart q p apart)
 
 -- stores that have the same at every place are the same store
-pub same_store : (a b : Store) → ((p : Place) → content a p ≡ content b p) → a ≡ b
+pub same_store : (a b : Store) → ((p : Instance) → content a p ≡ content b p) → a ≡ b
 unfolding content
 same_store a b same = finite.same_map place_total place_antisymmetric a b same
 
-pub put_put : (s : Store) (p q : Place) (t u : TreeMap) → p ≢ q → put (put s p t) q u ≡ put (put s q u) p t
+pub put_put : (s : Store) (p q : Instance) (t u : TreeMap) → p ≢ q → put (put s p t) q u ≡ put (put s q u) p t
 put_put s p q t u apart = same_store (put (put s p t) q u) (put (put s q u) p t) each
   where
-    each : (r : Place) → content (put (put s p t) q u) r ≡ content (put (put s q u) p t) r
+    each : (r : Instance) → content (put (put s p t) q u) r ≡ content (put (put s q u) p t) r
     each r = elim (place_or r p) [
       | inl h ↦ subst (λ x. content (put (put s p t) q u) x ≡ content (put (put s q u) p t) x) (sym h)
           (content_other (put s p t) q u p apart ∙ content_same s p t ∙ sym (content_same (put s q u) p t))
@@ -115,7 +115,7 @@ put_put s p q t u apart = same_store (put (put s p t) q u) (put (put s q u) p t)
 -- ---- membership
 
 -- for any place it is decided whether it is in a list
-pub has_or : (ps : List Place) (p : Place) → Has ps p ⊎ (Has ps p → ⊥)
+pub has_or : (ps : List Instance) (p : Instance) → Has ps p ⊎ (Has ps p → ⊥)
 has_or [] p = inr (λ h. h)
 has_or (q ∷ ps) p = elim (place_or p q) [
   | inl h ↦ inl (inl h)
@@ -126,7 +126,7 @@ has_or (q ∷ ps) p = elim (place_or p q) [
 ]
 
 -- the test finds each place of a list
-pub has_in : (ps : List Place) (p : Place) → Has ps p → is_in ps p ≡ true
+pub has_in : (ps : List Instance) (p : Instance) → Has ps p → is_in ps p ≡ true
 has_in [] p h = absurd h
 has_in (q ∷ ps) p (inl h) = ap (λ b. b || is_in ps p) (ap (eq_by_cmp place_cmp p) (sym h) ∙ place_itself p)
 has_in (q ∷ ps) p (inr h) = go (eq_by_cmp place_cmp p q) (is_in ps p) (has_in ps p h)
@@ -160,20 +160,20 @@ mapped_has f (a ∷ xs) x (inr h) = inr (mapped_has f xs x h)
 -- ---- writes at several places
 
 -- writes at several places leave what is at any that is not among them
-pub kept_all : (s : Store) (ps : List Place) (ts : List TreeMap) (q : Place) → (Has ps q → ⊥) → content (put_all s ps ts) q ≡ content s q
+pub kept_all : (s : Store) (ps : List Instance) (ts : List TreeMap) (q : Instance) → (Has ps q → ⊥) → content (put_all s ps ts) q ≡ content s q
 kept_all s [] ts q apart = refl
 kept_all s (p ∷ ps) [] q apart = refl
 kept_all s (p ∷ ps) (t ∷ ts) q apart = kept_all (put s p t) ps ts q (λ h. apart (inr h)) ∙ content_other s p t q (λ e. apart (inl e))
 
 -- trees that are at places are there in every store that has the same at these places
-pub hold_moved : (s r : Store) (ps : List Place) (ts : List TreeMap) → Hold s ps ts → ((p : Place) → Has ps p → content r p ≡ content s p) → Hold r ps ts
+pub hold_moved : (s r : Store) (ps : List Instance) (ts : List TreeMap) → Hold s ps ts → ((p : Instance) → Has ps p → content r p ≡ content s p) → Hold r ps ts
 hold_moved s r [] [] hold same = tt
 hold_moved s r [] (t ∷ ts) hold same = absurd hold
 hold_moved s r (p ∷ ps) [] hold same = absurd hold
 hold_moved s r (p ∷ ps) (t ∷ ts) hold same = (same p (inl refl) ∙ hold.0, hold_moved s r ps ts hold.1 (λ q h. same q (inr h)))
 
 -- after writes at places that differ, each has the tree that was written to it
-pub hold_all : (s : Store) (ps : List Place) (ts : List TreeMap) → Distinct ps → length ts ≡ length ps → Hold (put_all s ps ts) ps ts
+pub hold_all : (s : Store) (ps : List Instance) (ts : List TreeMap) → Distinct ps → length ts ≡ length ps → Hold (put_all s ps ts) ps ts
 hold_all s [] [] apart len = tt
 hold_all s [] (t ∷ ts) apart len = absurd (omega (arith, len))
 hold_all s (p ∷ ps) [] apart len = absurd (omega (arith, len))
@@ -181,7 +181,7 @@ hold_all s (p ∷ ps) (t ∷ ts) apart len =
     (kept_all (put s p t) ps ts p apart.0 ∙ content_same s p t, hold_all (put s p t) ps ts apart.1 (omega (arith, len)))
 
 -- trees that are at places are the ones that are read there
-pub hold_trees : (s : Store) (ps : List Place) (ts : List TreeMap) → Hold s ps ts → trees_at s ps ≡ ts
+pub hold_trees : (s : Store) (ps : List Instance) (ts : List TreeMap) → Hold s ps ts → trees_at s ps ≡ ts
 hold_trees s [] [] hold = refl
 hold_trees s [] (t ∷ ts) hold = absurd hold
 hold_trees s (p ∷ ps) [] hold = absurd hold
@@ -189,21 +189,21 @@ hold_trees s (p ∷ ps) (t ∷ ts) hold =
     ap (λ o. unwrap_or o empty_tree ∷ trees_at s ps) hold.0 ∙ ap (λ us. t ∷ us) (hold_trees s ps ts hold.1)
 
 -- where there are trees at places, there is one for each
-pub hold_length : (s : Store) (ps : List Place) (ts : List TreeMap) → Hold s ps ts → length ts ≡ length ps
+pub hold_length : (s : Store) (ps : List Instance) (ts : List TreeMap) → Hold s ps ts → length ts ≡ length ps
 hold_length s [] [] hold = refl
 hold_length s [] (t ∷ ts) hold = absurd hold
 hold_length s (p ∷ ps) [] hold = absurd hold
 hold_length s (p ∷ ps) (t ∷ ts) hold = ap suc (hold_length s ps ts hold.1)
 
 -- two stores that have the same trees at places have the same at each of them
-pub hold_same : (s r : Store) (ps : List Place) (ts : List TreeMap) → Hold s ps ts → Hold r ps ts → (p : Place) → Has ps p → content s p ≡ content r p
+pub hold_same : (s r : Store) (ps : List Instance) (ts : List TreeMap) → Hold s ps ts → Hold r ps ts → (p : Instance) → Has ps p → content s p ≡ content r p
 hold_same s r [] ts a b p h = absurd h
 hold_same s r (q ∷ ps) [] a b p h = absurd a
 hold_same s r (q ∷ ps) (t ∷ ts) a b p (inl h) = ap (content s) h ∙ a.0 ∙ sym b.0 ∙ ap (content r) (sym h)
 hold_same s r (q ∷ ps) (t ∷ ts) a b p (inr h) = hold_same s r ps ts a.1 b.1 p h
 
 -- a write at a place that is not among others may come after theirs
-pub put_all_put : (s : Store) (p : Place) (t : TreeMap) (ps : List Place) (ts : List TreeMap) → (Has ps p → ⊥)
+pub put_all_put : (s : Store) (p : Instance) (t : TreeMap) (ps : List Instance) (ts : List TreeMap) → (Has ps p → ⊥)
     → put_all (put s p t) ps ts ≡ put (put_all s ps ts) p t
 put_all_put s p t [] ts apart = refl
 put_all_put s p t (q ∷ ps) [] apart = refl
@@ -211,20 +211,20 @@ put_all_put s p t (q ∷ ps) (u ∷ ts) apart =
     ap (λ r. put_all r ps ts) (put_put s p q t u (λ e. apart (inl e))) ∙ put_all_put (put s q u) p t ps ts (λ h. apart (inr h))
 
 -- stores that have the same at some places show the same trees there
-pub trees_same : (s r : Store) (ps : List Place) → ((p : Place) → Has ps p → content r p ≡ content s p) → trees_at r ps ≡ trees_at s ps
+pub trees_same : (s r : Store) (ps : List Instance) → ((p : Instance) → Has ps p → content r p ≡ content s p) → trees_at r ps ≡ trees_at s ps
 trees_same s r [] same = refl
 trees_same s r (p ∷ ps) same =
     ap (λ o. unwrap_or o empty_tree ∷ trees_at r ps) (same p (inl refl))
     ∙ ap (λ us. unwrap_or (content s p) empty_tree ∷ us) (trees_same s r ps (λ q h. same q (inr h)))
 
 -- where there was a tree at a place there still is, this or another one
-pub put_holds : (s : Store) (ps : List Place) (ts : List TreeMap) (qs : List Place) (us : List TreeMap) → Hold s qs us
+pub put_holds : (s : Store) (ps : List Instance) (ts : List TreeMap) (qs : List Instance) (us : List TreeMap) → Hold s qs us
     → (vs : List TreeMap) × Hold (put_all s ps ts) qs vs
 put_holds s [] ts qs us hold = (us, hold)
 put_holds s (p ∷ ps) [] qs us hold = (us, hold)
 put_holds s (p ∷ ps) (t ∷ ts) qs us hold = let h = one s p t qs us hold in put_holds (put s p t) ps ts qs h.0 h.1
   where
-    one : (s : Store) (p : Place) (t : TreeMap) (qs : List Place) (us : List TreeMap) → Hold s qs us → (vs : List TreeMap) × Hold (put s p t) qs vs
+    one : (s : Store) (p : Instance) (t : TreeMap) (qs : List Instance) (us : List TreeMap) → Hold s qs us → (vs : List TreeMap) × Hold (put s p t) qs vs
     one s p t [] [] hold = ([], tt)
     one s p t [] (u ∷ us) hold = absurd hold
     one s p t (q ∷ qs) [] hold = absurd hold

@@ -2,9 +2,9 @@
 use Rattle.std.proofs.Common.{◌≡◌, ℕ, List, length, Some, inl, inr, sym, ap, subst, ◌∙◌}
 use Rattle.std.specs.Prelude.{slice_get, slice_set}
 use Rattle.llb_tree.specs.Tree.{TreeMap}
-use Rattle.llb_model.specs.Caches.{Place, Store, put_all, Hold, Distinct}
+use Rattle.llb_model.specs.Caches.{Instance, Store, put_all, Hold, Distinct}
 use Rattle.llb_model.specs.Program.{Build, needs_of, step_on}
-use Rattle.llb_model.specs.State.{Execution, At, Idle, Runs, State, opening, work_of, held, begin_at}
+use Rattle.llb_model.specs.State.{Execution, WorkerStatus, Idle, Runs, State, opening, work_of, held, begin_at}
 use Rattle.llb_model.specs.Table.{Event, Claim, Step, Settle, Cancel, execution_on, with_step, table}
 use Rattle.llb_model.specs.Laws.{HasDistinctNeeds, HeldAreThere}
 use Rattle.llb_model.proofs.Lists.{got_set, got_replicate}
@@ -14,7 +14,7 @@ use Rattle.llb_model.proofs.Claims.{places_distinct, places_length, first_length
 use Rattle.llb_model.proofs.Events.{Answer, claim_places, claim_is, step_is, settle_is, cancel_is}
 use Rattle.llb_model.proofs.Runs.{run_keeps}
 
-record IsThere (store : Store) (ps : List Place) : Type 0 where
+record IsThere (store : Store) (ps : List Instance) : Type 0 where
   apart : Distinct ps
   trees : List TreeMap
   hold : Hold store ps trees
@@ -23,13 +23,13 @@ record AreThere (s : State) : Type 0 where
   each : (w : ℕ) (x : Execution) → slice_get s.workers w ≡ Some (Runs x) → IsThere s.store x.places
 
 -- after a write elsewhere, or also there
-still : (store : Store) (ps : List Place) (ts : List TreeMap) (qs : List Place) → IsThere store qs → IsThere (put_all store ps ts) qs
+still : (store : Store) (ps : List Instance) (ts : List TreeMap) (qs : List Instance) → IsThere store qs → IsThere (put_all store ps ts) qs
 still store ps ts qs t = let h = put_holds store ps ts qs t.trees t.hold in record { apart = t.apart; trees = h.0; hold = h.1 }
 
-written : (store : Store) (ps : List Place) (ts : List TreeMap) → Distinct ps → length ts ≡ length ps → IsThere (put_all store ps ts) ps
+written : (store : Store) (ps : List Instance) (ts : List TreeMap) → Distinct ps → length ts ≡ length ps → IsThere (put_all store ps ts) ps
 written store ps ts apart count = record { apart = apart; trees = ts; hold = hold_all store ps ts apart count }
 
-after_write : (store : Store) (ws : List At) (w : ℕ) (z : Execution) (ts : List TreeMap)
+after_write : (store : Store) (ws : List WorkerStatus) (w : ℕ) (z : Execution) (ts : List TreeMap)
     → ((u : ℕ) (x : Execution) → slice_get ws u ≡ Some (Runs x) → IsThere store x.places)
     → Distinct z.places → length ts ≡ length z.places → (u : ℕ) (x : Execution) → slice_get (slice_set ws w (Runs z)) u ≡ Some (Runs x)
     → IsThere (put_all store z.places ts) x.places

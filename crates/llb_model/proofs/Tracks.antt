@@ -6,8 +6,8 @@ use Rattle.std.specs.Prelude.{slice_get, slice_set, replicate}
 use Rattle.llb_loader.specs.declared.graph.Vertex.{Vertex}
 use Rattle.llb_tree.specs.Tree.{TreeMap}
 use Rattle.llb_model.specs.declared.fault.VertexFault.{VertexFault}
-use Rattle.llb_model.specs.Caches.{Place, Store, content, Hold, Has, Distinct}
-use Rattle.llb_model.specs.Program.{Build, MicroStep, Program, View, Need, Work, Left, Start, program_of}
+use Rattle.llb_model.specs.Caches.{Instance, Store, content, Hold, Has, Distinct}
+use Rattle.llb_model.specs.Program.{Build, MicroStep, Program, Workspace, Need, Work, Left, Start, program_of}
 use Rattle.llb_model.specs.Program.{program_at, needs_of, base_in, step_on, unless_faulted, go_on, part, whole}
 use Rattle.llb_model.specs.Outcome.{Ending, ending}
 use Rattle.llb_model.specs.State.{Status, Waiting, Running, Settled, Execution, Idle, Runs, State, Opening, opening, ending_of, ending_at}
@@ -28,13 +28,13 @@ use Rattle.llb_model.proofs.Separate.{IsSeparate, TakesFree, opening_separate, e
 use Rattle.llb_model.proofs.Cuts.{cuts, step_cuts, uncut_here, uncut_later, cut_here, cut_later, after_reply, step_stays, settle_stays}
 
 -- all places count
-abbrev pub any : Place → Type 0
+abbrev pub any : Instance → Type 0
 any p = Unit {0}
 
-abbrev at_work : View → List TreeMap → Work
+abbrev at_work : Workspace → List TreeMap → Work
 at_work own trees = record { own = own; trees = trees }
 
-abbrev left_at : View → List TreeMap → Option VertexFault → Left
+abbrev left_at : Workspace → List TreeMap → Option VertexFault → Left
 left_at own trees fault = record { work = at_work own trees; fault = fault }
 
 -- what a worker runs: a part of its program on what the order began it with, on its instances as they are now; and what the order did, where `cut`
@@ -63,7 +63,7 @@ pub record Tracks (b : Build) (s : State) (o : Order) (cut : ℕ → Option ℕ)
   pub agree : (v : ℕ) → Agrees (slice_get s.statuses v) (slice_get o.statuses v)
   pub working : (w : ℕ) (x : Execution) → slice_get s.workers w ≡ Some (Runs x) → IsWorking b s o cut w x
   pub separate : IsSeparate any s.workers
-  pub free : (p : Place) → IsFree s.workers p → content s.store p ≡ content o.store p
+  pub free : (p : Instance) → IsFree s.workers p → content s.store p ≡ content o.store p
 
 -- ---- statuses
 
@@ -118,8 +118,8 @@ ready_too b xs ys same v start r = ready_as b ys v start (record {
 
 -- ---- what a claim begins with
 
-first_agrees : (a b : Store) (inputs : List TreeMap) (ps : List Place) (ns : List Need)
-    → ((p : Place) → Has ps p → content a p ≡ content b p) → first_trees a inputs ps ns ≡ first_trees b inputs ps ns
+first_agrees : (a b : Store) (inputs : List TreeMap) (ps : List Instance) (ns : List Need)
+    → ((p : Instance) → Has ps p → content a p ≡ content b p) → first_trees a inputs ps ns ≡ first_trees b inputs ps ns
 first_agrees a b inputs [] ns same = refl
 first_agrees a b inputs (p ∷ ps) [] same = refl
 first_agrees a b inputs (p ∷ ps) (n ∷ ns) same =
@@ -132,8 +132,8 @@ done_keeps (Some k) steps work = part_keeps steps work k
 
 module _ (b : Build) (s : State) (o : Order) (cut : ℕ → Option ℕ) (tracks : Tracks b s o cut) where
   -- a worker that takes free instances
-  pub claim_tracks : (w v : ℕ) (start : Start) (ps : List Place) → slice_get s.workers w ≡ Some Idle → IsReady b s.statuses v start
-      → ((p : Place) → Has ps p → IsFree s.workers p) → Distinct ps → length ps ≡ length (needs_of start.vertex)
+  pub claim_tracks : (w v : ℕ) (start : Start) (ps : List Instance) → slice_get s.workers w ≡ Some Idle → IsReady b s.statuses v start
+      → ((p : Instance) → Has ps p → IsFree s.workers p) → Distinct ps → length ps ≡ length (needs_of start.vertex)
       → IsSeparate any (claim_at b s w v start ps).0.workers
       → Tracks b (claim_at b s w v start ps).0 (whole_at b o v start ps (cut v)) cut
   unfolding part
@@ -202,7 +202,7 @@ module _ (b : Build) (s : State) (o : Order) (cut : ℕ → Option ℕ) (tracks 
       moved u x at_u old =
           let other : x.vertex ≢ v = λ same. let both : some_of Waiting ≡ some_of (Running u) = sym r.waits
           ∙ ap (slice_get s.statuses) (sym same) ∙ old.status in absurd cc in
-          let mine : (q : Place) → Has x.places q → Has ps q → ⊥ = λ q h k. free q k u x at_u h in
+          let mine : (q : Instance) → Has x.places q → Has ps q → ⊥ = λ q h k. free q k u x at_u h in
           record {
             vertex = old.vertex;
             there = old.there;
@@ -250,7 +250,7 @@ module _ (b : Build) (s : State) (o : Order) (cut : ℕ → Option ℕ) (tracks 
       same_worker : (u : ℕ) (y : Execution) → slice_get s.workers u ≡ Some (Runs y) → u ≡ w → y ≡ x
       same_worker u y at_u same = let both : some_of (Runs y) ≡ some_of (Runs x) = sym at_u ∙ ap (slice_get s.workers) same ∙ at_w in cc
 
-      by_worker : (p : Place) → IsFree new.workers p → (Has x.places p → ⊥) → (u : ℕ) (y : Execution)
+      by_worker : (p : Instance) → IsFree new.workers p → (Has x.places p → ⊥) → (u : ℕ) (y : Execution)
           → slice_get s.workers u ≡ Some (Runs y) → Has y.places p → ⊥
       by_worker p is_free mine u y at_u h =
           is_free u y (get_set_other s.workers w (Runs z) u (λ same. mine (subst (λ (t : Execution). Has t.places p) (same_worker u y at_u same) h)) ∙ at_u) h
@@ -343,7 +343,7 @@ module _ (b : Build) (s : State) (o : Order) (cut : ℕ → Option ℕ) (tracks 
       same_worker : (u : ℕ) (y : Execution) → slice_get s.workers u ≡ Some (Runs y) → u ≡ w → y ≡ x
       same_worker u y at_u same = let both : some_of (Runs y) ≡ some_of (Runs x) = sym at_u ∙ ap (slice_get s.workers) same ∙ at_w in cc
 
-      by_worker : (p : Place) → IsFree (slice_set s.workers w Idle) p → (Has x.places p → ⊥) → (u : ℕ) (y : Execution)
+      by_worker : (p : Instance) → IsFree (slice_set s.workers w Idle) p → (Has x.places p → ⊥) → (u : ℕ) (y : Execution)
           → slice_get s.workers u ≡ Some (Runs y) → Has y.places p → ⊥
       by_worker p is_free mine u y at_u h =
           is_free u y (get_set_other s.workers w Idle u (λ same. mine (subst (λ (t : Execution). Has t.places p) (same_worker u y at_u same) h)) ∙ at_u) h
@@ -407,7 +407,7 @@ event_tracks b differ s o (Claim w v) a rs before free given =
     let separate = subst (λ (t : Answer). IsSeparate any t.0.workers) c.gives (event_separate any b s (Claim w v) a tracks.separate free given) in
     let now = claim_tracks b s o (cuts rs) tracks w v c.start ps c.idle r (λ p h. free c p h tt) apart
     (places_length (held s.workers) (needs_of c.start.vertex)) separate in
-    let numbers = map (λ (p : Place). p.number) ps in
+    let numbers = map (λ (p : Instance). p.number) ps in
     subst (λ (t : Answer). Tracks b t.0 (after_reply b o t.1 rs) (cuts rs)) (sym c.gives)
     (subst (λ (q : Option Start). Tracks b (claim_at b s w v c.start ps).0 (run_whole b o (named v numbers (cut_in v rs)) q) (cuts rs))
     (sym (ready_too b s.statuses o.statuses tracks.agree v c.start r))

@@ -7,14 +7,16 @@ use Rattle.llb_model.specs.Caches.{Has}
 use Rattle.llb_model.specs.Program.{filled, taken}
 use Rattle.llb_model.specs.Laws.{PartsMeet, PartsCount}
 
-swap : (mounts : List Shown) (m n : ℕ) (t u : TreeMap) → m ≢ n → with_tree_of (with_tree_of mounts m t) n u ≡ with_tree_of (with_tree_of mounts n u) m t
+-- trees of two mounts are set in either order
+pub swap : (mounts : List Shown) (m n : ℕ) (t u : TreeMap) → m ≢ n → with_tree_of (with_tree_of mounts m t) n u ≡ with_tree_of (with_tree_of mounts n u) m t
 swap [] m n t u apart = refl
 swap (s ∷ mounts) zero zero t u apart = absurd (apart refl)
 swap (s ∷ mounts) zero (suc n) t u apart = refl
 swap (s ∷ mounts) (suc m) zero t u apart = refl
 swap (s ∷ mounts) (suc m) (suc n) t u apart = ap (λ xs. s ∷ xs) (swap mounts m n t u (λ e. apart (ap suc e)))
 
-again : (mounts : List Shown) (m : ℕ) (t u : TreeMap) → with_tree_of (with_tree_of mounts m t) m u ≡ with_tree_of mounts m u
+-- of two trees that are set in one mount the later one stays
+pub again : (mounts : List Shown) (m : ℕ) (t u : TreeMap) → with_tree_of (with_tree_of mounts m t) m u ≡ with_tree_of mounts m u
 again [] m t u = refl
 again (s ∷ mounts) zero t u = refl
 again (s ∷ mounts) (suc m) t u = ap (λ xs. s ∷ xs) (again mounts m t u)

@@ -2,7 +2,7 @@
 use Rattle.std.proofs.Common.{◌≡◌, ℕ, suc, Bool, true, false, cond, List, [], ◌∷◌, Option, Some, None, inl, inr, refl, sym, ap, subst, ◌∙◌}
 use Rattle.std.specs.Prelude.{slice_get}
 use Rattle.llb_cache.specs.declared.key.Key.{Key}
-use Rattle.llb_model.specs.Caches.{Place, IsExclusive}
+use Rattle.llb_model.specs.Caches.{Instance, IsExclusive}
 use Rattle.llb_model.specs.Program.{Build, needs_of}
 use Rattle.llb_model.specs.State.{Status, Waiting, Running, Settled, State, opening, program_in, is_finished, held, place_for}
 use Rattle.llb_model.specs.Table.{Event, Claim, Step, Settle, Cancel, Reply, Claimed, HasRead, Acted, HasMerged, HasRun, Skipped, Faulted, SettledDone}
@@ -55,7 +55,7 @@ unfolding alone
 takes_free b none s a (Claim w v) = λ c p h counts.
     let m = has_map (place_for (held s.workers)) (needs_of c.start.vertex) p h in
     let exclusive = none v c.start.vertex c.begins.there m.0 m.1 in
-    alone_free b s w v a c p h (subst (λ (k : Key). IsExclusive k.mode) (sym (ap (λ (q : Place). q.key) m.2)) exclusive)
+    alone_free b s w v a c p h (subst (λ (k : Key). IsExclusive k.mode) (sym (ap (λ (q : Instance). q.key) m.2)) exclusive)
 takes_free b none s a (Step w) = tt
 takes_free b none s a (Settle w) = tt
 takes_free b none s a (Cancel w) = tt

@@ -1,4 +1,4 @@
--- The contents of caches: a finite map from places, each a key and the number of an instance, to trees.
+-- The contents of caches: a finite map from instances, each a key and a number, to trees.
 use Rattle.std.specs.Prelude.{◌≡◌, ℕ, Bool, List, [], ◌∷◌, map, Option, Some, None, unwrap_or, ◌⊎◌}
 use Rattle.std.specs.Ordering.{on, nat_cmp, eq_by_cmp}
 use Rattle.std.specs.Cmp.Lexicographic.{slice_cmp}
@@ -10,11 +10,11 @@ use Rattle.llb_cache.specs.declared.key.Key.{Key}
 use Rattle.llb_cache.specs.declared.key.Seed.{Seed}
 use Rattle.llb_cache.specs.declared.key.Mode.{Mode}
 use Rattle.llb_cache.specs.declared.key.Mode.TheVariants.{Shared, Private, Locked}
-pub use Rattle.llb_cache.specs.declared.need.Place.{Place}
-pub use Rattle.llb_cache.specs.Caches.{place}
+pub use Rattle.llb_cache.specs.declared.need.Instance.{Instance}
+pub use Rattle.llb_cache.specs.Caches.{place, IsExclusive}
 use Rattle.llb_tree.specs.Tree.{TreeMap, empty_tree}
 
--- ---- places
+-- ---- instances
 
 -- the number of a mode, by which modes are ordered
 abbrev pub mode_number : Mode → ℕ
@@ -32,22 +32,16 @@ abbrev pub key_name : Key → List (List ℕ)
 key_name k = (mode_number k.mode ∷ []) ∷ k.id ∷ seed_name k.seed
 
 -- an instance as lists of numbers, by which instances are ordered: its number, and then its key's name
-abbrev pub name_of : Place → List (List ℕ)
+abbrev pub name_of : Instance → List (List ℕ)
 name_of p = (p.number ∷ []) ∷ key_name p.key
 
 -- the order of instances, by their names
-abbrev pub place_cmp : Place → Place → Ordering
+abbrev pub place_cmp : Instance → Instance → Ordering
 place_cmp = on name_of (slice_cmp (slice_cmp nat_cmp))
 
 -- whether an instance is in a list
-abbrev pub is_in : List Place → Place → Bool
+abbrev pub is_in : List Instance → Instance → Bool
 is_in ps p = list_any (λ q. eq_by_cmp place_cmp p q) ps
-
--- a way of sharing in which an execution holds its instance exclusively
-abbrev pub IsExclusive : Mode → Type 0
-IsExclusive Shared = ⊥
-IsExclusive Private = Unit {0}
-IsExclusive Locked = Unit {0}
 
 -- ---- contents
 
@@ -60,25 +54,25 @@ abbrev pub no_instances : Store
 no_instances = finite.empty
 
 -- the tree of an instance, if the instance is there
-unfoldable pub content : Store → Place → Option TreeMap
+unfoldable pub content : Store → Instance → Option TreeMap
 content s p = finite.get s p
 
--- the contents with this tree at one place
-unfoldable pub put : Store → Place → TreeMap → Store
+-- the contents with this tree in one instance
+unfoldable pub put : Store → Instance → TreeMap → Store
 put s p t = finite.insert s p t
 
--- the contents with one of these trees at each of these places
-abbrev pub put_all : Store → List Place → List TreeMap → Store
+-- the contents with one of these trees in each of these instances
+abbrev pub put_all : Store → List Instance → List TreeMap → Store
 put_all s [] ts = s
 put_all s (p ∷ ps) [] = s
 put_all s (p ∷ ps) (t ∷ ts) = put_all (put s p t) ps ts
 
 -- the trees of these instances; the empty tree for one that is not there
-abbrev pub trees_at : Store → List Place → List TreeMap
+abbrev pub trees_at : Store → List Instance → List TreeMap
 trees_at s ps = map (λ p. unwrap_or (content s p) empty_tree) ps
 
--- the places hold these trees
-abbrev pub Hold : Store → List Place → List TreeMap → Type 0
+-- the instances hold these trees
+abbrev pub Hold : Store → List Instance → List TreeMap → Type 0
 Hold s [] [] = Unit {0}
 Hold s [] (t ∷ ts) = ⊥
 Hold s (p ∷ ps) [] = ⊥

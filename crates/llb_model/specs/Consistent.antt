@@ -6,6 +6,7 @@ use Rattle.llb_model.specs.Program.{Build}
 use Rattle.llb_model.specs.Outcome.{Done, inputs_from}
 use Rattle.llb_model.specs.State.{Running, Settled, Execution, Runs, State, ending_at, is_waiting}
 
+-- statuses and workers agree
 pub record IsConsistent (b : Build) (s : State) : Type 0 where
   -- each vertex has a status
   pub count : length s.statuses ≡ length b.graph.vertices

@@ -11,9 +11,11 @@ use Rattle.llb_model.specs.Run.{run}
 
 -- ---- the block
 
+-- n steps of worker w
 abbrev pub steps_by : ℕ → ℕ → List Event
 steps_by w n = replicate n (Step w)
 
+-- n steps of worker w and its settle
 abbrev pub landing : ℕ → ℕ → List Event
 landing w n = steps_by w n ++ Settle w ∷ []
 
@@ -48,6 +50,7 @@ left_so_far x trees = record { work = record { own = x.own; trees = trees }; fau
 abbrev pub with_steps : Execution → ℕ → Left → Execution
 with_steps x n left = record x { done = x.done + n; fault = left.fault; own = left.work.own }
 
+-- the state after n micro-steps of what worker w runs, which left this
 abbrev pub after_steps : State → ℕ → Execution → ℕ → Left → State
 after_steps s w x n left = record s { workers = slice_set s.workers w (Runs (with_steps x n left)); store = put_all s.store x.places left.work.trees }
 
@@ -66,7 +69,7 @@ StepsAsBlock b = (s : State) (w : ℕ) (x : Execution) (trees : List TreeMap) (n
     → AreThere (program_in b x).steps x.done (left_so_far x trees) n
     → (rs : List Reply) × (run b s (steps_by w n) ≡ Some (after_steps s w x n (further (program_in b x).steps x.done (left_so_far x trees) n), rs))
 
--- what was worked out elsewhere on a worker's view and trees as they are now has, landed, the effect of the block
+-- what was worked out elsewhere on a worker's workspace and trees as they are now has, landed, the effect of the block
 abbrev pub LandsAsBlock : Build → Type 0
 LandsAsBlock b = (s : State) (w : ℕ) (x : Execution) (trees : List TreeMap) (n : ℕ) → slice_get s.workers w ≡ Some (Runs x)
     → Distinct x.places → Hold s.store x.places trees

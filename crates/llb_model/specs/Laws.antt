@@ -11,7 +11,7 @@ use Rattle.llb_applet.specs.declared.join.Joined.{Joined}
 use Rattle.llb_applet.specs.declared.setting.Setting.{Setting}
 use Rattle.llb_mount.specs.declared.shown.Shown.{Shown}
 use Rattle.llb_tree.specs.Tree.{TreeMap}
-use Rattle.llb_model.specs.Caches.{Place, place, Store, content, put, Hold, Has, Distinct, IsExclusive}
+use Rattle.llb_model.specs.Caches.{Instance, place, Store, content, put, Hold, Has, Distinct, IsExclusive}
 use Rattle.llb_model.specs.declared.fault.VertexFault.{VertexFault}
 use Rattle.llb_model.specs.declared.fault.VertexFault.TheVariants as fault
 use Rattle.llb_model.specs.Program.{Build, MicroStep, Run, Mounted, Work, Need, key_of, needs_of, has_cache, all_and, runs_of, filled, taken, blanked}
@@ -47,32 +47,33 @@ NoShared b = (k : ℕ) (v : Vertex) → slice_get b.graph.vertices k ≡ Some v 
 
 -- two running workers that hold one instance, exclusively, are one worker
 abbrev pub IsHeldOnce : Build → Type 0
-IsHeldOnce b = (s : State) → IsReached b s → (w u : ℕ) (x y : Execution) (p : Place) → slice_get s.workers w ≡ Some (Runs x)
+IsHeldOnce b = (s : State) → IsReached b s → (w u : ℕ) (x y : Execution) (p : Instance) → slice_get s.workers w ≡ Some (Runs x)
     → slice_get s.workers u ≡ Some (Runs y)
     → Has x.places p → Has y.places p → IsExclusive p.key.mode → w ≡ u
 
 -- two running workers with one locked key are one worker
 abbrev pub IsLockedOnce : Build → Type 0
-IsLockedOnce b = (s : State) → IsReached b s → (w u : ℕ) (x y : Execution) (p q : Place) → slice_get s.workers w ≡ Some (Runs x)
+IsLockedOnce b = (s : State) → IsReached b s → (w u : ℕ) (x y : Execution) (p q : Instance) → slice_get s.workers w ≡ Some (Runs x)
     → slice_get s.workers u ≡ Some (Runs y)
     → Has x.places p → Has y.places q → p.key ≡ q.key → p.key.mode ≡ Locked → w ≡ u
 
 -- another worker's event does not change an instance that a running worker holds exclusively
 abbrev pub OthersKeep : Build → Type 0
-OthersKeep b = (s t : State) (e : Event) (r : Reply) → IsReached b s → table b s e ≡ Some (t, r) → (w : ℕ) (x : Execution) (p : Place)
+OthersKeep b = (s t : State) (e : Event) (r : Reply) → IsReached b s → table b s e ≡ Some (t, r) → (w : ℕ) (x : Execution) (p : Instance)
     → slice_get s.workers w ≡ Some (Runs x)
     → Has x.places p → IsExclusive p.key.mode → worker_of e ≢ w → content t.store p ≡ content s.store p
 
--- another tree at one place
-abbrev pub with_content : Place → TreeMap → State → State
+-- another tree in one instance
+abbrev pub with_content : Instance → TreeMap → State → State
 with_content p t s = record s { store = put s.store p t }
 
-abbrev pub with_content_after : Place → TreeMap → State × Reply → State × Reply
+-- an answer whose state has another tree in an instance
+abbrev pub with_content_after : Instance → TreeMap → State × Reply → State × Reply
 with_content_after p t a = (with_content p t a.0, a.1)
 
 -- nor does it read it: the event has the same reply, and the same effect elsewhere, whatever tree is there
 abbrev pub OthersIgnore : Build → Type 0
-OthersIgnore b = (s : State) (e : Event) (t : TreeMap) → IsReached b s → (w : ℕ) (x : Execution) (p : Place) → slice_get s.workers w ≡ Some (Runs x)
+OthersIgnore b = (s : State) (e : Event) (t : TreeMap) → IsReached b s → (w : ℕ) (x : Execution) (p : Instance) → slice_get s.workers w ≡ Some (Runs x)
     → Has x.places p → IsExclusive p.key.mode → worker_of e ≢ w → table b (with_content p t s) e ≡ option_map (with_content_after p t) (table b s e)
 
 -- ---- the claim order
@@ -87,6 +88,7 @@ abbrev pub EachIn : (State → Event → Type 0) → Build → State → List Ev
 EachIn C b s [] = Unit {0}
 EachIn C b s (e ∷ es) = C s e × ((a : State × Reply) → table b s e ≡ Some a → EachIn C b a.0 es)
 
+-- e is the event that a run by one does next
 abbrev pub IsChosen : Build → State → Event → Type 0
 IsChosen b s e = chosen b s ≡ Some e
 
@@ -118,7 +120,7 @@ StaysDense b = (o : Opening) (es : List Event) (rs : List Reply) (s : State) →
 abbrev pub ClaimsLeast : Build → Type 0
 ClaimsLeast b = (s t : State) (w v : ℕ) (vertex : Vertex) (job : Job) → slice_get b.graph.vertices v ≡ Some vertex
     → table b s (Claim w v) ≡ Some (t, Claimed job)
-    → (p : Place) → Has (places_by (needs_of vertex) job.instances) p → (n : ℕ) → n < p.number → IsFree s.workers (place p.key n) → ⊥
+    → (p : Instance) → Has (places_by (needs_of vertex) job.instances) p → (n : ℕ) → n < p.number → IsFree s.workers (place p.key n) → ⊥
 
 -- the instances that a running worker holds differ, and each has a tree
 abbrev pub HeldAreThere : Build → Type 0
@@ -154,6 +156,7 @@ pub record EndsByLastStatus (setting : Setting) (cs : List Joined) (work : Work)
   pub fails : is_over (runs_of setting cs) k (part (runs_of setting cs) work k) ≡ true
       → (part (runs_of setting cs) work k).fault ≡ fault_of (last_ran setting cs work k) (last_of (part (runs_of setting cs) work k).work.own)
 
+-- a script fails where the last command that ran had a status that is not 0
 abbrev pub FailsByLastStatus : Type 0
 FailsByLastStatus = (setting : Setting) (cs : List Joined) (mounts : List Shown) (caches : List ℕ) (trees : List TreeMap) (k : ℕ)
     → EndsByLastStatus setting cs (at_start mounts caches trees) k
@@ -185,6 +188,7 @@ pub record RunsInTurn (setting : Setting) (cs : List Joined) (work : Work) (k : 
   pub runs : (c : Joined) → (part (runs_of setting cs) work k).fault ≡ None → slice_get cs k ≡ Some c
       → is_run c.join (last_of (part (runs_of setting cs) work k).work.own) ≡ true
 
+-- commands joined by && run in turn
 abbrev pub AndsRunInTurn : Type 0
 AndsRunInTurn = (setting : Setting) (cs : List Joined) (mounts : List Shown) (caches : List ℕ) (trees : List TreeMap) (k : ℕ)
     → are_ands cs ≡ true → RunsInTurn setting cs (at_start mounts caches trees) k

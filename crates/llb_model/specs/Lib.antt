@@ -1,7 +1,7 @@
--- Read first State (the state of the machine) and Table (which event is granted, the state after it, and its reply) with the four causes, then Program
--- (what a vertex does) and Caches (places and their trees), Run (whole runs), Outcome (plain outcomes), Room (how many events a run has) and Order (the
--- claim order). Consistent, Plain, Laws, Kept, Leases and Landing are what follows from these for every list of events, for the laws of the board; Failure
--- is a text and ByNumber a list.
+-- Read first State (the state of the machine) and Table (which event is granted, the state after it, and its reply) with ClaimCause, StepCause, SettleCause and
+-- CancelCause, then Program (what a vertex does) and Caches (instances of caches and their trees), Run (whole runs), Outcome (plain outcomes), Room (how many
+-- events a run has) and Order (the claim order). Consistent, Plain, Laws, Kept, Leases and Landing are what follows from these for every list of events, for
+-- the laws of the board; Failure is a text and ByNumber a list.
 pub mod Failure
 pub mod ByNumber
 pub mod Caches

@@ -1,6 +1,6 @@
 -- The claim order: each claimed vertex is run at its claim, one after the other: whole, or as far as it came where the claim was cancelled.
 use Rattle.std.specs.Prelude.{◌≡◌, ℕ, ◌==◌, List, [], ◌∷◌, length, Option, Some, None, slice_get, slice_set, replicate, if◌then◌else◌}
-use Rattle.llb_model.specs.Caches.{Place, Store, content, put_all}
+use Rattle.llb_model.specs.Caches.{Instance, Store, content, put_all}
 use Rattle.llb_model.specs.Program.{Build, MicroStep, Program, Work, Left, Start, program_of, needs_of, part, whole}
 use Rattle.llb_model.specs.Outcome.{Ending, ending}
 use Rattle.llb_model.specs.State.{Status, Waiting, Settled, State, ready, IsFree, begin_at, places_by}
@@ -11,6 +11,7 @@ pub record Order : Type 0 where
   pub statuses : List Status
   pub store : Store
 
+-- before the first claim
 abbrev pub at_first : Build → Store → Order
 at_first b store = record { statuses = replicate (length b.graph.vertices) Waiting; store = store }
 
@@ -36,6 +37,7 @@ pub record Named : Type 0 where
   pub instances : List ℕ
   pub cut : Option ℕ
 
+-- a claim of a vertex on instances of these numbers, whole or cut
 abbrev pub named : ℕ → List ℕ → Option ℕ → Named
 named v numbers cut = record { vertex = v; instances = numbers; cut = cut }
 
@@ -52,21 +54,24 @@ stands_after (Some k) p left = Waiting
 -- ---- the order
 
 -- the vertex gets that status, and the trees are written back
-abbrev pub left_by : Order → ℕ → List Place → Program → Option ℕ → Left → Order
+abbrev pub left_by : Order → ℕ → List Instance → Program → Option ℕ → Left → Order
 left_by o v ps p cut left = record { statuses = slice_set o.statuses v (stands_after cut p left); store = put_all o.store ps left.work.trees }
 
--- what the claim does, on the trees of the inputs and those at the places
-abbrev pub whole_at : Build → Order → ℕ → Start → List Place → Option ℕ → Order
+-- what the claim does, on the trees of the inputs and those of the instances
+abbrev pub whole_at : Build → Order → ℕ → Start → List Instance → Option ℕ → Order
 whole_at b o v start ps cut =
     left_by o v ps (program_of start.vertex) cut (done_of cut (program_of start.vertex).steps (begin_at b o.store start ps))
 
+-- after a claim, where its inputs are there
 abbrev pub run_whole : Build → Order → Named → Option Start → Order
 run_whole b o c None = o
 run_whole b o c (Some start) = whole_at b o c.vertex start (places_by (needs_of start.vertex) c.instances) c.cut
 
+-- after a claim
 abbrev pub after_whole : Build → Order → Named → Order
 after_whole b o c = run_whole b o c (ready b o.statuses c.vertex)
 
+-- after these claims, the first first
 abbrev pub order : Build → Order → List Named → Order
 order b o [] = o
 order b o (c ∷ cs) = order b (after_whole b o c) cs
@@ -88,4 +93,4 @@ claims_in (Cancelled v k ∷ rs) = claims_in rs
 -- settled vertices and free instances are those of an order
 pub record StandsIn (s : State) (o : Order) : Type 0 where
   pub endings : (v : ℕ) (e : Ending) → slice_get s.statuses v ≡ Some (Settled e) → slice_get o.statuses v ≡ Some (Settled e)
-  pub contents : (p : Place) → IsFree s.workers p → content s.store p ≡ content o.store p
+  pub contents : (p : Instance) → IsFree s.workers p → content s.store p ≡ content o.store p

@@ -6,7 +6,7 @@ use Rattle.llb_loader.specs.declared.graph.Vertex.{Vertex}
 use Rattle.llb_tree.specs.Tree.{TreeMap}
 use Rattle.llb_model.specs.declared.fault.VertexFault.{VertexFault}
 use Rattle.llb_model.specs.ByNumber.{by_number}
-use Rattle.llb_model.specs.Program.{Build, Program, View, Left, start_with, program_of, begin, whole, outputs_of, has_cache}
+use Rattle.llb_model.specs.Program.{Build, Program, Workspace, Left, start_with, program_of, begin, whole, outputs_of, has_cache}
 
 -- how a vertex ends: with its outputs, or with its first fault
 pub data Ending : Type 0 where
@@ -18,10 +18,10 @@ pub data Outcome : Type 0 where
   Ended : Ending → Outcome
   Blocked : Outcome
 
--- how a program ends: with the outputs of its view, or with the fault
-abbrev pub ended : Program → View → Option VertexFault → Ending
-ended p view None = Done (outputs_of p view)
-ended p view (Some f) = Failed f
+-- how a program ends: with the outputs of its workspace, or with the fault
+abbrev pub ended : Program → Workspace → Option VertexFault → Ending
+ended p workspace None = Done (outputs_of p workspace)
+ended p workspace (Some f) = Failed f
 
 -- how a vertex ends, from what its micro-steps left
 abbrev pub ending : Program → Left → Ending

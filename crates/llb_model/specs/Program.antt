@@ -54,20 +54,20 @@ pub data MicroStep : Type 0 where
 pub record Program : Type 0 where
   pub steps : List MicroStep
   pub outputs : ℕ
-  pub given : List ℤ
+  pub output_numbers : List ℤ
 
 -- what a program has for itself: for a source its local tree; for a file op the trees of its inputs and the results so far; for a merge the trees of its inputs
 -- and what is laid so far; for an exec its mounts, the numbers of those that show caches, whose trees are empty here, and the status of the last command that
 -- ran, 0 before any has run
-pub data View : Type 0 where
-  LocalTree : TreeMap → View
-  Files : List TreeMap → List TreeMap → View
-  Layers : List TreeMap → TreeMap → View
-  Mounted : List Shown → List ℕ → ℕ → View
+pub data Workspace : Type 0 where
+  LocalTree : TreeMap → Workspace
+  Files : List TreeMap → List TreeMap → Workspace
+  Layers : List TreeMap → TreeMap → Workspace
+  Mounted : List Shown → List ℕ → ℕ → Workspace
 
--- what micro-steps work on: a view of its own, and the trees of the cache instances that it holds, in the order of the needs
+-- what micro-steps work on: a workspace of its own, and the trees of the cache instances that it holds, in the order of the needs
 pub record Work : Type 0 where
-  pub own : View
+  pub own : Workspace
   pub trees : List TreeMap
 
 -- what micro-steps leave: the work, and the first fault where there is one
@@ -96,6 +96,7 @@ pub record Need : Type 0 where
   pub key : Key
   pub input : ℤ
 
+-- the key of a need
 abbrev pub key_of : Need → Key
 key_of n = n.key
 
@@ -172,12 +173,12 @@ steps_of None script = []
 
 -- the program of a vertex
 abbrev pub program_of : Vertex → Program
-program_of v = record { steps = steps_of v.op.kind v.script; outputs = v.outputs; given = mount_outputs (kind_mounts v.op.kind) }
+program_of v = record { steps = steps_of v.op.kind v.script; outputs = v.outputs; output_numbers = mount_outputs (kind_mounts v.op.kind) }
 
 -- the program of a vertex; one without steps if there is no vertex
 abbrev pub program_at : Option Vertex → Program
 program_at (Some v) = program_of v
-program_at None = record { steps = []; outputs = 0; given = [] }
+program_at None = record { steps = []; outputs = 0; output_numbers = [] }
 
 -- the local tree of a source; the empty tree if its name has none
 abbrev pub local_tree : List Local → Vertex → TreeMap
@@ -196,23 +197,23 @@ tree_shown inputs m = if has_type bind m then base_in m.input inputs else empty_
 abbrev pub selector_of : Mount → List (List ℕ)
 selector_of m = if has_type tmpfs m then [] else path_in m.selector
 
--- a mount as an exec's view has it before the first micro-step
+-- a mount as an exec's workspace has it before the first micro-step
 abbrev pub shown_of : List TreeMap → Mount → Shown
 shown_of inputs m = record { dest = path_in m.dest; selector = selector_of m; readonly = m.readonly; tree = tree_shown inputs m }
 
--- the view of a vertex before its first micro-step, by the kind of its op
-abbrev pub view_on : List Local → Vertex → Option Kind → List TreeMap → View
-view_on locals v (Some (kind.Source s)) inputs = LocalTree (local_tree locals v)
-view_on locals v (Some (kind.File f)) inputs = Files inputs []
-view_on locals v (Some (kind.Merge m)) inputs = Layers inputs empty_tree
-view_on locals v (Some (kind.Exec x)) inputs = Mounted (map (shown_of inputs) x.mounts) (map mount_of (needs_of v)) 0
-view_on locals v (Some (kind.Build b)) inputs = Files inputs []
-view_on locals v (Some (kind.Diff d)) inputs = Files inputs []
-view_on locals v None inputs = Files inputs []
+-- the workspace of a vertex before its first micro-step, by the kind of its op
+abbrev pub workspace_on : List Local → Vertex → Option Kind → List TreeMap → Workspace
+workspace_on locals v (Some (kind.Source s)) inputs = LocalTree (local_tree locals v)
+workspace_on locals v (Some (kind.File f)) inputs = Files inputs []
+workspace_on locals v (Some (kind.Merge m)) inputs = Layers inputs empty_tree
+workspace_on locals v (Some (kind.Exec x)) inputs = Mounted (map (shown_of inputs) x.mounts) (map mount_of (needs_of v)) 0
+workspace_on locals v (Some (kind.Build b)) inputs = Files inputs []
+workspace_on locals v (Some (kind.Diff d)) inputs = Files inputs []
+workspace_on locals v None inputs = Files inputs []
 
 -- the work before the first micro-step of a vertex, with these trees of instances
 abbrev pub begin : Build → Start → List TreeMap → Work
-begin b start trees = record { own = view_on b.locals start.vertex start.vertex.op.kind start.inputs; trees = trees }
+begin b start trees = record { own = workspace_on b.locals start.vertex start.vertex.op.kind start.inputs; trees = trees }
 
 -- the number of a fault of a tree
 abbrev pub tree_fault_number : TreeFault → ℕ
@@ -231,34 +232,34 @@ fault_number act_fault.BadPattern = 52
 fault_number act_fault.Memory = 53
 
 -- the trees that actions can begin with, by number: those of the inputs, then the results so far
-abbrev pub trees_in : View → List TreeMap
+abbrev pub trees_in : Workspace → List TreeMap
 trees_in (Files inputs results) = inputs ++ results
 trees_in (LocalTree t) = []
 trees_in (Layers inputs t) = inputs
 trees_in (Mounted mounts caches last) = []
 
--- the view of a file op with one result more
-abbrev pub with_tree : View → TreeMap → View
+-- the workspace of a file op with one result more
+abbrev pub with_tree : Workspace → TreeMap → Workspace
 with_tree (Files inputs results) t = Files inputs (results ++ t ∷ [])
 with_tree (LocalTree own) t = LocalTree own
 with_tree (Layers inputs laid) t = Layers inputs laid
 with_tree (Mounted mounts caches last) t = Mounted mounts caches last
 
--- the view of a file op after action a made this result, or the action's fault as the vertex's
-abbrev pub with_result : ℕ → View → Result TreeMap ActFault → Result View VertexFault
-with_result a view (Ok t) = Ok (with_tree view t)
-with_result a view (Err f) = Err (fault.Action a (fault_number f))
+-- the workspace of a file op after action a made this result, or the action's fault as the vertex's
+abbrev pub with_result : ℕ → Workspace → Result TreeMap ActFault → Result Workspace VertexFault
+with_result a workspace (Ok t) = Ok (with_tree workspace t)
+with_result a workspace (Err f) = Err (fault.Action a (fault_number f))
 
 -- the tree that an action makes of one of the trees so far; a copy reads a second one of them
 abbrev pub act_among : Action → List TreeMap → Result TreeMap ActFault
 act_among action trees = act action.kind (base_in action.input trees) (base_in action.secondary_input trees)
 
--- the view after action a, or its fault
-abbrev pub act_on : ℕ → Action → View → Result View VertexFault
-act_on a action view = with_result a view (act_among action (trees_in view))
+-- the workspace after action a, or its fault
+abbrev pub act_on : ℕ → Action → Workspace → Result Workspace VertexFault
+act_on a action workspace = with_result a workspace (act_among action (trees_in workspace))
 
--- the view after an input is laid over those before it
-abbrev pub lay_on : ℤ → View → View
+-- the workspace after an input is laid over those before it
+abbrev pub lay_on : ℤ → Workspace → Workspace
 lay_on i (Layers inputs t) = Layers inputs (lay t (base_in i inputs))
 lay_on i (LocalTree t) = LocalTree t
 lay_on i (Files inputs results) = Files inputs results
@@ -284,8 +285,8 @@ blanked mounts ms trees = filled mounts ms (map (λ t. empty_tree) trees)
 abbrev pub parted : List ℕ → List TreeMap → List Shown → Work
 parted caches trees mounts = record { own = Mounted (blanked mounts caches trees) caches 0; trees = taken mounts caches trees }
 
--- the status of the last command that ran; 0 for a view that is not an exec's
-abbrev pub last_of : View → ℕ
+-- the status of the last command that ran; 0 for a workspace that is not an exec's
+abbrev pub last_of : Workspace → ℕ
 last_of (Mounted mounts caches last) = last
 last_of (LocalTree t) = 0
 last_of (Files inputs results) = 0
@@ -315,7 +316,7 @@ abbrev pub ran : ℕ → Bool → List Shown → List ℕ → List TreeMap → O
 ran c ends mounts caches trees after = record { work = after_run mounts caches trees after; fault = exit_of c ends (status_of after) }
 
 -- what command c leaves; it sees the caches as they are now, and a skipped command changes nothing
-abbrev pub run_on : ℕ → Setting → Joined → Bool → View → List TreeMap → Left
+abbrev pub run_on : ℕ → Setting → Joined → Bool → Workspace → List TreeMap → Left
 run_on c setting command ends (Mounted mounts caches last) trees =
     if is_run command.join last then ran c ends mounts caches trees (run setting (filled mounts caches trees) command.command)
     else no_fault (record { own = Mounted mounts caches last; trees = trees })
@@ -323,9 +324,9 @@ run_on c setting command ends (LocalTree t) trees = no_fault (record { own = Loc
 run_on c setting command ends (Files inputs results) trees = no_fault (record { own = Files inputs results; trees = trees })
 run_on c setting command ends (Layers inputs t) trees = no_fault (record { own = Layers inputs t; trees = trees })
 
--- what an action leaves: the new view, or the work unchanged and the fault
-abbrev pub tried : Work → Result View VertexFault → Left
-tried work (Ok view) = no_fault (record work { own = view })
+-- what an action leaves: the new workspace, or the work unchanged and the fault
+abbrev pub tried : Work → Result Workspace VertexFault → Left
+tried work (Ok workspace) = no_fault (record work { own = workspace })
 tried work (Err f) = record { work = work; fault = Some f }
 
 -- what micro-step k leaves of a work
@@ -375,19 +376,19 @@ result_for i (Run setting command ends ∷ steps) (t ∷ results) = result_for i
 -- the whole tree of the mount whose output has number i
 abbrev pub tree_for : ℕ → List ℤ → List Shown → TreeMap
 tree_for i [] mounts = empty_tree
-tree_for i (n ∷ given) [] = empty_tree
-tree_for i (n ∷ given) (m ∷ mounts) = if is_output i n then m.tree else tree_for i given mounts
+tree_for i (n ∷ numbers) [] = empty_tree
+tree_for i (n ∷ numbers) (m ∷ mounts) = if is_output i n then m.tree else tree_for i numbers mounts
 
--- output i of a view: for a file op the result of the action with that output number; for a source what is read, and for a merge what is laid, as their one
--- output; for an exec the tree of the mount with that output number
-abbrev pub output_from : Program → View → ℕ → TreeMap
+-- output i of a workspace: for a file op the result of the action with that output number; for a source what is read, and for a merge what is laid, as their
+-- one output; for an exec the tree of the mount with that output number
+abbrev pub output_from : Program → Workspace → ℕ → TreeMap
 output_from p (Files inputs results) i = result_for i p.steps results
 output_from p (LocalTree t) zero = t
 output_from p (LocalTree t) (suc i) = empty_tree
 output_from p (Layers inputs t) zero = t
 output_from p (Layers inputs t) (suc i) = empty_tree
-output_from p (Mounted mounts caches last) i = tree_for i p.given mounts
+output_from p (Mounted mounts caches last) i = tree_for i p.output_numbers mounts
 
--- the outputs of a program, from the view that all micro-steps leave
-unfoldable pub outputs_of : Program → View → List TreeMap
-outputs_of p view = map (output_from p view) (range_with_len 0 p.outputs)
+-- the outputs of a program, from the workspace that all micro-steps leave
+unfoldable pub outputs_of : Program → Workspace → List TreeMap
+outputs_of p workspace = map (output_from p workspace) (range_with_len 0 p.outputs)

@@ -2,7 +2,7 @@
 use Rattle.std.specs.Prelude.{ℕ, zero, suc, ◌+◌, ◌-◌, ◌*◌, ◌==◌, Bool, false, List, [], ◌∷◌, length, count_by, Option, Some, None, slice_get}
 use Rattle.llb_loader.specs.declared.graph.Vertex.{Vertex}
 use Rattle.llb_model.specs.Program.{Build, program_of}
-use Rattle.llb_model.specs.State.{Status, Waiting, Running, Settled, At, Idle, Runs, State, program_in}
+use Rattle.llb_model.specs.State.{Status, Waiting, Running, Settled, WorkerStatus, Idle, Runs, State, program_in}
 use Rattle.llb_model.specs.Table.{Event, Claim, Step, Settle, Cancel, Reply, Claimed, HasRead, Acted, HasMerged, HasRun}
 use Rattle.llb_model.specs.Table.{Skipped, Faulted, SettledDone, SettledFailed, Cancelled}
 
@@ -10,6 +10,7 @@ use Rattle.llb_model.specs.Table.{Skipped, Faulted, SettledDone, SettledFailed, 
 abbrev pub events_of : Vertex → ℕ
 events_of v = length (program_of v).steps + 2
 
+-- whether a reply is that of a cancel of vertex v
 abbrev pub is_cancel_of : ℕ → Reply → Bool
 is_cancel_of v (Claimed job) = false
 is_cancel_of v HasRead = false
@@ -31,6 +32,7 @@ abbrev pub counts_from : ℕ → List Vertex → List Reply → List ℕ
 counts_from k [] rs = []
 counts_from k (v ∷ vs) rs = cancels_in k rs ∷ counts_from (k + 1) vs rs
 
+-- how often each vertex was cancelled
 abbrev pub cancel_counts : Build → List Reply → List ℕ
 cancel_counts b rs = counts_from 0 b.graph.vertices rs
 
@@ -39,6 +41,7 @@ abbrev pub most_from : ℕ → List Vertex → List Reply → ℕ
 most_from k [] rs = 0
 most_from k (v ∷ vs) rs = events_of v * (1 + cancels_in k rs) + most_from (k + 1) vs rs
 
+-- the most events of a whole run, by the replies so far
 abbrev pub most_events : Build → List Reply → ℕ
 most_events b rs = most_from 0 b.graph.vertices rs
 
@@ -48,20 +51,23 @@ to_come v Waiting = events_of v
 to_come v (Running w) = 0
 to_come v (Settled e) = 0
 
+-- the most events still to come for vertices that are not claimed yet
 abbrev pub all_to_come : List Vertex → List Status → ℕ
 all_to_come [] statuses = 0
 all_to_come (v ∷ vs) [] = 0
 all_to_come (v ∷ vs) (s ∷ statuses) = to_come v s + all_to_come vs statuses
 
 -- the most events still to come for a worker: the rest of its micro-steps, and its settle
-abbrev pub left_by : Build → At → ℕ
+abbrev pub left_by : Build → WorkerStatus → ℕ
 left_by b Idle = 0
 left_by b (Runs x) = (length (program_in b x).steps - x.done) + 1
 
-abbrev pub all_left : Build → List At → ℕ
+-- the most events still to come for the workers
+abbrev pub all_left : Build → List WorkerStatus → ℕ
 all_left b [] = 0
 all_left b (a ∷ workers) = left_by b a + all_left b workers
 
+-- the most events still to come without a cancel
 abbrev pub still_to_come : Build → State → ℕ
 still_to_come b s = all_to_come b.graph.vertices s.statuses + all_left b s.workers
 
@@ -74,6 +80,7 @@ owed_by v Waiting (suc n) = events_of v
 owed_by v (Running w) n = 0
 owed_by v (Settled e) n = 0
 
+-- the same for vertices from number k on
 abbrev pub owed_from : ℕ → List Vertex → List Status → List Reply → ℕ
 owed_from k [] statuses rs = 0
 owed_from k (v ∷ vs) [] rs = 0
@@ -83,6 +90,7 @@ owed_from k (v ∷ vs) (s ∷ statuses) rs = owed_by v s (cancels_in k rs) + owe
 abbrev pub owed : Build → List Status → List Reply → ℕ
 owed b statuses rs = owed_from 0 b.graph.vertices statuses rs
 
+-- the room that the claim of a vertex takes which waits after n cancels
 abbrev pub owed_at : Option Vertex → ℕ → ℕ
 owed_at None n = 0
 owed_at (Some v) n = owed_by v Waiting n

@@ -3,7 +3,7 @@ use Rattle.std.specs.Prelude.{◌≡◌, ℕ, zero, suc, ◌+◌, ◌<◌, ◌==
 use Rattle.std.specs.Prelude.{Some, None, option_map, slice_get, if◌then◌else◌}
 use Rattle.llb_model.specs.Program.{Build}
 use Rattle.llb_model.specs.Outcome.{Outcome, Ended, Blocked}
-use Rattle.llb_model.specs.State.{Status, Waiting, Running, Settled, At, Idle, Runs, State, is_ready, is_blocked, is_finished, program_in}
+use Rattle.llb_model.specs.State.{Status, Waiting, Running, Settled, WorkerStatus, Idle, Runs, State, is_ready, is_blocked, is_finished, program_in}
 use Rattle.llb_model.specs.Table.{Event, Claim, Step, Settle, Cancel, Reply, worker_of, table}
 
 -- how a run goes on: from the state after an event, with the event's reply before the others; not at all if the event was refused
@@ -21,7 +21,7 @@ abbrev pub events_by : ℕ → List Event → ℕ
 events_by w es = count_by (λ e. worker_of e == w) es
 
 -- the next event of the lowest running worker, where the workers of the list are numbered from w
-abbrev pub next_of : Build → ℕ → List At → Option Event
+abbrev pub next_of : Build → ℕ → List WorkerStatus → Option Event
 next_of b w [] = None
 next_of b w (Idle ∷ workers) = next_of b (w + 1) workers
 next_of b w (Runs x ∷ workers) = Some (if is_finished (program_in b x).steps x then Settle w else Step w)
@@ -44,6 +44,7 @@ or_else None other = other
 abbrev pub chosen : Build → State → Option Event
 chosen b s = or_else (next_of b 0 s.workers) (next_claim b s)
 
+-- whether a status is that of an end
 abbrev pub is_settled : Option Status → Bool
 is_settled (Some (Settled e)) = true
 is_settled (Some (Running w)) = false

@@ -7,12 +7,11 @@ use Rattle.llb_cache.specs.declared.key.Mode.{Mode}
 use Rattle.llb_cache.specs.declared.key.Mode.TheVariants.{Shared, Private, Locked}
 use Rattle.llb_loader.specs.declared.graph.Edge.{Edge}
 use Rattle.llb_loader.specs.declared.graph.Vertex.{Vertex}
-use Rattle.llb_loader.specs.Locals.{Local, local_name, tree_of_local}
 use Rattle.llb_tree.specs.Tree.{TreeMap}
 use Rattle.llb_model.specs.declared.fault.VertexFault.{VertexFault}
 use Rattle.llb_model.specs.ByNumber.{by_number}
-use Rattle.llb_model.specs.Caches.{Place, place, Store, content, trees_at, is_in, Has}
-use Rattle.llb_model.specs.Program.{Build, MicroStep, Program, View, Work, Need, Start, start_with, program_at, needs_of, base_in, begin}
+use Rattle.llb_model.specs.Caches.{Instance, place, Store, content, trees_at, is_in, Has}
+use Rattle.llb_model.specs.Program.{Build, MicroStep, Program, Workspace, Work, Need, Start, start_with, program_at, needs_of, base_in, begin}
 use Rattle.llb_model.specs.Outcome.{Ending, Done, Failed, ended, inputs_from}
 
 -- the status of a vertex
@@ -21,44 +20,30 @@ pub data Status : Type 0 where
   Running : ℕ → Status
   Settled : Ending → Status
 
--- what a running worker holds: its vertex, how many micro-steps it has done (one that faults is counted), their fault if any, its view, and the instances of
--- caches, in the order of the needs
+-- what a running worker holds: its vertex, how many micro-steps it has done (one that faults is counted), their fault if any, its workspace, and the
+-- instances of caches, in the order of the needs
 pub record Execution : Type 0 where
   pub vertex : ℕ
   pub done : ℕ
   pub fault : Option VertexFault
-  pub own : View
-  pub places : List Place
+  pub own : Workspace
+  pub places : List Instance
 
 -- the state of a worker
-pub data At : Type 0 where
-  Idle : At
-  Runs : Execution → At
+pub data WorkerStatus : Type 0 where
+  Idle : WorkerStatus
+  Runs : Execution → WorkerStatus
 
 -- the state of the machine: the status of each vertex, what each worker does, and the contents of the caches
 pub record State : Type 0 where
   pub statuses : List Status
-  pub workers : List At
+  pub workers : List WorkerStatus
   pub store : Store
 
 -- what a machine is opened with besides the build: how many workers, and the contents of the caches
 pub record Opening : Type 0 where
   pub workers : ℕ
   pub store : Store
-
--- the name of a source, where it has no local tree
-abbrev pub lacks : List Local → Option (List ℕ) → Option (List ℕ)
-lacks locals None = None
-lacks locals (Some name) = if is_some (tree_of_local locals name) then None else Some name
-
-abbrev pub first_of : {A : Type 0} → Option A → Option A → Option A
-first_of (Some x) later = Some x
-first_of None later = later
-
--- the first name of a local source, by vertex, that has no tree
-abbrev pub missing_local : List Local → List Vertex → Option (List ℕ)
-missing_local locals [] = None
-missing_local locals (v ∷ vs) = first_of (lacks locals (local_name v.op)) (missing_local locals vs)
 
 -- the state at the opening: every vertex waits, every worker is idle, and the caches are as they were handed in
 abbrev pub opening : Build → Opening → State
@@ -91,17 +76,20 @@ ready b statuses v = start_from statuses (slice_get statuses v) (slice_get b.gra
 abbrev pub is_ready : Build → List Status → ℕ → Bool
 is_ready b statuses v = is_some (ready b statuses v)
 
+-- whether a status is Waiting
 abbrev pub is_waiting : Option Status → Bool
 is_waiting (Some Waiting) = true
 is_waiting (Some (Running w)) = false
 is_waiting (Some (Settled e)) = false
 is_waiting None = false
 
+-- whether an ending has trees
 abbrev pub is_done : Option Ending → Bool
 is_done (Some (Done trees)) = true
 is_done (Some (Failed f)) = false
 is_done None = false
 
+-- whether an ending is a failure
 abbrev pub is_failed : Option Ending → Bool
 is_failed (Some (Failed f)) = true
 is_failed (Some (Done trees)) = false
@@ -116,6 +104,7 @@ next_stopped statuses before v =
 abbrev pub stopped : Build → List Status → List Bool
 stopped b statuses = by_number (next_stopped statuses) [] b.graph.vertices
 
+-- whether vertex v has failed or is downstream of one that has
 abbrev pub is_stopped : Build → List Status → ℕ → Bool
 is_stopped b statuses v = unwrap_or (slice_get (stopped b statuses) v) false
 
@@ -124,7 +113,7 @@ abbrev pub is_blocked : Build → List Status → ℕ → Bool
 is_blocked b statuses v = is_waiting (slice_get statuses v) && is_stopped b statuses v
 
 -- what a worker runs, if anything
-abbrev pub runs : Option At → Option Execution
+abbrev pub runs : Option WorkerStatus → Option Execution
 runs (Some (Runs x)) = Some x
 runs (Some Idle) = None
 runs None = None
@@ -152,62 +141,62 @@ ending_from p x = ended p x.own x.fault
 -- ---- the instances that claims take
 
 -- the instances that the running workers hold
-abbrev pub held : List At → List Place
+abbrev pub held : List WorkerStatus → List Instance
 held [] = []
 held (Idle ∷ workers) = held workers
 held (Runs x ∷ workers) = x.places ++ held workers
 
 -- no running worker holds the instance
-abbrev pub IsFree : List At → Place → Type 0
+abbrev pub IsFree : List WorkerStatus → Instance → Type 0
 IsFree workers p = (w : ℕ) (x : Execution) → slice_get workers w ≡ Some (Runs x) → Has x.places p → ⊥
 
 -- a number above those of all these instances
-abbrev pub above : List Place → ℕ
+abbrev pub above : List Instance → ℕ
 above [] = 0
 above (p ∷ ps) = p.number + 1 + above ps
 
--- the least number at or after n that is not among the places of a key, found in at most this number of tries
-abbrev pub first_free : List Place → Key → ℕ → ℕ → ℕ
+-- the least number at or after n that is not among the instances of a key, found in at most this number of tries
+abbrev pub first_free : List Instance → Key → ℕ → ℕ → ℕ
 first_free ps k n zero = n
 first_free ps k n (suc tries) = if is_in ps (place k n) then first_free ps k (n + 1) tries else n
 
 -- the number of the instance of a key: of a private cache the least that is not held; the others have one instance, 0
-abbrev pub number_for : List Place → Key → Mode → ℕ
+abbrev pub number_for : List Instance → Key → Mode → ℕ
 number_for ps k Shared = 0
 number_for ps k Locked = 0
 number_for ps k Private = first_free ps k 0 (above ps)
 
--- the instance that a claim takes for a need while these places are held
-abbrev pub place_for : List Place → Need → Place
+-- the instance that a claim takes for a need while these are held
+abbrev pub place_for : List Instance → Need → Instance
 place_for ps n = place n.key (number_for ps n.key n.key.mode)
 
 -- the instances that a claim takes, one for each need
-abbrev pub places_for : List Place → List Need → List Place
+abbrev pub places_for : List Instance → List Need → List Instance
 places_for ps needs = map (place_for ps) needs
 
 -- whether a key can't be claimed: it is locked, and its instance is held
-abbrev pub is_shut : List Place → Key → Mode → Bool
-is_shut ps k Locked = is_in ps (place k 0)
-is_shut ps k Private = false
-is_shut ps k Shared = false
+abbrev pub is_locked_and_held : List Instance → Key → Mode → Bool
+is_locked_and_held ps k Locked = is_in ps (place k 0)
+is_locked_and_held ps k Private = false
+is_locked_and_held ps k Shared = false
 
 -- the first locked key among the needs that is held
-abbrev pub held_key : List Place → List Need → Option Key
+abbrev pub held_key : List Instance → List Need → Option Key
 held_key ps [] = None
-held_key ps (n ∷ needs) = if is_shut ps n.key n.key.mode then Some n.key else held_key ps needs
+held_key ps (n ∷ needs) = if is_locked_and_held ps n.key n.key.mode then Some n.key else held_key ps needs
 
 -- the trees of these instances at a claim: the one that is there or, for a new instance, that of the need's input
-abbrev pub first_trees : Store → List TreeMap → List Place → List Need → List TreeMap
+abbrev pub first_trees : Store → List TreeMap → List Instance → List Need → List TreeMap
 first_trees s inputs [] needs = []
 first_trees s inputs (p ∷ ps) [] = []
 first_trees s inputs (p ∷ ps) (n ∷ needs) = unwrap_or (content s p) (base_in n.input inputs) ∷ first_trees s inputs ps needs
 
 -- the work before the first micro-step of a vertex that took these instances
-abbrev pub begin_at : Build → Store → Start → List Place → Work
+abbrev pub begin_at : Build → Store → Start → List Instance → Work
 begin_at b s start ps = begin b start (first_trees s start.inputs ps (needs_of start.vertex))
 
--- the places of needs, by the numbers of the instances
-abbrev pub places_by : List Need → List ℕ → List Place
+-- the instances of needs, by their numbers
+abbrev pub places_by : List Need → List ℕ → List Instance
 places_by [] numbers = []
 places_by (n ∷ needs) [] = []
 places_by (n ∷ needs) (i ∷ numbers) = place n.key i ∷ places_by needs numbers

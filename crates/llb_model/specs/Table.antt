@@ -4,11 +4,11 @@ use Rattle.std.specs.Result.{result_ok}
 use Rattle.llb_cache.specs.declared.key.Key.{Key}
 use Rattle.llb_loader.specs.declared.graph.Vertex.{Vertex}
 use Rattle.llb_model.specs.declared.fault.VertexFault.{VertexFault}
-use Rattle.llb_model.specs.Caches.{Place, put_all}
-use Rattle.llb_model.specs.Program.{Build, MicroStep, ReadLocal, Act, LayInput, Run, Program, View, Work, Left, Start, program_of, needs_of, step_on}
+use Rattle.llb_model.specs.Caches.{Instance, put_all}
+use Rattle.llb_model.specs.Program.{Build, MicroStep, ReadLocal, Act, LayInput, Run, Program, Workspace, Work, Left, Start, program_of, needs_of, step_on}
 use Rattle.llb_model.specs.Program.{last_of, is_run}
 use Rattle.llb_model.specs.Outcome.{Ending, Done, Failed}
-use Rattle.llb_model.specs.State.{Status, Waiting, Running, Settled, Execution, At, Idle, Runs, State, start_from, program_in, work_of, is_finished}
+use Rattle.llb_model.specs.State.{Status, Waiting, Running, Settled, Execution, WorkerStatus, Idle, Runs, State, start_from, program_in, work_of, is_finished}
 use Rattle.llb_model.specs.State.{next_step, ending_from, held, places_for, held_key, begin_at}
 use Rattle.llb_model.specs.ClaimCause as claim
 use Rattle.llb_model.specs.StepCause as step
@@ -61,22 +61,23 @@ or_not_ready (Some x) = Ok x
 or_not_ready None = Err claim.NotReady
 
 -- what a claim begins with: worker w is idle and vertex v is Ready; or the first cause why it is refused
-abbrev pub claim_start : List Status → ℕ → Option At → Option Vertex → Result Start claim.ClaimCause
+abbrev pub claim_start : List Status → ℕ → Option WorkerStatus → Option Vertex → Result Start claim.ClaimCause
 claim_start statuses v None vertex = Err claim.NoWorker
 claim_start statuses v (Some (Runs x)) vertex = Err claim.Busy
 claim_start statuses v (Some Idle) None = Err claim.NoVertex
 claim_start statuses v (Some Idle) (Some vertex) = or_not_ready (start_from statuses (slice_get statuses v) (Some vertex))
 
 -- an execution of vertex v of which nothing is done yet
-abbrev pub execution_on : ℕ → Work → List Place → Execution
+abbrev pub execution_on : ℕ → Work → List Instance → Execution
 execution_on v work ps = record { vertex = v; done = 0; fault = None; own = work.own; places = ps }
 
 -- the job of a claim: nothing of it is done yet
-abbrev pub job_on : ℕ → ℕ → Vertex → Work → List Place → Job
-job_on w v vertex work ps = record { worker = w; vertex = v; program = program_of vertex; done = 0; work = work; instances = map (λ (p : Place). p.number) ps }
+abbrev pub job_on : ℕ → ℕ → Vertex → Work → List Instance → Job
+job_on w v vertex work ps =
+    record { worker = w; vertex = v; program = program_of vertex; done = 0; work = work; instances = map (λ (p : Instance). p.number) ps }
 
 -- the state after a claim: the vertex and the worker are running, and a new instance is now in the caches
-abbrev pub after_claim : State → ℕ → ℕ → Work → List Place → State
+abbrev pub after_claim : State → ℕ → ℕ → Work → List Instance → State
 after_claim s w v work ps = record {
   statuses = slice_set s.statuses v (Running w);
   workers = slice_set s.workers w (Runs (execution_on v work ps));
@@ -84,11 +85,11 @@ after_claim s w v work ps = record {
 }
 
 -- the state after a claim that takes these instances with this work, and the reply
-abbrev pub claim_with : State → ℕ → ℕ → Vertex → Work → List Place → State × Reply
+abbrev pub claim_with : State → ℕ → ℕ → Vertex → Work → List Instance → State × Reply
 claim_with s w v vertex work ps = (after_claim s w v work ps, Claimed (job_on w v vertex work ps))
 
 -- the state after a claim that takes these instances, and the reply
-abbrev pub claim_at : Build → State → ℕ → ℕ → Start → List Place → State × Reply
+abbrev pub claim_at : Build → State → ℕ → ℕ → Start → List Instance → State × Reply
 claim_at b s w v start ps = claim_with s w v start.vertex (begin_at b s.store start ps) ps
 
 -- a claim, given the first locked key among the needs that is held; it is refused if there is one
@@ -116,8 +117,9 @@ abbrev pub unless_failed : Option VertexFault → Reply → Reply
 unless_failed None reply = reply
 unless_failed (Some f) reply = Faulted f
 
--- the reply to micro-step k, from the view before it and what it left; that to a command that ran has the command's status, even if this is the exec's fault
-abbrev pub step_reply : ℕ → MicroStep → View → Left → Reply
+-- the reply to micro-step k, from the workspace before it and what it left; that to a command that ran has the command's status, even if this is the exec's
+-- fault
+abbrev pub step_reply : ℕ → MicroStep → Workspace → Left → Reply
 step_reply k ReadLocal before left = unless_failed left.fault HasRead
 step_reply k (Act action) before left = unless_failed left.fault (Acted k)
 step_reply k (LayInput i) before left = unless_failed left.fault (HasMerged k)
@@ -138,7 +140,7 @@ step_with s w x None = Err step.NothingLeft
 step_with s w x (Some m) = Ok (step_by s w x m (step_on x.done (Some m) (work_of s x)))
 
 -- a step, given what the worker does: the next micro-step, or why it is refused
-abbrev pub stepped : Build → State → ℕ → Option At → Result (State × Reply) step.StepCause
+abbrev pub stepped : Build → State → ℕ → Option WorkerStatus → Result (State × Reply) step.StepCause
 stepped b s w None = Err step.NoWorker
 stepped b s w (Some Idle) = Err step.NotRunning
 stepped b s w (Some (Runs x)) = step_with s w x (next_step (program_in b x).steps x)
@@ -169,7 +171,7 @@ abbrev pub settle_with : State → ℕ → ℕ → Ending → State × Reply
 settle_with s w v e = (after_settle s w v e, settle_reply v e)
 
 -- a settle, given what the worker does: it must run something that is finished
-abbrev pub settled : Build → State → ℕ → Option At → Result (State × Reply) settle.SettleCause
+abbrev pub settled : Build → State → ℕ → Option WorkerStatus → Result (State × Reply) settle.SettleCause
 settled b s w None = Err settle.NoWorker
 settled b s w (Some Idle) = Err settle.NotRunning
 settled b s w (Some (Runs x)) =
@@ -186,7 +188,7 @@ abbrev pub cancel_with : State → ℕ → ℕ → ℕ → State × Reply
 cancel_with s w v k = (after_end s w v Waiting, Cancelled v k)
 
 -- a cancel, given what the worker does: it gives up what it runs, finished or not
-abbrev pub cancelled : State → ℕ → Option At → Result (State × Reply) cancel.CancelCause
+abbrev pub cancelled : State → ℕ → Option WorkerStatus → Result (State × Reply) cancel.CancelCause
 cancelled s w None = Err cancel.NoWorker
 cancelled s w (Some Idle) = Err cancel.NotRunning
 cancelled s w (Some (Runs x)) = Ok (cancel_with s w x.vertex x.done)

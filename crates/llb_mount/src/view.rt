@@ -27,7 +27,7 @@ impl Drop for View {
 impl Model for View {
     ghost use Rattle.std.specs.Coded.{codes};
     ghost use Rattle.std.specs.Prelude.{List};
-    ghost use Rattle.llb_tree.specs.Tree.{coded_tree};
+    ghost use Rattle.llb_tree.specs.Coded.{coded_tree};
     ghost use Rattle.llb_mount.specs.declared.shown.Shown.{Shown};
     ghost use Rattle.llb_mount.specs.View.{IsView};
 

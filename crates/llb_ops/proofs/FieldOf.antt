@@ -8,14 +8,15 @@ use Rattle.std.specs.Bool.{if◌then◌else◌}
 use Rattle.std.proofs.lemmas.List.{append-nil, length-append}
 use Rattle.std.proofs.lemmas.List.Elements.{filter-append}
 use Rattle.std.proofs.lemmas.List.Concat.{flat_map-append}
-use Rattle.llb_wire.specs.Answer.{◌>>=◌, bind_ok}
+use Rattle.llb_wire.specs.Answer.{◌>>=◌}
+use Rattle.llb_wire.specs.Laws.Answers.{bind_ok}
 use Rattle.llb_wire.specs.Records.{Record}
 use Rattle.llb_ops.specs.declared.fault.OpFault.{OpFault}
 use Rattle.llb_ops.specs.declared.fault.OpFault.TheVariants.{OverLimit, NotUtf8}
 use Rattle.llb_ops.specs.Records.{Shape, form_of, text_fits, texts_fit, parts, records_from, is_member, unnamed}
 use Rattle.llb_ops.proofs.Again.{FitsShape, parts_again, spelled}
 use Rattle.llb_ops.proofs.Kept.{guard_ended, records_fit}
-use Rattle.llb_ops.proofs.Picks.{All-append, All-front, All-behind, All-map, All-filter, filter_passes, filter_all, filter_none}
+use Rattle.llb_ops.proofs.Picks.{All-append, All-front, All-behind, All-map, All-filter, filter_passes, filter_all, filter_none, and_both}
 use Rattle.llb_ops.proofs.Picks.{filter_narrow, mine, has_left, has_right, apart, apart_left, apart_right, are_named, named_of, extras_of}
 use Rattle.llb_ops.proofs.Picks.{unnamed_has}
 
@@ -69,11 +70,6 @@ end = record {
 }
 
 -- ---- a field and others
-
--- where two tests hold together, each does
-pub and_both : (a b : Bool) → a && b ≡ true → (a ≡ true) × (b ≡ true)
-and_both true b e = (refl, e)
-and_both false b e = absurd cc
 
 abbrev pub ok_of : {A : Type 0} → A → Result A OpFault
 ok_of x = Ok x

@@ -120,7 +120,8 @@ has_one n k e = or_left (eqb n k) false (eq-eqb n k (sym (eqb-true k n e)))
 abbrev pub apart : List ℕ → List ℕ → Bool
 apart ns ms = list_all (λ n. not (has ms n)) ns
 
-and_both : (a b : Bool) → a && b ≡ true → (a ≡ true) × (b ≡ true)
+-- where two tests hold together, each does
+pub and_both : (a b : Bool) → a && b ≡ true → (a ≡ true) × (b ≡ true)
 and_both true b e = (refl, e)
 and_both false b e = absurd cc
 

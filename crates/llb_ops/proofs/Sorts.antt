@@ -6,7 +6,8 @@ use Rattle.std.specs.List.{AllByRecursion}
 use Rattle.std.specs.Bool.{◌==◌, if◌then◌else◌}
 use Rattle.std.proofs.lemmas.Bool.{eqb-true, ne_eqb, ltb-true, leb-true}
 use Rattle.std.proofs.lemmas.List.{append-nil, length-append, length-map}
-use Rattle.llb_wire.specs.Answer.{◌>>=◌, bind_ok}
+use Rattle.llb_wire.specs.Answer.{◌>>=◌}
+use Rattle.llb_wire.specs.Laws.Answers.{bind_ok}
 use Rattle.llb_wire.specs.declared.field.Wire.TheVariants as wire
 use Rattle.llb_wire.specs.Spelling.{varint_text}
 use Rattle.llb_wire.specs.Records.{Record}
@@ -18,7 +19,7 @@ use Rattle.llb_ops.specs.Writing.{number_field, bytes_field, set_number, set_byt
 use Rattle.llb_ops.proofs.Again.{number_part, bytes_part, number_part_is, bytes_part_is, spelled}
 use Rattle.llb_ops.proofs.Texts.{last_payload}
 use Rattle.llb_ops.proofs.Numbers.{Recodes}
-use Rattle.llb_ops.proofs.Picks.{All-map, All-both, All-filter, filter_passes, filter_all, filter_narrow, mine, has_one}
+use Rattle.llb_ops.proofs.Picks.{All-map, All-both, All-filter, filter_passes, filter_all, filter_narrow, mine, has_one, and_both}
 use Rattle.llb_ops.proofs.FieldOf.{IsGood, IsShort, IsWritten, FieldOf, Returns, ok_of, ok_is}
 
 -- a good record of the field of that number
@@ -72,10 +73,6 @@ plain {shape} {M} {A} n read run within write bytes runs spells own written agai
 -- a number of a field
 abbrev pub is_number : ℕ → Bool
 is_number n = nat_lt 0 n && nat_le n 536_870_911
-
-and_both : (a b : Bool) → a && b ≡ true → (a ≡ true) × (b ≡ true)
-and_both true b e = (refl, e)
-and_both false b e = absurd cc
 
 number_some : (n : ℕ) → is_number n ≡ true → 0 < n
 number_some n e = ltb-true 0 n (and_both (nat_lt 0 n) (nat_le n 536_870_911) e).0

@@ -5,7 +5,8 @@ use Rattle.std.specs.List.{AllByRecursion, flat_map}
 use Rattle.std.proofs.lemmas.Bool.{le-ltb}
 use Rattle.std.proofs.lemmas.List.{length-append, drop_at}
 use Rattle.llb_wire.specs.declared.field.Field.{Field}
-use Rattle.llb_wire.specs.Answer.{◌>>=◌, bind_ok}
+use Rattle.llb_wire.specs.Answer.{◌>>=◌}
+use Rattle.llb_wire.specs.Laws.Answers.{bind_ok}
 use Rattle.llb_wire.specs.Reading.{field_at}
 use Rattle.llb_wire.specs.Spelling.{AreBytes}
 use Rattle.llb_wire.specs.Records.{Record, record_of, placed, IsRecord, SpellRecords}

@@ -1,6 +1,6 @@
 -- Whether bytes are a text, and that the texts of a message are.
 use Rattle.std.proofs.Common.{◌≡◌, ℕ, zero, suc, ◌-◌, ◌<◌, Bool, true, false, eqb, List, [], ◌∷◌, length, get_or, Option, Some, refl, sym, ap, subst, arith}
-use Rattle.std.specs.Prelude.{slice_get, ◌&&◌}
+use Rattle.std.specs.Prelude.{slice_get}
 use Rattle.std.specs.Option.{option_map_or}
 use Rattle.std.specs.Str.{IsUtf8, is_utf8}
 use Rattle.std.specs.List.{AllByRecursion}
@@ -11,6 +11,7 @@ use Rattle.llb_ops.specs.declared.shape.Form.{Form}
 use Rattle.llb_ops.specs.declared.shape.Form.TheVariants as form
 use Rattle.llb_ops.specs.declared.records.Record.{Record as Held}
 use Rattle.llb_ops.specs.Records.{Shape, view, views, form_of, text_ok, text_fits, texts_fit, all, last_of, payload}
+use Rattle.llb_ops.proofs.Picks.{and_both}
 
 -- bytes that are UTF-8 pass the test for it
 pub utf8_true : (bytes : List ℕ) → IsUtf8 bytes → is_utf8 bytes ≡ true
@@ -39,10 +40,6 @@ last_payload P (r ∷ s ∷ rs) none h =
     subst (λ o. P (option_map_or (λ x. x.payload) o [])) (sym (last_more r s rs)) (last_payload P (s ∷ rs) none h.1)
 
 -- ---- the records of a text are UTF-8
-
-and_both : (a b : Bool) → a && b ≡ true → (a ≡ true) × (b ≡ true)
-and_both true b e = (refl, e)
-and_both false b e = absurd cc
 
 texts_more : (shape : Shape) (n : ℕ) (r : Record) (rs : List Record) (b : Bool) → eqb r.number n ≡ b → form_of shape n ≡ Some form.Text
     → text_fits shape r ≡ true → AllByRecursion (λ x. is_utf8 x.payload ≡ true) (all n rs) → AllByRecursion (λ x. is_utf8 x.payload ≡ true) (all n (r ∷ rs))

@@ -6,7 +6,8 @@ use Rattle.std.specs.List.{AllByRecursion}
 use Rattle.std.proofs.lemmas.Bool.{ne_eqb}
 use Rattle.std.proofs.lemmas.List.{append-nil, map-append}
 use Rattle.std.proofs.lemmas.List.Concat.{flat_map-append}
-use Rattle.llb_wire.specs.Answer.{◌>>=◌, bind_ok}
+use Rattle.llb_wire.specs.Answer.{◌>>=◌}
+use Rattle.llb_wire.specs.Laws.Answers.{bind_ok}
 use Rattle.llb_wire.specs.declared.field.Wire.TheVariants as wire
 use Rattle.llb_wire.specs.Records.{Record}
 use Rattle.llb_ops.specs.declared.fault.OpFault.{OpFault}
@@ -21,8 +22,8 @@ use Rattle.llb_ops.specs.Fields.{extra, bytes, may_follow, IsNext, may_be_empty,
 use Rattle.llb_ops.proofs.Again.{bytes_part, number_part, spelled}
 use Rattle.llb_ops.proofs.Texts.{last_payload}
 use Rattle.llb_ops.proofs.Numbers.{Recodes, from_signed, int64_recodes, int32_recodes, flag_recodes}
-use Rattle.llb_ops.proofs.Picks.{All-map, All-filter, filter_passes, apart, extras_of}
-use Rattle.llb_ops.proofs.FieldOf.{IsGood, FieldOf, Returns, end, both, and_both, pair_parts}
+use Rattle.llb_ops.proofs.Picks.{All-map, All-filter, filter_passes, apart, extras_of, and_both}
+use Rattle.llb_ops.proofs.FieldOf.{IsGood, FieldOf, Returns, end, both, pair_parts}
 use Rattle.llb_ops.proofs.FieldOf.{message_run, message_read, message_parts, run_parts, parts_good, good_again, ok_of, ok_is}
 use Rattle.llb_ops.proofs.Sorts.{IsOf, of_all, is_number, HoldsBytes, a_number, some_bytes, text_of, numeric, string, set_string, message, messages}
 use Rattle.llb_ops.proofs.Sorts.{strings, strings_own, a_message, some_messages, messages_own, some_strings, IsRead, each_read, one_from}

@@ -5,7 +5,8 @@ use Rattle.std.specs.List.{AllByRecursion}
 use Rattle.std.proofs.lemmas.Bool.{leb-true, ltb-false}
 use Rattle.std.proofs.lemmas.List.{length-map}
 use Rattle.std.proofs.lemmas.List.Elements.{All-from_recursion}
-use Rattle.llb_wire.specs.Answer.{◌>>=◌, bind_ok}
+use Rattle.llb_wire.specs.Answer.{◌>>=◌}
+use Rattle.llb_wire.specs.Laws.Answers.{bind_ok}
 use Rattle.llb_wire.specs.Records.{Record}
 use Rattle.llb_ops.specs.declared.fault.OpFault.{OpFault}
 use Rattle.llb_ops.specs.declared.fault.OpFault.TheVariants.{OverLimit}
@@ -34,8 +35,8 @@ use Rattle.llb_ops.specs.Faults.{Gives}
 use Rattle.llb_ops.specs.Within.{IsFew, IsMetaWithin, IsMetaOptWithin, IsExecWithin, IsCopyWithin, IsActionWithin, IsFileWithin}
 use Rattle.llb_ops.specs.Within.{IsKindWithin, IsWithinLimits, AreWithinLimits}
 use Rattle.llb_ops.proofs.Kept.{guard_ended}
-use Rattle.llb_ops.proofs.FieldOf.{and_both, ok_is}
-use Rattle.llb_ops.proofs.Picks.{All-map}
+use Rattle.llb_ops.proofs.FieldOf.{ok_is}
+use Rattle.llb_ops.proofs.Picks.{All-map, and_both}
 use Rattle.llb_ops.proofs.Settled.{settled_length}
 use Rattle.llb_ops.proofs.Sorts.{IsRead, each_length, each_read}
 use Rattle.llb_ops.proofs.Trips.{ActionRead, action_from, KindRead, kind_from}

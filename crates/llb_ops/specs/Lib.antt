@@ -1,12 +1,13 @@
 -- Read first Table (the fields of every message), Records (what each kind of field is from its records) and Messages (what each message is), then
 -- Definition and Limits (a whole definition, and its limits), Writing (canonical bytes), Within, Laws and Fields (what holds of reading and
--- writing together). Attributes is the one map; Faults is the results of calls.
+-- writing together). Attributes is the one map; Kinds is the names of kinds; Faults is the results of calls.
 pub mod Faults
 pub mod Limits
 pub mod Table
 pub mod Records
 pub mod Attributes
 pub mod Messages
+pub mod Kinds
 pub mod Writing
 pub mod Within
 pub mod Definition

@@ -8,7 +8,7 @@ use crate::fault::OpFault;
 use crate::message::{Member, Message, each, joined_message, one_of};
 use crate::records::{Record, last_int64, unnamed, within_limits};
 use crate::table::MessageName;
-use crate::writing::{put_extra, put_messages, put_one_of, put_set_bytes, put_signed};
+use crate::writing::{message_record, put_extra, put_messages, put_one_of, put_signed};
 use llb_wire::{Bytes, Memory};
 use std::alloc::Global;
 use std::marker::Model;
@@ -231,13 +231,11 @@ impl Member for ActionKind {
 
     #[tactic(auto, unfolding(crate::specs::Writing::action_kind_bytes))]
     fn write(&self, alloc: Global) -> Result<Vec<u8>, Memory> {
-        let mut out = Vec::new(alloc);
         match self {
-            ActionKind::Copy(action) => put_set_bytes(&mut out, 4, &action.write(alloc)?)?,
-            ActionKind::MkFile(action) => put_set_bytes(&mut out, 5, &action.write(alloc)?)?,
-            ActionKind::MkDir(action) => put_set_bytes(&mut out, 6, &action.write(alloc)?)?,
-            ActionKind::Rm(action) => put_set_bytes(&mut out, 7, &action.write(alloc)?)?,
+            ActionKind::Copy(action) => message_record(alloc, 4, action),
+            ActionKind::MkFile(action) => message_record(alloc, 5, action),
+            ActionKind::MkDir(action) => message_record(alloc, 6, action),
+            ActionKind::Rm(action) => message_record(alloc, 7, action),
         }
-        Ok(out)
     }
 }

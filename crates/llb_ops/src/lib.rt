@@ -26,7 +26,9 @@ pub use file::{Action, ActionKind, Actions, FileOp};
 pub use has_fields::entry_has_fields;
 pub use llb_wire::{Boxed, Bytes, Text};
 pub use merge::{MergeInput, MergeOp};
-pub use op::{Input, Kind, Op, op_is_read_again, op_is_read_of_records, read_op, write_op};
+pub use op::{
+    Input, Kind, Op, kind_name, op_is_read_again, op_is_read_of_records, read_op, write_op,
+};
 pub use owners::{ChownOpt, User, UserOpt};
 pub use records::are_unnamed;
 pub use shape::{DEFINITION_LIMIT, ENTRIES_LIMIT, ENTRY_LIMIT, FIELD_LIMIT};

@@ -2,6 +2,7 @@
 
 ghost use Rattle.std.specs.Prelude.{◌≡◌, Ok, IfOk};
 ghost use Rattle.llb_ops.specs.Faults.{Gives};
+ghost use Rattle.llb_ops.specs.Kinds.{kind_text};
 ghost use Rattle.llb_ops.specs.Messages.{op_of};
 ghost use Rattle.llb_ops.specs.Writing.{op_bytes};
 ghost use Rattle.llb_ops.specs.Within.{IsWithinLimits};
@@ -16,7 +17,9 @@ use crate::records::{Record, joined, last_int64, last_text, unnamed, within_limi
 use crate::shape::ENTRY_LIMIT;
 use crate::source::SourceOp;
 use crate::table::MessageName;
-use crate::writing::{put_bytes, put_extra, put_messages, put_one_of, put_set_bytes, put_signed};
+use crate::writing::{
+    bytes_record, message_record, put_bytes, put_extra, put_messages, put_one_of, put_signed,
+};
 use llb_wire::{Boxed, Bytes, Many, Memory, Text};
 use std::alloc::Global;
 
@@ -131,16 +134,14 @@ impl Member for Kind {
 
     #[tactic(auto, unfolding(crate::specs::Writing::kind_bytes))]
     fn write(&self, alloc: Global) -> Result<Vec<u8>, Memory> {
-        let mut out = Vec::new(alloc);
         match self {
-            Kind::Exec(op) => put_set_bytes(&mut out, 2, &op.write(alloc)?)?,
-            Kind::Source(op) => put_set_bytes(&mut out, 3, &op.write(alloc)?)?,
-            Kind::File(op) => put_set_bytes(&mut out, 4, &op.write(alloc)?)?,
-            Kind::Build(bytes) => put_set_bytes(&mut out, 5, bytes.as_slice())?,
-            Kind::Merge(op) => put_set_bytes(&mut out, 6, &op.write(alloc)?)?,
-            Kind::Diff(bytes) => put_set_bytes(&mut out, 7, bytes.as_slice())?,
+            Kind::Exec(op) => message_record(alloc, 2, op),
+            Kind::Source(op) => message_record(alloc, 3, op),
+            Kind::File(op) => message_record(alloc, 4, op),
+            Kind::Build(bytes) => bytes_record(alloc, 5, bytes.as_slice()),
+            Kind::Merge(op) => message_record(alloc, 6, op),
+            Kind::Diff(bytes) => bytes_record(alloc, 7, bytes.as_slice()),
         }
-        Ok(out)
     }
 }
 
@@ -208,6 +209,23 @@ pub fn write_op(alloc: Global, op: &Op) -> Result<Bytes, OpFault>
 {
     let bytes = op.write(alloc)?;
     Ok(Bytes::new(bytes))
+}
+
+/// Returns the name of an op's kind. No graph has an op of the last two, or of none.
+pub fn kind_name(op: &Op) -> &'static str
+    ensures { result.now ≡ kind_text op.now.kind }
+{
+    match &op.kind {
+        Some(kind) => match kind {
+            Kind::Source(_) => "source",
+            Kind::File(_) => "file",
+            Kind::Merge(_) => "merge",
+            Kind::Exec(_) => "exec",
+            Kind::Build(_) => "build",
+            Kind::Diff(_) => "diff",
+        },
+        None => "none",
+    }
 }
 
 /// A law: the records of a message are those that its bytes spell by the grammar of the wire, whatever the

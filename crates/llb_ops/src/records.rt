@@ -170,6 +170,7 @@ fn last<'a>(records: &[Record<'a>], number: u32) -> Option<Record<'a>>
     last
 }
 
+/// Returns the number of a field, which is in its last record; 0 where there is none.
 fn last_number(records: &[Record<'_>], number: u32) -> u64
     ensures { result ≡ number_of (all_of number (views records.now)) }
 {
@@ -179,30 +180,35 @@ fn last_number(records: &[Record<'_>], number: u32) -> u64
     }
 }
 
+/// Returns the number of a field as a signed one of 64 bits; 0 where there is none.
 pub fn last_int64(records: &[Record<'_>], number: u32) -> i64
     ensures { result ≡ int64 (number_of (all_of number (views records.now))) }
 {
     last_number(records, number).cast_signed()
 }
 
+/// Returns the low 32 bits of the number of a field.
 pub fn last_uint32(records: &[Record<'_>], number: u32) -> u32
     ensures { result ≡ uint32 (number_of (all_of number (views records.now))) }
 {
     (last_number(records, number) % 0x1_0000_0000) as u32
 }
 
+/// Returns the low 32 bits of the number of a field as a signed number.
 pub fn last_int32(records: &[Record<'_>], number: u32) -> i32
     ensures { result ≡ int32 (number_of (all_of number (views records.now))) }
 {
     last_uint32(records, number).cast_signed()
 }
 
+/// Returns whether the number of a field is another one than 0.
 pub fn last_flag(records: &[Record<'_>], number: u32) -> bool
     ensures { result ≡ flag (number_of (all_of number (views records.now))) }
 {
     last_number(records, number) != 0
 }
 
+/// Returns the payload of a field's last record.
 fn last_payload<'a>(records: &[Record<'a>], number: u32) -> &'a [u8]
     ensures { result.now ≡ payload_of (all_of number (views records.now)) }
 {
@@ -212,6 +218,7 @@ fn last_payload<'a>(records: &[Record<'a>], number: u32) -> &'a [u8]
     }
 }
 
+/// Returns the bytes of a field, none where it is not there.
 pub fn last_bytes(alloc: Global, records: &[Record<'_>], number: u32) -> Result<Bytes, Memory>
     ensures { IfOk result (λ b. b ≡ payload_of (all_of number (views records.now))) }
 {

@@ -1,6 +1,6 @@
 //! Fields in their canonical bytes, one after the other.
 
-ghost use Rattle.std.specs.Prelude.{◌≡◌, ◌<◌, ◌++◌, ◌≤◌, OnOk};
+ghost use Rattle.std.specs.Prelude.{◌≡◌, ◌<◌, ◌++◌, ◌≤◌, IfOk, OnOk};
 ghost use Rattle.llb_ops.specs.Writing.{set_number, set_bytes, number_field, bytes_field, signed_field, flag_field, message_field};
 ghost use Rattle.llb_ops.specs.Writing.{messages_field, each_field, one_of_field};
 
@@ -30,6 +30,32 @@ pub fn put_set_bytes(out: &mut Vec<u8>, number: u32, bytes: &[u8]) -> Result<(),
     Ok(())
 }
 
+/// Returns the record of a field with these bytes, also where there are none.
+pub fn bytes_record(alloc: Global, number: u32, bytes: &[u8]) -> Result<Vec<u8>, Memory>
+    requires some { 0 < number }
+    requires small { number ≤ 536_870_911 }
+    ensures { IfOk result (λ v. v.items ≡ set_bytes number bytes.now) }
+{
+    let mut out = Vec::new(alloc);
+    put_set_bytes(&mut out, number, bytes)?;
+    Ok(out)
+}
+
+/// Returns the record of a field with a message.
+pub fn message_record<M: Message>(
+    alloc: Global,
+    number: u32,
+    message: &M,
+) -> Result<Vec<u8>, Memory>
+    requires some { 0 < number }
+    requires small { number ≤ 536_870_911 }
+    ensures { IfOk result (λ v. v.items ≡ set_bytes number (M.writing message.now)) }
+{
+    let bytes = message.write(alloc)?;
+    bytes_record(alloc, number, &bytes)
+}
+
+/// Writes a number, but not 0.
 #[tactic(auto, unfolding(crate::specs::Writing::number_field))]
 fn put_number(out: &mut Vec<u8>, number: u32, value: u64) -> Result<(), Memory>
     requires some { 0 < number }
@@ -42,6 +68,7 @@ fn put_number(out: &mut Vec<u8>, number: u32, value: u64) -> Result<(), Memory>
     Ok(())
 }
 
+/// Writes a signed number, but not 0.
 pub fn put_signed(out: &mut Vec<u8>, number: u32, value: i64) -> Result<(), Memory>
     requires some { 0 < number }
     requires small { number ≤ 536_870_911 }
@@ -50,6 +77,7 @@ pub fn put_signed(out: &mut Vec<u8>, number: u32, value: i64) -> Result<(), Memo
     put_number(out, number, value.cast_unsigned())
 }
 
+/// Writes a flag that is set.
 pub fn put_flag(out: &mut Vec<u8>, number: u32, value: bool) -> Result<(), Memory>
     requires some { 0 < number }
     requires small { number ≤ 536_870_911 }
@@ -58,6 +86,7 @@ pub fn put_flag(out: &mut Vec<u8>, number: u32, value: bool) -> Result<(), Memor
     put_number(out, number, u64::from(value))
 }
 
+/// Writes bytes, where there are some.
 #[tactic(auto, unfolding(crate::specs::Writing::bytes_field))]
 pub fn put_bytes(out: &mut Vec<u8>, number: u32, bytes: &[u8]) -> Result<(), Memory>
     requires some { 0 < number }
@@ -70,6 +99,7 @@ pub fn put_bytes(out: &mut Vec<u8>, number: u32, bytes: &[u8]) -> Result<(), Mem
     Ok(())
 }
 
+/// Writes a message, where there is one.
 #[tactic(auto, unfolding(crate::specs::Writing::message_field))]
 pub fn put_message<M: Message>(
     alloc: Global,
@@ -88,6 +118,7 @@ pub fn put_message<M: Message>(
     Ok(())
 }
 
+/// Writes messages that are repeated.
 pub fn put_messages<M: Message>(
     alloc: Global,
     out: &mut Vec<u8>,
@@ -117,7 +148,7 @@ pub fn put_each_bytes(out: &mut Vec<u8>, number: u32, items: &[Bytes]) -> Result
     Ok(())
 }
 
-/// Texts that are repeated.
+/// Writes texts that are repeated.
 pub fn put_each_text(out: &mut Vec<u8>, number: u32, items: &[Text]) -> Result<(), Memory>
     requires some { 0 < number }
     requires small { number ≤ 536_870_911 }
@@ -129,6 +160,7 @@ pub fn put_each_text(out: &mut Vec<u8>, number: u32, items: &[Text]) -> Result<(
     Ok(())
 }
 
+/// Writes the member that is set, where there is one.
 pub fn put_one_of<M: Member>(
     alloc: Global,
     out: &mut Vec<u8>,

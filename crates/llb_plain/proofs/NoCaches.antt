@@ -6,7 +6,7 @@ use Rattle.llb_ops.specs.declared.op.Kind.TheVariants as kind
 use Rattle.llb_loader.specs.Locals.{Local}
 use Rattle.llb_loader.specs.declared.graph.Vertex.{Vertex}
 use Rattle.llb_tree.specs.Tree.{TreeMap}
-use Rattle.llb_model.specs.Program.{has_cache, mount_of, view_on}
+use Rattle.llb_model.specs.Program.{has_cache, mount_of, workspace_on}
 use Rattle.llb_model.proofs.Outcomes.{no_needs}
 use Rattle.llb_execution.specs.Parts.{shown_in}
 use Rattle.llb_plain.specs.Evaluation.{cache_from}
@@ -26,8 +26,9 @@ none_has k (u ∷ vs) i v none at = by_test (has_cache u) refl none i at (none_h
     by_test false is none zero at rest = let same : u ≡ v = cc in ap has_cache (sym same) ∙ is
     by_test false is none (suc j) at rest = rest j v none at
 
--- the view of a vertex without one shows none
-pub bare_on : (locals : List Local) (v : Vertex) (k : Option Kind) (inputs : List TreeMap) → has_cache v ≡ false → shown_in (view_on locals v k inputs) ≡ []
+-- the workspace of a vertex without one shows none
+pub bare_on : (locals : List Local) (v : Vertex) (k : Option Kind) (inputs : List TreeMap) → has_cache v ≡ false → shown_in (workspace_on locals v k inputs)
+    ≡ []
 bare_on locals v (Some (kind.Source s)) inputs none = refl
 bare_on locals v (Some (kind.File f)) inputs none = refl
 bare_on locals v (Some (kind.Merge m)) inputs none = refl

@@ -3,7 +3,7 @@ use Rattle.std.specs.Prelude.{ℕ, ◌+◌, List, [], ◌∷◌, Option, Some, N
 use Rattle.llb_loader.specs.declared.graph.Vertex.{Vertex}
 use Rattle.llb_model.specs.Program.{Build, has_cache}
 use Rattle.llb_model.specs.Outcome.{Outcome, outcomes}
-use Rattle.llb_model.specs.State.{missing_local}
+use Rattle.llb_loader.specs.Missing.{missing_local}
 use Rattle.llb_plain.specs.declared.fault.PlainFault.{PlainFault}
 use Rattle.llb_plain.specs.declared.fault.PlainFault.TheVariants.{MissingLocal, HasCache}
 
@@ -18,5 +18,6 @@ unless_refused (Some name) cache all = Err (MissingLocal name)
 unless_refused None (Some v) all = Err (HasCache v)
 unless_refused None None all = Ok all
 
+-- the plain outcomes, or why there are none
 abbrev pub evaluate_of : Build → Result (List Outcome) PlainFault
 evaluate_of b = unless_refused (missing_local b.locals b.graph.vertices) (cache_from 0 b.graph.vertices) (outcomes b)

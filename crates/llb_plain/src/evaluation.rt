@@ -14,8 +14,7 @@ use crate::fault::PlainFault;
 use crate::gathering::gathered;
 use crate::outcome::{Outcome, Outcomes};
 use crate::running::run;
-use llb_execution::missing_local;
-use llb_loader::{Graph, Locals, Vertex};
+use llb_loader::{Graph, Locals, Vertex, missing_local};
 use llb_wire::Text;
 use std::alloc::Global;
 

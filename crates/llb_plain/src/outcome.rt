@@ -50,7 +50,7 @@ impl Drop for Outcomes {
 impl Model for Outcomes {
     ghost use Rattle.std.specs.Coded.{codes};
     ghost use Rattle.std.specs.Prelude.{List, map};
-    ghost use Rattle.llb_tree.specs.Tree.{coded_tree};
+    ghost use Rattle.llb_tree.specs.Coded.{coded_tree};
     ghost use Rattle.llb_model.specs.Outcome as model;
     ghost use Rattle.llb_plain.specs.Endings.{outcome_of};
 

@@ -11,7 +11,7 @@ ghost use Rattle.llb_plain.specs.Faults.{Gives};
 use crate::fault::PlainFault;
 use crate::outcome::Outcome;
 use llb_applet::Setting;
-use llb_execution::{View, empty_trees, setting_of, step_count, step_of};
+use llb_execution::{Workspace, empty_trees, setting_of, step_count, step_of};
 use llb_loader::{Locals, Vertex};
 use llb_model::VertexFault;
 use llb_tree::Tree;
@@ -31,33 +31,33 @@ pub(crate) fn run(
         (Ok (outcome_on (record { graph = graph; locals = locals.now }) vertex.now (Some inputs.items))) }
 {
     let setting = setting_of(alloc, vertex)?;
-    let mut view = View::on(alloc, locals, vertex, inputs, Vec::new(alloc))?;
-    if let Some(fault) = run_all(alloc, vertex, &setting, &mut view)? {
+    let mut workspace = Workspace::on(alloc, locals, vertex, inputs, Vec::new(alloc))?;
+    if let Some(fault) = run_all(alloc, vertex, &setting, &mut workspace)? {
         return Ok(Outcome::Failed(fault));
     }
     let outputs = empty_trees(alloc, vertex.outputs)?;
-    let outputs = view.into_outputs(outputs, vertex);
+    let outputs = workspace.into_outputs(outputs, vertex);
     Ok(Outcome::Done(Many::new(outputs)))
 }
 
-// All micro-steps of a vertex on a view that shows no cache: the fault of the first that has one.
+// All micro-steps of a vertex on a workspace that shows no cache: the fault of the first that has one.
 fn run_all(
     alloc: Global,
     vertex: &Vertex,
     setting: &Setting,
-    view: &mut View,
+    workspace: &mut Workspace,
 ) -> Result<Option<VertexFault>, PlainFault>
     requires kind { IsVertexOf vertex.now vertex.now.op.kind }
     requires setting { setting.now ≡ kind_setting vertex.now.op.kind }
-    requires cacheless { shown_in view.old ≡ [] }
-    ensures { Gives (left_with view.new []) result (Ok (whole (program_of vertex.now).steps (work_with view.old []))) }
+    requires cacheless { shown_in workspace.old ≡ [] }
+    ensures { Gives (left_with workspace.new []) result (Ok (whole (program_of vertex.now).steps (work_with workspace.old []))) }
 {
     let mut trees = Vec::new(alloc);
     for k in 0..step_count(vertex) {
         let Some(step) = step_of(vertex, setting, k) else {
             return Ok(None);
         };
-        if let Some(fault) = view.step(alloc, k, step, &mut trees)? {
+        if let Some(fault) = workspace.step(alloc, k, step, &mut trees)? {
             return Ok(Some(fault));
         }
     }

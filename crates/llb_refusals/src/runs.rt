@@ -4,7 +4,7 @@ use super::boards::{Open, TWO_FILES, are_same, board_in, board_on};
 use super::growths::{MOST, Row, Trial, are_refused, is_lack, print_count, refuse, was_refused};
 use super::told::{fault_told, is_same, text_told, tree_told};
 use super::written::tree_text;
-use llb_board::{At, Board};
+use llb_board::{Board, WorkerStatus};
 use llb_ready::{ReadyFault, ReadyQueue};
 use llb_stepper::Stepper;
 use llb_work::{RunEnd, run_alone, run_workers};
@@ -132,7 +132,7 @@ fn crew<R: Threads + Wait + Sync>(rt: &R, alloc: Global, board: Board) -> RunEnd
 // Whether no worker runs anything, and no cache is held.
 fn are_idle(board: &Board) -> bool {
     for w in 0..64 {
-        if matches!(board.worker(w), Some(At::Runs(..))) {
+        if matches!(board.worker(w), Some(WorkerStatus::Runs(..))) {
             return false;
         }
     }

@@ -2,9 +2,9 @@
 use Rattle.std.proofs.Common.{◌≡◌, ◌∙◌, ◌+◌, ◌≤◌, List, length, take, option_map, Some, ap, arith, length-append, length-drop}
 use Rattle.std.proofs.lemmas.List.{length-take}
 use Rattle.llb_model.specs.Table.{Event}
-use Rattle.llb_state.specs.Board.{Replays}
+use Rattle.llb_board.specs.Seen.{Replays}
 use Rattle.llb_stepper.specs.Records.{record_at, record_text}
-use Rattle.llb_stepper.specs.Stepping.{Stepping, line}
+use Rattle.llb_stepper.specs.Stepping.{Stepping, timeline}
 use Rattle.llb_stepper.proofs.Lines.{reached, ran_on, is_the_run}
 use Rattle.llb_session.specs.Texts.{with_line_end}
 use Rattle.llb_session.specs.Told.{GoPrintsTheRun}
@@ -19,7 +19,7 @@ go_prints s here text t granted =
     ap length (reached es s.board t.board stop.leads).events ∙ length-append s.board.events es in
     let few : length es ≤ n = omega (arith, length-take n granted.goes.events) in
     let back = ap length stop.past in
-    let dropped = length-drop n (line t) in
+    let dropped = length-drop n (timeline t) in
     record {
       replies = ran.0;
       runs = ran.1;

@@ -2,7 +2,8 @@
 use Rattle.std.specs.Prelude.{ℕ, ◌^◌, ◌==◌, nat_lt, Bool, if◌then◌else◌, List, length, codes, Option, Some, None, option_map}
 use Rattle.std.specs.List.{position_or_len, before_first, after_first}
 use Rattle.std.specs.Str.{is_utf8}
-use Rattle.llb_asm.specs.Values.{is_text, magnitude, then_in, below}
+use Rattle.llb_wire.specs.Decimal.{magnitude, below}
+use Rattle.llb_wire.specs.Texts.{is_text, then_in}
 use Rattle.llb_events.specs.declared.event.Event.TheVariants.{Claim, Step, Settle, Cancel}
 use Rattle.llb_stepper.specs.declared.stop.Break.TheVariants.{Claims, Settles, Fails}
 use Rattle.llb_session.specs.declared.request.Request.{Request}

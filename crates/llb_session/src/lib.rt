@@ -1,5 +1,5 @@
 //! A stepping session: each line of commands gets its reply from a stepper before the next one is waited for. It is built
-//! on `llb_asm`, `llb_stepper` and `llb_treetext`; of the assembler it uses the reader of decimal numbers alone.
+//! on `llb_stepper` and `llb_treetext`.
 #![tactic(auto)]
 
 mod answering;

@@ -3,9 +3,9 @@
 ghost use Rattle.std.specs.Prelude.{◌≡◌, option_map};
 ghost use Rattle.llb_session.specs.Request.{parted, number_in, pair_in, request_in, alone, break_in, break_at, word_with_rest, by_words};
 
-use llb_asm::magnitude;
 use llb_board::Event;
 use llb_stepper::Break;
+use llb_wire::magnitude;
 use std::str::from_utf8;
 
 /// What a line of a session asks for.

@@ -7,12 +7,12 @@ use Rattle.llb_cache.specs.Caches.{CachesValue, place_for}
 use Rattle.llb_loader.specs.Rules.{kind_mounts}
 use Rattle.llb_loader.specs.declared.graph.Vertex.{Vertex}
 use Rattle.llb_tree.specs.Tree.{TreeMap}
-use Rattle.llb_model.specs.Caches.{Place, Distinct}
+use Rattle.llb_model.specs.Caches.{Instance, Distinct}
 use Rattle.llb_model.specs.Kept.{store_of}
-use Rattle.llb_model.specs.Program.{Build, View, Need, mount_of, needs_of, program_of, view_on}
+use Rattle.llb_model.specs.Program.{Build, Workspace, Need, mount_of, needs_of, program_of, workspace_on}
 use Rattle.llb_model.specs.Table.{Claimed}
 use Rattle.llb_model.proofs.Claims.{first_length}
-use Rattle.llb_needs.specs.Needs.{Taking, taken_with, places_taken}
+use Rattle.llb_state.specs.Needs.{Taking, taken_with, places_taken}
 use Rattle.llb_execution.specs.Jobs.{IsWorkable}
 use Rattle.llb_execution.specs.Parts.{work_with, mounts_in, shown_in}
 use Rattle.llb_state.specs.Room.{Supplies, supplies_for}
@@ -32,9 +32,9 @@ are_ready (Some y) x is = ap (λ z. Some z) (inside_ok is)
 
 -- the parts of what a claim begins
 pub record Parts : Type 0 where
-  pub view : View
-  pub own : View
-  pub places : List Place
+  pub view : Workspace
+  pub own : Workspace
+  pub places : List Instance
   pub instances : List ℕ
   pub trees : List TreeMap
   pub needs : List cache_need.Need
@@ -59,8 +59,8 @@ put_together w v p = record {
 
 -- each part is the rule's
 pub record AreParts (b : Build) (c : CachesValue) (x : Vertex) (trees : List TreeMap) (p : Parts) : Type 0 where
-  pub view : view_on b.locals x x.op.kind trees ≡ p.view
-  pub own : view_on b.locals x x.op.kind trees ≡ p.own
+  pub view : workspace_on b.locals x x.op.kind trees ≡ p.view
+  pub own : workspace_on b.locals x x.op.kind trees ≡ p.own
   pub taking : taken_with c trees (needs_of x) ≡ taking_of p
   pub outfit : outfit_of x ≡ p.outfit
 
@@ -88,7 +88,7 @@ pub supplied : (b : Build) (c : CachesValue) (x : Vertex) (trees : List TreeMap)
       setting = p.outfit.setting;
       mounts = mounts_in p.own;
       shown = shown_in p.own;
-      keys = map (λ (q : Place). q.key) p.places;
+      keys = map (λ (q : Instance). q.key) p.places;
     })
     (supplies_for (Some x))
 supplied b c x trees p are = λ i. record {
@@ -96,7 +96,7 @@ supplied b c x trees p are = λ i. record {
   setting = (sym are.outfit i).setting;
   mounts = (ap mounts_in (sym are.own) ∙ mounts_on b.locals x x.op.kind trees) i;
   shown = (ap shown_in (sym are.own) ∙ shown_on b.locals x trees) i;
-  keys = (ap (λ (t : Taking). map (λ (q : Place). q.key) t.0) (sym are.taking) ∙ keys_taken c.out (needs_of x)) i;
+  keys = (ap (λ (t : Taking). map (λ (q : Instance). q.key) t.0) (sym are.taking) ∙ keys_taken c.out (needs_of x)) i;
 }
 
 -- its micro-steps can be done

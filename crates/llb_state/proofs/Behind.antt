@@ -1,6 +1,6 @@
 -- The lists of a graph over a board's statuses: what stays where no vertex is done anew, which inputs are there, and which vertices are after one
 -- that has failed.
-use Rattle.std.proofs.Common.{◌≡◌, ◌≢◌, ℕ, zero, suc, ◌+◌, ◌^◌, ◌<◌, ◌≤◌, Bool, true, false, ◌||◌, List, [], ◌∷◌, map, length, get_or, refl, sym, ap, subst}
+use Rattle.std.proofs.Common.{◌≡◌, ◌≢◌, ℕ, zero, suc, ◌+◌, ◌^◌, ◌<◌, ◌≤◌, Bool, true, false, ◌||◌, List, [], ◌∷◌, length, get_or, refl, sym, ap, subst}
 use Rattle.std.proofs.Common.{◌∙◌, arith, inl, inr}
 use Rattle.std.specs.Prelude.{All, Contains, Option, Some, slice_get, slice_set, replicate, is_some, ◌==◌, if◌then◌else◌, ◌&&◌}
 use Rattle.std.specs.List.{list_any}
@@ -14,22 +14,16 @@ use Rattle.llb_loader.specs.declared.graph.Edge.{Edge}
 use Rattle.llb_loader.specs.declared.graph.Vertex.{Vertex}
 use Rattle.llb_model.specs.Program.{Build}
 use Rattle.llb_model.specs.Outcome.{Ending}
-use Rattle.llb_model.specs.State.{Status, Waiting, Running, ending_of, ending_at, is_done, is_failed, is_waiting, is_stopped, stopped, start_from}
+use Rattle.llb_model.specs.State.{Status, Waiting, ending_of, ending_at, is_done, is_failed, is_waiting, is_stopped, stopped, start_from}
 use Rattle.llb_model.proofs.Lists.{Some_of, Each_of, any_true, true_any, some_with, some_as, get_set_same, get_set_other, get_within}
-use Rattle.llb_model.proofs.Outcomes.{each_below, inputs_there}
+use Rattle.llb_model.proofs.Outcomes.{each_below}
 use Rattle.llb_model.proofs.Ready.{ready_by_inputs}
-use Rattle.llb_model.proofs.Stopped.{stopped_is, stopped_cases, stopped_there, stopped_length, any_stopped, done_count}
-use Rattle.llb_state.specs.Board.{Seen, Replays}
-use Rattle.llb_links.specs.Links.{leads, users_from, users_of, users_at, waits_for, open_inputs, AreLowered, AreRaised, AreBelow, Linked, IsLinked}
-use Rattle.llb_state.specs.OpenInputs.{done_in}
+use Rattle.llb_model.proofs.Stopped.{stopped_is, stopped_cases, stopped_there, stopped_length, any_stopped}
+use Rattle.llb_links.specs.Links.{leads, users_from, users_of, users_at, waits_for, AreBelow, Linked, IsLinked}
+use Rattle.llb_state.specs.Vertices.{done_in}
 use Rattle.llb_links.specs.Links.{has_inputs, is_marked, IsClosed, Spreads}
-use Rattle.llb_state.specs.OpenInputs.{TellsInputs}
-use Rattle.llb_state.specs.Views.{status_of}
-use Rattle.llb_state.specs.declared.stand.Stand.{Stand}
-use Rattle.llb_state.specs.declared.stand.Stand.TheVariants as stand
-use Rattle.llb_state.proofs.Lists.{map_set, get_map}
-use Rattle.llb_links.specs.Laws.{count_few, users_low, linked_same, linked_lowered, linked_raised, counted_done}
-use Rattle.llb_state.proofs.Sound.{consistent}
+use Rattle.llb_state.specs.Vertices.{TellsInputs}
+use Rattle.llb_links.specs.Laws.{count_few, users_low, linked_same}
 
 -- ---- a test of how vertices end
 
@@ -41,15 +35,6 @@ test_set f (y ∷ S) zero old new at same zero = let is : y ≡ old = cc in same
 test_set f (y ∷ S) zero old new at same (suc k) = refl
 test_set f (y ∷ S) (suc v) old new at same zero = refl
 test_set f (y ∷ S) (suc v) old new at same (suc k) = test_set f S v old new at same k
-
--- where a vertex is not done before nor after, or both
-pub linked_set : (b : Build) (ss : List Stand) (v : ℕ) (s : Stand) (old : Status) (l : Linked) → slice_get (map status_of ss) v ≡ Some old
-    → is_done (ending_of (Some (status_of s))) ≡ is_done (ending_of (Some old)) → IsLinked b.graph.vertices (done_in (map status_of ss)) l
-    → IsLinked b.graph.vertices (done_in (map status_of (slice_set ss v s))) l
-linked_set b ss v s old l at same so =
-    subst (λ S. IsLinked b.graph.vertices (done_in S) l) (sym (map_set status_of ss v s))
-    (linked_same b.graph.vertices (done_in (map status_of ss)) (done_in (slice_set (map status_of ss) v (status_of s))) l
-    (λ u. sym (test_set is_done (map status_of ss) v old (status_of s) at same u)) so)
 
 pub others_done : (S : List Status) (v : ℕ) (new : Status) (w : ℕ) → w ≢ v → done_in S w ≡ done_in (slice_set S v new) w
 others_done S v new w apart = ap (λ o. is_done (ending_of o)) (sym (get_set_other S v new w apart))
@@ -73,25 +58,6 @@ below b graph v x at =
     All-weaker (LeadsBelow b.graph.vertices v) (λ (e : Edge). e.vertex < v) (λ e leads. leads.lower) x.inputs
     (subst (λ (y : Vertex). All (LeadsBelow b.graph.vertices v) y.inputs) (get_or_from_slice_get b.graph.vertices v x x at)
     (graph.down v x (slice_get_within b.graph.vertices v x at)))
-
--- the counts decide which inputs are there
-pub tells : (n : Seen) (l : Linked) → IsGraph n.build.graph → Replays n → IsLinked n.build.graph.vertices (done_in n.state.statuses) l
-    → TellsInputs n.build n.state.statuses l
-tells n l graph replays so v x at =
-    let vs = n.build.graph.vertices in
-    let low = slice_get_within vs v x at in
-    let all_below : All (λ (e : Edge). e.vertex < length vs) x.inputs
-    = All-weaker (λ (e : Edge). e.vertex < v) (λ (e : Edge). e.vertex < length vs) (λ e lt. omega (arith, lt, low)) x.inputs (below n.build graph v x at) in
-    let here : get_or l.counts v 1 ≡ open_inputs vs (done_in n.state.statuses) x
-    = default_free l.counts v (omega (arith, low, so.same_counts)) ∙ so.counts_are v x at in
-    ap (λ k. k == 0) here ∙ counted_done vs (done_in n.state.statuses) x all_below
-    ∙ sym (inputs_there n.build.graph (ending_at n.state.statuses) (done_count n.build graph n.state (consistent n replays)) v (omega (arith, low)) x.inputs
-    (each_below n.build.graph graph v x at))
-  where
-    default_free : (xs : List ℕ) (k : ℕ) → k < length xs → get_or xs k 1 ≡ get_or xs k 0
-    default_free [] k lt = absurd (omega (arith, lt))
-    default_free (y ∷ ys) zero lt = refl
-    default_free (y ∷ ys) (suc k) lt = default_free ys k (omega (arith, lt))
 
 -- a vertex is Ready where it waits and no input is open
 pub ready_so : (b : Build) (S : List Status) (l : Linked) (v : ℕ) (x : Vertex) → TellsInputs b S l → slice_get b.graph.vertices v ≡ Some x
@@ -214,36 +180,6 @@ module _ (vs : List Vertex) (done : ℕ → Bool) (l : Linked) (so : IsLinked vs
   -- in a graph of at most 65,536 vertices, a count and the number of a vertex's users add up without overflow
   pub counts_fit : (v : ℕ) → v < length vs → length vs ≤ 65536 → (x : ℕ) → get_or l.counts x 0 + length (users_at l v) < 2 ^ 32
   counts_fit v low few x = omega (arith, counts_few x, ap length (so.users_are v low), users_from_few v 0 vs, few)
-
--- a running vertex is settled done: with the counts of its users lowered, the lists are right again
-pub linked_settled : (b : Build) (ss : List Stand) (v : ℕ) (s : Stand) (w : ℕ) (l m : Linked) → slice_get (map status_of ss) v ≡ Some (Running w)
-    → v < length b.graph.vertices → is_done (ending_of (Some (status_of s))) ≡ true → m.users ≡ l.users → AreLowered (users_at l v) l.counts m.counts
-    → IsLinked b.graph.vertices (done_in (map status_of ss)) l → IsLinked b.graph.vertices (done_in (map status_of (slice_set ss v s))) m
-linked_settled b ss v s w l m at low is users counts so =
-    let S = map status_of ss in
-    subst (λ T. IsLinked b.graph.vertices (done_in T) m) (sym (map_set status_of ss v s))
-    (linked_lowered b.graph.vertices (done_in S) (done_in (slice_set S v (status_of s))) l m v low (ap (λ o. is_done (ending_of o)) at)
-    (done_here S v (Running w) (status_of s) at ∙ is) (λ u apart. others_done S v (status_of s) u apart) so users counts)
-
--- a vertex runs again: with the counts of its users raised where it was done, and else as they were, the lists are right
-pub linked_resumed : (b : Build) (ss : List Stand) (v w : ℕ) (had : Stand) (was_done : Bool) (l m : Linked) → slice_get ss v ≡ Some had
-    → v < length b.graph.vertices → was_done ≡ is_done (ending_of (Some (status_of had))) → m.users ≡ l.users
-    → (was_done ≡ true → AreRaised (users_at l v) l.counts m.counts) → (was_done ≡ false → m ≡ l)
-    → IsLinked b.graph.vertices (done_in (map status_of ss)) l → IsLinked b.graph.vertices (done_in (map status_of (slice_set ss v (stand.Running w)))) m
-linked_resumed b ss v w had was_done l m there low tells_done users raised same so = by_test was_done refl
-  where
-    at : slice_get (map status_of ss) v ≡ Some (status_of had)
-    at = get_map status_of ss v had there
-
-    by_test : (t : Bool) → was_done ≡ t → IsLinked b.graph.vertices (done_in (map status_of (slice_set ss v (stand.Running w)))) m
-    by_test true is =
-        subst (λ T. IsLinked b.graph.vertices (done_in T) m) (sym (map_set status_of ss v (stand.Running w)))
-        (linked_raised b.graph.vertices (done_in (map status_of ss)) (done_in (slice_set (map status_of ss) v (Running w))) l m v low
-        (ap (λ o. is_done (ending_of o)) at ∙ sym tells_done ∙ is) (done_here (map status_of ss) v (status_of had) (Running w) at)
-        (λ u apart. others_done (map status_of ss) v (Running w) u apart) so users (raised is))
-    by_test false is =
-        subst (IsLinked b.graph.vertices (done_in (map status_of (slice_set ss v (stand.Running w))))) (sym (same is))
-        (linked_set b ss v (stand.Running w) (status_of had) l at (sym (sym tells_done ∙ is)) so)
 
 -- ---- what is after a failed vertex
 

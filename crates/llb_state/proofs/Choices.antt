@@ -1,16 +1,8 @@
--- A search over the vertices, and over the workers, one after another.
-use Rattle.std.proofs.Common.{◌≡◌, ℕ, zero, suc, ◌+◌, ◌-◌, ◌<◌, ◌≤◌, List, ◌∷◌, ◌⊎◌, inl, inr, drop, sym, ap, subst, ◌∙◌, arith, drop-cons, add-one}
-use Rattle.std.specs.Prelude.{Bool, true, false, ◌||◌, ◌&&◌, Some, slice_get, if◌then◌else◌}
+-- A search over the vertices, one after another.
+use Rattle.std.proofs.Common.{◌≡◌, ℕ, zero, suc, ◌+◌, ◌-◌, ◌<◌, ◌≤◌, ◌⊎◌, inl, inr, sym, ap, subst, ◌∙◌, arith, add-one}
+use Rattle.std.specs.Prelude.{Bool, true, false, ◌&&◌, Some, if◌then◌else◌}
 use Rattle.std.proofs.lemmas.Bool.{cases_order}
-use Rattle.std.proofs.lemmas.Option.{slice_get_within, get_or_from_slice_get}
-use Rattle.llb_model.specs.Program.{Build}
-use Rattle.llb_model.specs.State.{Status, At, Idle, Runs, Execution, is_blocked, is_finished, program_in}
-use Rattle.llb_model.specs.Table.{Step, Settle}
-use Rattle.llb_model.specs.Run.{least, each, next_of, is_settled}
-use Rattle.llb_state.specs.Room.{AreOver}
-
-abbrev pub is_over : Build → List Status → ℕ → Bool
-is_over b statuses v = is_settled (slice_get statuses v) || is_blocked b statuses v
+use Rattle.llb_model.specs.Run.{least, each}
 
 -- one number more
 less : (n v : ℕ) → v < n → n - v ≡ suc (n - (v + 1))
@@ -68,25 +60,3 @@ each_from p n (suc k) all =
       | inl low ↦ subst (λ m. each p m (n - m) ≡ each p 0 n) (add-one k) (each_later p n k here low (all k (omega arith)))
       | inr past ↦ each_end p n k past here
     ]
-
--- one vertex more is over
-pub over_next : (b : Build) (statuses : List Status) (n : ℕ) → AreOver b statuses n → is_over b statuses n ≡ true → AreOver b statuses (n + 1)
-over_next b statuses n below here v low = elim (low_or_not v n) [
-  | inl lt ↦ below v lt
-  | inr ge ↦ let same : v ≡ n = omega (arith, low, ge) in ap (is_over b statuses) same ∙ here
-]
-
--- the workers that are left begin with this one
-next_drop : (b : Build) (ws : List At) (w : ℕ) (a : At) → slice_get ws w ≡ Some a → next_of b w (drop w ws) ≡ next_of b w (a ∷ drop (w + 1) ws)
-next_drop b ws w a at =
-    ap (next_of b w) (drop-cons ws w a (slice_get_within ws w a at) ∙ (λ i. get_or_from_slice_get ws w a a at i ∷ drop (sym (add-one w) i) ws))
-
--- past an idle worker, the next event of all is that of the workers that are left
-pub next_idle : (b : Build) (ws : List At) (w : ℕ) → next_of b w (drop w ws) ≡ next_of b 0 ws → slice_get ws w ≡ Some Idle
-    → next_of b (w + 1) (drop (w + 1) ws) ≡ next_of b 0 ws
-next_idle b ws w here at = sym (next_drop b ws w Idle at) ∙ here
-
--- the first running worker has the next event: its settle where it is finished, else its step
-pub next_runs : (b : Build) (ws : List At) (w : ℕ) (x : Execution) → next_of b w (drop w ws) ≡ next_of b 0 ws → slice_get ws w ≡ Some (Runs x)
-    → next_of b 0 ws ≡ Some (if is_finished (program_in b x).steps x then Settle w else Step w)
-next_runs b ws w x here at = sym here ∙ next_drop b ws w (Runs x) at

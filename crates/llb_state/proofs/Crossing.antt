@@ -8,13 +8,16 @@ use Rattle.std.specs.contracts.impls.GlobalAllocator.TheImpl.{ghosts}
 use Rattle.std.specs.contracts.vec.Vec as vec
 use Rattle.llb_wire.proofs.many.Many.TheSendSync as many_crosses
 use Rattle.llb_tree.specs.contracts.tree.Tree as tree
-use Rattle.llb_execution.proofs.Crossing.{tree_send, trees_send, view_crosses}
-use Rattle.llb_execution.specs.contracts.view.View as view
+use Rattle.llb_execution.proofs.Crossing.{tree_send, trees_send, workspace_crosses}
+use Rattle.llb_execution.specs.contracts.workspace.Workspace as workspace
 use Rattle.llb_applet.proofs.setting.Setting.TheSendSync as setting_crosses
 use Rattle.llb_applet.specs.contracts.setting.Setting as setting
 use Rattle.llb_cache.proofs.caches.Lease.TheSendSync as lease_crosses
-use Rattle.llb_cache.proofs.need.Place.TheSendSync as place_crosses
-use Rattle.llb_cache.specs.contracts.need.Place as place
+use Rattle.llb_cache.proofs.need.Instance.TheSendSync as place_crosses
+use Rattle.llb_cache.specs.contracts.need.Instance as place
+use Rattle.llb_cache.specs.contracts.caches.Caches as caches
+use Rattle.llb_links.proofs.links.Links.TheSendSync as links_crosses
+use Rattle.llb_links.specs.contracts.links.Links as links
 use Rattle.llb_loader.proofs.graph.Graph.TheSendSync as graph_crosses
 use Rattle.llb_loader.specs.contracts.graph.Graph as graph
 use Rattle.llb_loader.specs.contracts.locals.Locals as locals
@@ -23,10 +26,11 @@ use Rattle.llb_state.specs.contracts.build.Build as build
 use Rattle.llb_state.specs.contracts.build.Build.TheInside as build_inside
 use Rattle.llb_state.specs.contracts.stand.Desk as desk
 use Rattle.llb_state.specs.contracts.stand.Execution as execution
-use Rattle.llb_state.specs.contracts.stand.Stand as stand
-use Rattle.llb_state.specs.contracts.events.Events as events
-use Rattle.llb_state.specs.contracts.history.History as history
-use Rattle.llb_state.specs.contracts.history.History.TheInside as history_inside
+use Rattle.llb_state.specs.contracts.vertices.stage.Stage as stage
+use Rattle.llb_state.specs.contracts.vertices.Vertices as vertices
+use Rattle.llb_state.specs.contracts.vertices.Vertices.TheInside as vertices_inside
+use Rattle.llb_state.specs.contracts.workers.Workers as workers
+use Rattle.llb_state.specs.contracts.workers.Workers.TheInside as workers_inside
 
 setting_send : IsSend setting.the_row
 setting_send = setting_crosses.the_send
@@ -42,7 +46,7 @@ execution_send = declared_send execution.the_type (
     (
       search (crosses, sendable) depth 20,
       (
-        as_row_send view.the_field view_crosses,
+        as_row_send workspace.the_field workspace_crosses,
         (
           places_send,
           (
@@ -67,11 +71,14 @@ locals_send = search (tree_send, crosses, sendable) depth 60 fits 20000
 build_inside_send : IsSend build_inside.the_row
 build_inside_send = declared_send build_inside.the_type (as_row_send graph.the_field graph_send, (as_row_send locals.the_field locals_send, tt))
 
-pub build_send : IsSend build.the_row
+build_send : IsSend build.the_row
 build_send = view_send build_inside.the_row _ _ _ _ build_inside_send
 
-stand_send : IsSend stand.the_row
-stand_send = variants_send stand.enum (
+desks_send : IsSend (as_row (vec.the_field desk.the_row heap.the_row ghosts))
+desks_send = as_row_send (vec.the_field desk.the_row heap.the_row ghosts) (Vec-send desk.the_row desk_send)
+
+stage_send : IsSend stage.the_row
+stage_send = variants_send stage.enum (
   tt,
   (
     (search sendable, tt),
@@ -82,17 +89,26 @@ stand_send = variants_send stand.enum (
   ),
 )
 
-pub stands_send : IsSend (as_row (vec.the_field stand.the_row heap.the_row ghosts))
-stands_send = as_row_send (vec.the_field stand.the_row heap.the_row ghosts) (Vec-send stand.the_row stand_send)
+stages_send : IsSend (as_row (vec.the_field stage.the_row heap.the_row ghosts))
+stages_send = as_row_send (vec.the_field stage.the_row heap.the_row ghosts) (Vec-send stage.the_row stage_send)
 
-pub desks_send : IsSend (as_row (vec.the_field desk.the_row heap.the_row ghosts))
-desks_send = as_row_send (vec.the_field desk.the_row heap.the_row ghosts) (Vec-send desk.the_row desk_send)
+links_send : IsSend links.the_row
+links_send = links_crosses.the_send
 
-events_send : IsSend events.the_row
-events_send = search (crosses, sendable) depth 60 fits 20000
+vertices_inside_send : IsSend vertices_inside.the_row
+vertices_inside_send = declared_send vertices_inside.the_type (
+  as_row_send build.the_field build_send,
+  (stages_send, (search (crosses, sendable) depth 20, (as_row_send links.the_field links_send, (search sendable, tt)))),
+)
 
-history_inside_send : IsSend history_inside.the_row
-history_inside_send = declared_send history_inside.the_type (as_row_send events.the_field events_send, (search (crosses, sendable) depth 20, tt))
+pub vertices_send : IsSend vertices.the_row
+vertices_send = view_send vertices_inside.the_row _ _ _ _ vertices_inside_send
 
-pub history_send : IsSend history.the_row
-history_send = view_send history_inside.the_row _ _ _ _ history_inside_send
+pub caches_send : IsSend caches.the_row
+caches_send = search (tree_send, place_crosses.the_send, crosses, sendable) depth 60 fits 20000
+
+workers_inside_send : IsSend workers_inside.the_row
+workers_inside_send = declared_send workers_inside.the_type (desks_send, (as_row_send caches.the_field caches_send, tt))
+
+pub workers_send : IsSend workers.the_row
+workers_send = view_send workers_inside.the_row _ _ _ _ workers_inside_send

@@ -6,8 +6,8 @@ use Rattle.std.proofs.Math.Seq.{drop-cons}
 use Rattle.llb_cache.specs.Caches as cache
 use Rattle.llb_cache.specs.Caches.{CachesValue, Row, Leases, leases, tree_at, place_at, places_of}
 use Rattle.llb_tree.specs.Tree.{TreeMap, empty_tree}
-use Rattle.llb_model.specs.Caches.{Place}
-use Rattle.llb_model.specs.State.{At, Idle}
+use Rattle.llb_model.specs.Caches.{Instance}
+use Rattle.llb_model.specs.State.{WorkerStatus, Idle}
 use Rattle.llb_model.specs.Kept.{store_of}
 use Rattle.llb_model.specs.Leases.{AreLeased, put_each}
 use Rattle.llb_model.proofs.Kept.{shows_instances}
@@ -23,10 +23,10 @@ use Rattle.llb_state.proofs.Returned.{none_out}
 -- ---- reads and writes
 
 -- the tree of an instance, as the rows show it
-pub tree_shown : (rows : List Row) (p : Place) → tree_of (store_of rows) p ≡ unwrap_or (tree_at rows p) empty_tree
+pub tree_shown : (rows : List Row) (p : Instance) → tree_of (store_of rows) p ≡ unwrap_or (tree_at rows p) empty_tree
 tree_shown rows p = ap (λ (o : Option TreeMap). unwrap_or o empty_tree) (shows_instances rows p)
 
-put_first : (rows : List Row) (ps : List Place) (n : ℕ) (p : Place) (t : TreeMap) (ts : List TreeMap) → n < length ps
+put_first : (rows : List Row) (ps : List Instance) (n : ℕ) (p : Instance) (t : TreeMap) (ts : List TreeMap) → n < length ps
     → put_each rows (drop n ps) (t ∷ ts) ≡ put_each (cache.put rows (slice_index_or ps n p) t) (drop (n + 1) ps) ts
 put_first rows ps n p t ts lt =
     ap (λ qs. put_each rows qs (t ∷ ts)) (drop-cons ps n p lt) ∙ ap (λ k. put_each (cache.put rows (slice_index_or ps n p) t) (drop k ps) ts) (sym (add-one n))
@@ -37,7 +37,7 @@ pub put_next : (rows : List Row) (out : Leases) (lease n : ℕ) (t : TreeMap) (t
 put_next rows out lease n t ts lt = put_first rows (places_of out lease) n _ t ts lt
 
 -- no writes are left
-pub put_none : (rows : List Row) (ps : List Place) → put_each rows ps [] ≡ rows
+pub put_none : (rows : List Row) (ps : List Instance) → put_each rows ps [] ≡ rows
 put_none rows [] = refl
 put_none rows (p ∷ ps) = refl
 
@@ -48,7 +48,7 @@ pub leased_settled : (c : CachesValue) (ds : List Desk) (w : ℕ) (l : Option �
     → slice_get (map leased_by ds) w ≡ Some l
     → AreLeased (given_back c l).out (map at_of (slice_set ds w desk.Idle)) (map leased_by (slice_set ds w desk.Idle))
 leased_settled c ds w l leased at =
-    subst (λ (ws : List At). AreLeased (given_back c l).out ws (map leased_by (slice_set ds w desk.Idle))) (sym (map_set at_of ds w desk.Idle))
+    subst (λ (ws : List WorkerStatus). AreLeased (given_back c l).out ws (map leased_by (slice_set ds w desk.Idle))) (sym (map_set at_of ds w desk.Idle))
     (subst (AreLeased (given_back c l).out (slice_set (map at_of ds) w Idle)) (sym (map_set leased_by ds w desk.Idle)) (by_lease l at))
   where
     by_lease : (l : Option ℕ) → slice_get (map leased_by ds) w ≡ Some l
@@ -63,7 +63,7 @@ lease_inside : {k n : ℕ} → ◌≡◌ {A = Option (Option ℕ)} (Some (Some k
 lease_inside e = cc
 
 -- its lease is out
-pub lease_out : (out : Leases) (workers : List At) (ls : List (Option ℕ)) (w : ℕ) (l : Option ℕ) → AreLeased out workers ls
+pub lease_out : (out : Leases) (workers : List WorkerStatus) (ls : List (Option ℕ)) (w : ℕ) (l : Option ℕ) → AreLeased out workers ls
     → slice_get ls w ≡ Some l → IsOutIf out l
 lease_out out workers ls w None leased at = tt
 lease_out out workers ls w (Some l) leased at =

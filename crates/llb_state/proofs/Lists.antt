@@ -2,9 +2,9 @@
 use Rattle.std.proofs.Common.{◌≡◌, ℕ, zero, suc, ◌+◌, ◌-◌, ◌<◌, ◌≤◌, List, [], ◌∷◌, ◌++◌, map, take, length, inl, inr, refl, ap, sym, ◌∙◌, arith, add-one}
 use Rattle.std.proofs.Common.{length-append}
 use Rattle.std.proofs.Math.Seq.{take-suc, take-append_seam}
-use Rattle.std.proofs.lemmas.List.{map-append, length-take-le, take_all}
+use Rattle.std.proofs.lemmas.List.{map-append, length-take-le}
 use Rattle.llb_model.specs.Caches.{Has}
-use Rattle.std.specs.Prelude.{Option, Some, replicate, slice_get, slice_set, option_map}
+use Rattle.std.specs.Prelude.{Some, replicate, slice_get, slice_set, option_map}
 use Rattle.std.proofs.lemmas.Option.{slice_get-map, slice_get_within, get_or_from_slice_get}
 use Rattle.std.proofs.lemmas.List.{replicate-append-replicate}
 
@@ -67,30 +67,6 @@ pub front_again : {A : Type 0} (xs : List A) (x : A) → take (length (xs ++ x �
 front_again xs x =
     let n : length (xs ++ x ∷ []) - 1 ≡ length xs = omega (arith, length-append xs (x ∷ [])) in
     ap (λ k. take k (xs ++ x ∷ [])) n ∙ take-append_seam xs (x ∷ [])
-
--- two lists agree so far, by a function of the one
-pub agree_more : {A B : Type 0} (f : A → B) (xs : List A) (ys : List B) (i : ℕ) (x : A) (y : B) → take i ys ≡ map f (take i xs) → slice_get xs i ≡ Some x
-    → slice_get ys i ≡ Some y → y ≡ f x
-    → take (i + 1) ys ≡ map f (take (i + 1) xs)
-agree_more f xs ys i x y so_far at there same =
-    ap (λ k. take k ys) (add-one i) ∙ take-suc ys i y (slice_get_within ys i y there)
-    ∙ ap (λ z. take i ys ++ z ∷ []) (get_or_from_slice_get ys i y y there ∙ same)
-    ∙ copied_more f xs i (take i ys) x so_far at
-
--- or not
-pub differ_at : {A B : Type 0} (f : A → B) (xs : List A) (ys : List B) (i : ℕ) (x : A) (y : B) → slice_get xs i ≡ Some x → slice_get ys i ≡ Some y
-    → (y ≡ f x → ⊥) → ys ≡ map f xs → ⊥
-differ_at f xs ys i x y at there apart same = apart (inside (sym there ∙ ap (λ l. slice_get l i) same ∙ get_map f xs i x at))
-  where
-    inside : {C : Type 0} {a b : C} → ◌≡◌ {A = Option C} (Some a) (Some b) → a ≡ b
-    inside e = cc
-
-pub agree_all : {A B : Type 0} (f : A → B) (xs : List A) (ys : List B) (i : ℕ) → take i ys ≡ map f (take i xs) → length ys ≡ length xs → length xs ≤ i
-    → ys ≡ map f xs
-agree_all f xs ys i so_far count past = sym (take_all i ys (omega (arith, count, past))) ∙ so_far ∙ ap (map f) (take_all i xs past)
-
-pub count_differs : {A B : Type 0} (f : A → B) (xs : List A) (ys : List B) → (length ys ≡ length xs → ⊥) → ys ≡ map f xs → ⊥
-count_differs f xs ys apart same = apart (ap length same ∙ length_map f xs)
 
 -- an item at a place is one of the list
 pub got_has : {A : Type 0} (xs : List A) (i : ℕ) (x : A) → slice_get xs i ≡ Some x → Has xs x

@@ -13,9 +13,9 @@ use Rattle.llb_loader.specs.Locals.{Local}
 use Rattle.llb_loader.specs.Mounts as mounts
 use Rattle.llb_loader.specs.Mounts.{CacheKey}
 use Rattle.llb_tree.specs.Tree.{TreeMap}
-use Rattle.llb_model.specs.Caches.{Place}
-use Rattle.llb_model.specs.Program.{Need, key_of, mount_of, with_need, needs_from, needs_of, shown_of, view_on}
-use Rattle.llb_needs.specs.Needs.{places_taken}
+use Rattle.llb_model.specs.Caches.{Instance}
+use Rattle.llb_model.specs.Program.{Need, key_of, mount_of, with_need, needs_from, needs_of, shown_of, workspace_on}
+use Rattle.llb_state.specs.Needs.{places_taken}
 use Rattle.llb_execution.specs.Parts.{mounts_in, shown_in}
 use Rattle.llb_state.specs.Room.{needs_at}
 use Rattle.llb_state.proofs.Lists.{length_map}
@@ -24,7 +24,8 @@ use Rattle.llb_model.proofs.Vertices.{kind_at}
 -- ---- a view before the first micro-step
 
 -- at first a view has as many mounts as its op
-pub mounts_on : (locals : List Local) (v : Vertex) (k : Option Kind) (inputs : List TreeMap) → mounts_in (view_on locals v k inputs) ≡ length (kind_mounts k)
+pub mounts_on : (locals : List Local) (v : Vertex) (k : Option Kind) (inputs : List TreeMap) → mounts_in (workspace_on locals v k inputs)
+    ≡ length (kind_mounts k)
 mounts_on locals v (Some (kind.Source s)) inputs = refl
 mounts_on locals v (Some (kind.File f)) inputs = refl
 mounts_on locals v (Some (kind.Merge m)) inputs = refl
@@ -34,7 +35,7 @@ mounts_on locals v (Some (kind.Diff d)) inputs = refl
 mounts_on locals v None inputs = refl
 
 shown_of_kind : (locals : List Local) (v : Vertex) (k : Option Kind) (inputs : List TreeMap) → v.op.kind ≡ k
-    → shown_in (view_on locals v k inputs) ≡ map mount_of (needs_of v)
+    → shown_in (workspace_on locals v k inputs) ≡ map mount_of (needs_of v)
 shown_of_kind locals v (Some (kind.Source s)) inputs is = ap (λ o. map mount_of (needs_from v.op.inputs 0 (kind_mounts o))) (sym is)
 shown_of_kind locals v (Some (kind.File f)) inputs is = ap (λ o. map mount_of (needs_from v.op.inputs 0 (kind_mounts o))) (sym is)
 shown_of_kind locals v (Some (kind.Merge m)) inputs is = ap (λ o. map mount_of (needs_from v.op.inputs 0 (kind_mounts o))) (sym is)
@@ -44,11 +45,11 @@ shown_of_kind locals v (Some (kind.Diff d)) inputs is = ap (λ o. map mount_of (
 shown_of_kind locals v None inputs is = ap (λ o. map mount_of (needs_from v.op.inputs 0 (kind_mounts o))) (sym is)
 
 -- the mounts of a view that show caches are those that the needs of its vertex name
-pub shown_on : (locals : List Local) (v : Vertex) (inputs : List TreeMap) → shown_in (view_on locals v v.op.kind inputs) ≡ map mount_of (needs_of v)
+pub shown_on : (locals : List Local) (v : Vertex) (inputs : List TreeMap) → shown_in (workspace_on locals v v.op.kind inputs) ≡ map mount_of (needs_of v)
 shown_on locals v inputs = shown_of_kind locals v v.op.kind inputs refl
 
 -- the instances have the keys of the needs
-pub keys_taken : (out : Leases) (needs : List Need) → map (λ (p : Place). p.key) (places_taken out needs) ≡ map key_of needs
+pub keys_taken : (out : Leases) (needs : List Need) → map (λ (p : Instance). p.key) (places_taken out needs) ≡ map key_of needs
 keys_taken out [] = refl
 keys_taken out (n ∷ needs) = ap (λ ks. n.key ∷ ks) (keys_taken out needs)
 

@@ -1,16 +1,16 @@
 -- Leases of workers that are put back one after another.
-use Rattle.std.proofs.Common.{◌≡◌, ℕ, zero, suc, ◌+◌, ◌<◌, ◌≤◌, List, [], ◌∷◌, ◌++◌, map, length, take, Option}
+use Rattle.std.proofs.Common.{◌≡◌, ℕ, zero, suc, ◌+◌, ◌<◌, List, [], ◌∷◌, ◌++◌, map, length, take, Option}
 use Rattle.std.proofs.Common.{Some, refl, sym, ap, ◌∙◌, arith}
 use Rattle.std.specs.Prelude.{slice_get, slice_set}
-use Rattle.std.proofs.lemmas.List.{map-append, take_all}
+use Rattle.std.proofs.lemmas.List.{map-append}
 use Rattle.std.proofs.lemmas.Option.{slice_get_within}
-use Rattle.llb_model.specs.State.{At}
+use Rattle.llb_model.specs.State.{WorkerStatus}
 use Rattle.llb_state.specs.Room.{ready_made}
 use Rattle.llb_state.specs.Undoing.{desk_leased, HasPlaceFor}
 use Rattle.llb_state.specs.Views.{at_of, leased_by}
 use Rattle.llb_state.specs.declared.stand.Desk.{Desk}
 use Rattle.llb_state.specs.declared.stand.Desk.TheVariants as desk
-use Rattle.llb_state.proofs.Lists.{map_set, get_map, length_map, set_same}
+use Rattle.llb_state.proofs.Lists.{map_set, get_map, set_same}
 
 -- the leases of the first n
 pub record PutSoFar (ds ds' : List Desk) (ls : List (Option ℕ)) (n : ℕ) : Type 0 where
@@ -39,7 +39,7 @@ made_leased : (l : Option ℕ) (d : Desk) → ready_made (desk_leased l d) ≡ r
 made_leased l desk.Idle = refl
 made_leased l (desk.Runs k x) = refl
 
-lease_put : (ls : List (Option ℕ)) (workers : List At) (n : ℕ) (l : Option ℕ) (d : Desk) → HasPlaceFor ls workers → slice_get ls n ≡ Some l
+lease_put : (ls : List (Option ℕ)) (workers : List WorkerStatus) (n : ℕ) (l : Option ℕ) (d : Desk) → HasPlaceFor ls workers → slice_get ls n ≡ Some l
     → slice_get workers n ≡ Some (at_of d)
     → leased_by (desk_leased l d) ≡ l
 lease_put ls workers n l desk.Idle place at there = lease_inside (sym (place.idle n there) ∙ at)
@@ -65,9 +65,3 @@ put_more ds ds' new ls n l d place so_far there at is =
           ∙ sym (take_next ls n l at)
           ∙ ap (λ k. take k ls) next;
     }
-
-pub put_whole : (ds ds' : List Desk) (ls : List (Option ℕ)) (n : ℕ) → length ls ≡ length (map at_of ds) → PutSoFar ds ds' ls n → length ds' ≤ n
-    → map leased_by ds' ≡ ls
-put_whole ds ds' ls n count so_far past =
-    let many : length ds' ≡ length ls = sym (length_map at_of ds') ∙ ap length so_far.workers ∙ sym count in
-    ap (map leased_by) (sym (take_all n ds' past)) ∙ so_far.leases ∙ take_all n ls (omega (arith, many, past))

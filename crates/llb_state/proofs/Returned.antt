@@ -5,24 +5,24 @@ use Rattle.std.specs.Prelude.{slice_get, slice_set, replicate}
 use Rattle.std.proofs.lemmas.List.{length-replicate}
 use Rattle.std.proofs.lemmas.List.Sums.{sum_by-cons}
 use Rattle.llb_cache.specs.Caches as cache
-use Rattle.llb_cache.specs.Caches.{Leases, leases, before, trimmed}
-use Rattle.llb_model.specs.Caches.{Place}
-use Rattle.llb_model.specs.State.{At, Idle, Runs}
+use Rattle.llb_cache.specs.Caches.{Leases, leases}
+use Rattle.llb_model.specs.Caches.{Instance}
+use Rattle.llb_model.specs.State.{WorkerStatus, Idle, Runs}
 use Rattle.llb_model.specs.Leases.{AreLeased}
 use Rattle.llb_model.proofs.Lists.{got_set, got_replicate}
 
 -- ---- counts
 
-one_more : (ps : List Place) (out : Leases) → leases (Some ps ∷ out) ≡ 1 + leases out
-one_more ps out = sum_by-cons (λ (o : Option (List Place)). cond (is_some o) 1 0) (Some ps) out
+one_more : (ps : List Instance) (out : Leases) → leases (Some ps ∷ out) ≡ 1 + leases out
+one_more ps out = sum_by-cons (λ (o : Option (List Instance)). cond (is_some o) 1 0) (Some ps) out
 
-some_out : (out : Leases) (l : ℕ) (ps : List Place) → cache.Has out l ps → 0 < leases out
+some_out : (out : Leases) (l : ℕ) (ps : List Instance) → cache.Has out l ps → 0 < leases out
 some_out [] l ps at = absurd cc
 some_out (None ∷ out) zero ps at = absurd cc
 some_out (None ∷ out) (suc l) ps at = some_out out l ps at
 some_out (Some qs ∷ out) l ps at = let one = one_more qs out in omega (arith, one)
 
-nothing_out : (out : Leases) → ((l : ℕ) (ps : List Place) → cache.Has out l ps → ⊥) → leases out ≡ 0
+nothing_out : (out : Leases) → ((l : ℕ) (ps : List Instance) → cache.Has out l ps → ⊥) → leases out ≡ 0
 nothing_out [] none = refl
 nothing_out (None ∷ out) none = nothing_out out (λ l. none (suc l))
 nothing_out (Some ps ∷ out) none = absurd (none 0 ps refl)
@@ -54,7 +54,7 @@ none_leased out n none = record {
 }
 
 -- where no worker has a lease, none is out
-pub none_out : (out : Leases) (workers : List At) (ls : List (Option ℕ)) → AreLeased out workers ls
+pub none_out : (out : Leases) (workers : List WorkerStatus) (ls : List (Option ℕ)) → AreLeased out workers ls
     → ((w : ℕ) (l : ℕ) → slice_get ls w ≡ Some (Some l) → ⊥) → leases out ≡ 0
 none_out out workers ls are idle = nothing_out out (λ l ps at. let w = are.whose l ps at in idle w.0 l w.1)
 
@@ -67,7 +67,7 @@ stands_later o ls l apart (zero, at) = absurd (apart (let same : o ≡ Some l = 
 stands_later o ls l apart (suc w, at) = (w, at)
 
 -- where each has a place of its own in a list, there are no more
-few_by : (ls : List (Option ℕ)) (out : Leases) → ((l : ℕ) (ps : List Place) → cache.Has out l ps → Stands ls l) → leases out ≤ length ls
+few_by : (ls : List (Option ℕ)) (out : Leases) → ((l : ℕ) (ps : List Instance) → cache.Has out l ps → Stands ls l) → leases out ≤ length ls
 few_by [] out whose = let none = nothing_out out (λ l ps at. let w = whose l ps at in cc (w.1)) in omega (arith, none)
 few_by (None ∷ ls) out whose =
     let rest = few_by ls out (λ l ps at. stands_later None ls l (λ e. cc) (whose l ps at)) in
@@ -81,7 +81,7 @@ few_by (Some k ∷ ls) out whose =
     omega (arith, rest, less)
 
 -- each lease that is out is one worker's own, so there are no more than workers
-pub few_leases : (out : Leases) (workers : List At) (ls : List (Option ℕ)) → AreLeased out workers ls → leases out ≤ length workers
+pub few_leases : (out : Leases) (workers : List WorkerStatus) (ls : List (Option ℕ)) → AreLeased out workers ls → leases out ≤ length workers
 few_leases out workers ls are =
     let few = few_by ls out are.whose in
     let count = are.count in

@@ -4,12 +4,13 @@ use Rattle.std.proofs.Common.{sym, ap, ◌∙◌, cond, arith}
 use Rattle.std.specs.Prelude.{slice_set}
 use Rattle.std.specs.Map.{lookup}
 use Rattle.llb_cache.specs.declared.key.Key.{Key}
-use Rattle.llb_cache.specs.Key.{same_key, same_keys, key_itself}
+use Rattle.llb_cache.specs.Key.{same_key}
+use Rattle.llb_cache.specs.LawsOfKeys.{same_keys, key_itself}
 use Rattle.llb_cache.specs.Caches as cache
 use Rattle.llb_cache.specs.Caches.{Row, trees_of, with_trees}
 use Rattle.llb_cache.specs.Rows.{same_trees, other_trees, put_counts}
 use Rattle.llb_tree.specs.Tree.{TreeMap}
-use Rattle.llb_model.specs.Caches.{Place, content, Has, Hold}
+use Rattle.llb_model.specs.Caches.{Instance, content, Has, Hold}
 use Rattle.llb_model.specs.Kept.{store_of}
 use Rattle.llb_model.specs.Leases.{put_each}
 use Rattle.llb_model.proofs.Landing.{set_set}
@@ -17,13 +18,13 @@ use Rattle.llb_model.proofs.Kept.{shows_instances}
 use Rattle.llb_state.proofs.Written.{same_rows, set_got}
 
 -- no two places have one key
-abbrev pub AreKeysApart : List Place → Type 0
+abbrev pub AreKeysApart : List Instance → Type 0
 AreKeysApart [] = Unit {0}
-AreKeysApart (p ∷ ps) = ((q : Place) → Has ps q → p.key ≢ q.key) × AreKeysApart ps
+AreKeysApart (p ∷ ps) = ((q : Instance) → Has ps q → p.key ≢ q.key) × AreKeysApart ps
 
 -- these places are there
-abbrev pub AreWithin : List Row → List Place → Type 0
-AreWithin rows ps = (p : Place) → Has ps p → p.number < length (trees_of rows p.key)
+abbrev pub AreWithin : List Row → List Instance → Type 0
+AreWithin rows ps = (p : Instance) → Has ps p → p.number < length (trees_of rows p.key)
 
 other_key : (k l : Key) → k ≢ l → same_key k l ≡ false
 other_key k l apart = go (same_key k l) refl
@@ -66,14 +67,14 @@ trees_swap (r ∷ rows) k l ts us apart there = go (same_key k r.0) (same_key l 
 
 -- ---- one write
 
-put_again : (rows : List Row) (p : Place) (t u : TreeMap) → cache.put (cache.put rows p t) p u ≡ cache.put rows p u
+put_again : (rows : List Row) (p : Instance) (t u : TreeMap) → cache.put (cache.put rows p t) p u ≡ cache.put rows p u
 put_again rows p t u =
     let old = trees_of rows p.key in
     ap (λ ts. with_trees (cache.put rows p t) p.key (slice_set ts p.number u)) (same_trees rows p.key (slice_set old p.number t))
     ∙ trees_twice rows p.key (slice_set old p.number t) (slice_set (slice_set old p.number t) p.number u)
     ∙ ap (with_trees rows p.key) (set_set old p.number t u)
 
-put_swap : (rows : List Row) (p q : Place) (t u : TreeMap) → p.key ≢ q.key → 0 < length (trees_of rows p.key)
+put_swap : (rows : List Row) (p q : Instance) (t u : TreeMap) → p.key ≢ q.key → 0 < length (trees_of rows p.key)
     → cache.put (cache.put rows p t) q u ≡ cache.put (cache.put rows q u) p t
 put_swap rows p q t u apart there =
     let ts = slice_set (trees_of rows p.key) p.number t in
@@ -83,26 +84,26 @@ put_swap rows p q t u apart there =
     ∙ trees_swap rows p.key q.key ts us apart there
     ∙ sym (ap (λ old. with_trees (with_trees rows q.key us) p.key (slice_set old p.number t)) (other_trees rows q.key p.key us (other_key p.key q.key apart)))
 
-put_there : (rows : List Row) (p : Place) (t : TreeMap) → p.number < length (trees_of rows p.key) → content (store_of rows) p ≡ Some t
+put_there : (rows : List Row) (p : Instance) (t : TreeMap) → p.number < length (trees_of rows p.key) → content (store_of rows) p ≡ Some t
     → cache.put rows p t ≡ rows
 put_there rows p t within holds =
     ap (with_trees rows p.key) (set_got (trees_of rows p.key) p.number t (sym (shows_instances rows p) ∙ holds)) ∙ same_rows rows p.key (omega (arith, within))
 
 -- ---- several
 
-pub each_counts : (rows : List Row) (ps : List Place) (ts : List TreeMap) (k : Key) → length (trees_of (put_each rows ps ts) k) ≡ length (trees_of rows k)
+pub each_counts : (rows : List Row) (ps : List Instance) (ts : List TreeMap) (k : Key) → length (trees_of (put_each rows ps ts) k) ≡ length (trees_of rows k)
 each_counts rows [] ts k = refl
 each_counts rows (p ∷ ps) [] k = refl
 each_counts rows (p ∷ ps) (t ∷ ts) k = each_counts (cache.put rows p t) ps ts k ∙ put_counts rows p t k
 
 -- writes leave as many instances of each key, so that what was there still is
-pub each_within : (rows : List Row) (ps : List Place) (ts : List TreeMap) (qs : List Place) → AreWithin rows qs → AreWithin (put_each rows ps ts) qs
+pub each_within : (rows : List Row) (ps : List Instance) (ts : List TreeMap) (qs : List Instance) → AreWithin rows qs → AreWithin (put_each rows ps ts) qs
 each_within rows ps ts qs within p has = let low = within p has in let same = each_counts rows ps ts p.key in omega (arith, low, same)
 
-put_within : (rows : List Row) (p : Place) (t : TreeMap) (qs : List Place) → AreWithin rows qs → AreWithin (cache.put rows p t) qs
+put_within : (rows : List Row) (p : Instance) (t : TreeMap) (qs : List Instance) → AreWithin rows qs → AreWithin (cache.put rows p t) qs
 put_within rows p t qs within q has = let low = within q has in let same = put_counts rows p t q.key in omega (arith, low, same)
 
-each_put : (rows : List Row) (p : Place) (t : TreeMap) (ps : List Place) (ts : List TreeMap) → ((q : Place) → Has ps q → p.key ≢ q.key)
+each_put : (rows : List Row) (p : Instance) (t : TreeMap) (ps : List Instance) (ts : List TreeMap) → ((q : Instance) → Has ps q → p.key ≢ q.key)
     → 0 < length (trees_of rows p.key)
     → put_each (cache.put rows p t) ps ts ≡ cache.put (put_each rows ps ts) p t
 each_put rows p t [] ts apart there = refl
@@ -112,7 +113,7 @@ each_put rows p t (q ∷ ps) (u ∷ ts) apart there =
     ∙ each_put (cache.put rows q u) p t ps ts (λ r has. apart r (inr has)) (let same = put_counts rows q u p.key in omega (arith, there, same))
 
 -- of two writes at the same instances, with keys that differ, the last is what counts
-pub each_again : (rows : List Row) (ps : List Place) (ts us : List TreeMap) → AreKeysApart ps → AreWithin rows ps → length ts ≡ length ps
+pub each_again : (rows : List Row) (ps : List Instance) (ts us : List TreeMap) → AreKeysApart ps → AreWithin rows ps → length ts ≡ length ps
     → length us ≡ length ps
     → put_each (put_each rows ps ts) ps us ≡ put_each rows ps us
 each_again rows [] ts us apart within many count = refl
@@ -126,7 +127,7 @@ each_again rows (p ∷ ps) (t ∷ ts) (u ∷ us) apart within many count =
     ∙ each_again (cache.put rows p u) ps ts us apart.1 (put_within rows p u ps (λ q has. within q (inr has))) (omega (arith, many)) (omega (arith, count))
 
 -- a write of the trees that are at instances changes nothing
-pub each_there : (rows : List Row) (ps : List Place) (ts : List TreeMap) → AreWithin rows ps → Hold (store_of rows) ps ts → put_each rows ps ts ≡ rows
+pub each_there : (rows : List Row) (ps : List Instance) (ts : List TreeMap) → AreWithin rows ps → Hold (store_of rows) ps ts → put_each rows ps ts ≡ rows
 each_there rows [] [] within hold = refl
 each_there rows [] (t ∷ ts) within hold = absurd hold
 each_there rows (p ∷ ps) [] within hold = absurd hold

@@ -4,27 +4,24 @@ use Rattle.std.proofs.Common.{sym, ap, subst, ◌∙◌, arith}
 use Rattle.std.specs.Prelude.{Ok, slice_get, slice_set}
 use Rattle.std.specs.Map.{lookup}
 use Rattle.std.proofs.lemmas.Bool.{false≢true}
-use Rattle.llb_applet.specs.declared.join.Joined.{Joined}
-use Rattle.llb_applet.specs.declared.setting.Setting.{Setting}
 use Rattle.llb_cache.specs.Key.{same_key}
 use Rattle.llb_cache.specs.declared.key.Key.{Key}
 use Rattle.llb_cache.specs.Caches as cache
 use Rattle.llb_cache.specs.Caches.{Row, trees_of}
 use Rattle.llb_tree.specs.Tree.{TreeMap, empty_tree}
 use Rattle.llb_model.specs.declared.fault.VertexFault.{VertexFault}
-use Rattle.llb_model.specs.Caches.{Place, Has, content, trees_at}
+use Rattle.llb_model.specs.Caches.{Instance, Has, content, trees_at}
 use Rattle.llb_model.specs.Kept.{store_of}
 use Rattle.llb_model.specs.Leases.{put_each}
-use Rattle.llb_model.specs.Program.{MicroStep, ReadLocal, Act, LayInput, Run, View, Left, last_of, is_run}
+use Rattle.llb_model.specs.Program.{MicroStep, ReadLocal, Act, LayInput, Run, Workspace, Left, last_of, is_run}
 use Rattle.llb_model.specs.State.{Execution}
 use Rattle.llb_model.specs.Table as table
 use Rattle.llb_model.proofs.Kept.{shows_instances}
 use Rattle.llb_model.proofs.Lists.{get_within}
 use Rattle.llb_execution.specs.Parts.{left_with, is_skipped}
 use Rattle.llb_execution.proofs.Stepping.{skip_leaves}
-use Rattle.llb_events.specs.declared.event.Stepped.{Stepped}
 use Rattle.llb_state.specs.Rules.{Worked, worked, worked_to}
-use Rattle.llb_events.specs.Views.{fault_or, step_reply}
+use Rattle.llb_events.specs.Views.{step_reply}
 use Rattle.llb_state.proofs.Lists.{set_same}
 use Rattle.llb_state.proofs.Steps.{goes_to}
 
@@ -45,7 +42,7 @@ kept_rows (r ∷ rows) k some = go (same_key k r.0) refl (kept_rows rows k)
         ap (λ (b : Bool). cond b ((r.0, own b) ∷ rows) (r ∷ cache.with_trees rows k (own b))) is
         ∙ ap (λ (rs : List Row). r ∷ rs) (rest (subst (λ (b : Bool). 0 < length (own b)) is some))
 
-put_same : (rows : List Row) (p : Place) → p.number < length (trees_of rows p.key)
+put_same : (rows : List Row) (p : Instance) → p.number < length (trees_of rows p.key)
     → cache.put rows p (unwrap_or (content (store_of rows) p) empty_tree) ≡ rows
 put_same rows p within =
     let t = get_within (trees_of rows p.key) p.number within in
@@ -55,7 +52,7 @@ put_same rows p within =
     ∙ kept_rows rows p.key (omega (arith, within))
 
 -- the trees of instances that are there, written again, leave the rows
-pub put_each_same : (rows : List Row) (ps : List Place) → ((p : Place) → Has ps p → p.number < length (trees_of rows p.key))
+pub put_each_same : (rows : List Row) (ps : List Instance) → ((p : Instance) → Has ps p → p.number < length (trees_of rows p.key))
     → put_each rows ps (trees_at (store_of rows) ps) ≡ rows
 put_each_same rows [] within = refl
 put_each_same rows (p ∷ ps) within =
@@ -68,29 +65,13 @@ not_true : (b : Bool) → not b ≡ true → b ≡ false
 not_true true e = absurd (false≢true e)
 not_true false e = refl
 
-not_false : (b : Bool) → not b ≡ false → b ≡ true
-not_false true e = refl
-not_false false e = absurd (false≢true (sym e))
-
 -- what is skipped says so
-pub skip_reply : (k : ℕ) (m : MicroStep) (before : View) (left : Left) → is_skipped m before ≡ true → table.Skipped k ≡ table.step_reply k m before left
+pub skip_reply : (k : ℕ) (m : MicroStep) (before : Workspace) (left : Left) → is_skipped m before ≡ true → table.Skipped k ≡ table.step_reply k m before left
 skip_reply k ReadLocal before left skips = absurd (false≢true skips)
 skip_reply k (Act action) before left skips = absurd (false≢true skips)
 skip_reply k (LayInput i) before left skips = absurd (false≢true skips)
 skip_reply k (Run s c ends) before left skips =
     sym (ap (λ b. cond b (table.HasRun k (last_of left.work.own)) (table.Skipped k)) (not_true (is_run c.join (last_of before)) skips))
-
--- and the reply to what ran is its status
-pub run_reply : (k : ℕ) (s : Setting) (c : Joined) (ends : Bool) (before : View) (left : Left) (last : ℕ) → is_skipped (Run s c ends) before ≡ false
-    → last_of left.work.own ≡ last → table.HasRun k last ≡ table.step_reply k (Run s c ends) before left
-run_reply k s c ends before left last runs is =
-    ap (table.HasRun k) (sym is)
-    ∙ sym (ap (λ b. cond b (table.HasRun k (last_of left.work.own)) (table.Skipped k)) (not_false (is_run c.join (last_of before)) runs))
-
--- for another micro-step the reply is its fault, where it has one
-pub fault_reply : (f : Option VertexFault) (done : Stepped) → step_reply (fault_or f done) ≡ table.unless_failed f (step_reply done)
-fault_reply None done = refl
-fault_reply (Some f) done = refl
 
 -- ---- the execution
 

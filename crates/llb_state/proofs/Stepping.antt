@@ -8,9 +8,9 @@ use Rattle.std.proofs.lemmas.List.Elements.{All-head, All-tail}
 use Rattle.llb_wire.specs.Answer.{MemoryLast}
 use Rattle.llb_cache.specs.Caches.{Row, Leases, places_of, trees_of, AreApart, AreThere}
 use Rattle.llb_tree.specs.Tree.{TreeMap}
-use Rattle.llb_model.specs.Caches.{Place, Store, Has, Distinct, content, trees_at}
+use Rattle.llb_model.specs.Caches.{Instance, Store, Has, Distinct, content, trees_at}
 use Rattle.llb_model.specs.Program.{Build, MicroStep, step_on}
-use Rattle.llb_model.specs.State.{Execution, At, Runs, State, program_in, is_finished, next_step}
+use Rattle.llb_model.specs.State.{Execution, WorkerStatus, Runs, program_in, is_finished, next_step}
 use Rattle.llb_model.specs.Kept.{store_of}
 use Rattle.llb_model.specs.Leases.{AreLeased, HasLease, put_each}
 use Rattle.llb_model.specs.Table.{Reply, with_step, step_reply}
@@ -81,53 +81,53 @@ lease_inside : {k n : ℕ} → ◌≡◌ {A = Option (Option ℕ)} (Some (Some k
 lease_inside e = cc
 
 -- the instances of a worker's lease are those of its execution, none where it has no lease
-pub places_are : (out : Leases) (l : Option ℕ) (ps : List Place) → HasLease out (Some l) ps → leased_places out l ≡ ps
+pub places_are : (out : Leases) (l : Option ℕ) (ps : List Instance) → HasLease out (Some l) ps → leased_places out l ≡ ps
 places_are out None ps has = elim has [
   | inl h ↦ absurd (some_apart h.0 h.1)
   | inr h ↦ sym h.1
 ]
 places_are out (Some l) ps has = elim has [
-  | inl h ↦ ap (places_of out) (lease_inside h.1) ∙ ap (λ (o : Option (Option (List Place))). unwrap_or (unwrap_or o None) []) h.2
+  | inl h ↦ ap (places_of out) (lease_inside h.1) ∙ ap (λ (o : Option (Option (List Instance))). unwrap_or (unwrap_or o None) []) h.2
   | inr h ↦ absurd (some_apart l (sym h.0))
 ]
 
 -- there are as many trees read as there are places
-pub trees_count : (s : Store) (ps : List Place) (ts : List TreeMap) → ts ≡ trees_at s ps → length ts ≡ length ps
-trees_count s ps ts is = ap length is ∙ length_map (λ (p : Place). unwrap_or (content s p) _) ps
+pub trees_count : (s : Store) (ps : List Instance) (ts : List TreeMap) → ts ≡ trees_at s ps → length ts ≡ length ps
+trees_count s ps ts is = ap length is ∙ length_map (λ (p : Instance). unwrap_or (content s p) _) ps
 
-all_has : (P : Place → Type 0) (ps : List Place) → All P ps → (p : Place) → Has ps p → P p
+all_has : (P : Instance → Type 0) (ps : List Instance) → All P ps → (p : Instance) → Has ps p → P p
 all_has P [] all p h = absurd h
 all_has P (q ∷ ps) all p (inl h) = subst P (sym h) (All-head P q ps all)
 all_has P (q ∷ ps) all p (inr h) = all_has P ps (All-tail P q ps all) p h
 
-has_index : (ps : List Place) (p : Place) → Has ps p → (i : ℕ) × (i < length ps) × (get_or ps i p ≡ p)
+has_index : (ps : List Instance) (p : Instance) → Has ps p → (i : ℕ) × (i < length ps) × (get_or ps i p ≡ p)
 has_index [] p h = absurd h
 has_index (q ∷ ps) p (inl h) = (0, omega arith, sym h)
 has_index (q ∷ ps) p (inr h) = let r = has_index ps p h in (suc r.0, omega (arith, r.1), r.2)
 
-other_default : (ps : List Place) (i : ℕ) (p q : Place) → i < length ps → get_or ps i p ≡ get_or ps i q
+other_default : (ps : List Instance) (i : ℕ) (p q : Instance) → i < length ps → get_or ps i p ≡ get_or ps i q
 other_default [] i p q low = absurd (omega (arith, low))
 other_default (r ∷ ps) zero p q low = refl
 other_default (r ∷ ps) (suc i) p q low = other_default ps i p q (omega (arith, low))
 
-pub apart_distinct : (ps : List Place) → AllPairs (λ p q. p.key ≢ q.key) ps → Distinct ps
+pub apart_distinct : (ps : List Instance) → AllPairs (λ p q. p.key ≢ q.key) ps → Distinct ps
 apart_distinct [] apart = tt
 apart_distinct (p ∷ ps) apart = (
-  λ h. let r = has_index ps p h in apart 0 (suc r.0) p (omega arith) (omega (arith, r.1)) (ap (λ (q : Place). q.key) (sym r.2)),
+  λ h. let r = has_index ps p h in apart 0 (suc r.0) p (omega arith) (omega (arith, r.1)) (ap (λ (q : Instance). q.key) (sym r.2)),
   apart_distinct ps (λ i j d less low. apart (suc i) (suc j) d (omega (arith, less)) (omega (arith, low))),
 )
 
 -- no two instances of a lease have one key
-pub keys_apart : (ps : List Place) → AllPairs (λ p q. p.key ≢ q.key) ps → AreKeysApart ps
+pub keys_apart : (ps : List Instance) → AllPairs (λ p q. p.key ≢ q.key) ps → AreKeysApart ps
 keys_apart [] apart = tt
 keys_apart (p ∷ ps) apart = (
   λ q h. let r = has_index ps q h in λ e. apart 0 (suc r.0) p (omega arith) (omega (arith, r.1)) (e
-      ∙ ap (λ (s : Place). s.key) (sym (other_default ps r.0 p q r.1 ∙ r.2))),
+      ∙ ap (λ (s : Instance). s.key) (sym (other_default ps r.0 p q r.1 ∙ r.2))),
   keys_apart ps (λ i j d less low. apart (suc i) (suc j) d (omega (arith, less)) (omega (arith, low))),
 )
 
 -- no two instances of a running worker have one key
-pub held_keys : (out : Leases) (l : Option (Option ℕ)) (ps : List Place) → AreApart out → HasLease out l ps → AreKeysApart ps
+pub held_keys : (out : Leases) (l : Option (Option ℕ)) (ps : List Instance) → AreApart out → HasLease out l ps → AreKeysApart ps
 held_keys out l ps apart has = elim has [
   | inl h ↦ keys_apart ps (apart h.0 ps h.2)
   | inr h ↦ subst AreKeysApart (sym h.1) tt
@@ -137,17 +137,17 @@ held_keys out l ps apart has = elim has [
 pub record Holding (rows : List Row) (out : Leases) (ds : List Desk) (w : ℕ) (l : Option ℕ) (x : own.Execution) : Type 0 where
   pub has : HasLease out (Some l) x.places.items
   pub distinct : Distinct x.places.items
-  pub within : (p : Place) → Has x.places.items p → p.number < length (trees_of rows p.key)
+  pub within : (p : Instance) → Has x.places.items p → p.number < length (trees_of rows p.key)
 
-held_distinct : (out : Leases) (l : Option (Option ℕ)) (ps : List Place) → AreApart out → HasLease out l ps → Distinct ps
+held_distinct : (out : Leases) (l : Option (Option ℕ)) (ps : List Instance) → AreApart out → HasLease out l ps → Distinct ps
 held_distinct out l ps apart has = elim has [
   | inl h ↦ apart_distinct ps (apart h.0 ps h.2)
   | inr h ↦ subst Distinct (sym h.1) tt
 ]
 
 -- the instances of a running worker are there
-pub held_within : (rows : List Row) (out : Leases) (l : Option (Option ℕ)) (ps : List Place) → AreThere rows out → HasLease out l ps
-    → (p : Place) → Has ps p → p.number < length (trees_of rows p.key)
+pub held_within : (rows : List Row) (out : Leases) (l : Option (Option ℕ)) (ps : List Instance) → AreThere rows out → HasLease out l ps
+    → (p : Instance) → Has ps p → p.number < length (trees_of rows p.key)
 held_within rows out l ps there has = elim has [
   | inl h ↦ all_has (λ p. p.number < length (trees_of rows p.key)) ps (there h.0 ps h.2)
   | inr h ↦ λ p held. absurd (subst (λ qs. Has qs p) h.1 held)
@@ -169,27 +169,13 @@ holding rows out ds w l x apart there leased at =
 
 -- ---- from the execution to the worker
 
--- where a call returns the rule's micro-step of a worker, it returns the table's step
-pub gives_through : (ds : List Desk) (w : ℕ) (r : Result Stepped StepFault) (f : Stepped → Written) (rule : Result Written StepFault)
-    (whole : Result (State × Reply) StepFault)
-    → whole ≡ granted_by ds w rule → GivesStep f r rule
-    → GivesStep (λ s. (record { statuses = []; workers = slice_set (map at_of ds) w (Runs (f s).0); store = store_of (f s).1 }, (f s).2)) r whole
-gives_through ds w (Ok s) f rule whole is gives = is ∙ ap (granted_by ds w) gives
-gives_through ds w (Err e) f rule whole is gives = λ memory. is ∙ ap (granted_by ds w) (gives memory)
-
 granted_ok : (ds : List Desk) (w : ℕ) (rule : Result Written StepFault) → is_ok (granted_by ds w rule) ≡ is_ok rule
 granted_ok ds w (Ok p) = refl
 granted_ok ds w (Err e) = refl
 
--- where `Memory` is last by the rule of a micro-step, so it is by the table
-pub last_through : (ds : List Desk) (w : ℕ) (r : Result Stepped StepFault) (rule : Result Written StepFault) (whole : Result (State × Reply) StepFault)
-    → whole ≡ granted_by ds w rule → MemoryLast step_memory r rule → MemoryLast step_memory r whole
-last_through ds w (Ok s) rule whole is last = tt
-last_through ds w (Err e) rule whole is last = λ memory. ap is_ok is ∙ granted_ok ds w rule ∙ last memory
-
 -- what is written back is what the contents have there
 written_back : (rows : List Row) (x z : Execution) (rows' : List Row) (r : Reply) (o : Option MicroStep) → Distinct x.places
-    → ((p : Place) → Has x.places p → p.number < length (trees_of rows p.key))
+    → ((p : Instance) → Has x.places p → p.number < length (trees_of rows p.key))
     → written_by rows x.places (worked_by x (trees_at (store_of rows) x.places) o) ≡ Ok (z, rows', r) → rows' ≡ written (store_of rows') rows z.places
 written_back rows x z rows' r None distinct within is = absurd cc
 written_back rows x z rows' r (Some m) distinct within is =
@@ -205,7 +191,7 @@ written_back rows x z rows' r (Some m) distinct within is =
 
 -- after a micro-step the lists of instances have what the contents have there, at the worker's instances
 pub rows_through : (b : Build) (rows rows' : List Row) (x z : Execution) (r : Result Stepped StepFault) (f : Stepped → Reply) → Distinct x.places
-    → ((p : Place) → Has x.places p → p.number < length (trees_of rows p.key))
+    → ((p : Instance) → Has x.places p → p.number < length (trees_of rows p.key))
     → GivesStep (λ s. (z, rows', f s)) r (worked_in b rows x) → OnOk r (rows' ≡ written (store_of rows') rows z.places)
 rows_through b rows rows' x z (Ok s) f distinct within gives = written_back rows x z rows' (f s) (next_step (program_in b x).steps x) distinct within gives
 rows_through b rows rows' x z (Err e) f distinct within gives = tt
@@ -232,5 +218,5 @@ leased_stepped out out' ds w l x y leased at same places =
     let ls : map leased_by (slice_set ds w (desk.Runs l y)) ≡ map leased_by ds
     = map_set leased_by ds w (desk.Runs l y) ∙ set_same (map leased_by ds) w l (get_map leased_by ds w (desk.Runs l x) at) in
     subst (λ (o : Leases). AreLeased o (map at_of (slice_set ds w (desk.Runs l y))) (map leased_by (slice_set ds w (desk.Runs l y)))) (sym same)
-    (subst (λ (ws : List At). AreLeased out ws (map leased_by (slice_set ds w (desk.Runs l y)))) (sym (map_set at_of ds w (desk.Runs l y)))
+    (subst (λ (ws : List WorkerStatus). AreLeased out ws (map leased_by (slice_set ds w (desk.Runs l y)))) (sym (map_set at_of ds w (desk.Runs l y)))
     (subst (AreLeased out (slice_set (map at_of ds) w (Runs (execution_of y)))) (sym ls) kept))

@@ -1,12 +1,11 @@
 -- A micro-step of an execution that has not faulted.
 use Rattle.std.proofs.Common.{◌≡◌, ℕ, zero, suc, inl, inr, ◌<◌, ◌≤◌, List, [], ◌∷◌, length, refl, ap, sym, ◌∙◌, arith}
-use Rattle.std.specs.Prelude.{Bool, true, false, ◌||◌, Some, None, Ok, Err, is_some, slice_get, nat_le, if◌then◌else◌}
+use Rattle.std.specs.Prelude.{Bool, true, false, ◌||◌, Some, None, Ok, is_some, slice_get, nat_le, if◌then◌else◌}
 use Rattle.std.proofs.lemmas.Bool.{le-leb, leb-true, cases_lt}
 use Rattle.llb_tree.specs.Tree.{TreeMap}
 use Rattle.llb_model.specs.Program.{MicroStep, step_on}
 use Rattle.llb_model.specs.State.{Execution, next_step}
 use Rattle.llb_execution.specs.Parts.{work_with}
-use Rattle.llb_events.specs.declared.fault.StepFault.TheVariants.{NothingLeft}
 use Rattle.llb_state.specs.Rules.{worked, worked_by, worked_to}
 
 past_none : {A : Type 0} (xs : List A) (k : ℕ) → length xs ≤ k → slice_get xs k ≡ None
@@ -36,7 +35,3 @@ next_clean steps x clean =
 pub goes_to : (steps : List MicroStep) (x : Execution) (ts : List TreeMap) (m : MicroStep) → x.fault ≡ None → slice_get steps x.done ≡ Some m
     → worked steps x ts ≡ Ok (worked_to x m (step_on x.done (Some m) (work_with x.own ts)))
 goes_to steps x ts m clean at = ap (worked_by x ts) (next_clean steps x clean ∙ at)
-
-pub goes_nowhere : (steps : List MicroStep) (x : Execution) (ts : List TreeMap) → x.fault ≡ None → slice_get steps x.done ≡ None
-    → worked steps x ts ≡ Err NothingLeft
-goes_nowhere steps x ts clean at = ap (worked_by x ts) (next_clean steps x clean ∙ at)

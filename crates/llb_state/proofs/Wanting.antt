@@ -13,7 +13,7 @@ use Rattle.llb_ops.specs.declared.exec.Mount.{Mount}
 use Rattle.llb_ops.specs.declared.op.Input.{Input}
 use Rattle.llb_loader.specs.declared.graph.Edge.{Edge}
 use Rattle.llb_loader.specs.declared.graph.Vertex.{Vertex}
-use Rattle.llb_loader.specs.Graph.{Numbered, IsGraph, HasInputs, StandsFor}
+use Rattle.llb_loader.specs.Graph.{Numbered, IsGraph, HasInputs, IsEdgeOfInput}
 use Rattle.llb_loader.specs.Mounts as mounts
 use Rattle.llb_loader.specs.Mounts.{CacheKey}
 use Rattle.llb_loader.specs.Rules.{kind_mounts}
@@ -22,7 +22,7 @@ use Rattle.llb_model.specs.Caches.{Has, Distinct}
 use Rattle.llb_model.specs.Program.{Need, key_of, mount_of, base_in, with_need, needs_from, needs_of}
 use Rattle.llb_model.specs.Leases.{asked}
 use Rattle.llb_model.proofs.Lists.{get_within, got_within}
-use Rattle.llb_needs.specs.Needs.{HasEdges, is_shut, shut_key}
+use Rattle.llb_state.specs.Needs.{HasEdges, is_locked_and_held, first_held_key}
 
 -- ---- the edges of a vertex
 
@@ -33,7 +33,7 @@ edges_of vertices v has i input there =
       e.0,
       e.1,
       subst (λ (x : Input). x.index ≡ pos e.0.index) (get_or_from_slice_get v.op.inputs i input input there)
-          (subst (λ (x : Edge). StandsFor vertices (slice_index_or v.op.inputs i input) x) (get_or_from_slice_get v.inputs i e.0 e.0 e.1)
+          (subst (λ (x : Edge). IsEdgeOfInput vertices (slice_index_or v.op.inputs i input) x) (get_or_from_slice_get v.inputs i e.0 e.0 e.1)
           (has.each i input e.0 within)).index,
     )
 
@@ -46,18 +46,18 @@ graph_edges g k v graph there =
 
 -- ---- the needs of a vertex
 
--- a lease is refused for the first key that is shut
-pub shut_first : (out : Leases) (inputs : List TreeMap) (needs : List Need)
-    → option_map (λ (n : cache_need.Need). n.key) (find (cache.is_shut out) (asked inputs needs)) ≡ shut_key out needs
-shut_first out inputs [] = refl
-shut_first out inputs (n ∷ needs) = go (is_shut out n.key) (shut_first out inputs needs)
+-- a lease is refused for the first locked key that is held
+pub first_refused_held : (out : Leases) (inputs : List TreeMap) (needs : List Need)
+    → option_map (λ (n : cache_need.Need). n.key) (find (cache.is_locked_and_held out) (asked inputs needs)) ≡ first_held_key out needs
+first_refused_held out inputs [] = refl
+first_refused_held out inputs (n ∷ needs) = go (is_locked_and_held out n.key) (first_refused_held out inputs needs)
   where
     need : cache_need.Need
     need = record { key = n.key; tree = base_in n.input inputs }
 
-    go : (b : Bool) → option_map (λ (n : cache_need.Need). n.key) (find (cache.is_shut out) (asked inputs needs)) ≡ shut_key out needs
-        → option_map (λ (n : cache_need.Need). n.key) (cond b (Some need) (find (cache.is_shut out) (asked inputs needs)))
-        ≡ cond b (Some n.key) (shut_key out needs)
+    go : (b : Bool) → option_map (λ (n : cache_need.Need). n.key) (find (cache.is_locked_and_held out) (asked inputs needs)) ≡ first_held_key out needs
+        → option_map (λ (n : cache_need.Need). n.key) (cond b (Some need) (find (cache.is_locked_and_held out) (asked inputs needs)))
+        ≡ cond b (Some n.key) (first_held_key out needs)
     go true rest = refl
     go false rest = rest
 

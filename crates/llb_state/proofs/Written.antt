@@ -11,9 +11,9 @@ use Rattle.llb_cache.specs.Caches.{Row, Leases, Taken, trees_of, with_trees, mad
 use Rattle.llb_cache.specs.Numbers.{number_next}
 use Rattle.llb_cache.specs.Rows.{put_counts, makes}
 use Rattle.llb_tree.specs.Tree.{TreeMap, empty_tree}
-use Rattle.llb_model.specs.Caches.{Place, Store, content, put, put_all, Hold, Has, Distinct}
+use Rattle.llb_model.specs.Caches.{Instance, Store, content, put, put_all, Hold, Has, Distinct}
 use Rattle.llb_model.specs.Program.{Need, key_of, base_in}
-use Rattle.llb_model.specs.State.{At, held, places_for, first_trees}
+use Rattle.llb_model.specs.State.{WorkerStatus, held, places_for, first_trees}
 use Rattle.llb_model.specs.Kept.{store_of}
 use Rattle.llb_model.specs.Leases.{HoldsAs, asked, put_each}
 use Rattle.llb_model.proofs.Lists.{get_within, get_past}
@@ -23,17 +23,17 @@ use Rattle.llb_model.proofs.Kept.{shows_instances, made_stands}
 use Rattle.llb_model.proofs.Leases.{takes_alike}
 use Rattle.llb_model.proofs.Others.{first_same}
 use Rattle.llb_state.specs.Caches.{showing, written}
-use Rattle.llb_needs.specs.Needs.{places_taken}
+use Rattle.llb_state.specs.Needs.{places_taken}
 
 -- ---- instances that are there
 
-put_shown : (rows : List Row) (p : Place) (t : TreeMap) → p.number < length (trees_of rows p.key) → showing rows p t ≡ cache.put rows p t
+put_shown : (rows : List Row) (p : Instance) (t : TreeMap) → p.number < length (trees_of rows p.key) → showing rows p t ≡ cache.put rows p t
 put_shown rows p t within =
     ap (λ b. with_trees rows p.key (cond b (slice_set (trees_of rows p.key) p.number t) (trees_of rows p.key ++ t ∷ [])))
     (lt-ltb p.number (length (trees_of rows p.key)) within)
 
-each_written : (s : Store) (rows : List Row) (ps : List Place) (ts : List TreeMap) → Hold s ps ts
-    → ((p : Place) → Has ps p → p.number < length (trees_of rows p.key))
+each_written : (s : Store) (rows : List Row) (ps : List Instance) (ts : List TreeMap) → Hold s ps ts
+    → ((p : Instance) → Has ps p → p.number < length (trees_of rows p.key))
     → written s rows ps ≡ put_each rows ps ts
 each_written s rows [] ts hold within = refl
 each_written s rows (p ∷ ps) [] hold within = absurd hold
@@ -42,8 +42,8 @@ each_written s rows (p ∷ ps) (t ∷ ts) hold within =
     ∙ each_written s (cache.put rows p t) ps ts hold.1 (λ q h. let same = put_counts rows p t q.key in let low = within q (inr h) in omega (arith, low, same))
 
 -- rows that show a store after writes at their instances are the rows with the same writes
-pub written_each : (rows : List Row) (ps : List Place) (ts : List TreeMap) → Distinct ps → length ts ≡ length ps
-    → ((p : Place) → Has ps p → p.number < length (trees_of rows p.key))
+pub written_each : (rows : List Row) (ps : List Instance) (ts : List TreeMap) → Distinct ps → length ts ≡ length ps
+    → ((p : Instance) → Has ps p → p.number < length (trees_of rows p.key))
     → written (put_all (store_of rows) ps ts) rows ps ≡ put_each rows ps ts
 written_each rows ps ts apart count within = each_written (put_all (store_of rows) ps ts) rows ps ts (hold_all (store_of rows) ps ts apart count) within
 
@@ -68,7 +68,7 @@ set_got (u ∷ ts) zero t at = let same : t ≡ u = ap (λ o. unwrap_or o u) (sy
 set_got (u ∷ ts) (suc n) t at = ap (λ vs. u ∷ vs) (set_got ts n t at)
 
 -- an instance that shows its tree, or else the one that it begins with
-made_shown : (rows : List Row) (p : Place) (t : TreeMap) → showing rows p (unwrap_or (content (store_of rows) p) t) ≡ made rows p t
+made_shown : (rows : List Row) (p : Instance) (t : TreeMap) → showing rows p (unwrap_or (content (store_of rows) p) t) ≡ made rows p t
 made_shown rows p t = go (nat_lt p.number (length (trees_of rows p.key))) refl
   where
     go : (b : Bool) → nat_lt p.number (length (trees_of rows p.key)) ≡ b
@@ -88,7 +88,7 @@ made_shown rows p t = go (nat_lt p.number (length (trees_of rows p.key))) refl
         ap (λ u. with_trees rows p.key (trees_of rows p.key ++ u ∷ [])) new
 
 all_shown : (s : Store) (rows : List Row) (out : Leases) (inputs : List TreeMap) (needs : List Need) → Distinct (places_taken out needs)
-    → ((p : Place) → Has (places_taken out needs) p → p.number ≤ length (trees_of rows p.key))
+    → ((p : Instance) → Has (places_taken out needs) p → p.number ≤ length (trees_of rows p.key))
     → Hold s (places_taken out needs) (first_trees (store_of rows) inputs (places_taken out needs) needs)
     → written s rows (places_taken out needs) ≡ made_all rows (cache.taken out (asked inputs needs))
 all_shown s rows out inputs [] apart reached hold = refl
@@ -111,7 +111,7 @@ taken_places out inputs [] = refl
 taken_places out inputs (n ∷ needs) = ap (λ ps. cache.place_for out n.key ∷ ps) (taken_places out inputs needs)
 
 -- rows that show the store after a claim are the rows with the instances that a lease makes
-pub written_made : (rows : List Row) (out : Leases) (workers : List At) (inputs : List TreeMap) (needs : List Need) → HoldsAs out workers
+pub written_made : (rows : List Row) (out : Leases) (workers : List WorkerStatus) (inputs : List TreeMap) (needs : List Need) → HoldsAs out workers
     → cache.AreApart out → cache.AreThere rows out
     → Distinct (map key_of needs)
     → written (put_all (store_of rows) (places_for (held workers) needs)
@@ -123,19 +123,19 @@ written_made rows out workers inputs needs same apart there differ =
     (all_shown (put_all (store_of rows) taken (first_trees (store_of rows) inputs taken needs)) rows out inputs needs distinct reached
     (hold_all (store_of rows) taken (first_trees (store_of rows) inputs taken needs) distinct (first_length (store_of rows) inputs taken needs count)))
   where
-    taken : List Place
+    taken : List Instance
     taken = places_taken out needs
 
     alike : places_taken out needs ≡ places_for (held workers) needs
     alike = taken_places out inputs needs ∙ takes_alike out workers inputs needs same apart
 
     distinct : Distinct (places_taken out needs)
-    distinct = subst (λ (ps : List Place). Distinct ps) (sym alike) (places_distinct (held workers) needs differ)
+    distinct = subst (λ (ps : List Instance). Distinct ps) (sym alike) (places_distinct (held workers) needs differ)
 
-    reached : (p : Place) → Has (places_taken out needs) p → p.number ≤ length (trees_of rows p.key)
+    reached : (p : Instance) → Has (places_taken out needs) p → p.number ≤ length (trees_of rows p.key)
     reached p h =
         let m = has_map (λ (n : Need). cache.place_for out n.key) needs p h in
-        subst (λ (q : Place). q.number ≤ length (trees_of rows q.key)) (sym m.2) (number_next rows out m.0.key m.0.key.mode there)
+        subst (λ (q : Instance). q.number ≤ length (trees_of rows q.key)) (sym m.2) (number_next rows out m.0.key m.0.key.mode there)
 
     count : length (places_taken out needs) ≡ length needs
     count = ap length alike ∙ places_length (held workers) needs

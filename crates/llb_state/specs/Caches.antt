@@ -4,21 +4,21 @@ use Rattle.std.specs.Prelude.{slice_set, nat_lt, Result, Ok, Err, if◌then◌el
 use Rattle.llb_cache.specs.Caches as cache
 use Rattle.llb_cache.specs.Caches.{Row, Leases, trees_of, with_trees}
 use Rattle.llb_tree.specs.Tree.{TreeMap, empty_tree}
-use Rattle.llb_model.specs.Caches.{Place, Store, content}
-use Rattle.llb_model.specs.State.{At, Idle, Runs, State}
+use Rattle.llb_model.specs.Caches.{Instance, Store, content}
+use Rattle.llb_model.specs.State.{WorkerStatus, Idle, Runs, State}
 use Rattle.llb_cache.specs.declared.need.Need as cache_need
 use Rattle.llb_cache.specs.declared.fault.LeaseFault.{LeaseFault}
 
 -- ---- instances
 
 -- the tree of an instance; the empty one where it is not there
-abbrev pub tree_of : Store → Place → TreeMap
+abbrev pub tree_of : Store → Instance → TreeMap
 tree_of s p = unwrap_or (content s p) empty_tree
 
 -- ---- leases, which a vertex without caches has none of
 
 -- the instances of a lease
-abbrev pub leased_places : Leases → Option ℕ → List Place
+abbrev pub leased_places : Leases → Option ℕ → List Instance
 leased_places out (Some l) = cache.places_of out l
 leased_places out None = []
 
@@ -36,6 +36,7 @@ out_without out None = out
 abbrev pub given_back : cache.CachesValue → Option ℕ → cache.CachesValue
 given_back c l = record c { out = out_without c.out l }
 
+-- the result of a lease, the lease as an optional one
 abbrev pub some_lease : Result (ℕ × cache.CachesValue) LeaseFault → Result (Option ℕ × cache.CachesValue) LeaseFault
 some_lease (Ok (l, c)) = Ok (Some l, c)
 some_lease (Err e) = Err e
@@ -48,17 +49,17 @@ lease_if c (n ∷ needs) = some_lease (cache.lease_of c (n ∷ needs))
 -- ---- the lists of instances
 
 -- the lists of instances after a tree is written to one: in place of the tree that is there, or as the next one
-abbrev pub showing : List Row → Place → TreeMap → List Row
+abbrev pub showing : List Row → Instance → TreeMap → List Row
 showing rows p t =
     with_trees rows p.key (if nat_lt p.number (length (trees_of rows p.key)) then slice_set (trees_of rows p.key) p.number t else trees_of rows p.key ++ t ∷ [])
 
 -- the lists of instances after the trees of these instances are written to them from the contents of the caches
-abbrev pub written : Store → List Row → List Place → List Row
+abbrev pub written : Store → List Row → List Instance → List Row
 written s rows [] = rows
 written s rows (p ∷ ps) = written s (showing rows p (unwrap_or (content s p) empty_tree)) ps
 
 -- the instances that a worker holds; none if it is idle
-abbrev pub places_at : Option At → List Place
+abbrev pub places_at : Option WorkerStatus → List Instance
 places_at (Some (Runs x)) = x.places
 places_at (Some Idle) = []
 places_at None = []

@@ -3,15 +3,16 @@ use Rattle.std.specs.Prelude.{◌≡◌, ℕ, ◌+◌, Bool, true, false, map, O
 use Rattle.std.specs.List.{list_any}
 use Rattle.llb_cache.specs.declared.key.Mode.{Mode}
 use Rattle.llb_cache.specs.declared.key.Mode.TheVariants.{Shared, Private, Locked}
-use Rattle.llb_model.specs.Caches.{Place, Store, trees_at}
+use Rattle.llb_model.specs.Caches.{Instance, Store, trees_at}
 use Rattle.llb_model.specs.declared.fault.VertexFault.{VertexFault}
-use Rattle.llb_model.specs.Program.{Build, View}
+use Rattle.llb_model.specs.Program.{Build, Workspace}
 use Rattle.llb_model.specs.State.{Execution, program_in}
 use Rattle.llb_model.specs.Table.{Job}
 use Rattle.llb_execution.specs.Parts.{work_with}
 use Rattle.llb_state.specs.declared.stand.Desk.{Desk}
 use Rattle.llb_state.specs.declared.stand.Desk.TheVariants as desk
 
+-- whether several leases can have one instance at once
 abbrev pub is_shared : Mode → Bool
 is_shared Shared = true
 is_shared Private = false
@@ -19,7 +20,7 @@ is_shared Locked = false
 
 -- an execution has an instance that others may have too
 abbrev pub has_shared : Execution → Bool
-has_shared x = list_any (λ (p : Place). is_shared p.key.mode) x.places
+has_shared x = list_any (λ (p : Instance). is_shared p.key.mode) x.places
 
 -- what a worker has left to do: the job that a claim of it would hand out now
 abbrev pub job_now : Build → Store → ℕ → Execution → Job
@@ -29,7 +30,7 @@ job_now b store w x = record {
   program = program_in b x;
   done = x.done;
   work = work_with x.own (trees_at store x.places);
-  instances = map (λ (p : Place). p.number) x.places;
+  instances = map (λ (p : Instance). p.number) x.places;
 }
 
 -- a job is a worker's, of the vertex that it runs, and no micro-step was done since
@@ -45,7 +46,7 @@ pub record IsRunOf (b : Build) (store : Store) (w : ℕ) (x : Execution) (job : 
   pub same : job ≡ job_now b store w x
 
 -- the desk of a worker that has done n more micro-steps, which left this
-abbrev pub desk_left : ℕ → Option VertexFault → View → Option Desk → Desk
+abbrev pub desk_left : ℕ → Option VertexFault → Workspace → Option Desk → Desk
 desk_left n fault view (Some (desk.Runs l x)) = desk.Runs l (record x { done = x.done + n; fault = fault; view = view })
 desk_left n fault view (Some desk.Idle) = desk.Idle
 desk_left n fault view None = desk.Idle

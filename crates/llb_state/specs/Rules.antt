@@ -1,20 +1,18 @@
--- What each call returns: the table's result, or the first cause of its refusal as a fault.
+-- What a claim begins, a micro-step leaves, and a worker leaves or gives up; or the first cause of a refusal as a fault.
 use Rattle.std.specs.Prelude.{ℕ, List, Option, Some, None, Result, Ok, Err, if◌then◌else◌}
 use Rattle.llb_loader.specs.declared.graph.Vertex.{Vertex}
 use Rattle.llb_tree.specs.Tree.{TreeMap}
 use Rattle.llb_cache.specs.declared.need.Need as cache_need
 use Rattle.llb_cache.specs.Caches.{CachesValue, Row}
-use Rattle.llb_model.specs.Caches.{Place, trees_at}
+use Rattle.llb_model.specs.Caches.{Instance, trees_at}
 use Rattle.llb_model.specs.Kept.{store_of}
 use Rattle.llb_model.specs.Leases.{asked, put_each}
 use Rattle.llb_model.specs.Program.{Build, MicroStep, Left, needs_of, start_with, step_on}
-use Rattle.llb_model.specs.State.{Status, Settled, At, Idle, Runs, Execution, program_in, is_finished, next_step, ending_from, begin_at}
-use Rattle.llb_model.specs.Table.{Claim, Step, Settle, Cancel, Reply, Claimed, claim_grant, step_grant, settle_grant, cancel_grant, execution_on, job_on}
+use Rattle.llb_model.specs.State.{Status, Settled, WorkerStatus, Idle, Runs, Execution, program_in, is_finished, next_step, ending_from, begin_at}
+use Rattle.llb_model.specs.Table.{Reply, Claimed, execution_on, job_on}
 use Rattle.llb_model.specs.Table.{with_step, step_reply}
-use Rattle.llb_state.specs.Board.{Seen, recorded}
 use Rattle.llb_execution.specs.Parts.{work_with}
-use Rattle.llb_needs.specs.Needs.{places_taken}
-use Rattle.llb_events.specs.Causes.{claim_fault, step_fault, settle_fault, cancel_fault}
+use Rattle.llb_state.specs.Needs.{places_taken}
 use Rattle.llb_events.specs.declared.fault.ClaimFault.{ClaimFault}
 use Rattle.llb_events.specs.declared.fault.ClaimFault.TheVariants as claim
 use Rattle.llb_events.specs.declared.fault.StepFault.{StepFault}
@@ -25,9 +23,6 @@ use Rattle.llb_events.specs.declared.fault.CancelFault.{CancelFault}
 use Rattle.llb_events.specs.declared.fault.CancelFault.TheVariants as cancel
 
 -- ---- the result of a claim, and what it begins
-
-abbrev pub claim_of : Seen → ℕ → ℕ → Result (Seen × Reply) ClaimFault
-claim_of b w v = recorded b (Claim w v) claim_fault (claim_grant b.build b.state w v)
 
 -- inputs that are not all there are refused as `NotReady`
 abbrev pub or_not_ready : {A : Type 0} → Option A → Result A ClaimFault
@@ -41,21 +36,19 @@ pub record Begun : Type 0 where
   pub needs : List cache_need.Need
 
 -- what a claim begins on the trees of the inputs, and these instances
-abbrev pub begun_at : Build → CachesValue → ℕ → ℕ → Vertex → List TreeMap → List Place → Begun
+abbrev pub begun_at : Build → CachesValue → ℕ → ℕ → Vertex → List TreeMap → List Instance → Begun
 begun_at b c w v vertex trees ps = record {
   execution = execution_on v (begin_at b (store_of c.rows) (start_with vertex trees) ps) ps;
   reply = Claimed (job_on w v vertex (begin_at b (store_of c.rows) (start_with vertex trees) ps) ps);
   needs = asked trees (needs_of vertex);
 }
 
+-- what a claim begins with, or that an input tree is not there
 abbrev pub begun : Build → CachesValue → ℕ → ℕ → Vertex → Option (List TreeMap) → Result Begun ClaimFault
 begun b c w v vertex (Some trees) = Ok (begun_at b c w v vertex trees (places_taken c.out (needs_of vertex)))
 begun b c w v vertex None = Err claim.NotReady
 
 -- ---- the result of a step, and what its micro-step leaves
-
-abbrev pub step_of : Seen → ℕ → Result (Seen × Reply) StepFault
-step_of b w = recorded b (Step w) step_fault (step_grant b.build b.state w)
 
 -- what a micro-step leaves: the execution, the trees of its instances, and the reply
 pub record Worked : Type 0 where
@@ -63,9 +56,11 @@ pub record Worked : Type 0 where
   pub trees : List TreeMap
   pub reply : Reply
 
+-- an execution after a micro-step that left this, with the trees of its instances and the reply
 abbrev pub worked_to : Execution → MicroStep → Left → Worked
 worked_to x m left = record { execution = with_step x left; trees = left.work.trees; reply = step_reply x.done m x.own left }
 
+-- an execution after a micro-step on the trees of its instances, or that nothing is left to do
 abbrev pub worked_by : Execution → List TreeMap → Option MicroStep → Result Worked StepFault
 worked_by x trees None = Err step.NothingLeft
 worked_by x trees (Some m) = Ok (worked_to x m (step_on x.done (Some m) (work_with x.own trees)))
@@ -78,31 +73,27 @@ worked steps x trees = worked_by x trees (next_step steps x)
 abbrev pub Written : Type 0
 Written = Execution × List Row × Reply
 
-abbrev pub written_by : List Row → List Place → Result Worked StepFault → Result Written StepFault
+-- the same with the trees written to the rows of the caches
+abbrev pub written_by : List Row → List Instance → Result Worked StepFault → Result Written StepFault
 written_by rows ps (Ok w) = Ok (w.execution, put_each rows ps w.trees, w.reply)
 written_by rows ps (Err e) = Err e
 
+-- the next micro-step of an execution on its instances as they are in the rows, which it writes
 abbrev pub worked_in : Build → List Row → Execution → Result Written StepFault
 worked_in b rows x = written_by rows x.places (worked (program_in b x).steps x (trees_at (store_of rows) x.places))
 
 -- ---- the result of a settle, and what it leaves
 
-abbrev pub settle_of : Seen → ℕ → Result (Seen × Reply) SettleFault
-settle_of b w = recorded b (Settle w) settle_fault (settle_grant b.build b.state w)
-
 -- the vertex that a worker leaves, and its status then
-abbrev pub left_at : Build → Option At → Result (ℕ × Status) SettleFault
+abbrev pub left_at : Build → Option WorkerStatus → Result (ℕ × Status) SettleFault
 left_at b None = Err settle.NoWorker
 left_at b (Some Idle) = Err settle.NotRunning
 left_at b (Some (Runs x)) = if is_finished (program_in b x).steps x then Ok (x.vertex, Settled (ending_from (program_in b x) x)) else Err settle.NotFinished
 
 -- ---- the result of a cancel, and what it leaves
 
-abbrev pub cancel_of : Seen → ℕ → Result (Seen × Reply) CancelFault
-cancel_of b w = recorded b (Cancel w) cancel_fault (cancel_grant b.state w)
-
 -- the vertex that a worker gives up, and how many of its micro-steps were done
-abbrev pub given_up_at : Option At → Result (ℕ × ℕ) CancelFault
+abbrev pub given_up_at : Option WorkerStatus → Result (ℕ × ℕ) CancelFault
 given_up_at None = Err cancel.NoWorker
 given_up_at (Some Idle) = Err cancel.NotRunning
 given_up_at (Some (Runs x)) = Ok (x.vertex, x.done)

@@ -3,9 +3,7 @@
 ghost use Rattle.std.specs.Prelude.{◌≡◌, ◌<◌, ◌^◌, length, option_map, slice_get, IfOk};
 ghost use Rattle.llb_loader.specs.Graph.{IsGraph};
 ghost use Rattle.llb_model.specs.Program.{program_at};
-ghost use Rattle.llb_model.specs.State.{missing_local};
 
-use llb_execution::missing_local;
 use llb_loader::{Graph, Locals, Memory, Vertex};
 use llb_wire::Same;
 use std::marker::Model;
@@ -19,7 +17,7 @@ pub struct Build {
 
 impl Model for Build {
     ghost use Rattle.std.specs.Coded.{codes};
-    ghost use Rattle.llb_tree.specs.Tree.{coded_tree};
+    ghost use Rattle.llb_tree.specs.Coded.{coded_tree};
     ghost use Rattle.llb_model.specs.Program as model;
 
     ghost Value = { model.Build };
@@ -87,13 +85,6 @@ impl Build {
         ensures { result.now ≡ self.now.locals }
     {
         &self.locals
-    }
-
-    /// Returns the name of the first local source, by vertex, that has no tree; `None` where each has one.
-    pub fn missing(&self) -> Option<&str>
-        ensures { option_map (λ t. t.now) result ≡ missing_local self.now.locals self.now.graph.vertices }
-    {
-        missing_local(&self.graph, &self.locals)
     }
 
     /// Returns the graph and the trees.

@@ -1,41 +1,15 @@
-//! Second owners of a state's parts, which share trees and views as far as they can.
+//! Second owners of what workers have, which share trees and views as far as they can.
 
 ghost use Rattle.std.specs.Prelude.{◌≡◌, map, IfOk};
 ghost use Rattle.llb_state.specs.Room.{ready_made};
 ghost use Rattle.llb_state.specs.Undoing.{left_in};
 ghost use Rattle.llb_state.specs.Views.{at_of, leased_by};
 
-use crate::stand::{Desk, Execution, Stand};
-use llb_cache::{Lease, Place};
+use crate::stand::{Desk, Execution};
+use llb_cache::{Instance, Lease};
 use llb_events::Memory;
 use llb_tree::Tree;
-use llb_wire::Many;
 use std::alloc::Global;
-
-/// Returns a copy of the states of the vertices. Fails with 141 `Memory` alone.
-pub fn copied_stands(alloc: Global, stands: &[Stand]) -> Result<Vec<Stand>, Memory>
-    ensures { IfOk result (λ s. s.items ≡ stands.now) }
-{
-    let mut copies = Vec::new(alloc);
-    for stand in stands {
-        copies.push(copied_stand(alloc, stand)?)?;
-    }
-    Ok(copies)
-}
-
-fn copied_stand(alloc: Global, stand: &Stand) -> Result<Stand, Memory>
-    ensures { IfOk result (λ s. s ≡ stand.now) }
-{
-    match stand {
-        Stand::Waiting => Ok(Stand::Waiting),
-        Stand::Running(w) => Ok(Stand::Running(*w)),
-        Stand::Done(trees) => {
-            let trees = copied_trees(alloc, trees.as_slice())?;
-            Ok(Stand::Done(Many::new(trees)))
-        }
-        Stand::Failed(fault) => Ok(Stand::Failed(*fault)),
-    }
-}
 
 /// Returns second owners of trees. Fails with 141 `Memory` alone.
 pub fn copied_trees(alloc: Global, trees: &[Tree]) -> Result<Vec<Tree>, Memory>
@@ -87,14 +61,14 @@ pub fn copied(alloc: Global, execution: &Execution) -> Result<Execution, Memory>
     })
 }
 
-fn copied_places(alloc: Global, places: &[Place]) -> Result<Vec<Place>, Memory>
+fn copied_places(alloc: Global, places: &[Instance]) -> Result<Vec<Instance>, Memory>
     ensures { IfOk result (λ p. p.items ≡ places.now) }
 {
     let mut copies = Vec::new(alloc);
     for place in places {
         let key = place.key.copy()?;
         let number = place.number;
-        copies.push(Place { key, number })?;
+        copies.push(Instance { key, number })?;
     }
     Ok(copies)
 }

@@ -1,9 +1,7 @@
 //! The cache instances of a worker: it leases them, reads their trees for a micro-step, writes them after it, and gives the lease
 //! back. A worker whose vertex shows no cache has no lease.
 
-ghost use Rattle.std.specs.Prelude.{◌≡◌, ◌≢◌, ◌<◌, ◌^◌, map, length, AllPairs, IfOk, IfErr, OnOk, OnErr, Ok, true};
-ghost use Rattle.llb_events.specs.declared.fault.ClaimFault.TheVariants as claim;
-ghost use Rattle.llb_state.specs.Events.{claimed};
+ghost use Rattle.std.specs.Prelude.{◌≡◌, ◌≢◌, ◌<◌, ◌^◌, map, length, AllPairs, IfOk, IfErr, OnErr, Ok, true};
 ghost use Rattle.llb_cache.specs.Caches.{places_of, leases};
 ghost use Rattle.llb_cache.specs.Faults.{Gives};
 ghost use Rattle.llb_model.specs.Caches.{trees_at};
@@ -13,16 +11,15 @@ ghost use Rattle.llb_state.specs.Caches.{tree_of, leased_places, IsOutIf, given_
 ghost use Rattle.llb_state.specs.Views.{at_of, leased_by};
 ghost use Rattle.llb_events.specs.Causes.{step_memory};
 
-use crate::history::History;
 use crate::stand::Desk;
-use llb_cache::{Caches, Lease, LeaseFault, Need, Place};
-use llb_events::{ClaimFault, StepFault};
+use llb_cache::{Caches, Instance, Lease, LeaseFault, Need};
+use llb_events::StepFault;
 use llb_tree::Tree;
 use llb_wire::Many;
 use std::alloc::Global;
 
 /// Returns copies of the trees of instances; an instance that is not there has the empty tree. Fails with 141 `Memory` alone.
-pub fn contents(alloc: Global, caches: &Caches, places: &[Place]) -> Result<Vec<Tree>, StepFault>
+pub fn contents(alloc: Global, caches: &Caches, places: &[Instance]) -> Result<Vec<Tree>, StepFault>
     ensures trees { IfOk result (λ ts. ts.items ≡ trees_at (store_of caches.now.rows) places.now) }
     ensures memory { IfErr result (λ e. step_memory e ≡ true) }
 {
@@ -33,7 +30,7 @@ pub fn contents(alloc: Global, caches: &Caches, places: &[Place]) -> Result<Vec<
     Ok(trees)
 }
 
-fn content(alloc: Global, caches: &Caches, place: &Place) -> Result<Tree, StepFault>
+fn content(alloc: Global, caches: &Caches, place: &Instance) -> Result<Tree, StepFault>
     ensures tree { IfOk result (λ t. t ≡ tree_of (store_of caches.now.rows) place.now) }
     ensures memory { IfErr result (λ e. step_memory e ≡ true) }
 {
@@ -43,9 +40,9 @@ fn content(alloc: Global, caches: &Caches, place: &Place) -> Result<Tree, StepFa
     }
 }
 
-// Leases instances for these needs, whose keys differ; `None` if there are no needs. Fails with 111 and the first locked key that is
-// held, or with 112 `Memory`; then the caches are as they were.
-fn lease_for(caches: &mut Caches, needs: Vec<Need>) -> Result<Option<Lease>, LeaseFault>
+/// Leases instances for these needs, whose keys differ; `None` if there are no needs. Fails with 111 and the first locked key that is
+/// held, or with 112 `Memory`; then the caches are as they were.
+pub fn lease_for(caches: &mut Caches, needs: Vec<Need>) -> Result<Option<Lease>, LeaseFault>
     requires differ { AllPairs (λ n m. n.key ≢ m.key) needs.items }
     requires few { leases caches.old.out < 65536 }
     ensures gives { Gives (λ l. (l, caches.new)) result (lease_if caches.old needs.items) }
@@ -55,33 +52,6 @@ fn lease_for(caches: &mut Caches, needs: Vec<Need>) -> Result<Option<Lease>, Lea
         return Ok(None);
     }
     Ok(Some(caches.lease(Many::new(needs))?))
-}
-
-/// Leases instances for these needs (`None` if there are none) and reserves room for the events of the claimed vertex if it was cancelled
-/// before: both or neither. Fails with 141 `Memory` alone; then caches and history are as they were.
-pub fn lease_with_room(
-    caches: &mut Caches,
-    history: &mut History,
-    needs: Vec<Need>,
-    v: u32,
-    events: usize,
-) -> Result<Option<Lease>, ClaimFault>
-    requires differ { AllPairs (λ n m. n.key ≢ m.key) needs.items }
-    requires few { leases caches.old.out < 65536 }
-    requires low { v < length history.old.space.cancels }
-    ensures gives { IfOk result (λ l. lease_if caches.old needs.items ≡ Ok (l, caches.new)) }
-    ensures list { history.new.list ≡ history.old.list }
-    ensures room { OnOk result (history.new.space ≡ claimed v events history.old.space) }
-    ensures memory { IfErr result (λ e. e ≡ claim.Memory) }
-    ensures err { OnErr result (caches.new ≡ caches.old) }
-    ensures back { OnErr result (history.new.space ≡ history.old.space) }
-{
-    history.take_room(v, events)?;
-    if let Ok(lease) = lease_for(caches, needs) {
-        return Ok(lease);
-    }
-    history.give_room(v, events);
-    Err(ClaimFault::Memory)
 }
 
 /// Gives back a lease that is out, if there is one.

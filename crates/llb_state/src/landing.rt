@@ -1,55 +1,27 @@
 //! Compares a job with what a worker runs now, by value, and replaces what the worker had by what the job's micro-steps left.
 
-ghost use Rattle.std.specs.Prelude.{◌≡◌, ◌↔◌, ◌<◌, ◌+◌, ◌^◌, ℕ, Option, length, map, true, Some, slice_get, slice_set, is_some, IsTrue};
-ghost use Rattle.std.specs.List.{list_any};
+ghost use Rattle.std.specs.Prelude.{◌≡◌, ◌↔◌, ◌<◌, ◌+◌, ◌^◌, ℕ, Option, length, map, true, Some, slice_get, slice_set, IsTrue};
 ghost use Rattle.llb_model.specs.Caches as model;
 ghost use Rattle.llb_model.specs.Caches.{trees_at, Has};
-ghost use Rattle.llb_model.specs.Program.{program_at};
 ghost use Rattle.llb_state.specs.declared.stand.Desk.TheVariants as desk;
 ghost use Rattle.llb_state.specs.declared.stand.Execution as own;
 ghost use Rattle.llb_model.specs.Kept.{store_of};
 ghost use Rattle.llb_cache.specs.Caches.{trees_of};
 ghost use Rattle.llb_state.specs.Caches.{tree_of};
-ghost use Rattle.llb_needs.specs.Needs.{number_of};
-ghost use Rattle.llb_state.specs.Jobs.{is_shared, IsBegun, IsRunOf, desk_left};
+ghost use Rattle.llb_state.specs.Needs.{number_of};
+ghost use Rattle.llb_state.specs.Jobs.{IsBegun, desk_left};
 ghost use Rattle.llb_state.specs.Views.{leased_by, execution_of};
 
-use crate::build::Build;
 use crate::copying::lease_of;
 use crate::stand::{Desk, Execution};
-use llb_cache::{Caches, Lease, Mode, Place};
-use llb_execution::{Job, Program, View};
+use llb_cache::{Caches, Instance, Lease};
+use llb_execution::{Job, Workspace};
 use llb_model::VertexFault;
 use llb_tree::Tree;
 use llb_wire::Same;
 
-/// Returns whether one of the instances belongs to a shared cache. Does not allocate.
-pub fn has_shared(places: &[Place]) -> bool
-    ensures { result ≡ list_any (λ (p : model.Place). is_shared p.key.mode) places.now }
-{
-    for place in places {
-        if let Mode::Shared = place.key.mode {
-            return true;
-        }
-    }
-    false
-}
-
-/// Returns whether a job is what a worker's execution has left to do, with the caches as they are now. Does not allocate.
-pub fn is_run_of(build: &Build, caches: &Caches, w: u32, execution: &Execution, job: &Job) -> bool
-    requires vertex { is_some (slice_get build.now.graph.vertices execution.now.vertex) ≡ true }
-    requires within { (p : model.Place) → Has execution.now.places.items p → p.number < length (trees_of caches.now.rows p.key) }
-    ensures { IsTrue result ↔ IsRunOf build.now (store_of caches.now.rows) w (execution_of execution.now) job.now }
-{
-    is_begun(w, execution, job)
-        && has_program(build, execution.vertex, job.program())
-        && job.view().same(&execution.view)
-        && has_trees(caches, &execution.places, job.trees())
-        && has_numbers(&execution.places, job.instances())
-}
-
-// Returns whether a job has this worker and the execution's vertex, as many micro-steps are done, and none of them has faulted.
-fn is_begun(w: u32, execution: &Execution, job: &Job) -> bool
+/// Returns whether a job has this worker and the execution's vertex, as many micro-steps are done, and none of them has faulted.
+pub fn is_begun(w: u32, execution: &Execution, job: &Job) -> bool
     ensures { IsTrue result ↔ IsBegun w (execution_of execution.now) job.now }
 {
     job.worker() == w
@@ -58,20 +30,9 @@ fn is_begun(w: u32, execution: &Execution, job: &Job) -> bool
         && execution.fault.is_none()
 }
 
-// Returns whether it is the program of a vertex of the graph.
-fn has_program(build: &Build, v: u32, program: &Program) -> bool
-    requires { is_some (slice_get build.now.graph.vertices v) ≡ true }
-    ensures { IsTrue result ↔ (program.now ≡ program_at (slice_get build.now.graph.vertices v)) }
-{
-    match build.vertex(v) {
-        Some(vertex) => program.is_of(vertex),
-        None => false,
-    }
-}
-
-// Returns whether instances, which are there, have these trees.
-fn has_trees(caches: &Caches, places: &[Place], trees: &[Tree]) -> bool
-    requires { (p : model.Place) → Has places.now p → p.number < length (trees_of caches.now.rows p.key) }
+/// Returns whether instances, which are there, have these trees.
+pub fn has_trees(caches: &Caches, places: &[Instance], trees: &[Tree]) -> bool
+    requires { (p : model.Instance) → Has places.now p → p.number < length (trees_of caches.now.rows p.key) }
     ensures { IsTrue result ↔ (trees.now ≡ trees_at (store_of caches.now.rows) places.now) }
 {
     if trees.len() != places.len() {
@@ -86,7 +47,7 @@ fn has_trees(caches: &Caches, places: &[Place], trees: &[Tree]) -> bool
 }
 
 // Returns whether an instance, which is there, has this tree.
-fn has_tree(caches: &Caches, place: &Place, tree: &Tree) -> bool
+fn has_tree(caches: &Caches, place: &Instance, tree: &Tree) -> bool
     requires { place.now.number < length (trees_of caches.now.rows place.now.key) }
     ensures { IsTrue result ↔ (tree.now ≡ tree_of (store_of caches.now.rows) place.now) }
 {
@@ -96,8 +57,8 @@ fn has_tree(caches: &Caches, place: &Place, tree: &Tree) -> bool
     }
 }
 
-// Returns whether instances have these numbers.
-fn has_numbers(places: &[Place], numbers: &[u32]) -> bool
+/// Returns whether instances have these numbers.
+pub fn has_numbers(places: &[Instance], numbers: &[u32]) -> bool
     ensures { IsTrue result ↔ (numbers.now ≡ map number_of places.now) }
 {
     if numbers.len() != places.len() {
@@ -117,7 +78,7 @@ pub fn put_left(
     desks: &mut Vec<Desk>,
     w: u32,
     done: (u32, Option<VertexFault>),
-    view: View,
+    view: Workspace,
 ) -> Option<Lease>
     requires low { w < length desks.old.items }
     requires few { (l : Option ℕ) (x : own.Execution) → slice_get desks.old.items w ≡ Some (desk.Runs l x) → x.done + done.0 < 2 ^ 32 }

@@ -1,46 +1,10 @@
-//! The state of each vertex, and what each worker runs, with what that needs until its end. A board hands out none of these.
-
-ghost use Rattle.std.specs.Prelude.{◌≡◌, Some};
-ghost use Rattle.llb_model.specs.State.{ending_of, is_done, is_failed};
-ghost use Rattle.llb_state.specs.Views.{status_of};
+//! What each worker runs, with what that needs until its end.
 
 use llb_applet::Setting;
-use llb_cache::{Lease, Place};
-use llb_execution::View;
+use llb_cache::{Instance, Lease};
+use llb_execution::Workspace;
 use llb_model::VertexFault;
 use llb_tree::Tree;
-use llb_wire::Many;
-
-/// The state of a vertex.
-#[derive(Drop)]
-pub enum Stand {
-    Waiting,
-    Running(u32),
-    Done(Many<Tree>),
-    Failed(VertexFault),
-}
-
-impl Stand {
-    /// Returns whether the vertex has failed.
-    pub fn has_failed(&self) -> bool
-        ensures { result ≡ is_failed (ending_of (Some (status_of self.now))) }
-    {
-        match self {
-            Stand::Failed(_) => true,
-            _ => false,
-        }
-    }
-
-    /// Returns whether the vertex is done.
-    pub fn is_done(&self) -> bool
-        ensures { result ≡ is_done (ending_of (Some (status_of self.now))) }
-    {
-        match self {
-            Stand::Done(_) => true,
-            _ => false,
-        }
-    }
-}
 
 /// The state of a worker.
 #[derive(Drop)]
@@ -58,8 +22,8 @@ pub struct Execution {
     /// How many micro-steps are done; one that faults is counted.
     pub done: u32,
     pub fault: Option<VertexFault>,
-    pub view: View,
-    pub places: Vec<Place>,
+    pub view: Workspace,
+    pub places: Vec<Instance>,
     pub outputs: Vec<Tree>,
     pub setting: Setting,
 }

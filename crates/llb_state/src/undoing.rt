@@ -1,25 +1,17 @@
-//! Puts back what an event changed: what a worker has, the leases of all workers, the marks and the counts of open inputs.
+//! Puts back what an event changed of the workers: what one of them has, the leases of all, and the caches.
 
-ghost use Rattle.std.specs.Prelude.{◌≡◌, ◌<◌, ◌+◌, ◌^◌, ℕ, get_or, [], Some, length, map, slice_get, slice_set};
-ghost use Rattle.std.specs.Bool.{OnTrue, OnFalse};
-ghost use Rattle.std.specs.List.{All};
+ghost use Rattle.std.specs.Prelude.{◌≡◌, ◌<◌, Some, length, map, slice_get, slice_set};
 ghost use Rattle.std.specs.Option.{ForSome};
-ghost use Rattle.llb_model.specs.ByNumber.{by_number};
-ghost use Rattle.llb_model.specs.State.{next_stopped};
 ghost use Rattle.llb_state.specs.declared.stand.Desk.TheVariants as desk;
 ghost use Rattle.llb_state.specs.Room.{ready_made};
 ghost use Rattle.llb_state.specs.Undoing.{caches_in};
 ghost use Rattle.llb_state.specs.Undoing.{desk_before, desk_leased, leases_before, caches_before, HasPlaceFor};
-ghost use Rattle.llb_links.specs.Links.{AreRaised, users_at};
-ghost use Rattle.llb_state.specs.Views.{at_of, leased_by, status_of};
+ghost use Rattle.llb_state.specs.Views.{at_of, leased_by};
 
 use crate::copying::lease_of;
-use crate::ready::mark_stopped;
-use crate::stand::{Desk, Stand};
+use crate::stand::Desk;
 use llb_cache::{Caches, Lease};
 use llb_execution::Mark;
-use llb_links::Links;
-use llb_loader::Vertex;
 
 /// The caches before an event, and the leases of all workers then.
 #[derive(Drop)]
@@ -87,30 +79,5 @@ fn put_lease(desk: &mut Desk, lease: Option<Lease>)
     match desk {
         Desk::Idle => {}
         Desk::Runs(old, _) => *old = lease,
-    }
-}
-
-/// Marks each vertex that has failed or is downstream of one that has, and no other, if the marks may have changed.
-pub fn mark_anew(stop_marks: &mut Vec<bool>, stands: &[Stand], vertices: &[Vertex], changed: bool)
-    requires { length stop_marks.old.items ≡ length vertices.now }
-    ensures anew { OnTrue changed (stop_marks.new.items ≡ by_number (next_stopped (map status_of stands.now)) [] vertices.now) }
-    ensures same { OnFalse changed (stop_marks.new.items ≡ stop_marks.old.items) }
-{
-    if changed {
-        mark_stopped(stop_marks, stands, vertices);
-    }
-}
-
-/// Increments the count of open inputs of each user of a vertex, if the vertex was done.
-pub fn open_anew(links: &mut Links, v: u32, was_done: bool)
-    requires low { v < length links.old.users }
-    requires below { All (λ x. x < length links.old.counts) (users_at links.old v) }
-    requires few { (x : ℕ) → get_or links.old.counts x 0 + length (users_at links.old v) < 2 ^ 32 }
-    ensures users { links.new.users ≡ links.old.users }
-    ensures raised { OnTrue was_done (AreRaised (users_at links.old v) links.old.counts links.new.counts) }
-    ensures same { OnFalse was_done (links.new ≡ links.old) }
-{
-    if was_done {
-        links.count_up(v);
     }
 }

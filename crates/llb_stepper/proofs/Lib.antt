@@ -1,4 +1,4 @@
-pub mod ByKind
+pub mod BreakpointSets
 pub mod Grown
 pub mod Recorded
 pub mod Lines

@@ -13,13 +13,13 @@ use Rattle.llb_model.proofs.Events.{Answer}
 use Rattle.llb_model.proofs.Lists.{inside}
 use Rattle.llb_model.proofs.Runs.{run_one, run_first, run_none}
 use Rattle.llb_model.proofs.Runs as runs
-use Rattle.llb_state.specs.Board.{Seen, after_event}
+use Rattle.llb_board.specs.Seen.{BoardValue, after_event}
 use Rattle.llb_stepper.specs.Records.{record_at, replied, RecordIsTheRun}
 use Rattle.llb_stepper.specs.Stepping.{Stepping, PastIsTheRecords, answered, at_first, run_on}
 use Rattle.llb_stepper.proofs.Recorded.{done_here}
 use Rattle.llb_stepper.proofs.Grown.{grew, shifted, went}
 
-abbrev from_opening : Seen → List Event → Option (State × List Reply)
+abbrev from_opening : BoardValue → List Event → Option (State × List Reply)
 from_opening b es = run b.build (opening b.build b.opening) es
 
 -- ---- boards and states
@@ -30,23 +30,23 @@ run_from : (b : Build) (s t : State) (e : Event) (es : List Event) (r : Reply) (
 run_from b s t e es r u rs given goes = runs.run_on b s t u (e ∷ []) es (r ∷ []) rs (run_one b s t e r given) goes
 
 -- a board after events: the run leads to its state
-pub record Reached (x y : Seen) (es : List Event) : Type 0 where
+pub record Reached (x y : BoardValue) (es : List Event) : Type 0 where
   pub replies : List Reply
   pub runs : run x.build x.state es ≡ Some (y.state, replies)
   pub build : y.build ≡ x.build
   pub opened : y.opening ≡ x.opening
   pub events : y.events ≡ x.events ++ es
 
-pub reached : (es : List Event) (x y : Seen) → run_on x es ≡ Some y → Reached x y es
+pub reached : (es : List Event) (x y : BoardValue) → run_on x es ≡ Some y → Reached x y es
 unfolding run_on run
 reached [] x y leads =
     let same : x ≡ y = inside leads in
     record {
       replies = [];
-      runs = ap (λ (z : Seen). Some (z.state, [])) same;
-      build = ap (λ (z : Seen). z.build) (sym same);
-      opened = ap (λ (z : Seen). z.opening) (sym same);
-      events = ap (λ (z : Seen). z.events) (sym same) ∙ sym (append-nil x.events);
+      runs = ap (λ (z : BoardValue). Some (z.state, [])) same;
+      build = ap (λ (z : BoardValue). z.build) (sym same);
+      opened = ap (λ (z : BoardValue). z.opening) (sym same);
+      events = ap (λ (z : BoardValue). z.events) (sym same) ∙ sym (append-nil x.events);
     }
 reached (e ∷ es) x y leads =
     let p = went (answered x e) (λ z. run_on z es) y leads in
@@ -61,7 +61,7 @@ reached (e ∷ es) x y leads =
     }
 
 -- the record of a board after more events
-pub ran_on : (x y : Seen) (es : List Event) (rs : List Reply) → from_opening x x.events ≡ Some (x.state, rs) → run_on x es ≡ Some y
+pub ran_on : (x y : BoardValue) (es : List Event) (rs : List Reply) → from_opening x x.events ≡ Some (x.state, rs) → run_on x es ≡ Some y
     → (replies : List Reply) × (from_opening y y.events ≡ Some (y.state, replies))
 ran_on x y es rs ran leads =
     let r = reached es x y leads in (
@@ -88,17 +88,18 @@ replied_at b s t u (f ∷ es) (suc k) e rs qs whole front at =
 
 -- ---- as a stepper is seen
 
-record Parts (o : Option Seen) (p : Option Event) (e : Event) (r : Reply) : Type 0 where
-  board : Seen
+record Parts (o : Option BoardValue) (p : Option Event) (e : Event) (r : Reply) : Type 0 where
+  board : BoardValue
   is : o ≡ Some board
   event : p ≡ Some e
   given : replied o (Some e) ≡ Some (e, r)
 
-same_event : (x e : Event) (r : Reply) (q : Option (Seen × Reply)) → option_map {U = Event × Reply} (λ (p : Seen × Reply). (x, p.1)) q ≡ Some (e, r) → x ≡ e
+same_event : (x e : Event) (r : Reply) (q : Option (BoardValue × Reply)) → option_map {U = Event × Reply} (λ (p : BoardValue × Reply). (x, p.1)) q
+    ≡ Some (e, r) → x ≡ e
 same_event x e r None is = absurd cc
 same_event x e r (Some p) is = let inner : ◌≡◌ {A = Event × Reply} (x, p.1) (e, r) = cc in ap (λ (q : Event × Reply). q.0) inner
 
-parts_of : (o : Option Seen) (p : Option Event) (e : Event) (r : Reply) → replied o p ≡ Some (e, r) → Parts o p e r
+parts_of : (o : Option BoardValue) (p : Option Event) (e : Event) (r : Reply) → replied o p ≡ Some (e, r) → Parts o p e r
 parts_of None p e r is = absurd cc
 parts_of (Some b) None e r is = absurd cc
 parts_of (Some b) (Some x) e r is =
@@ -128,7 +129,7 @@ module _ (s : Stepping) (records : PastIsTheRecords s) where
   after_it i = length s.board.events - i
 
   -- event i, which was done here, and its reply
-  at_line : (i : ℕ) (e : Event) (t : State) (replies : List Reply) (c : Seen) → from_opening s.board s.board.events ≡ Some (t, replies) → 1 ≤ i
+  at_line : (i : ℕ) (e : Event) (t : State) (replies : List Reply) (c : BoardValue) → from_opening s.board s.board.events ≡ Some (t, replies) → 1 ≤ i
       → i ≤ length s.board.events → slice_get s.board.events (i - 1) ≡ Some e → slice_get s.past (after_it i) ≡ Some c
       → (q : Reply) × (replied (slice_get s.past (after_it i)) (Some e) ≡ Some (e, q)) × (slice_get replies (i - 1) ≡ Some q)
   at_line i e t replies c whole low high at found =
@@ -140,7 +141,7 @@ module _ (s : Stepping) (records : PastIsTheRecords s) where
       let granted : table c.build c.state e ≡ Some q.0 = ap (λ b. table b c.state e) r.build ∙ q.1 in
       let given : replied (slice_get s.past (after_it i)) (Some e) ≡ Some (e, q.0.1) =
       ap (λ o. replied o (Some e)) found
-      ∙ ap (λ (o : Option Answer). option_map {U = Event × Reply} (λ (p : Seen × Reply). (e, p.1)) (option_map {U = Seen × Reply} (λ (a : Answer).
+      ∙ ap (λ (o : Option Answer). option_map {U = Event × Reply} (λ (p : BoardValue × Reply). (e, p.1)) (option_map {U = BoardValue × Reply} (λ (a : Answer).
       (after_event c e a.0, a.1)) o)) granted in
       (q.0.1, given, q.2)
 

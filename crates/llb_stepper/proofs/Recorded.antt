@@ -7,7 +7,7 @@ use Rattle.std.proofs.lemmas.Option.{slice_get-get_or, slice_get_past, slice_get
 use Rattle.std.specs.Prelude.{slice_get, nat_le}
 use Rattle.llb_model.specs.State.{State}
 use Rattle.llb_model.specs.Table.{Event, Reply, table}
-use Rattle.llb_state.specs.Board.{Seen, after_event}
+use Rattle.llb_board.specs.Seen.{BoardValue, after_event}
 use Rattle.llb_board.specs.Undo.{told, undone}
 use Rattle.llb_board.specs.declared.walk.Reply as short
 use Rattle.llb_board.specs.declared.walk.Walked.{Walked}
@@ -16,6 +16,7 @@ use Rattle.llb_stepper.specs.Records.{record_at, replied}
 use Rattle.llb_stepper.specs.Stepping.{Stepping, answered}
 use Rattle.llb_stepper.specs.Told.{told_pair}
 
+-- what is added at the end is the last item
 pub at_end : {A : Type 0} (xs : List A) (y : A) → slice_get (xs ++ y ∷ []) (length xs) ≡ Some y
 at_end [] y = refl
 at_end (x ∷ xs) y = at_end xs y
@@ -26,27 +27,27 @@ in_front (z ∷ xs) ys zero x is = is
 in_front (z ∷ xs) ys (suc i) x is = in_front xs ys i x is
 
 -- an event is the last of the board's that it leaves
-last_of : (before b : Seen) (e : Event) (r : Reply) → answered before e ≡ Some (b, r) → b.events ≡ before.events ++ e ∷ []
+last_of : (before b : BoardValue) (e : Event) (r : Reply) → answered before e ≡ Some (b, r) → b.events ≡ before.events ++ e ∷ []
 last_of before b e r given = by_table (table before.build before.state e) given
   where
-    by_table : (o : Option (State × Reply)) → option_map {U = Seen × Reply} (λ a. (after_event before e a.0, a.1)) o ≡ Some (b, r) → b.events
+    by_table : (o : Option (State × Reply)) → option_map {U = BoardValue × Reply} (λ a. (after_event before e a.0, a.1)) o ≡ Some (b, r) → b.events
         ≡ before.events ++ e ∷ []
     by_table None is = absurd cc
     by_table (Some a) is =
-        let same : (let p : Seen × Reply = (after_event before e a.0, a.1) in p) ≡ (b, r) = cc in ap (λ (p : Seen × Reply). p.0.events) (sym same)
+        let same : (let p : BoardValue × Reply = (after_event before e a.0, a.1) in p) ≡ (b, r) = cc in ap (λ (p : BoardValue × Reply). p.0.events) (sym same)
 
 -- the event that k events follow
-pub record IsRecorded (b : Seen) (us : List Walked) (k : ℕ) (q : short.Reply) : Type 0 where
+pub record IsRecorded (b : BoardValue) (us : List Walked) (k : ℕ) (q : short.Reply) : Type 0 where
   pub event : Event
   pub reply : Reply
   pub at : slice_get b.events (length b.events - (k + 1)) ≡ Some event
   pub given : replied (slice_get (past_of b us) k) (Some event) ≡ Some (event, reply)
   pub same : q ≡ told reply
 
-abbrev by_answer : Event → Option (Seen × Reply) → Option (Event × Reply)
-by_answer e o = option_map (λ (p : Seen × Reply). (e, p.1)) o
+abbrev by_answer : Event → Option (BoardValue × Reply) → Option (Event × Reply)
+by_answer e o = option_map (λ (p : BoardValue × Reply). (e, p.1)) o
 
-recorded_at : (us : List Walked) (b : Seen) (k : ℕ) (w : Walked) → AreWalked b us → slice_get us k ≡ Some w → IsRecorded b us k w.reply
+recorded_at : (us : List Walked) (b : BoardValue) (k : ℕ) (w : Walked) → AreWalked b us → slice_get us k ≡ Some w → IsRecorded b us k w.reply
 recorded_at [] b k w are is = absurd (omega (arith, slice_get_within [] k w is))
 recorded_at (u ∷ us) b zero w are is =
     let same : u ≡ w = cc in
@@ -105,7 +106,7 @@ done_here s i e r low high at given =
     ∙ ap (replied (slice_get s.past (length s.board.events - i))) at ∙ given
 
 -- what was done is found by the place of its undo
-pub told_here : (b : Seen) (ws : List Walked) (d : Walked) (s : Stepping) (i : ℕ) (e : Event) → AreWalked b (reverse ws) → b ≡ s.board
+pub told_here : (b : BoardValue) (ws : List Walked) (d : Walked) (s : Stepping) (i : ℕ) (e : Event) → AreWalked b (reverse ws) → b ≡ s.board
     → past_of b (reverse ws) ≡ s.past
     → 1 ≤ i → i ≤ length b.events → length b.events - i < length ws → slice_get b.events (i - 1) ≡ Some e
     → Some (e, (get_or ws (length ws - 1 - (length b.events - i)) d).reply) ≡ option_map told_pair (record_at s i)
@@ -119,16 +120,17 @@ told_here b ws d s i e are board past low high inside at =
     let event : Some r.event ≡ Some e = sym r.at ∙ ap (slice_get b.events) place ∙ at in
     let is : r.event ≡ e = cc in
     let given : replied (slice_get s.past (length s.board.events - i)) (Some e) ≡ Some (e, r.reply) =
-    ap (λ us. replied (slice_get us (length s.board.events - i)) (Some e)) (sym past) ∙ ap (λ (x : Seen). replied (slice_get (past_of b (reverse ws))
+    ap (λ us. replied (slice_get us (length s.board.events - i)) (Some e)) (sym past) ∙ ap (λ (x : BoardValue). replied (slice_get (past_of b (reverse ws))
     (length x.events - i)) (Some e)) (sym board)
     ∙ subst (λ x. replied (slice_get (past_of b (reverse ws)) k) (Some x) ≡ Some (x, r.reply)) is r.given in
     let here : record_at s i ≡ Some (e, r.reply) =
-    done_here s i e r.reply low (omega (arith, high, ap (λ (x : Seen). length x.events) board)) (ap (λ (x : Seen). slice_get x.events (i - 1)) (sym board)
+    done_here s i e r.reply low (omega (arith, high, ap (λ (x : BoardValue). length x.events) board))
+    (ap (λ (x : BoardValue). slice_get x.events (i - 1)) (sym board)
     ∙ at) given in
     ap (λ q. Some (e, q)) r.same ∙ sym (ap (option_map told_pair) here)
 
 -- it is looked up at a place that is given otherwise
-pub told_as : (b : Seen) (ws : List Walked) (d : Walked) (s : Stepping) (i : ℕ) (e : Event) (x : Walked) (j : ℕ) → x ≡ get_or ws j d → j
+pub told_as : (b : BoardValue) (ws : List Walked) (d : Walked) (s : Stepping) (i : ℕ) (e : Event) (x : Walked) (j : ℕ) → x ≡ get_or ws j d → j
     ≡ length ws - 1 - (length b.events - i)
     → AreWalked b (reverse ws) → b ≡ s.board → past_of b (reverse ws) ≡ s.past → 1 ≤ i → i ≤ length b.events → length b.events - i < length ws
     → slice_get b.events (i - 1) ≡ Some e

@@ -9,7 +9,7 @@ use Rattle.llb_model.specs.Table.{Event, Reply, worker_of, table}
 use Rattle.llb_model.specs.Run.{run}
 use Rattle.llb_model.proofs.Runs.{run_first}
 use Rattle.std.specs.Prelude.{fold, take, slice_get}
-use Rattle.llb_state.specs.Board.{Seen, Replays, after_event, kept_along, kept_next}
+use Rattle.llb_board.specs.Seen.{BoardValue, Replays, after_event, kept_along, kept_next}
 use Rattle.llb_state.specs.Caches.{rows_after}
 use Rattle.llb_board.specs.Undo.{undone}
 use Rattle.llb_board.specs.declared.walk.Walked.{Walked}
@@ -20,34 +20,36 @@ use Rattle.llb_stepper.proofs.Grown.{Grew, grew, shifted}
 abbrev Kept : Type 0
 Kept = State × List Row
 
-abbrev begun : Build → Opening → List Row → Seen
+abbrev begun : Build → Opening → List Row → BoardValue
 begun build o rows = record { build = build; opening = o; first = rows; state = opening build o; rows = rows; events = [] }
 
 -- the board after events
-abbrev later : Seen → State → List Row → List Event → Seen
+abbrev later : BoardValue → State → List Row → List Event → BoardValue
 later x t rows es = record x { state = t; rows = rows; events = es }
 
 kept_inside : {x y : Kept} → ◌≡◌ {A = Option Kept} (Some x) (Some y) → x ≡ y
 kept_inside e = cc
 
-one : (x : Seen) (e : Event) (es : List Event) (a : State × Reply) → table x.build x.state e ≡ Some a → run_on x (e ∷ es) ≡ run_on (after_event x e a.0) es
+one : (x : BoardValue) (e : Event) (es : List Event) (a : State × Reply) → table x.build x.state e ≡ Some a → run_on x (e ∷ es)
+    ≡ run_on (after_event x e a.0) es
 unfolding run_on
 one x e es a given =
-    ap (λ (o : Option (State × Reply)). then_on (option_map {U = Seen × Reply} (λ (q : State × Reply). (after_event x e q.0, q.1)) o) (λ c. run_on c es)) given
+    ap (λ (o : Option (State × Reply)). then_on (option_map {U = BoardValue × Reply} (λ (q : State × Reply). (after_event x e q.0, q.1)) o)
+    (λ c. run_on c es)) given
 
-none : (x : Seen) → run_on x [] ≡ Some x
+none : (x : BoardValue) → run_on x [] ≡ Some x
 unfolding run_on
 none x = refl
 
 -- what is kept along events, from what is kept so far
-abbrev from_kept : Seen → List Event → Option Kept → Option Kept
+abbrev from_kept : BoardValue → List Event → Option Kept → Option Kept
 from_kept x es o = fold (kept_next x.build) o es
 
 -- the openings of a board and of the one before it are one
-first_same : (before b : Seen) {e : Event} {r : Reply} → Grew before b e r → at_first b ≡ at_first before
+first_same : (before b : BoardValue) {e : Event} {r : Reply} → Grew before b e r → at_first b ≡ at_first before
 first_same before b g = λ i. begun (g.build i) (g.opened i) (g.first i)
 
-along : (es : List Event) (x : Seen) (t : State) (rs : List Reply) (rows : List Row) → run x.build x.state es ≡ Some (t, rs)
+along : (es : List Event) (x : BoardValue) (t : State) (rs : List Reply) (rows : List Row) → run x.build x.state es ≡ Some (t, rs)
     → kept_along x.build x.state x.rows es ≡ Some (t, rows) → run_on x es ≡ Some (later x t rows (x.events ++ es))
 along [] x t rs rows ran keeps =
     let same : ◌≡◌ {A = Kept} (x.state, x.rows) (t, rows) = kept_inside keeps in
@@ -62,7 +64,7 @@ along (e ∷ es) x t rs rows ran keeps =
     one x e es r.a r.given ∙ along es next t r.rest rows r.goes_on kept ∙ ap (λ l. Some (later x t rows l)) (shifted x.events e es)
 
 -- the events of a record lead to its board
-pub replayed : (b : Seen) → Replays b → run_on (at_first b) b.events ≡ Some b
+pub replayed : (b : BoardValue) → Replays b → run_on (at_first b) b.events ≡ Some b
 replayed b here = along b.events (at_first b) b.state here.replies b.rows here.leads here.keeps
 
 -- the events taken of a record without its last event are those taken of the record
@@ -76,7 +78,7 @@ whole [] = refl
 whole (x ∷ xs) = ap (λ l. x ∷ l) (whole xs)
 
 -- the board before one of the events that were done
-before_at : (us : List Walked) (b : Seen) (k : ℕ) (c : Seen) → AreWalked b us → slice_get (past_of b us) k ≡ Some c
+before_at : (us : List Walked) (b : BoardValue) (k : ℕ) (c : BoardValue) → AreWalked b us → slice_get (past_of b us) k ≡ Some c
     → (k + 1 ≤ length b.events) × (run_on (at_first b) (take (length b.events - (k + 1)) b.events) ≡ Some c)
 before_at [] b k c are is = absurd (omega (arith, slice_get_within [] k c is))
 before_at (u ∷ us) b zero c are is =
@@ -108,7 +110,7 @@ before_at (u ∷ us) b (suc k) c are is =
           ∙ ap (run_on (at_first before)) events ∙ r.1,
     )
 
-pub past_is : (b : Seen) (ws : List Walked) (s : Stepping) → AreWalked b (reverse ws) → b ≡ s.board → past_of b (reverse ws) ≡ s.past → PastIsTheRecords s
+pub past_is : (b : BoardValue) (ws : List Walked) (s : Stepping) → AreWalked b (reverse ws) → b ≡ s.board → past_of b (reverse ws) ≡ s.past → PastIsTheRecords s
 past_is b ws s are board past k c is =
-    ap (λ (x : Seen). run_on (at_first x) (take (length x.events - (k + 1)) x.events)) (sym board)
+    ap (λ (x : BoardValue). run_on (at_first x) (take (length x.events - (k + 1)) x.events)) (sym board)
     ∙ (before_at (reverse ws) b k c are (ap (λ us. slice_get us k) past ∙ is)).1

@@ -8,7 +8,7 @@ use Rattle.llb_model.specs.Room.{still_to_come}
 use Rattle.llb_model.specs.State.{State}
 use Rattle.llb_model.specs.Table.{Event, Reply, table}
 use Rattle.llb_model.proofs.Alone.{chosen_comes_nearer}
-use Rattle.llb_state.specs.Board.{Seen, after_event}
+use Rattle.llb_board.specs.Seen.{BoardValue, after_event}
 use Rattle.llb_stepper.specs.declared.stop.Break.{Break}
 use Rattle.llb_stepper.specs.declared.stop.Stop.{Stop}
 use Rattle.std.proofs.lemmas.Option.{slice_get-get_or, slice_get-map}
@@ -20,25 +20,26 @@ use Rattle.llb_board.specs.declared.walk.Reply as short
 use Rattle.llb_stepper.specs.declared.fault.StepperFault.{StepperFault}
 use Rattle.llb_stepper.specs.declared.fault.StepperFault.TheVariants as fault
 use Rattle.llb_stepper.specs.Rules.{IsRefusedAt, MeetsOn, done_by, done_of, stepper_memory}
-use Rattle.llb_stepper.specs.Stepping.{Stepping, GoesBack, IsStop, IsGo, PastIsTheRecords, AreChosen, ChosenThen, answered, line, meets}
+use Rattle.llb_stepper.specs.Stepping.{Stepping, GoesBack, IsStop, IsGo, PastIsTheRecords, AreChosen, ChosenThen, answered, timeline, meets}
 use Rattle.llb_stepper.specs.Stepping.{meets_by, meets_any, meets_at, meets_from, run_on, then_on}
 use Rattle.llb_stepper.proofs.Grown.{went}
 use Rattle.llb_stepper.proofs.Lines.{reached}
+use Rattle.llb_stepper.proofs.Recorded.{at_end}
 
 abbrev Answer : Type 0
-Answer = Seen × Reply
+Answer = BoardValue × Reply
 
 -- what a loop over events keeps: s at first, t after i of them
 pub record GoneTo (s : Stepping) (es : List Event) (t : Stepping) (i : ℕ) : Type 0 where
   pub leads : run_on s.board (take i es) ≡ Some t.board
-  pub past : drop i (line t) ≡ line s
+  pub past : drop i (timeline t) ≡ timeline s
   pub breaks : t.breaks ≡ s.breaks
   pub none : (k : ℕ) → k < i → meets_at s.breaks s.board es k ≡ false
   pub depth : length t.past ≡ length s.past + i
 
 -- what a loop backwards keeps
 pub record BackTo (s t : Stepping) (i : ℕ) : Type 0 where
-  pub past : line t ≡ drop i (line s)
+  pub past : timeline t ≡ drop i (timeline s)
   pub build : t.board.build ≡ s.board.build
   pub breaks : t.breaks ≡ s.breaks
 
@@ -46,7 +47,8 @@ inside : {A : Type 0} {x y : A} → Some x ≡ Some y → x ≡ y
 inside e = cc
 
 -- one event more
-one_on : (b c d : Seen) (r : Reply) (es : List Event) (i : ℕ) (e : Event) → run_on b (take i es) ≡ Some c → slice_get es i ≡ Some e → answered c e ≡ Some (d, r)
+one_on : (b c d : BoardValue) (r : Reply) (es : List Event) (i : ℕ) (e : Event) → run_on b (take i es) ≡ Some c → slice_get es i ≡ Some e → answered c e
+    ≡ Some (d, r)
     → run_on b (take (suc i) es) ≡ Some d
 unfolding run_on
 one_on b c d r [] i e leads at given = absurd cc
@@ -59,7 +61,7 @@ one_on b c d r (f ∷ es) (suc i) e leads at given =
     let p = went (answered b f) (λ x. run_on x (take i es)) c leads in
     ap (λ o. then_on o (λ x. run_on x (take (suc i) es))) p.1 ∙ one_on p.0.0 c d r es i e p.2 at given
 
-meets_here : (ks : List Break) (b c : Seen) (es : List Event) (i : ℕ) (e : Event) → run_on b (take i es) ≡ Some c → slice_get es i ≡ Some e
+meets_here : (ks : List Break) (b c : BoardValue) (es : List Event) (i : ℕ) (e : Event) → run_on b (take i es) ≡ Some c → slice_get es i ≡ Some e
     → meets_at ks b es i ≡ meets_any ks c e
 unfolding run_on meets_at
 meets_here ks b c [] i e leads at = absurd cc
@@ -78,7 +80,7 @@ drop_tail (suc i) [] ys x e = absurd cc
 drop_tail (suc i) (z ∷ xs) ys x e = drop_tail i xs ys x e
 
 -- steppers of one line of boards and one list of breakpoints are equal
-pub same_stepping : (s t : Stepping) → line s ≡ line t → s.breaks ≡ t.breaks → s ≡ t
+pub same_stepping : (s t : Stepping) → timeline s ≡ timeline t → s.breaks ≡ t.breaks → s ≡ t
 same_stepping s t e f =
     let p : s.board ≡ t.board = cc in
     let q : s.past ≡ t.past = cc in
@@ -89,25 +91,25 @@ pub one_fewer : {A E : Type 0} (s t u : Stepping) (i : ℕ) (r : Result A E) →
     ≡ []) → BackTo s u (i + 1)
 one_fewer s t u i (Ok x) kept lt ok err =
     let n : i + 1 ≡ suc i = omega arith in
-    let e : drop i (line s) ≡ t.board ∷ line u = sym kept.past ∙ ap (λ l. t.board ∷ l) ok.past in
+    let e : drop i (timeline s) ≡ t.board ∷ timeline u = sym kept.past ∙ ap (λ l. t.board ∷ l) ok.past in
     subst (BackTo s u) (sym n) (record {
-      past = sym (drop_tail i (line s) (line u) t.board e);
+      past = sym (drop_tail i (timeline s) (timeline u) t.board e);
       build = ok.build ∙ kept.build;
       breaks = ok.breaks ∙ kept.breaks;
     })
 one_fewer s t u i (Err x) kept lt ok err =
-    absurd (omega (arith, ap length kept.past, length-drop i (line s), ap length err))
+    absurd (omega (arith, ap length kept.past, length-drop i (timeline s), ap length err))
 
-met_by : (ks : List Break) (e : Event) (o : Option Answer) (d : Seen) (r : Reply) → o ≡ Some (d, r) → meets_by ks e o ≡ list_any (meets e r) ks
+met_by : (ks : List Break) (e : Event) (o : Option Answer) (d : BoardValue) (r : Reply) → o ≡ Some (d, r) → meets_by ks e o ≡ list_any (meets e r) ks
 met_by ks e o d r is = ap (meets_by ks e) is
 
 -- an event that was done, and whether it meets a breakpoint
 gone_on : (s t u : Stepping) (es : List Event) (i : ℕ) (e : Event) (hit : Bool) → GoneTo s es t i → slice_get es i ≡ Some e → MeetsOn t e u hit
-    → (run_on s.board (take (suc i) es) ≡ Some u.board) × (drop (suc i) (line u) ≡ line s) × (u.breaks ≡ s.breaks) × (length u.past
+    → (run_on s.board (take (suc i) es) ≡ Some u.board) × (drop (suc i) (timeline u) ≡ timeline s) × (u.breaks ≡ s.breaks) × (length u.past
     ≡ length s.past + suc i) × (meets_at s.breaks s.board es i ≡ hit)
 gone_on s t u es i e hit kept at met = (
   one_on s.board t.board met.0 met.1 es i e kept.leads at met.2 ∙ ap (λ (x : Stepping). Some x.board) (sym met.3),
-  ap (λ x. drop (suc i) (line x)) met.3 ∙ kept.past,
+  ap (λ x. drop (suc i) (timeline x)) met.3 ∙ kept.past,
   ap (λ (x : Stepping). x.breaks) met.3 ∙ kept.breaks,
   omega (arith, ap (λ (x : Stepping). length x.past) met.3, kept.depth),
   meets_here s.breaks s.board t.board es i e kept.leads at ∙ ap (λ ks. meets_any ks t.board e) (sym kept.breaks)
@@ -145,7 +147,7 @@ stops s t u es i n e count kept at met records =
     let m : n ≡ suc i = omega (arith, count, g.3) in
     record {
       leads = ap (λ k. run_on s.board (take k es)) m ∙ g.0;
-      past = ap (λ k. drop k (line u)) m ∙ g.1;
+      past = ap (λ k. drop k (timeline u)) m ∙ g.1;
       build = (reached (take (suc i) es) s.board u.board g.0).build;
       records = records;
       breaks = g.2;
@@ -160,7 +162,7 @@ ends_all s t es i n count all kept records =
     let m : n ≡ i = omega (arith, count, kept.depth) in
     record {
       leads = ap (λ k. run_on s.board (take k es)) m ∙ kept.leads;
-      past = ap (λ k. drop k (line t)) m ∙ kept.past;
+      past = ap (λ k. drop k (timeline t)) m ∙ kept.past;
       build = (reached (take i es) s.board t.board kept.leads).build;
       records = records;
       breaks = kept.breaks;
@@ -169,11 +171,11 @@ ends_all s t es i n count all kept records =
     }
 
 -- all that was done is taken back
-pub undone_all : (s t u : Stepping) (es : List Event) (i n : ℕ) → GoneTo s es t i → n + length s.past ≡ length t.past → line u ≡ drop n (line t)
+pub undone_all : (s t u : Stepping) (es : List Event) (i n : ℕ) → GoneTo s es t i → n + length s.past ≡ length t.past → timeline u ≡ drop n (timeline t)
     → u.breaks ≡ t.breaks → u ≡ s
 undone_all s t u es i n kept count boards breaks =
     let m : n ≡ i = omega (arith, count, kept.depth) in
-    same_stepping u s (boards ∙ ap (λ k. drop k (line t)) m ∙ kept.past) (breaks ∙ kept.breaks)
+    same_stepping u s (boards ∙ ap (λ k. drop k (timeline t)) m ∙ kept.past) (breaks ∙ kept.breaks)
 
 -- ---- chosen events
 
@@ -183,18 +185,18 @@ pub record Chosen (s t : Stepping) : Type 0 where
   pub are : AreChosen s.board events
   pub gone : GoneTo s events t (length events)
 
-chosen_then : (o : Option Answer) (p : Answer) (Are : Seen → Type 0) → o ≡ Some p → ChosenThen o Are → Are p.0
+chosen_then : (o : Option Answer) (p : Answer) (Are : BoardValue → Type 0) → o ≡ Some p → ChosenThen o Are → Are p.0
 chosen_then o p Are is are = let h : ChosenThen (Some p) Are = subst (λ x. ChosenThen x Are) is are in h
 
-then_chosen : (o : Option Answer) (p : Answer) (Are : Seen → Type 0) → o ≡ Some p → Are p.0 → ChosenThen o Are
+then_chosen : (o : Option Answer) (p : Answer) (Are : BoardValue → Type 0) → o ≡ Some p → Are p.0 → ChosenThen o Are
 then_chosen o p Are is are = subst (λ x. ChosenThen x Are) (sym is) are
 
-are_more : (b c d : Seen) (r : Reply) (es : List Event) (e : Event) → AreChosen b es → run_on b es ≡ Some c → chosen c.build c.state ≡ Some e
+are_more : (b c d : BoardValue) (r : Reply) (es : List Event) (e : Event) → AreChosen b es → run_on b es ≡ Some c → chosen c.build c.state ≡ Some e
     → answered c e ≡ Some (d, r) → AreChosen b (es ++ e ∷ [])
 unfolding AreChosen run_on
 are_more b c d r [] e are leads is given =
     let same : b ≡ c = inside leads in
-    (ap (λ (x : Seen). chosen x.build x.state) same ∙ is, then_chosen (answered b e) (d, r) (λ x. Unit {0}) (ap (λ x. answered x e) same ∙ given) tt)
+    (ap (λ (x : BoardValue). chosen x.build x.state) same ∙ is, then_chosen (answered b e) (d, r) (λ x. Unit {0}) (ap (λ x. answered x e) same ∙ given) tt)
 are_more b c d r (f ∷ es) e are leads is given =
     let p = went (answered b f) (λ x. run_on x es) c leads in (
       are.0,
@@ -211,15 +213,11 @@ take_whole : {A : Type 0} (xs : List A) → take (length xs) xs ≡ xs
 take_whole [] = refl
 take_whole (x ∷ xs) = ap (λ l. x ∷ l) (take_whole xs)
 
-at_end : {A : Type 0} (xs : List A) (y : A) → slice_get (xs ++ y ∷ []) (length xs) ≡ Some y
-at_end [] y = refl
-at_end (x ∷ xs) y = at_end xs y
-
-same_from : (o : Option Answer) (f g : Seen → Bool) → ((c : Seen) → f c ≡ g c) → meets_from o f ≡ meets_from o g
+same_from : (o : Option Answer) (f g : BoardValue → Bool) → ((c : BoardValue) → f c ≡ g c) → meets_from o f ≡ meets_from o g
 same_from None f g same = refl
 same_from (Some p) f g same = same p.0
 
-meets_prefix : (ks : List Break) (b : Seen) (es fs : List Event) (k : ℕ) → k < length es → meets_at ks b (es ++ fs) k ≡ meets_at ks b es k
+meets_prefix : (ks : List Break) (b : BoardValue) (es fs : List Event) (k : ℕ) → k < length es → meets_at ks b (es ++ fs) k ≡ meets_at ks b es k
 unfolding meets_at
 meets_prefix ks b [] fs k lt = absurd (omega arith)
 meets_prefix ks b (e ∷ es) fs zero lt = refl
@@ -307,7 +305,7 @@ refused_at s t es i e f kept at refused = record {
     refused_so : (x : Stepping) → x.board ≡ t.board → done_of t e ≡ Err f → done_of x e ≡ Err f
     refused_so x same is = by_walk (walk_of x.board e) (walk_of t.board e) (ap (λ b. walk_of b e) same) is
       where
-        by_walk : (o p : Result (Seen × short.Reply) WalkFault) → o ≡ p → done_by t p ≡ Err f → done_by x o ≡ Err f
+        by_walk : (o p : Result (BoardValue × short.Reply) WalkFault) → o ≡ p → done_by t p ≡ Err f → done_by x o ≡ Err f
         by_walk (Ok a) (Ok b) same is = absurd cc
         by_walk (Ok a) (Err b) same is = absurd cc
         by_walk (Err a) (Ok b) same is = absurd cc
@@ -325,12 +323,12 @@ nearer s t e met on is =
     let same = ap (λ (x : Stepping). still_to_come x.board.build x.board.state) on.3 in
     omega (arith, near, same)
   where
-    answered_nearer : (b n : Seen) (e : Event) (r : Reply) → chosen b.build b.state ≡ Some e → (o : Option (State × Reply)) → table b.build b.state e ≡ o
-        → option_map {U = Seen × Reply} (λ a. (after_event b e a.0, a.1)) o ≡ Some (n, r)
+    answered_nearer : (b n : BoardValue) (e : Event) (r : Reply) → chosen b.build b.state ≡ Some e → (o : Option (State × Reply)) → table b.build b.state e ≡ o
+        → option_map {U = BoardValue × Reply} (λ a. (after_event b e a.0, a.1)) o ≡ Some (n, r)
         → still_to_come n.build n.state < still_to_come b.build b.state
     answered_nearer b n e r is None given leads = absurd cc
     answered_nearer b n e r is (Some a) given leads =
-        let same : (let p : Seen × Reply = (after_event b e a.0, a.1) in p) ≡ (n, r) = inside leads in
+        let same : (let p : BoardValue × Reply = (after_event b e a.0, a.1) in p) ≡ (n, r) = inside leads in
         let near = chosen_comes_nearer b.build b.state e a is given in
-        let come = ap (λ (p : Seen × Reply). still_to_come p.0.build p.0.state) same in
+        let come = ap (λ (p : BoardValue × Reply). still_to_come p.0.build p.0.state) same in
         omega (arith, near, come)

@@ -9,7 +9,8 @@ use Rattle.llb_model.specs.Run.{chosen}
 use Rattle.llb_model.specs.State.{State}
 use Rattle.llb_model.specs.Table.{Event, Claim, Step, Settle, Cancel, Reply, Claimed, HasRead, Acted, HasMerged, HasRun, Skipped, Faulted}
 use Rattle.llb_model.specs.Table.{SettledDone, SettledFailed, Cancelled, claim_grant, step_grant, settle_grant, cancel_grant, table}
-use Rattle.llb_state.specs.Board.{Seen, ChosenIsGranted, after_event, recorded}
+use Rattle.llb_board.specs.Seen.{BoardValue, after_event, recorded}
+use Rattle.llb_board.specs.Laws.{ChosenIsGranted}
 use Rattle.llb_events.specs.Causes.{claim_fault, step_fault, settle_fault, cancel_fault}
 use Rattle.llb_board.specs.Undo.{told, told_as, undone, walk_of, CanUndo}
 use Rattle.llb_events.specs.declared.fault.WalkFault.{WalkFault}
@@ -25,21 +26,21 @@ use Rattle.llb_stepper.specs.Told.{meets_told}
 use Rattle.llb_stepper.specs.Kept.{past_of, stepping, Follows, AreWalked}
 
 abbrev Walk : Type 0
-Walk = Result (Seen × short.Reply) WalkFault
+Walk = Result (BoardValue × short.Reply) WalkFault
 
-inside : {x y : Seen × short.Reply} → ◌≡◌ {A = Walk} (Ok x) (Ok y) → x ≡ y
+inside : {x y : BoardValue × short.Reply} → ◌≡◌ {A = Walk} (Ok x) (Ok y) → x ≡ y
 inside e = cc
 
 -- an event that is granted: the board after it, and its reply in short
-by_grant : {C F : Type 0} (b n : Seen) (e : Event) (q : short.Reply) (fault : C → F) (out : F → WalkFault) (o : Result (State × Reply) C)
-    → told_as out (recorded b e fault o) ≡ Ok (n, q) → (r : Reply) × (option_map {U = Seen × Reply} (λ a. (after_event b e a.0, a.1)) (result_ok o)
+by_grant : {C F : Type 0} (b n : BoardValue) (e : Event) (q : short.Reply) (fault : C → F) (out : F → WalkFault) (o : Result (State × Reply) C)
+    → told_as out (recorded b e fault o) ≡ Ok (n, q) → (r : Reply) × (option_map {U = BoardValue × Reply} (λ a. (after_event b e a.0, a.1)) (result_ok o)
     ≡ Some (n, r)) × (q ≡ told r)
 by_grant b n e q fault out (Err cause) is = absurd cc
 by_grant b n e q fault out (Ok (s, r)) is =
     let same = inside is in
-    (r, ap (λ (p : Seen × short.Reply). Some (p.0, r)) same, ap (λ (p : Seen × short.Reply). p.1) (sym same))
+    (r, ap (λ (p : BoardValue × short.Reply). Some (p.0, r)) same, ap (λ (p : BoardValue × short.Reply). p.1) (sym same))
 
-pub answers : (b n : Seen) (e : Event) (q : short.Reply) → walk_of b e ≡ Ok (n, q) → (r : Reply) × (answered b e ≡ Some (n, r)) × (q ≡ told r)
+pub answers : (b n : BoardValue) (e : Event) (q : short.Reply) → walk_of b e ≡ Ok (n, q) → (r : Reply) × (answered b e ≡ Some (n, r)) × (q ≡ told r)
 unfolding table
 answers b n (Claim w v) q is = by_grant b n (Claim w v) q claim_fault walk.Claim (claim_grant b.build b.state w v) is
 answers b n (Step w) q is = by_grant b n (Step w) q step_fault walk.Step (step_grant b.build b.state w) is
@@ -47,12 +48,12 @@ answers b n (Settle w) q is = by_grant b n (Settle w) q settle_fault walk.Settle
 answers b n (Cancel w) q is = by_grant b n (Cancel w) q cancel_fault walk.Cancel (cancel_grant b.state w) is
 
 -- where the table grants an event, a walk is not refused
-grants_by : {C F : Type 0} (b : Seen) (e : Event) (fault : C → F) (out : F → WalkFault) (o : Result (State × Reply) C) (f : WalkFault)
+grants_by : {C F : Type 0} (b : BoardValue) (e : Event) (fault : C → F) (out : F → WalkFault) (o : Result (State × Reply) C) (f : WalkFault)
     → is_some (result_ok o) ≡ true → told_as out (recorded b e fault o) ≡ Err f → ⊥
 grants_by b e fault out (Err cause) f granted is = cc
 grants_by b e fault out (Ok p) f granted is = cc
 
-pub not_refused : (b : Seen) (e : Event) (f : WalkFault) → is_some (table b.build b.state e) ≡ true → walk_of b e ≡ Err f → ⊥
+pub not_refused : (b : BoardValue) (e : Event) (f : WalkFault) → is_some (table b.build b.state e) ≡ true → walk_of b e ≡ Err f → ⊥
 unfolding table
 not_refused b (Claim w v) f granted is = grants_by b (Claim w v) claim_fault walk.Claim (claim_grant b.build b.state w v) f granted is
 not_refused b (Step w) f granted is = grants_by b (Step w) step_fault walk.Step (step_grant b.build b.state w) f granted is
@@ -87,17 +88,17 @@ pub any_told : (e : Event) (r : Reply) (ks : List Break) → list_any (meets_tol
 any_told e r ks = ap (λ test. list_any test ks) (λ i k. met_told e r k i)
 
 -- there are as many boards before as events were done
-depth : (ws : List Walked) (b : Seen) → length (past_of b ws) ≡ length ws
+depth : (ws : List Walked) (b : BoardValue) → length (past_of b ws) ≡ length ws
 depth [] b = refl
 depth (w ∷ ws) b = ap suc (depth ws (undone w.undo b))
 
 -- there are as many boards before a stepper's as events were done
-pub depth_of : (ws : List Walked) (b : Seen) → length ws ≡ length (past_of b (reverse ws))
+pub depth_of : (ws : List Walked) (b : BoardValue) → length ws ≡ length (past_of b (reverse ws))
 depth_of ws b = sym (length-reverse ws) ∙ sym (depth (reverse ws) b)
 
 -- ---- one event more
 
-module _ (b n : Seen) (e : Event) (ws : List Walked) (w : Walked) (back : undone w.undo n ≡ b) (given : walk_of b e ≡ Ok (n, w.reply)) where
+module _ (b n : BoardValue) (e : Event) (ws : List Walked) (w : Walked) (back : undone w.undo n ≡ b) (given : walk_of b e ≡ Ok (n, w.reply)) where
   follows : Follows (undone w.undo n) n w.reply
   follows = let a = answers b n e w.reply given in record { event = e; reply = a.0; given = ap (λ x. answered x e) back ∙ a.1; same = a.2 }
 
@@ -144,23 +145,24 @@ memory_alone s e f granted refused = by_test (stepper_memory f) refl
     by_test false is = let r = refused_by s (walk_of s.board e) f (refused is) in absurd (not_refused s.board e r.0 granted r.1)
 
 -- what the law of a board says of a stepper's board
-pub chosen_granted : (b : Seen) (s : Stepping) (e : Event) → b ≡ s.board → ChosenIsGranted b → chosen b.build b.state ≡ Some e
+pub chosen_granted : (b : BoardValue) (s : Stepping) (e : Event) → b ≡ s.board → ChosenIsGranted b → chosen b.build b.state ≡ Some e
     → is_some (table s.board.build s.board.state e) ≡ true
-chosen_granted b s e same law is = ap (λ (x : Seen). is_some (table x.build x.state e)) (sym same) ∙ law e is
+chosen_granted b s e same law is = ap (λ (x : BoardValue). is_some (table x.build x.state e)) (sym same) ∙ law e is
 
 -- the chosen event is granted by the table, so it is refused only for want of memory
-pub chosen_done : (b : Seen) (s : Stepping) → b ≡ s.board → ChosenIsGranted b → (e : Event) (f : StepperFault) → chosen s.board.build s.board.state ≡ Some e
+pub chosen_done : (b : BoardValue) (s : Stepping) → b ≡ s.board → ChosenIsGranted b → (e : Event) (f : StepperFault) → chosen s.board.build s.board.state
+    ≡ Some e
     → done_of s e ≡ Err f → stepper_memory f ≡ true
 chosen_done b s same law e f is refused =
-    memory_alone s e f (chosen_granted b s e same law (ap (λ (x : Seen). chosen x.build x.state) same ∙ is)) (λ told. refused)
+    memory_alone s e f (chosen_granted b s e same law (ap (λ (x : BoardValue). chosen x.build x.state) same ∙ is)) (λ told. refused)
 
 -- ---- an event, and back
 
-done_inside : (s t : Stepping) (o : Walk) → done_by s o ≡ Ok t → (p : Seen × short.Reply) × (t ≡ onward s p.0)
+done_inside : (s t : Stepping) (o : Walk) → done_by s o ≡ Ok t → (p : BoardValue × short.Reply) × (t ≡ onward s p.0)
 done_inside s t (Ok p) e = (p, cc)
 done_inside s t (Err f) e = absurd cc
 
-abbrev stood : Seen → List Seen → List Break → Stepping
+abbrev stood : BoardValue → List BoardValue → List Break → Stepping
 stood b past breaks = record { board = b; past = past; breaks = breaks }
 
 parts : (s u : Stepping) → s.board ∷ s.past ≡ u.board ∷ u.past → u.breaks ≡ s.breaks → u ≡ s
@@ -177,22 +179,22 @@ gone_and_back s e t u done back =
 
 -- ---- one event fewer
 
-some_inside : {x y : Seen × Reply} → Some x ≡ Some y → x ≡ y
+some_inside : {x y : BoardValue × Reply} → Some x ≡ Some y → x ≡ y
 some_inside e = cc
 
-fewer_by : (before b : Seen) (e : Event) (r : Reply) (o : Option (State × Reply))
-    → option_map {U = Seen × Reply} (λ a. (after_event before e a.0, a.1)) o ≡ Some (b, r) → length b.events ≡ length before.events + 1
+fewer_by : (before b : BoardValue) (e : Event) (r : Reply) (o : Option (State × Reply))
+    → option_map {U = BoardValue × Reply} (λ a. (after_event before e a.0, a.1)) o ≡ Some (b, r) → length b.events ≡ length before.events + 1
 fewer_by before b e r None is = absurd cc
 fewer_by before b e r (Some a) is =
-    ap (λ (x : Seen). length x.events) (sym (ap (λ (p : Seen × Reply). p.0) (some_inside is))) ∙ length-append before.events (e ∷ [])
+    ap (λ (x : BoardValue). length x.events) (sym (ap (λ (p : BoardValue × Reply). p.0) (some_inside is))) ∙ length-append before.events (e ∷ [])
 
-fewer_in : (b : Seen) (w : Walked) (ws : List Walked) → AreWalked b (w ∷ ws) → length b.events ≡ length (undone w.undo b).events + 1
+fewer_in : (b : BoardValue) (w : Walked) (ws : List Walked) → AreWalked b (w ∷ ws) → length b.events ≡ length (undone w.undo b).events + 1
 fewer_in b w ws (can, follows, before) =
     fewer_by (undone w.undo b) b follows.event follows.reply (table (undone w.undo b).build (undone w.undo b).state follows.event) follows.given
 
 -- the record of the board before the last event is by that event shorter
-pub fewer : (b n s : Seen) (all ws : List Walked) (w : Walked) → all ≡ ws ++ w ∷ [] → AreWalked b (reverse all) → b ≡ s → n ≡ undone w.undo b
+pub fewer : (b n s : BoardValue) (all ws : List Walked) (w : Walked) → all ≡ ws ++ w ∷ [] → AreWalked b (reverse all) → b ≡ s → n ≡ undone w.undo b
     → length s.events ≡ length n.events + 1
 fewer b n s all ws w last are same back =
     let by_last : AreWalked b (w ∷ reverse ws) = subst (AreWalked b) (ap reverse last ∙ reverse-append ws (w ∷ [])) are in
-    ap (λ (x : Seen). length x.events) (sym same) ∙ fewer_in b w (reverse ws) by_last ∙ ap (λ (x : Seen). length x.events + 1) (sym back)
+    ap (λ (x : BoardValue). length x.events) (sym same) ∙ fewer_in b w (reverse ws) by_last ∙ ap (λ (x : BoardValue). length x.events + 1) (sym back)

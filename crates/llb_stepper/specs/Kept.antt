@@ -1,7 +1,7 @@
 -- What the type of a stepper keeps: each event that was done can be taken back, and its reply is the table's on the board before it.
 use Rattle.std.specs.Prelude.{◌≡◌, List, [], ◌∷◌, reverse, Some}
 use Rattle.llb_model.specs.Table.{Event, Reply}
-use Rattle.llb_state.specs.Board.{Seen}
+use Rattle.llb_board.specs.Seen.{BoardValue}
 use Rattle.llb_board.specs.Undo.{told, undone, CanUndo}
 use Rattle.llb_board.specs.declared.walk.Reply as short
 use Rattle.llb_board.specs.declared.walk.Walked.{Walked}
@@ -9,22 +9,22 @@ use Rattle.llb_stepper.specs.declared.stop.Break.{Break}
 use Rattle.llb_stepper.specs.Stepping.{Stepping, answered}
 
 -- the boards to which taking back one event after another leads, the last event first
-abbrev pub past_of : Seen → List Walked → List Seen
+abbrev pub past_of : BoardValue → List Walked → List BoardValue
 past_of b [] = []
 past_of b (w ∷ ws) = undone w.undo b ∷ past_of (undone w.undo b) ws
 
 -- a stepper as it is seen, by its board, what undoes each event that it did, and its breakpoints
-abbrev pub stepping : Seen → List Walked → List Break → Stepping
+abbrev pub stepping : BoardValue → List Walked → List Break → Stepping
 stepping b walked breaks = record { board = b; past = past_of b (reverse walked); breaks = breaks }
 
 -- a board is what some event leaves of the board before, with this reply
-pub record Follows (before b : Seen) (r : short.Reply) : Type 0 where
+pub record Follows (before b : BoardValue) (r : short.Reply) : Type 0 where
   pub event : Event
   pub reply : Reply
   pub given : answered before event ≡ Some (b, reply)
   pub same : r ≡ told reply
 
 -- each event that was done, the last first, can be taken back from the board that it left, and has that reply
-abbrev pub AreWalked : Seen → List Walked → Type 0
+abbrev pub AreWalked : BoardValue → List Walked → Type 0
 AreWalked b [] = Unit {0}
 AreWalked b (w ∷ ws) = CanUndo w.undo b × Follows (undone w.undo b) b w.reply × AreWalked (undone w.undo b) ws

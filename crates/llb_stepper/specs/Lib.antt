@@ -1,10 +1,10 @@
 -- Read first Stepping (what a stepper is, what events and stops are), then Records (the lines of a record), Rules (what calls return) and
 -- Faults (the texts of refusals); Kept is what the type keeps, Told what the board's own types show of
--- replies, and ByKind what is kept of breakpoints.
+-- replies, and BreakpointSets what is kept of breakpoints.
 pub mod Stepping
 pub mod Records
 pub mod Rules
 pub mod Faults
 pub mod Kept
 pub mod Told
-pub mod ByKind
+pub mod BreakpointSets

@@ -1,8 +1,7 @@
 -- The lines of a record: an event by its number from 1, and its reply.
 use Rattle.std.specs.Prelude.{◌≡◌, ◌≤◌, ◌<◌, ◌+◌, ℕ, ◌-◌, ◌&&◌, nat_le, List, ◌++◌, length, codes, Option, Some, None, option_map, slice_get, if◌then◌else◌}
 use Rattle.std.specs.Fmt.{decimal}
-use Rattle.llb_ops.specs.declared.op.Kind.{Kind}
-use Rattle.llb_ops.specs.declared.op.Kind.TheVariants.{Exec, Source, File, Build, Merge, Diff}
+use Rattle.llb_ops.specs.Kinds.{kind_text}
 use Rattle.llb_loader.specs.declared.graph.Vertex.{Vertex}
 use Rattle.llb_model.specs.declared.fault.VertexFault.{VertexFault}
 use Rattle.llb_model.specs.declared.fault.VertexFault.TheVariants as vertex
@@ -10,18 +9,8 @@ use Rattle.llb_model.specs.State.{State, opening}
 use Rattle.llb_model.specs.Run.{run}
 use Rattle.llb_model.specs.Table.{Event, Claim, Step, Settle, Cancel, Reply, Claimed, HasRead, Acted, HasMerged, HasRun, Skipped, Faulted}
 use Rattle.llb_model.specs.Table.{SettledDone, SettledFailed, Cancelled}
-use Rattle.llb_state.specs.Board.{Seen}
+use Rattle.llb_board.specs.Seen.{BoardValue}
 use Rattle.llb_stepper.specs.Stepping.{Stepping, answered}
-
--- the kind of an op; no graph has an op of the last two, or of none
-abbrev pub kind_text : Option Kind → List ℕ
-kind_text (Some (Source s)) = codes "source"
-kind_text (Some (File f)) = codes "file"
-kind_text (Some (Merge m)) = codes "merge"
-kind_text (Some (Exec e)) = codes "exec"
-kind_text (Some (Build b)) = codes "build"
-kind_text (Some (Diff d)) = codes "diff"
-kind_text None = codes "none"
 
 -- an event as it is printed
 abbrev pub event_text : Event → List ℕ
@@ -77,10 +66,10 @@ abbrev pub record_text : List Vertex → ℕ → Event × Reply → List ℕ
 record_text vertices number p = decimal number ++ (codes " " ++ (event_text p.0 ++ (codes " -> " ++ reply_text vertices p.0 p.1)))
 
 -- an event on a board, with its reply, if there are both and the event is granted
-abbrev pub replied : Option Seen → Option Event → Option (Event × Reply)
+abbrev pub replied : Option BoardValue → Option Event → Option (Event × Reply)
 replied None e = None
 replied (Some b) None = None
-replied (Some b) (Some e) = option_map (λ (p : Seen × Reply). (e, p.1)) (answered b e)
+replied (Some b) (Some e) = option_map (λ (p : BoardValue × Reply). (e, p.1)) (answered b e)
 
 -- event i of the board's record, counted from 1, with its reply; none for an event that the board already had when the stepper was made
 abbrev pub record_at : Stepping → ℕ → Option (Event × Reply)

@@ -4,8 +4,9 @@ use Rattle.std.specs.List.{list_any}
 use Rattle.llb_wire.specs.Answer as answer
 use Rattle.llb_model.specs.Table.{Event, Reply}
 use Rattle.llb_model.specs.Run.{chosen}
-use Rattle.llb_state.specs.Board.{Seen}
-use Rattle.llb_board.specs.Undo.{walk_of, walk_memory}
+use Rattle.llb_board.specs.Seen.{BoardValue}
+use Rattle.llb_board.specs.Undo.{walk_of}
+use Rattle.llb_state.specs.Undo.{walk_memory}
 use Rattle.llb_board.specs.declared.walk.Reply as short
 use Rattle.llb_events.specs.declared.fault.WalkFault.{WalkFault}
 use Rattle.llb_stepper.specs.declared.fault.StepperFault.{StepperFault}
@@ -24,7 +25,7 @@ abbrev pub GivesEvent : {X Y : Type 0} → (X → Y) → Result X StepperFault �
 GivesEvent = answer.Gives stepper_memory
 
 -- one event, or the board's refusal of it
-abbrev pub done_by : Stepping → Result (Seen × short.Reply) WalkFault → Result Stepping StepperFault
+abbrev pub done_by : Stepping → Result (BoardValue × short.Reply) WalkFault → Result Stepping StepperFault
 done_by s (Ok p) = Ok (onward s p.0)
 done_by s (Err e) = Err (fault.Board e)
 
@@ -42,12 +43,12 @@ ThereAndBack s = (e : Event) (t u : Stepping) → done_of s e ≡ Ok t → GoesB
 
 -- one event was granted, and the stop says whether it meets a breakpoint
 abbrev pub MeetsOn : Stepping → Event → Stepping → Bool → Type 0
-MeetsOn s e t met = (b : Seen) × (r : Reply) × (answered s.board e ≡ Some (b, r)) × (t ≡ onward s b) × (met ≡ list_any (meets e r) s.breaks)
+MeetsOn s e t met = (b : BoardValue) × (r : Reply) × (answered s.board e ≡ Some (b, r)) × (t ≡ onward s b) × (met ≡ list_any (meets e r) s.breaks)
 
 -- Some event of a list is refused so, on the board to which those before it lead, of which none meets a breakpoint.
 pub record IsRefusedAt (s : Stepping) (es : List Event) (e : StepperFault) : Type 0 where
   pub count : ℕ
-  pub board : Seen
+  pub board : BoardValue
   pub leads : run_on s.board (take count es) ≡ Some board
   pub unmet : (k : ℕ) → k < count → meets_at s.breaks s.board es k ≡ false
   pub event : Event

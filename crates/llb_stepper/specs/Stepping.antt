@@ -6,25 +6,25 @@ use Rattle.llb_model.specs.Table.{Event, Claim, Step, Settle, Cancel, Reply, Cla
 use Rattle.llb_model.specs.Table.{SettledDone, SettledFailed, Cancelled, table}
 use Rattle.llb_model.specs.State.{State, opening}
 use Rattle.llb_model.specs.Run.{chosen}
-use Rattle.llb_state.specs.Board.{Seen, after_event}
+use Rattle.llb_board.specs.Seen.{BoardValue, after_event}
 use Rattle.llb_stepper.specs.declared.stop.Break.{Break}
 use Rattle.llb_stepper.specs.declared.stop.Break.TheVariants as stop
 use Rattle.llb_stepper.specs.declared.stop.Stop.{Stop}
 
 -- a stepper: its board, the boards before the events that it did, the latest first, and its breakpoints
 pub record Stepping : Type 0 where
-  pub board : Seen
-  pub past : List Seen
+  pub board : BoardValue
+  pub past : List BoardValue
   pub breaks : List Break
 
 -- ---- one event
 
 -- the board after an event, and the reply, if the table grants the event
-abbrev pub answered : Seen → Event → Option (Seen × Reply)
+abbrev pub answered : BoardValue → Event → Option (BoardValue × Reply)
 answered b e = option_map (λ (a : State × Reply). (after_event b e a.0, a.1)) (table b.build b.state e)
 
 -- a stepper on another board, after the one that it was on
-abbrev pub onward : Stepping → Seen → Stepping
+abbrev pub onward : Stepping → BoardValue → Stepping
 onward s b = record s { board = b; past = s.board ∷ s.past }
 
 -- the lesser of two numbers
@@ -79,56 +79,56 @@ meets e r (stop.Settles v) = settles v r
 meets e r stop.Fails = has_failed r
 
 -- whether an event meets one of the breakpoints, given what it leads to; a refused event meets none
-abbrev pub meets_by : List Break → Event → Option (Seen × Reply) → Bool
+abbrev pub meets_by : List Break → Event → Option (BoardValue × Reply) → Bool
 meets_by breaks e None = false
 meets_by breaks e (Some p) = list_any (meets e p.1) breaks
 
 -- whether an event that is done on a board meets one of the breakpoints
-abbrev pub meets_any : List Break → Seen → Event → Bool
+abbrev pub meets_any : List Break → BoardValue → Event → Bool
 meets_any breaks b e = meets_by breaks e (answered b e)
 
 -- ---- lists of events
 
 -- how a run of boards goes on: from the board after an event, if the event was granted
-abbrev pub then_on : Option (Seen × Reply) → (Seen → Option Seen) → Option Seen
+abbrev pub then_on : Option (BoardValue × Reply) → (BoardValue → Option BoardValue) → Option BoardValue
 then_on None go = None
 then_on (Some p) go = go p.0
 
 -- the board after a list of events, if each of them is granted
-unfoldable pub run_on : Seen → List Event → Option Seen
+unfoldable pub run_on : BoardValue → List Event → Option BoardValue
 run_on b [] = Some b
 run_on b (e ∷ es) = then_on (answered b e) (λ c. run_on c es)
 
 -- a test of the board after an event; false if the event was refused
-abbrev pub meets_from : Option (Seen × Reply) → (Seen → Bool) → Bool
+abbrev pub meets_from : Option (BoardValue × Reply) → (BoardValue → Bool) → Bool
 meets_from None go = false
 meets_from (Some p) go = go p.0
 
 -- whether event k of a list meets a breakpoint, on the board to which those before it lead
-unfoldable pub meets_at : List Break → Seen → List Event → ℕ → Bool
+unfoldable pub meets_at : List Break → BoardValue → List Event → ℕ → Bool
 meets_at breaks b [] k = false
 meets_at breaks b (e ∷ es) zero = meets_any breaks b e
 meets_at breaks b (e ∷ es) (suc k) = meets_from (answered b e) (λ c. meets_at breaks c es k)
 
 -- the board as it was opened, with no event done yet
-abbrev pub at_first : Seen → Seen
+abbrev pub at_first : BoardValue → BoardValue
 at_first b = record b { state = opening b.build b.opening; rows = b.first; events = [] }
 
 -- the events of a board's record, done one by one on that board as it was opened, lead to the board
-abbrev pub IsReplayed : Seen → Type 0
+abbrev pub IsReplayed : BoardValue → Type 0
 IsReplayed b = run_on (at_first b) b.events ≡ Some b
 
 -- Board k of the past is the one to which the record leads without its last k + 1 events.
 abbrev pub PastIsTheRecords : Stepping → Type 0
-PastIsTheRecords s = (k : ℕ) (c : Seen) → slice_get s.past k ≡ Some c
+PastIsTheRecords s = (k : ℕ) (c : BoardValue) → slice_get s.past k ≡ Some c
     → run_on (at_first s.board) (take (length s.board.events - (k + 1)) s.board.events) ≡ Some c
 
 -- the board now, and those before it, the latest first
-abbrev pub line : Stepping → List Seen
-line s = s.board ∷ s.past
+abbrev pub timeline : Stepping → List BoardValue
+timeline s = s.board ∷ s.past
 
 -- If the flag is true, the last of the n events meets a breakpoint; if it is false, the n events are the whole list and none of them meets one.
-abbrev pub EndsAt : Bool → List Break → Seen → List Event → ℕ → Type 0
+abbrev pub EndsAt : Bool → List Break → BoardValue → List Event → ℕ → Type 0
 EndsAt true breaks b es n = (k : ℕ) × ((n ≡ k + 1) × (meets_at breaks b es k ≡ true))
 EndsAt false breaks b es n = (n ≡ length es) × ((k : ℕ) → k < n → meets_at breaks b es k ≡ false)
 
@@ -136,7 +136,7 @@ EndsAt false breaks b es n = (n ≡ length es) × ((k : ℕ) → k < n → meets
 -- its breakpoints are those of s.
 pub record IsStop (s : Stepping) (es : List Event) (t : Stepping) (p : Stop) : Type 0 where
   pub leads : run_on s.board (take p.events es) ≡ Some t.board
-  pub past : drop p.events (line t) ≡ line s
+  pub past : drop p.events (timeline t) ≡ timeline s
   pub build : t.board.build ≡ s.board.build
   pub records : PastIsTheRecords t
   pub breaks : t.breaks ≡ s.breaks
@@ -144,12 +144,12 @@ pub record IsStop (s : Stepping) (es : List Event) (t : Stepping) (p : Stop) : T
   pub ends : EndsAt p.at_break s.breaks s.board es p.events
 
 -- the event was granted, and the board after it has the property
-abbrev pub ChosenThen : Option (Seen × Reply) → (Seen → Type 0) → Type 0
+abbrev pub ChosenThen : Option (BoardValue × Reply) → (BoardValue → Type 0) → Type 0
 ChosenThen None Are = ⊥
 ChosenThen (Some p) Are = Are p.0
 
 -- each event is granted, and is the chosen one on the board to which those before it lead
-unfoldable pub AreChosen : Seen → List Event → Type 0
+unfoldable pub AreChosen : BoardValue → List Event → Type 0
 AreChosen b [] = Unit {0}
 AreChosen b (e ∷ es) = (chosen b.build b.state ≡ Some e) × ChosenThen (answered b e) (λ c. AreChosen c es)
 

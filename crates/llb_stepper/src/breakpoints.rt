@@ -5,7 +5,7 @@ ghost use Rattle.std.specs.Prelude.{◌≡◌, ◌++◌, ◌∷◌, [], OnOk, On
 ghost use Rattle.std.specs.List.{list_any};
 ghost use Rattle.llb_events.specs.Views.{event_of};
 ghost use Rattle.llb_stepper.specs.Told.{meets_told};
-ghost use Rattle.llb_stepper.specs.ByKind.{AreKinds, AreKindsOfOneMore, AreUnchanged, is_met_by_event, is_met_by_reply};
+ghost use Rattle.llb_stepper.specs.BreakpointSets.{AreKinds, AreKindsOfOneMore, AreUnchanged, is_met_by_event, is_met_by_reply};
 
 use crate::stop::Break;
 use llb_board::{Event, Reply, Settled};
@@ -35,7 +35,7 @@ pub(crate) struct Breakpoints {
 impl Model for Breakpoints {
     ghost use Rattle.std.specs.Prelude.{List};
     ghost use Rattle.llb_stepper.specs.declared.stop.Break.{Break};
-    ghost use Rattle.llb_stepper.specs.ByKind.{AreKinds};
+    ghost use Rattle.llb_stepper.specs.BreakpointSets.{AreKinds};
 
     ghost Value = { List Break };
 

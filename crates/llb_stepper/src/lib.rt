@@ -9,7 +9,6 @@ mod stepper;
 mod stop;
 
 pub use fault::StepperFault;
-pub use record_text::kind_name;
 pub use stepper::{
     Stepper, chosen_is_done, past_is_the_records, record_is_the_run, replay_is_the_run,
     there_and_back,

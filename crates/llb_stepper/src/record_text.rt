@@ -2,31 +2,14 @@
 
 ghost use Rattle.std.specs.Prelude.{◌≡◌, IfOk, option_map, string_bytes};
 ghost use Rattle.llb_events.specs.Views.{event_of};
-ghost use Rattle.llb_stepper.specs.Records.{kind_text, event_text, claimed_text, pair_text, fault_text, vertex_of};
+ghost use Rattle.llb_stepper.specs.Records.{event_text, claimed_text, pair_text, fault_text, vertex_of};
 ghost use Rattle.llb_stepper.specs.Told.{step_text, settle_text, told_text, line_text};
 
 use llb_board::{Cancelled, Event, Reply, Settled, Stepped};
 use llb_loader::Vertex;
 use llb_model::VertexFault;
-use llb_ops::{Kind, Op};
+use llb_ops::kind_name;
 use std::alloc::{AllocError, Global};
-
-/// Returns the name of an op's kind. No graph has an op of the last two, or of none.
-pub fn kind_name(op: &Op) -> &'static str
-    ensures { result.now ≡ kind_text op.now.kind }
-{
-    match &op.kind {
-        Some(kind) => match kind {
-            Kind::Source(_) => "source",
-            Kind::File(_) => "file",
-            Kind::Merge(_) => "merge",
-            Kind::Exec(_) => "exec",
-            Kind::Build(_) => "build",
-            Kind::Diff(_) => "diff",
-        },
-        None => "none",
-    }
-}
 
 fn event_text(alloc: Global, event: Event) -> Result<String, AllocError>
     ensures { IfOk result (λ s. string_bytes s ≡ event_text (event_of event)) }

@@ -5,7 +5,7 @@ ghost use Rattle.std.specs.Prelude.{OnOk, OnErr, Some, string_bytes};
 ghost use Rattle.llb_model.specs.Run.{chosen};
 ghost use Rattle.llb_events.specs.Views.{event_of};
 ghost use Rattle.llb_stepper.specs.Rules.{GivesEvent, done_of, stepper_memory, IsRefusedAt, MeetsOn, ChosenIsDone, ThereAndBack};
-ghost use Rattle.llb_stepper.specs.Stepping.{GoesBack, IsStop, IsGo, IsReplayed, PastIsTheRecords, line, lesser};
+ghost use Rattle.llb_stepper.specs.Stepping.{GoesBack, IsStop, IsGo, IsReplayed, PastIsTheRecords, timeline, lesser};
 ghost use Rattle.llb_stepper.specs.Records.{record_at, record_text, RecordIsTheRun};
 ghost use Rattle.llb_stepper.specs.Told.{seen_pair, told_pair};
 ghost use Rattle.llb_stepper.specs.declared.fault.StepperFault.TheVariants as fault;
@@ -44,7 +44,7 @@ impl Drop for Stepper {
 impl Model for Stepper {
     ghost use Rattle.std.specs.Coded.{codes};
     ghost use Rattle.std.specs.Prelude.{reverse};
-    ghost use Rattle.llb_tree.specs.Tree.{coded_tree};
+    ghost use Rattle.llb_tree.specs.Coded.{coded_tree};
     ghost use Rattle.llb_board.specs.Store.{coded_store};
     ghost use Rattle.llb_stepper.specs.Stepping.{Stepping};
     ghost use Rattle.llb_stepper.specs.Kept.{stepping, AreWalked};
@@ -186,7 +186,7 @@ impl Stepper {
     // Takes `count` events back. Does not allocate.
     fn back_by(&mut self, count: usize)
         requires { count ≤ length self.old.past }
-        ensures line { line self.new ≡ drop count (line self.old) }
+        ensures timeline { timeline self.new ≡ drop count (timeline self.old) }
         ensures build { self.new.board.build ≡ self.old.board.build }
         ensures breaks { self.new.breaks ≡ self.old.breaks }
     {
@@ -197,7 +197,7 @@ impl Stepper {
 
     /// Takes back `count` of the last events, or all that were done here where they are fewer; breakpoints stay. Does not allocate.
     pub fn back_many(&mut self, count: usize)
-        ensures line { line self.new ≡ drop (lesser count (length self.old.past)) (line self.old) }
+        ensures timeline { timeline self.new ≡ drop (lesser count (length self.old.past)) (timeline self.old) }
         ensures build { self.new.board.build ≡ self.old.board.build }
         ensures breaks { self.new.breaks ≡ self.old.breaks }
     {

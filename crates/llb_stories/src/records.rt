@@ -5,7 +5,7 @@ use super::calls::{are_same, is_event_done, replayed};
 use super::farm::{have_one_tree, merge_on};
 use super::gates::Open;
 use super::told::row_holds;
-use llb_board::{At, Board, Event};
+use llb_board::{Board, Event, WorkerStatus};
 use llb_stepper::{Stepper, Stop};
 use llb_work::run_workers;
 use std::alloc::Global;
@@ -89,7 +89,7 @@ fn are_lines(rt: &impl Abort, alloc: Global, stepper: &Stepper, events: &[Event]
 fn is_run(board: &mut Board, v: u32) -> bool {
     let mut done = is_event_done(board, Event::Claim(0, v));
     for _ in 0..9 {
-        if board.worker(0) == Some(At::Idle) {
+        if board.worker(0) == Some(WorkerStatus::Idle) {
             return done;
         }
         if let Some(event) = board.chosen() {

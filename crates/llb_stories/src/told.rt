@@ -8,7 +8,7 @@ use super::instances::{K_LOCKED, K_PRIVATE, K_SEEDED, K_SHARED};
 use super::sessions::wanted;
 use super::written::{CacheRow, key_of};
 use llb_board::laws::headline;
-use llb_board::{At, Board, Event, Job};
+use llb_board::{Board, Event, Job, WorkerStatus};
 use llb_tree::Tree;
 use llb_treetext::print_tree;
 use llb_wire::Over;
@@ -41,11 +41,11 @@ fn say_runs(rt: &impl Abort, text: &mut String, v: u32, done: u32, finished: boo
     write!(text, "runs {v}, {done} done, {finished}\n").expect(rt, "memory");
 }
 
-fn say_worker(rt: &impl Abort, text: &mut String, at: Option<At>) {
-    match at {
+fn say_worker(rt: &impl Abort, text: &mut String, status: Option<WorkerStatus>) {
+    match status {
         None => say(rt, text, "none\n"),
-        Some(At::Idle) => say(rt, text, "idle\n"),
-        Some(At::Runs(v, done, finished)) => say_runs(rt, text, v, done, finished),
+        Some(WorkerStatus::Idle) => say(rt, text, "idle\n"),
+        Some(WorkerStatus::Runs(v, done, finished)) => say_runs(rt, text, v, done, finished),
     }
 }
 

@@ -7,7 +7,7 @@ use super::calls::{are_done, are_same, breaks_at, copy_of, goes_back, is_event_d
 use super::runs::{FAILS_FIRST, IN_A_ROW, TWO_FILES};
 use super::told::{is_answered, is_so, row_holds};
 use super::written::board_of;
-use llb_board::{At, Board, Event, Status};
+use llb_board::{Board, Event, Status, WorkerStatus};
 use llb_stepper::{Break, Stepper, Stop};
 use std::alloc::Global;
 use std::process::Abort;
@@ -122,7 +122,7 @@ fn is_two_before(board: &Board) -> bool {
     board.events().len() == 5
         && board.status(0) == Some(Status::Done)
         && board.status(1) == Some(Status::Running(1))
-        && board.worker(1) == Some(At::Runs(1, 1, true))
+        && board.worker(1) == Some(WorkerStatus::Runs(1, 1, true))
 }
 
 // Whether a replay of that record stops with a breakpoint at a claim of the merge, and is taken back from there.

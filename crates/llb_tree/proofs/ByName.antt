@@ -22,7 +22,8 @@ use Rattle.llb_tree.specs.declared.node.Child.{Child}
 use Rattle.llb_tree.specs.declared.node.Piece.{Piece}
 use Rattle.llb_tree.proofs.Orders.{is_less, and_first, and_second}
 
-or_None : (a : Option Entry) → option_or a None ≡ a
+-- nothing is no other choice
+pub or_None : (a : Option Entry) → option_or a None ≡ a
 or_None None = refl
 or_None (Some x) = refl
 

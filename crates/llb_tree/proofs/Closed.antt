@@ -9,7 +9,7 @@ use Rattle.llb_wire.specs.Spelling.{AreBytes}
 use Rattle.llb_tree.specs.Meta.{MetaValue, IsMeta}
 use Rattle.llb_tree.specs.Path.{path_cmp, IsPath}
 use Rattle.llb_tree.specs.PathOrder.{path_cmp-IsTotalOrder, path_cmp-IsAntisymmetric}
-use Rattle.llb_tree.specs.Tree.{Entry, Dir, File, Look, TreeMap, parents, all_dirs, walk, file_fits, IsDirAt, CanStand, IsTree}
+use Rattle.llb_tree.specs.Tree.{Entry, Dir, File, Look, TreeMap, parents, all_dirs, walk, file_fits, IsDirAt, IsAllowedAt, IsTree}
 use Rattle.llb_tree.specs.Inside.{walk-cons}
 
 tied : (o : Ordering) → is_eq o ≡ true → o ≡ Equal
@@ -40,12 +40,12 @@ walk_more f g more (n ∷ p) walks =
         let own = more [] (m, is) in
         walk-cons g n p ∙ ap (λ e. all_dirs (e ∷ map (λ q. g (n ∷ q)) (parents p))) own.1 ∙ rest walks
 
-stands_there : (p : List (List ℕ)) (e : Entry) → CanStand p e → (q : List (List ℕ)) (d : Entry) → q ≡ p → Some e ≡ Some d → CanStand q d
-stands_there p e can q d same is = let own : e ≡ d = cc in subst (λ x. CanStand x d) (sym same) (subst (CanStand p) own can)
+allowed_there : (p : List (List ℕ)) (e : Entry) → IsAllowedAt p e → (q : List (List ℕ)) (d : Entry) → q ≡ p → Some e ≡ Some d → IsAllowedAt q d
+allowed_there p e can q d same is = let own : e ≡ d = cc in subst (λ x. IsAllowedAt x d) (sym same) (subst (IsAllowedAt p) own can)
 
 module _ (t : TreeMap) (tree : IsTree t) (p : List (List ℕ)) (walks : walk (finite.get t) p ≡ Ok tt) where
   -- an entry that takes no directory's place keeps the tree
-  pub IsTree-insert : (e : Entry) → CanStand p e → ((q : List (List ℕ)) → IsDirAt (finite.get t) q → q ≡ p
+  pub IsTree-insert : (e : Entry) → IsAllowedAt p e → ((q : List (List ℕ)) → IsDirAt (finite.get t) q → q ≡ p
       → (m : MetaValue) × (Some e ≡ Some (Dir m))) → IsTree (finite.insert t p e)
   IsTree-insert e can dirs =
       let more : (q : List (List ℕ)) → IsDirAt (finite.get t) q → IsDirAt (finite.get (finite.insert t p e)) q =
@@ -54,7 +54,7 @@ module _ (t : TreeMap) (tree : IsTree t) (p : List (List ℕ)) (walks : walk (fi
         root = more [] tree.root;
         closed = λ q there. walk_more (finite.get t) (finite.get (finite.insert t p e)) more q
             (get-insert_cases (λ o. IsSome o → walk (finite.get t) q ≡ Ok tt) t p e q (λ same _. ap (walk (finite.get t)) same ∙ walks) (tree.closed q) there);
-        stands = λ q d. get-insert_cases (λ o. o ≡ Some d → CanStand q d) t p e q (stands_there p e can q d) (tree.stands q d);
+        allowed = λ q d. get-insert_cases (λ o. o ≡ Some d → IsAllowedAt q d) t p e q (allowed_there p e can q d) (tree.allowed q d);
       }
 
   -- so does a directory, whatever is there
@@ -73,8 +73,8 @@ single m = finite.insert finite.empty [] (Dir m)
 none_there : {C : Type 0} (q : List (List ℕ)) → IsSome (finite.get (finite.empty {X = Entry} {R = path_cmp}) q) → C
 none_there q some = absurd (true≢false (sym some ∙ ap is_some (finite.get-empty path_cmp q)))
 
-none_stands : (q : List (List ℕ)) (d : Entry) → finite.get (finite.empty {X = Entry} {R = path_cmp}) q ≡ Some d → CanStand q d
-none_stands q d is = none_there q (ap is_some is)
+none_allowed : (q : List (List ℕ)) (d : Entry) → finite.get (finite.empty {X = Entry} {R = path_cmp}) q ≡ Some d → IsAllowedAt q d
+none_allowed q d is = none_there q (ap is_some is)
 
 root_path : IsPath []
 root_path = record { short = omega arith; named = λ k d lt. absurd (omega arith) }
@@ -85,6 +85,6 @@ IsTree-empty m is = record {
   root = (m, finite.get-insert path_cmp-IsTotalOrder finite.empty [] (Dir m) []);
   closed = λ q. get-insert_cases (λ o. IsSome o → walk (finite.get (single m)) q ≡ Ok tt) finite.empty [] (Dir m) q
       (λ same _. ap (walk (finite.get (single m))) same) (none_there q);
-  stands = λ q d. get-insert_cases (λ o. o ≡ Some d → CanStand q d) finite.empty [] (Dir m) q
-      (stands_there [] (Dir m) (record { path = root_path; meta = is; bytes = tt }) q d) (none_stands q d);
+  allowed = λ q d. get-insert_cases (λ o. o ≡ Some d → IsAllowedAt q d) finite.empty [] (Dir m) q
+      (allowed_there [] (Dir m) (record { path = root_path; meta = is; bytes = tt }) q d) (none_allowed q d);
 }

@@ -19,6 +19,7 @@ use Rattle.llb_tree.specs.Looks.{look_kids, get-below, get-root}
 use Rattle.llb_tree.specs.declared.node.Kind.{Kind}
 use Rattle.llb_tree.specs.declared.node.Child.{Child}
 use Rattle.llb_tree.proofs.Orders.{is_less, less_is, below_first, and_first, and_second, and_both}
+use Rattle.llb_tree.proofs.ByName.{or_None}
 
 -- the same is found below two lists of children
 abbrev pub Alike : List Child → List Child → Type 0
@@ -39,10 +40,6 @@ nodes_same a b = (
     by_path : own_entry a ≡ own_entry b → Alike (kids_of a) (kids_of b) → (q : List (List ℕ)) → finite.get (map_of a) q ≡ finite.get (map_of b) q
     by_path own alike [] = get-root a ∙ ap (λ e. Some e) own ∙ sym (get-root b)
     by_path own alike (n ∷ q) = get-below a n q ∙ alike n q ∙ sym (get-below b n q)
-
-or_None : (a : Option Entry) → option_or a None ≡ a
-or_None None = refl
-or_None (Some x) = refl
 
 or_some : (a b : Option Entry) → is_some a ≡ true → is_some (option_or a b) ≡ true
 or_some None b there = absurd (true≢false (sym there))

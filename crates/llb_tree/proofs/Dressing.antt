@@ -11,7 +11,7 @@ use Rattle.llb_tree.specs.Path.{name_cmp, path_cmp}
 use Rattle.llb_tree.specs.PathOrder.{path_cmp-IsTotalOrder, path_cmp-IsAntisymmetric}
 use Rattle.llb_tree.specs.Tree.{TreeMap, Entry, Dir, File}
 use Rattle.llb_tree.specs.Nodes.{own_entry, kids_of, map_of, pair_of, AreSorted, child, look_in}
-use Rattle.llb_tree.specs.Overlay.{WayValue, given, over}
+use Rattle.llb_tree.specs.Overlay.{WayValue, laid_meta, over}
 use Rattle.llb_tree.specs.Laying.{dress, dress_pair}
 use Rattle.llb_tree.specs.Looks.{get-root}
 use Rattle.llb_tree.specs.declared.node.Kind.{Kind}
@@ -41,17 +41,17 @@ get-dress w t q =
     ∙ find_mapped path_cmp (worn w) q (finite.entries t) ∙ ap (option_map (worn w)) (sym (finite.get-entries t q))
 
 -- a way without modes and owners changes nothing
-worn_same : (w : WayValue) (e : Entry) → ((m : MetaValue) → given w m ≡ m) → worn w e ≡ e
+worn_same : (w : WayValue) (e : Entry) → ((m : MetaValue) → laid_meta w m ≡ m) → worn w e ≡ e
 worn_same w (Dir m) same = ap Dir (same m)
 worn_same w (File m b) same = ap (λ x. File x b) (same m)
 
 -- and none of what is there, if anything is
-pub worn_all : (w : WayValue) (o : Option Entry) → ((m : MetaValue) → given w m ≡ m) → option_map (worn w) o ≡ o
+pub worn_all : (w : WayValue) (o : Option Entry) → ((m : MetaValue) → laid_meta w m ≡ m) → option_map (worn w) o ≡ o
 worn_all w None same = refl
 worn_all w (Some e) same = ap (λ x. Some x) (worn_same w e same)
 
 -- where each mode and owner would be given as it is, dressing changes nothing
-pub dress_same : (w : WayValue) (t : TreeMap) → ((m : MetaValue) → given w m ≡ m) → dress w t ≡ t
+pub dress_same : (w : WayValue) (t : TreeMap) → ((m : MetaValue) → laid_meta w m ≡ m) → dress w t ≡ t
 dress_same w t same = finite.same_map path_cmp-IsTotalOrder path_cmp-IsAntisymmetric (dress w t) t (λ q. get-dress w t q ∙ worn_all w (finite.get t q) same)
 
 -- ---- children

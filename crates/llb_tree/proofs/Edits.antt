@@ -79,7 +79,7 @@ module _ (t new other : TreeMap) (d e n : ℕ) (p : List (List ℕ)) (whole : Is
       at : (o : Option Entry) (q : List (List ℕ)) → finite.get other q ≡ o → is_some o ≡ true → length p + length q ≤ 128
       at None q is there = absurd (cc)
       at (Some x) q is there = let h =
-          (tree.stands (p ++ q) x (ap (λ s. finite.get s (p ++ q)) same ∙ get_inside t p other q ∙ is)).path.short in omega (arith, h, length-append p q)
+          (tree.allowed (p ++ q) x (ap (λ s. finite.get s (p ++ q)) same ∙ get_inside t p other q ∙ is)).path.short in omega (arith, h, length-append p q)
 
       deep : (q : List (List ℕ)) → is_some (finite.get other q) ≡ true → length p + length q ≤ 128
       deep q there = at (finite.get other q) q refl there

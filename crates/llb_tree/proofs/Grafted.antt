@@ -12,7 +12,7 @@ use Rattle.std.specs.FinMap as finite
 use Rattle.llb_tree.specs.Path.{is_name, path_cmp, is_within, IsPath}
 use Rattle.llb_tree.specs.PathOrder.{path_cmp-IsTotalOrder, path_cmp-IsAntisymmetric}
 use Rattle.llb_tree.specs.Meta.{MetaValue}
-use Rattle.llb_tree.specs.Tree.{Entry, Dir, File, Look, TreeMap, parents, all_dirs, walk, moved, without, with_tree, places_fit, graft, CanStand, IsTree}
+use Rattle.llb_tree.specs.Tree.{Entry, Dir, File, Look, TreeMap, parents, all_dirs, walk, moved, without, with_tree, places_fit, graft, IsAllowedAt, IsTree}
 use Rattle.llb_tree.specs.declared.fault.TreeFault.{TreeFault}
 use Rattle.llb_tree.specs.declared.fault.TreeFault.TheVariants.{BadName}
 use Rattle.llb_wire.specs.Answer.{◌>>=◌}
@@ -156,10 +156,10 @@ module _ (t : TreeMap) (tree : IsTree t) (p : List (List ℕ)) (path : IsPath p)
         (ap (λ look. walk look q) (λ i r. get_inside t p other r i) ∙ tree2.closed q (subst IsSome (get_inside t p other q) there)))
         (λ q out there. sym (walk_beside (finite.get t) (finite.get grafted) p q same_above out)
         ∙ tree.closed q (subst IsSome (get_outside t p other q out) there));
-    stands = λ q e. by_place (λ q. finite.get grafted q ≡ Some e → CanStand q e)
+    allowed = λ q e. by_place (λ q. finite.get grafted q ≡ Some e → IsAllowedAt q e)
         (λ q is.
         let there = sym (get_inside t p other q) ∙ is in
-        let can = tree2.stands q e there in
+        let can = tree2.allowed q e there in
         let le = fits_there p q e (finite.entries other) fit (sym (finite.get-entries other q) ∙ there) in
         record {
           path = record {
@@ -170,7 +170,7 @@ module _ (t : TreeMap) (tree : IsTree t) (p : List (List ℕ)) (path : IsPath p)
           meta = can.meta;
           bytes = can.bytes;
         })
-        (λ q out is. tree.stands q e (sym (get_outside t p other q out) ∙ is)) q;
+        (λ q out is. tree.allowed q e (sym (get_outside t p other q out) ∙ is)) q;
   }
 
 -- a graft with directories all the way to its path, and with room for all its places, results in the tree with the other in it

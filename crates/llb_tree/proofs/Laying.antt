@@ -8,7 +8,7 @@ use Rattle.llb_tree.specs.Meta.{MetaValue}
 use Rattle.llb_tree.specs.Path.{name_cmp}
 use Rattle.llb_tree.specs.Tree.{TreeMap, Entry, Dir, File, Look, parents}
 use Rattle.llb_tree.specs.Nodes.{name_of, own_entry, kids_of, map_of, pair_of, place, AreSorted, child, look_in}
-use Rattle.llb_tree.specs.Overlay.{is_file, below_file, WayValue, given, over, laid_over, over_at}
+use Rattle.llb_tree.specs.Overlay.{is_file, below_file, WayValue, laid_meta, over, laid_over, over_at}
 use Rattle.llb_tree.specs.Laying.{Lays}
 use Rattle.llb_tree.specs.Looks.{look_kids, get-below, get-root}
 use Rattle.std.specs.Arc.{arc_value}
@@ -46,7 +46,7 @@ pub record IsLone (f : Look) : Type 0 where
 pub over_file : (w : WayValue) (f g : Look) (q : List (List ℕ)) → IsLone g → over_at w f g q ≡ option_map (over w None) (g q)
 over_file w f g [] lone = let at = lone.at in ap (λ o. laid_over w (f []) o false) at.2 ∙ go (f []) at.0 at.1 ∙ ap (option_map (over w None)) (sym at.2)
   where
-    go : (o : Option Entry) (m : MetaValue) (b : List ℕ) → ◌≡◌ {A = Option Entry} (Some (over w o (File m b))) (Some (File (given w m) b))
+    go : (o : Option Entry) (m : MetaValue) (b : List ℕ) → ◌≡◌ {A = Option Entry} (Some (over w o (File m b))) (Some (File (laid_meta w m) b))
     go None m b = refl
     go (Some (Dir k)) m b = refl
     go (Some (File k c)) m b = refl

@@ -32,5 +32,5 @@ pub mod Sharing
 pub mod Thinning
 pub mod Thinned
 pub mod Found
-pub mod Alike
-pub mod Near
+pub mod SameNames
+pub mod TriedPlaces

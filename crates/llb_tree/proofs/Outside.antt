@@ -55,7 +55,7 @@ module _ (t : TreeMap) (tree : IsTree t) (n : List ℕ) (p : List (List ℕ)) wh
         sym (walk_beside (finite.get t) (finite.get (without t (n ∷ p))) (n ∷ p) q
         (λ r beside. sym (get-without t (n ∷ p) r ∙ ap (λ b. cond (not b) (finite.get t r) None) beside)) out)
         ∙ tree.closed q (subst IsSome (sym is) there));
-    stands = λ q e is. left_there q (Some e) is refl (λ out same. tree.stands q e same);
+    allowed = λ q e is. left_there q (Some e) is refl (λ out same. tree.allowed q e same);
   }
 
 -- a removal that is not refused

@@ -5,9 +5,9 @@ use Rattle.std.proofs.lemmas.Bool.{ltb-false}
 use Rattle.std.specs.List.{list_any}
 use Rattle.std.specs.FinMap as finite
 use Rattle.llb_tree.specs.Meta.{MetaValue, IsMeta}
-use Rattle.llb_tree.specs.Tree.{Entry, Dir, File, TreeMap, Look, meta_in, parents, all_dirs, walk, height, IsDirAt, HasBytes, CanStand, IsTree}
+use Rattle.llb_tree.specs.Tree.{Entry, Dir, File, TreeMap, Look, meta_in, parents, all_dirs, walk, height, IsDirAt, HasBytes, IsAllowedAt, IsTree}
 use Rattle.llb_tree.specs.Falls.{height_le, le_height}
-use Rattle.llb_tree.specs.Overlay.{is_file, below_file, WayValue, is_mode, given, over, laid_over, over_at}
+use Rattle.llb_tree.specs.Overlay.{is_file, below_file, WayValue, is_mode, laid_meta, over, laid_over, over_at}
 use Rattle.llb_tree.specs.Laying.{IsWay, owner_fits}
 use Rattle.llb_tree.specs.Inside.{map-map, walk-cons}
 use Rattle.llb_tree.proofs.Closed.{walk_more}
@@ -20,9 +20,9 @@ below_file-cons look n p = ap (λ ys. list_any is_file (look [] ∷ ys)) (map-ma
 
 -- the entry of the lower tree decides nothing where it is no directory
 dir_at : (w : WayValue) (there : Option Entry) (k : MetaValue) → (m : MetaValue) × (over w there (Dir k) ≡ Dir m)
-dir_at w None k = (given w k, refl)
-dir_at w (Some (File m b)) k = (given w k, refl)
-dir_at w (Some (Dir m)) k = (cond w.keeps m (given w k), refl)
+dir_at w None k = (laid_meta w k, refl)
+dir_at w (Some (File m b)) k = (laid_meta w k, refl)
+dir_at w (Some (Dir m)) k = (cond w.keeps m (laid_meta w k), refl)
 
 -- an entry of the whole is the upper tree's over what the lower one has there, or is the lower one's that nothing hides
 laid_cases : (C : Type 0) (w : WayValue) (f g : Look) (q : List (List ℕ)) (e : Entry) → ((d : Entry) → g q ≡ Some d → over w (f q) d ≡ e → C)
@@ -73,7 +73,7 @@ small_owner : (o : Option ℕ) (m : ℕ) → owner_fits o → m < 2 ^ 32 → unw
 small_owner None m fits lt = lt
 small_owner (Some x) m fits lt = fits
 
-given_meta : (w : WayValue) (m : MetaValue) → IsWay w → IsMeta m → IsMeta (given w m)
+given_meta : (w : WayValue) (m : MetaValue) → IsWay w → IsMeta m → IsMeta (laid_meta w m)
 given_meta w m way is = record {
   mode = small_mode w.mode m.mode way.mode is.mode;
   uid = small_owner w.uid m.uid way.uid is.uid;
@@ -87,7 +87,8 @@ over_meta w None (File k c) way lower is = given_meta w k way is
 over_meta w (Some (File m b)) (Dir k) way lower is = given_meta w k way is
 over_meta w (Some (File m b)) (File k c) way lower is = given_meta w k way is
 over_meta w (Some (Dir m)) (File k c) way lower is = given_meta w k way is
-over_meta w (Some (Dir m)) (Dir k) way lower is = elim w.keeps as (λ b. IsMeta (cond b m (given w k))) [ true ↦ lower m refl | false ↦ given_meta w k way is ]
+over_meta w (Some (Dir m)) (Dir k) way lower is = elim w.keeps as
+    (λ b. IsMeta (cond b m (laid_meta w k))) [ true ↦ lower m refl | false ↦ given_meta w k way is ]
 
 over_bytes : (w : WayValue) (there : Option Entry) (d : Entry) → HasBytes d → HasBytes (over w there d)
 over_bytes w None (Dir k) bytes = tt
@@ -123,13 +124,13 @@ module _ (w : WayValue) (a b t : TreeMap) (is : (q : List (List ℕ)) → finite
             (λ d up _. walk_more (finite.get b) (over_at w (finite.get a) (finite.get b)) (dir_over w (finite.get a) (finite.get b)) p
             (upper.closed p (ap is_some up)))
             (λ none clear low. walk_both w (finite.get a) (finite.get b) p (lower.closed p (ap is_some low)) clear) some.1;
-        stands = λ p e. by_entry (CanStand p e) p e
+        allowed = λ p e. by_entry (IsAllowedAt p e) p e
             (λ d up same.
-            let can = upper.stands p d up in
-            let own = over_meta w (finite.get a p) d way (λ m low. (lower.stands p (Dir m) low).meta) can.meta in
+            let can = upper.allowed p d up in
+            let own = over_meta w (finite.get a p) d way (λ m low. (lower.allowed p (Dir m) low).meta) can.meta in
             let bytes = over_bytes w (finite.get a p) d can.bytes in
             record { path = can.path; meta = subst (λ x. IsMeta (meta_in x)) same own; bytes = subst HasBytes same bytes })
-            (λ none clear low. lower.stands p e low);
+            (λ none clear low. lower.allowed p e low);
       }
 
   -- and it is no higher than the higher of the two

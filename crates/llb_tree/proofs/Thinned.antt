@@ -51,7 +51,7 @@ module _ {X : Type 0} (passes : X → List ℕ → Bool) where
       closed = λ q there. left_there (x ∷ ts) t q (finite.get (thin passes (x ∷ ts) t) q) refl there (λ out is.
           ap (λ look. walk look q) (λ i r. get-thin (x ∷ ts) t r i) ∙ walk_left (finite.get t) (x ∷ ts) q out
           ∙ tree.closed q (subst IsSome (sym is) there));
-      stands = λ q e is. left_there (x ∷ ts) t q (Some e) is refl (λ out same. tree.stands q e same);
+      allowed = λ q e is. left_there (x ∷ ts) t q (Some e) is refl (λ out same. tree.allowed q e same);
     }
 
     -- what is left of a tree is whole, and the result of the rule

@@ -21,6 +21,7 @@ use Rattle.llb_tree.specs.declared.node.Kind.{Kind}
 use Rattle.llb_tree.specs.declared.node.Child.{Child}
 use Rattle.llb_tree.proofs.Orders.{and_first, and_second, and_both}
 use Rattle.llb_tree.proofs.Entries.{entries-map_of, entries-root}
+use Rattle.llb_tree.proofs.ByName.{or_None}
 
 abbrev pub keys_of : List Pair → List (List (List ℕ))
 keys_of = map (λ e. e.0)
@@ -63,10 +64,6 @@ sorted_swap m a b [] ys = refl
 sorted_swap m a b (x ∷ xs) ys = λ i. below_swap x.0 m a b xs ys i && sorted_swap m a b xs ys i
 
 -- ---- looks among children
-
-or_None : (a : Option Entry) → option_or a None ≡ a
-or_None None = refl
-or_None (Some x) = refl
 
 or_or : (a b c : Option Entry) → option_or (option_or a b) c ≡ option_or a (option_or b c)
 or_or None b c = refl

@@ -87,8 +87,8 @@ IsTree-tree_at t p tree there =
       root = (root.0, get-tree_at t p [] ∙ ap (finite.get t) (append-nil p) ∙ root.1);
       closed = λ q here. ap (λ look. walk look q) (λ i r. get-tree_at t p r i)
           ∙ walk_below (finite.get t) p q (tree.closed (p ++ q) (subst IsSome (get-tree_at t p q) here));
-      stands = λ q e is.
-          let can = tree.stands (p ++ q) e (sym (get-tree_at t p q) ∙ is) in
+      allowed = λ q e is.
+          let can = tree.allowed (p ++ q) e (sym (get-tree_at t p q) ∙ is) in
           record { path = path_below p q can.path; meta = can.meta; bytes = can.bytes };
     }
 

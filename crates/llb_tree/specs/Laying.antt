@@ -6,7 +6,7 @@ use Rattle.llb_tree.specs.Path.{name_cmp}
 use Rattle.llb_tree.specs.Tree.{TreeMap, Entry}
 use Rattle.llb_tree.specs.Nodes.{AreSorted, Pairs, child, look_in, name_of, pair_of, rows_in}
 use Rattle.llb_tree.specs.Meta.{MetaValue}
-use Rattle.llb_tree.specs.Overlay.{WayValue, is_mode, given, over, over_at}
+use Rattle.llb_tree.specs.Overlay.{WayValue, is_mode, laid_meta, over, over_at}
 use Rattle.llb_tree.specs.declared.node.Child.{Child}
 use Rattle.llb_tree.specs.declared.node.Piece.{Piece}
 
@@ -46,7 +46,7 @@ PiecesLaid w old (u ∷ upper) (p ∷ made) = AreLaid w old (rows_in u) (rows_in
 
 -- an entry that is laid stays as it is, whatever was there
 pub record TakesWhole (w : WayValue) : Type 0 where
-  pub own : (m : MetaValue) → given w m ≡ m
+  pub own : (m : MetaValue) → laid_meta w m ≡ m
   pub upper : w.keeps ≡ false
 
 -- children are laid without change

@@ -29,15 +29,15 @@ abbrev pub way_of : Option ℕ → Option ℕ → Option ℕ → Bool → Option
 way_of mode uid gid keeps = if is_mode mode then Some (record { mode = mode; uid = uid; gid = gid; keeps = keeps }) else None
 
 -- the mode and the owner that are given, and an entry's own where none is
-abbrev pub given : WayValue → MetaValue → MetaValue
-given w m = record { mode = unwrap_or w.mode m.mode; uid = unwrap_or w.uid m.uid; gid = unwrap_or w.gid m.gid }
+abbrev pub laid_meta : WayValue → MetaValue → MetaValue
+laid_meta w m = record { mode = unwrap_or w.mode m.mode; uid = unwrap_or w.uid m.uid; gid = unwrap_or w.gid m.gid }
 
 -- an entry of the upper tree, over what the lower one has there
 abbrev pub over : WayValue → Option Entry → Entry → Entry
-over w (Some (Dir m)) (Dir k) = Dir (if w.keeps then m else given w k)
-over w (Some (File m b)) (Dir k) = Dir (given w k)
-over w None (Dir k) = Dir (given w k)
-over w there (File k c) = File (given w k) c
+over w (Some (Dir m)) (Dir k) = Dir (if w.keeps then m else laid_meta w k)
+over w (Some (File m b)) (Dir k) = Dir (laid_meta w k)
+over w None (Dir k) = Dir (laid_meta w k)
+over w there (File k c) = File (laid_meta w k) c
 
 -- the entry at a path where the lower tree has this, and the upper one that, or nothing, with a file above it or not
 abbrev pub laid_over : WayValue → Option Entry → Option Entry → Bool → Option Entry

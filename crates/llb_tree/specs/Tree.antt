@@ -2,12 +2,11 @@
 -- the map after it or the first fault. Nothing here knows how a tree is kept.
 use denote.Param.Weighed.{most}
 use Rattle.std.specs.Prelude.{◌≡◌, ℕ, Bool, true, false, List, [], ◌∷◌, ◌++◌, ◌==◌, ◌+◌, ◌&&◌, nat_lt, if◌then◌else◌, length, drop, map}
-use Rattle.std.specs.Prelude.{Option, Some, None, IsSome, not, Result, Ok, Err, refl}
+use Rattle.std.specs.Prelude.{Option, Some, None, IsSome, not, Result, Ok, Err}
 use Rattle.std.specs.List.{flat_map}
 use Rattle.std.specs.FinMap as finite
 use Rattle.std.specs.FinMap.{FinMap}
 use Rattle.std.specs.FinMap.Entries.{where_key}
-use Rattle.std.specs.Coded.{Coded, code_by, coded×, coded_ℕ, coded_list, coded_option}
 use Rattle.llb_wire.specs.Answer.{◌>>=◌}
 use Rattle.llb_wire.specs.Spelling.{AreBytes}
 use Rattle.llb_tree.specs.Path.{path_cmp, IsPath, is_within}
@@ -26,29 +25,9 @@ abbrev pub meta_in : Entry → MetaValue
 meta_in (Dir m) = m
 meta_in (File m bytes) = m
 
--- an entry is stored as its meta, and the content of a file
-abbrev pub packed : Entry → (ℕ × (ℕ × ℕ)) × Option (List ℕ)
-packed (Dir m) = ((m.mode, (m.uid, m.gid)), None)
-packed (File m bytes) = ((m.mode, (m.uid, m.gid)), Some bytes)
-
-abbrev pub unpacked : (ℕ × (ℕ × ℕ)) × Option (List ℕ) → Entry
-unpacked (m, None) = Dir (record { mode = m.0; uid = m.1.0; gid = m.1.1 })
-unpacked (m, Some bytes) = File (record { mode = m.0; uid = m.1.0; gid = m.1.1 }) bytes
-
-pub unpacked-packed : (e : Entry) → unpacked (packed e) ≡ e
-unpacked-packed (Dir m) = refl
-unpacked-packed (File m bytes) = refl
-
-abbrev pub coded_entry : Coded Entry
-coded_entry = code_by ((ℕ × (ℕ × ℕ)) × Option (List ℕ))
-    (coded× (coded× coded_ℕ (coded× coded_ℕ coded_ℕ)) (coded_option (coded_list coded_ℕ))) packed unpacked unpacked-packed
-
 -- a tree, from whole paths to entries
 abbrev pub TreeMap : Type 0
 TreeMap = FinMap path_cmp Entry
-
-abbrev pub coded_tree : Coded TreeMap
-coded_tree = finite.code (coded_list (coded_list coded_ℕ)) coded_entry
 
 -- the height of a tree: one more than the names of its longest path
 abbrev pub height : TreeMap → ℕ
@@ -170,7 +149,7 @@ HasBytes (Dir m) = Unit {0}
 HasBytes (File m content) = AreBytes content
 
 -- an entry that is allowed at a path: this is a path, at most 128 names, the entry has a mode and owners, and bytes as content
-pub record CanStand (p : List (List ℕ)) (e : Entry) : Type 0 where
+pub record IsAllowedAt (p : List (List ℕ)) (e : Entry) : Type 0 where
   pub path : IsPath p
   pub meta : IsMeta (meta_in e)
   pub bytes : HasBytes e
@@ -179,4 +158,4 @@ pub record CanStand (p : List (List ℕ)) (e : Entry) : Type 0 where
 pub record IsTree (t : TreeMap) : Type 0 where
   pub root : IsDirAt (finite.get t) []
   pub closed : (p : List (List ℕ)) → IsSome (finite.get t p) → walk (finite.get t) p ≡ Ok tt
-  pub stands : (p : List (List ℕ)) (e : Entry) → finite.get t p ≡ Some e → CanStand p e
+  pub allowed : (p : List (List ℕ)) (e : Entry) → finite.get t p ≡ Some e → IsAllowedAt p e

@@ -1,17 +1,13 @@
-//! Children that others cover: where each of their names is one of the others', laying the others over them makes children of the others'
-//! names alone, and what differs from the others is written into second owners of those.
+//! Children that others cover: each of their names is one of the others', so that laying the others over them makes children of the others'
+//! names alone.
 
-ghost use Rattle.std.specs.Prelude.{◌≡◌, ◌<◌, ℕ, List, length, IsTrue, IfOk, IfSome, is_some, true, map, set};
-ghost use Rattle.llb_tree.specs.Nodes.{child, kids_in, left_in, name_of, pair_of};
-ghost use Rattle.llb_tree.specs.Pieces.{row_pairs};
-ghost use Rattle.llb_tree.specs.Laying.{Covers, HasLater, those, those_pieces, written};
+ghost use Rattle.std.specs.Prelude.{◌≡◌, IsTrue, IfSome, map};
+ghost use Rattle.llb_tree.specs.Nodes.{kids_in, left_in, name_of};
+ghost use Rattle.llb_tree.specs.Laying.{Covers, HasLater};
 
 use crate::children::Children;
-use crate::edit::copies;
 use crate::name::Name;
-use crate::node::{Child, Node, Piece};
-use crate::pieces::second_owners;
-use std::alloc::{AllocError, Global};
+use crate::node::{Child, Piece};
 use std::cmp::Ordering;
 
 // The children after the one of a name, where they are in the order of their names; none where no child has it.
@@ -81,42 +77,4 @@ fn has_all(upper: Children<'_>, lower: Children<'_>) -> bool
         left = others;
     }
     true
-}
-
-// Writes a node as the child at a place among those made, or among second owners of the upper ones where none are made.
-pub(crate) fn with_node(
-    made: Option<Vec<Child>>,
-    alloc: Global,
-    upper: &[Child],
-    i: usize,
-    node: Node,
-) -> Result<Vec<Child>, AllocError>
-    requires { i < length (those made upper.now) }
-    ensures { IfOk result (λ v. map pair_of v.items ≡ written i node (map pair_of (those made upper.now))) }
-{
-    let mut list = match made {
-        Some(list) => list,
-        None => copies(alloc, upper)?,
-    };
-    list[i].node = node;
-    Ok(list)
-}
-
-// Puts rows in the place of a piece among those made, or among second owners of the upper ones where none are made.
-pub(crate) fn with_rows(
-    made: Option<Vec<Piece>>,
-    alloc: Global,
-    upper: &[Piece],
-    i: usize,
-    rows: Vec<Child>,
-) -> Result<Vec<Piece>, AllocError>
-    requires { i < length (those_pieces made upper.now) }
-    ensures { IfOk result (λ v. map row_pairs v.items ≡ set (map row_pairs (those_pieces made upper.now)) i (map pair_of rows.items)) }
-{
-    let mut list = match made {
-        Some(list) => list,
-        None => second_owners(alloc, upper)?,
-    };
-    list[i] = Piece::of(alloc, rows)?;
-    Ok(list)
 }

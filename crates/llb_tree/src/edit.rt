@@ -84,6 +84,7 @@ fn set_rows(
 {
     own(alloc, rows)?;
     match Arc::get_mut(rows) {
+        // Unreachable.
         None => Err(AllocError),
         Some(list) => set_in(list, alloc, name, rest, branch),
     }
@@ -126,6 +127,7 @@ fn set_below(
 {
     own_list(alloc, kids)?;
     match Arc::get_mut(kids) {
+        // Unreachable.
         None => Err(AllocError),
         Some(pieces) => set_piece(pieces, alloc, name, rest, branch),
     }

@@ -26,6 +26,7 @@ mod tested;
 mod tree;
 mod walk;
 mod way;
+mod writing;
 
 pub use children::Children;
 pub use content::Content;

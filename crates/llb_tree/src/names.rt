@@ -26,6 +26,7 @@ impl Model for Names {
 }
 
 impl Names {
+    // The list of these names.
     pub(crate) fn new(names: Vec<Name>) -> Names
         ensures { result ≡ names.items }
     {

@@ -31,6 +31,7 @@ pub struct Node {
     pub(crate) kind: Kind,
 }
 
+// A file with its content, or a directory with the pieces of its children; each with its mode and owner.
 #[cycle(node)]
 #[derive(Drop)]
 pub(crate) enum Kind {
@@ -54,7 +55,8 @@ pub struct Child {
 }
 
 impl Model for Node {
-    ghost use Rattle.llb_tree.specs.Tree.{TreeMap, coded_tree, height};
+    ghost use Rattle.llb_tree.specs.Tree.{TreeMap, height};
+    ghost use Rattle.llb_tree.specs.Coded.{coded_tree};
 
     ghost Value = { TreeMap };
 

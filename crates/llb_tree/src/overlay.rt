@@ -14,13 +14,14 @@ ghost use Rattle.llb_tree.specs.Laying.{Lays, IsLaid, AreLaid, PiecesLaid, IsOve
 ghost use Rattle.llb_tree.specs.Laying.{TakesWhole, StandWhole, Covers, those, those_pieces, dress, dress_pair};
 
 use crate::children::Children;
-use crate::covering::{covers, with_node, with_rows};
+use crate::covering::covers;
 use crate::fault::TreeFault;
 use crate::node::{Child, Kind, Node, Piece};
 use crate::pieces::{child_near, child_of, in_pieces};
 use crate::putting::put_all;
 use crate::tree::Tree;
 use crate::way::Way;
+use crate::writing::{with_node, with_rows};
 use std::alloc::{AllocError, Global};
 use std::sync::Arc;
 
@@ -34,10 +35,10 @@ fn dressed(node: &Node, alloc: Global, way: &Way) -> Result<Node, AllocError>
         return node.copy();
     }
     let kind = match &node.kind {
-        Kind::File(meta, content) => Kind::File(way.given(*meta), Arc::try_clone(content)?),
+        Kind::File(meta, content) => Kind::File(way.laid_meta(*meta), Arc::try_clone(content)?),
         Kind::Dir(meta, kids) => {
             let list = all_dressed(Children::of(kids.as_slice()), alloc, way)?;
-            Kind::Dir(way.given(*meta), in_pieces(alloc, list)?)
+            Kind::Dir(way.laid_meta(*meta), in_pieces(alloc, list)?)
         }
     };
     Ok(Node { kind })

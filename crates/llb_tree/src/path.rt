@@ -14,7 +14,6 @@ use std::cmp::Ordering;
 use std::marker::Model;
 
 /// A path: at most 128 names, from the root down. The root has none.
-#[derive(Clone)]
 pub struct Path {
     names: Vec<Name>,
 }
@@ -157,8 +156,8 @@ impl Path {
     pub fn copy(&self) -> Result<Path, TreeFault>
         ensures { Gives (λ p. p) result (Ok self.now) }
     {
-        let copied = self.clone()?;
-        Ok(copied)
+        let names = self.names.clone()?;
+        Ok(Path { names })
     }
 
     /// A law: a path that is written with `/` between its names, and `/` before them or not, reads as itself.

@@ -41,6 +41,7 @@ fn put_in(rows: &mut Arc<Vec<Child>>, alloc: Global, child: Child) -> Result<(),
 {
     own(alloc, rows)?;
     match Arc::get_mut(rows) {
+        // Unreachable.
         None => Err(AllocError),
         Some(list) => put_child(list, child),
     }

@@ -37,7 +37,8 @@ impl Drop for Tree {
 }
 
 impl Model for Tree {
-    ghost use Rattle.llb_tree.specs.Tree.{TreeMap, coded_tree};
+    ghost use Rattle.llb_tree.specs.Tree.{TreeMap};
+    ghost use Rattle.llb_tree.specs.Coded.{coded_tree};
     ghost use Rattle.llb_tree.specs.Nodes.{IsWhole};
 
     ghost Value = { TreeMap };
@@ -94,20 +95,6 @@ pub(crate) fn dir_at<'a>(root: &'a Node, names: &[Name]) -> Result<&'a Node, Tre
             Entry::File(..) => Err(TreeFault::NotDir),
             Entry::Dir(_) => Ok(node),
         },
-    }
-}
-
-impl Tree {
-    // The root node.
-    pub(crate) fn into_root(self) -> Node
-        ensures { result ≡ self }
-    {
-        let Tree {
-            root,
-            depth: _,
-            alloc: _,
-        } = self;
-        root
     }
 }
 

@@ -3,7 +3,7 @@
 ghost use Rattle.std.specs.Prelude.{◌≡◌, IsTrue, Some};
 ghost use Rattle.llb_tree.specs.Tree.{Dir};
 ghost use Rattle.llb_tree.specs.Meta.{MetaValue};
-ghost use Rattle.llb_tree.specs.Overlay.{way_of, given, over};
+ghost use Rattle.llb_tree.specs.Overlay.{way_of, laid_meta, over};
 ghost use Rattle.llb_tree.specs.Laying.{IsWay, TakesWhole, owner_fits};
 
 use crate::meta::Meta;
@@ -52,8 +52,8 @@ impl Way {
     }
 
     // The mode and the owner of what is laid, by its own.
-    pub(crate) fn given(&self, own: Meta) -> Meta
-        ensures { result ≡ given self.now own }
+    pub(crate) fn laid_meta(&self, own: Meta) -> Meta
+        ensures { result ≡ laid_meta self.now own }
     {
         let mode = self.mode.unwrap_or(own.mode());
         let uid = self.uid.unwrap_or(own.uid());
@@ -63,7 +63,7 @@ impl Way {
 
     // Whether each keeps its own mode and owner.
     pub(crate) fn gives_nothing(&self) -> bool
-        ensures { IsTrue result → (own : MetaValue) → given self.now own ≡ own }
+        ensures { IsTrue result → (own : MetaValue) → laid_meta self.now own ≡ own }
     {
         self.mode.is_none() && self.uid.is_none() && self.gid.is_none()
     }
@@ -79,7 +79,11 @@ impl Way {
     pub(crate) fn met(&self, lower: Meta, upper: Meta) -> Meta
         ensures { Dir result ≡ over self.now (Some (Dir lower)) (Dir upper) }
     {
-        if self.keeps { lower } else { self.given(upper) }
+        if self.keeps {
+            lower
+        } else {
+            self.laid_meta(upper)
+        }
     }
 
     // A law: the mode is at most 4095, and the owners are numbers of 32 bits.

@@ -8,7 +8,8 @@ use Rattle.std.specs.declared.cmp.Ordering.TheVariants.{Less, Equal, Greater}
 use Rattle.std.specs.Ordering.{is_eq, eq_by_cmp}
 use Rattle.std.specs.Option.{option_map}
 use Rattle.std.specs.FinMap as finite
-use Rattle.llb_wire.specs.Answer.{◌>>=◌, bind_ok}
+use Rattle.llb_wire.specs.Answer.{◌>>=◌}
+use Rattle.llb_wire.specs.Laws.Answers.{bind_ok}
 use Rattle.llb_wire.specs.Hexadecimal.{bytes_in, hex_text}
 use Rattle.llb_tree.specs.Path.{is_name, path_cmp, is_within, IsPath}
 use Rattle.llb_tree.specs.PathOrder.{path_cmp-IsTotalOrder, path_cmp-IsAntisymmetric}
@@ -129,7 +130,7 @@ file_is p (File k b) m digits path content stands same is =
     let meta : m ≡ k = ap (λ (f : Fields). f.0) same in
     let read : ◌≡◌ {A = Option (List ℕ)} (Some (hex_text b)) (Some digits) = sym (ap (λ (f : Fields). f.1) same) in
     let text : hex_text b ≡ digits = cc in
-    let both : ◌≡◌ {A = Option (List ℕ)} (Some b) (Some content) = sym (content_is b stands.stands.bytes) ∙ ap bytes_in text ∙ is in
+    let both : ◌≡◌ {A = Option (List ℕ)} (Some b) (Some content) = sym (content_is b stands.allowed.bytes) ∙ ap bytes_in text ∙ is in
     let own : b ≡ content = cc in
     λ i. File (sym meta i) (own i)
 
@@ -164,7 +165,7 @@ module _ (t : TreeMap) (tree : IsTree t) (p : List (List ℕ)) (e : Entry) (stan
       → (m, Some digits, path) ≡ parts_from (p, e) → bytes_in digits ≡ Some content → put_file dir (n ∷ []) m content ≡ Ok new
       → HasBelow (finite.insert t p e) above at new
   puts_below above at text dir new n m digits path content has place front name split parts read put =
-      let here : p ≡ at ++ n ∷ [] = path_is p at n stands.stands.path front name
+      let here : p ≡ at ++ n ∷ [] = path_is p at n stands.allowed.path front name
       (sym (text_is m (Some digits) path parts) ∙ split ∙ ap (λ x. x ++ 47 ∷ n) place) in
       let own : e ≡ File m content = file_is p e m digits path content stands parts read in
       let more = with_more above at t dir (n ∷ []) (File m content) has in

@@ -8,7 +8,8 @@ use Rattle.std.specs.Ordering.{is_lt}
 use Rattle.std.specs.FinMap as finite
 use Rattle.llb_tree.specs.Path.{is_name, IsPath, path_cmp}
 use Rattle.llb_tree.specs.Meta.{MetaValue, IsMeta, new_dir_meta}
-use Rattle.llb_tree.specs.Tree.{Entry, Dir, File, Look, TreeMap, parents, all_dirs, walk, IsDirAt, CanStand, IsTree, empty_tree}
+use Rattle.llb_tree.specs.Tree.{Entry, Dir, File, Look, TreeMap, parents, all_dirs, walk, IsDirAt, IsAllowedAt, IsTree, empty_tree}
+use Rattle.llb_tree.specs.Inside.{walk-cons}
 use Rattle.llb_tree.specs.Within.{between, within_split}
 use Rattle.llb_treetext.specs.TreeText.{names_text, path_text, line_of}
 use Rattle.llb_treetext.specs.Reading.{IsRow, IsFault, comes_next}
@@ -22,7 +23,7 @@ use Rattle.llb_treetext.specs.Placing.{put_row, GoesOn, IsFront, IsLast, is_dir,
 use Rattle.llb_treetext.specs.declared.judge.Place.{Place}
 use Rattle.llb_treetext.proofs.Rows.{Pair}
 use Rattle.llb_treetext.proofs.Unique.{there, entry_is_row, at_end}
-use Rattle.llb_treetext.proofs.Placing.{walk-cons, find_behind, entries_put, goes_on, put_ok, not_there, not_root, less_true}
+use Rattle.llb_treetext.proofs.Placing.{find_behind, entries_put, goes_on, put_ok, not_there, not_root, less_true}
 use Rattle.llb_treetext.proofs.Placing.{get-insert_cases, root_entries, root_front}
 use Rattle.llb_treetext.proofs.Trails.{Named, NoSlash, slashless, trail_is, no_names_left, names_more, names_split, opens_tail, names_front, trail_order}
 
@@ -94,7 +95,7 @@ module _ (t : TreeMap) (tree : IsTree t) (place : Place) (last : IsLast t place)
   pub order_is : (p : List (List ℕ)) (names : List ℕ) → IsPath p → names ≡ names_text p
       → is_lt (trail_cmp place.names.now names) ≡ comes_next (finite.entries t) p
   order_is p names path same =
-      (λ i. is_lt (trail_cmp (last.names i) (same i))) ∙ ap is_lt (trail_order last.row.0 p last_row.stands.path.named path.named) ∙ sym (comes p)
+      (λ i. is_lt (trail_cmp (last.names i) (same i))) ∙ ap is_lt (trail_order last.row.0 p last_row.allowed.path.named path.named) ∙ sym (comes p)
 
   -- what is there is not after all others
   not_behind : (d : List (List ℕ)) (e : Entry) → finite.get t d ≡ Some e → comes_next (finite.entries t) d ≡ false
@@ -147,7 +148,7 @@ module _ (t : TreeMap) (tree : IsTree t) (place : Place) (last : IsLast t place)
       pub walks : b ≡ true → walk (finite.get t) (d ++ n ∷ []) ≡ Ok tt
       walks is =
           let (later, text, shows) = holds is in
-          let (r, split) = names_front last.row.0 d later last_row.stands.path.named (named_front d (n ∷ []) named)
+          let (r, split) = names_front last.row.0 d later last_row.allowed.path.named (named_front d (n ∷ []) named)
           (opens_tail later place.is_dir shows) (sym last.names ∙ text ∙ ap (λ x. x ++ later) dir_is) in
           opened r split (sym (each_row r split) ∙ is)
 
@@ -163,7 +164,7 @@ module _ (t : TreeMap) (tree : IsTree t) (place : Place) (last : IsLast t place)
   module _ (row : Pair) (is : IsRow row) (names : List ℕ) (names_is : names ≡ names_text row.0) (b : Bool)
       (b_is : b ≡ is_lt (trail_cmp place.names.now names)) where
     next_is : comes_next (finite.entries t) row.0 ≡ b
-    next_is = sym (b_is ∙ order_is row.0 names is.stands.path names_is)
+    next_is = sym (b_is ∙ order_is row.0 names is.allowed.path names_is)
 
     -- the row's path is not after the last one, and the fault names this line
     pub out_of_order : (rest later : List ℕ) (n : ℕ) → n ≡ finite.len t + 1 → rest ≡ line_of row ++ later → b ≡ false
@@ -181,7 +182,7 @@ module _ (t : TreeMap) (tree : IsTree t) (place : Place) (last : IsLast t place)
       ends = last_name row.0 (not_root t tree row is behind)
 
       named : Named (ends.0 ++ ends.1.0 ∷ [])
-      named = subst Named ends.1.1 is.stands.path.named
+      named = subst Named ends.1.1 is.allowed.path.named
 
       next_end : comes_next (finite.entries t) (ends.0 ++ ends.1.0 ∷ []) ≡ true
       next_end = ap (comes_next (finite.entries t)) (sym ends.1.1) ∙ behind
@@ -239,7 +240,7 @@ seen_kind f (Some x) = refl
 module _ (row : Pair) (is : IsRow row) (x : Parts) (parts : parts_seen x ≡ parts_from row) where
   -- the names that are kept of a line are those of its row's path
   pub place_names : (names : List ℕ) → names ≡ trail x.path.now → names ≡ names_text row.0
-  place_names names same = same ∙ ap (λ (f : Fields). trail f.2) parts ∙ ap trail (fields_path row) ∙ trail_is row.0 is.stands.path
+  place_names names same = same ∙ ap (λ (f : Fields). trail f.2) parts ∙ ap trail (fields_path row) ∙ trail_is row.0 is.allowed.path
 
   -- a line without the digits of a content is a directory's
   pub place_kind : (b : Bool) → b ≡ is_none x.digits → b ≡ is_dir row.1
@@ -263,19 +264,19 @@ module _ (m : MetaValue) (is : IsMeta m) where
   root_is_tree = record {
     root = (m, root_there);
     closed = λ q there. by_look q (finite.get (root_of m) q) refl there;
-    stands = λ q e at. by_path q e (only_root q e at) at;
+    allowed = λ q e at. by_path q e (only_root q e at) at;
   }
     where
       by_look : (q : List (List ℕ)) (o : Option Entry) → finite.get (root_of m) q ≡ o → IsSome o → walk (finite.get (root_of m)) q ≡ Ok tt
       by_look q None at some = absurd (true≢false (sym some))
       by_look q (Some e) at some = ap (walk (finite.get (root_of m))) (only_root q e at)
 
-      by_path : (q : List (List ℕ)) (e : Entry) → q ≡ [] → finite.get (root_of m) q ≡ Some e → CanStand q e
+      by_path : (q : List (List ℕ)) (e : Entry) → q ≡ [] → finite.get (root_of m) q ≡ Some e → IsAllowedAt q e
       by_path q e root at =
           let same : ◌≡◌ {A = Option Entry} (Some (Dir m)) (Some e) = sym root_there ∙ ap (finite.get (root_of m)) (sym root) ∙ at in
           let own : Dir m ≡ e = cc in
-          subst (λ p. CanStand p e) (sym root)
-          (subst (CanStand []) own (record {
+          subst (λ p. IsAllowedAt p e) (sym root)
+          (subst (IsAllowedAt []) own (record {
             path = record { short = omega arith; named = All-nil (λ name. is_name name ≡ true) };
             meta = is;
             bytes = tt;
@@ -288,7 +289,7 @@ module _ (row : Pair) (is : IsRow row) (bytes later : List ℕ) (text : bytes �
   starts_at m at dir kind =
       let same : row ≡ ([], Dir m) = (λ i. (at i, dir i)) in
       let root = subst IsRow same is in (
-        root_front m [] None (root_of m) bytes later root (text ∙ ap (λ r. line_of r ++ later) same) refl refl (root_is_tree m root.stands.meta),
+        root_front m [] None (root_of m) bytes later root (text ∙ ap (λ r. line_of r ++ later) same) refl refl (root_is_tree m root.allowed.meta),
         record { front = []; row = ([], Dir m); entries = root_entries m; names = names ∙ ap names_text at; kind = kind ∙ ap is_dir dir },
         finite.len-entries (root_of m) ∙ ap length (root_entries m),
       )

@@ -13,8 +13,9 @@ use Rattle.std.specs.FinMap.Entries.{by_order}
 use Rattle.llb_tree.specs.Path.{path_cmp}
 use Rattle.llb_tree.specs.PathOrder.{path_cmp-IsTotalOrder, path_cmp-IsAntisymmetric}
 use Rattle.llb_tree.specs.Meta.{MetaValue, new_dir_meta}
-use Rattle.llb_tree.specs.Tree.{Entry, Dir, File, Look, TreeMap, parents, all_dirs, walk, dir_fits, file_fits, IsDirAt, CanStand, IsTree, empty_tree}
+use Rattle.llb_tree.specs.Tree.{Entry, Dir, File, Look, TreeMap, parents, all_dirs, walk, dir_fits, file_fits, IsDirAt, IsAllowedAt, IsTree, empty_tree}
 use Rattle.llb_tree.specs.declared.fault.TreeFault.{TreeFault}
+use Rattle.llb_tree.specs.Inside.{walk-cons}
 use Rattle.llb_wire.specs.Answer.{◌>>=◌}
 use Rattle.llb_treetext.specs.TreeText.{row_text, line_of, lines_of, tree_text}
 use Rattle.llb_treetext.specs.Reading.{IsRow, IsText, IsFault, Stops, comes_next}
@@ -36,11 +37,13 @@ less_true Less is = refl
 less_true Equal is = absurd (true≢false (sym is))
 less_true Greater is = absurd (true≢false (sym is))
 
-and_first : (a b : Bool) → T (a && b) → T a
+-- where two tests hold together, the first does
+pub and_first : (a b : Bool) → T (a && b) → T a
 and_first true b h = tt
 and_first false b h = absurd h
 
-and_second : (a b : Bool) → T (a && b) → T b
+-- where two tests hold together, the second does
+pub and_second : (a b : Bool) → T (a && b) → T b
 and_second true b h = h
 and_second false b h = absurd h
 
@@ -83,14 +86,6 @@ get-insert_cases P t p e q here there = subst P (sym (finite.get-insert path_cmp
     by_test : (b : Bool) → eq_by_cmp path_cmp q p ≡ b → P (cond b (Some e) (finite.get t q))
     by_test true is = here (path_cmp-IsAntisymmetric q p (tied _ is))
     by_test false is = there
-
-map-map : {A B C : Type 0} (g : B → C) (f : A → B) (xs : List A) → map g (map f xs) ≡ map (λ x. g (f x)) xs
-map-map g f [] = refl
-map-map g f (x ∷ xs) = ap (λ ys. g (f x) ∷ ys) (map-map g f xs)
-
--- a walk to a path looks at the root, and then goes on below the first name
-pub walk-cons : (look : Look) (n : List ℕ) (p : List (List ℕ)) → walk look (n ∷ p) ≡ all_dirs (look [] ∷ map (λ q. look (n ∷ q)) (parents p))
-walk-cons look n p = ap (λ ys. all_dirs (look [] ∷ ys)) (map-map look (λ q. n ∷ q) (parents p))
 
 -- more directories let a walk through
 walk_more : (f g : Look) → ((r : List (List ℕ)) → IsDirAt f r → IsDirAt g r) → (p : List (List ℕ)) → walk f p ≡ Ok tt → walk g p ≡ Ok tt
@@ -144,8 +139,8 @@ module _ (t : TreeMap) (tree : IsTree t) (row : Pair) (is : IsRow row) (next : c
     closed = λ q there. walk_more (finite.get t) (finite.get (finite.insert t row.0 row.1)) more q
         (get-insert_cases (λ o. IsSome o → walk (finite.get t) q ≡ Ok tt) t row.0 row.1 q
         (λ same some. ap (walk (finite.get t)) same ∙ walks) (tree.closed q) there);
-    stands = λ q d. get-insert_cases (λ o. o ≡ Some d → CanStand q d) t row.0 row.1 q
-        (λ same own. let one : row.1 ≡ d = cc in subst (λ x. CanStand x d) (sym same) (subst (CanStand row.0) one is.stands)) (tree.stands q d);
+    allowed = λ q d. get-insert_cases (λ o. o ≡ Some d → IsAllowedAt q d) t row.0 row.1 q
+        (λ same own. let one : row.1 ≡ d = cc in subst (λ x. IsAllowedAt x d) (sym same) (subst (IsAllowedAt row.0) one is.allowed)) (tree.allowed q d);
   }
     where
       more : (q : List (List ℕ)) → IsDirAt (finite.get t) q → IsDirAt (finite.get (finite.insert t row.0 row.1)) q

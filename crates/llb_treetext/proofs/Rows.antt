@@ -19,11 +19,11 @@ Pair = List (List ℕ) × Entry
 
 -- a directory has a line at any path, with a mode and owners in range
 pub dir_is_row : (p : List (List ℕ)) (m : MetaValue) → IsPath p → IsMeta m → IsRow (p, Dir m)
-dir_is_row p m path meta = record { stands = record { path = path; meta = meta; bytes = tt }; root = λ at. (m, refl) }
+dir_is_row p m path meta = record { allowed = record { path = path; meta = meta; bytes = tt }; root = λ at. (m, refl) }
 
 -- a file of bytes has a line at any path but the root, with a mode and owners in range
 pub file_is_row : (p : List (List ℕ)) (m : MetaValue) (content : List ℕ) → IsPath p → IsMeta m → AreBytes content → p ≢ [] → IsRow (p, File m content)
-file_is_row p m content path meta bytes named = record { stands = record { path = path; meta = meta; bytes = bytes }; root = λ at. absurd (named at) }
+file_is_row p m content path meta bytes named = record { allowed = record { path = path; meta = meta; bytes = bytes }; root = λ at. absurd (named at) }
 
 -- ---- the first line
 

@@ -1,6 +1,6 @@
 -- Two accounts of one text agree: of two lists of rows at its start one goes on where the other ends, and a row of a tree
 -- is no faulty one.
-use Rattle.std.proofs.Common.{◌≡◌, ◌≢◌, ℕ, zero, suc, Bool, true, false, cond, ◌&&◌, List, [], ◌∷◌, ◌++◌, length, map, Option, Some, None}
+use Rattle.std.proofs.Common.{◌≡◌, ◌≢◌, ℕ, zero, suc, Bool, true, false, cond, List, [], ◌∷◌, ◌++◌, length, map, Option, Some, None}
 use Rattle.std.proofs.Common.{is_some, Ok, Err, T, refl, sym, ap, subst, ◌∙◌, true≢false, arith, append_assoc, length-append, ◌⊎◌, inl, inr}
 use Rattle.std.specs.Prelude.{slice_get}
 use Rattle.std.proofs.lemmas.List.{append-nil}
@@ -20,19 +20,12 @@ use Rattle.llb_treetext.specs.Faults.{is_memory}
 use Rattle.llb_treetext.specs.declared.fault.TextFault.{TextFault}
 use Rattle.llb_treetext.specs.declared.fault.TextFault.TheVariants.{BadLine, Order, NoParent, Memory}
 use Rattle.llb_treetext.proofs.Rows.{Pair, one_line}
+use Rattle.llb_treetext.proofs.Placing.{and_first, and_second}
 
 is_less : (o : Ordering) → T (is_lt o) → o ≡ Less
 is_less Less h = refl
 is_less Equal h = absurd h
 is_less Greater h = absurd h
-
-and_first : (a b : Bool) → T (a && b) → T a
-and_first true b h = tt
-and_first false b h = absurd h
-
-and_second : (a b : Bool) → T (a && b) → T b
-and_second true b h = h
-and_second false b h = absurd h
 
 -- ---- the rows of a tree
 
@@ -66,7 +59,7 @@ module _ (t : TreeMap) (tree : IsTree t) where
   -- it is allowed at its path, and at the root it is a directory, so it is a row
   pub entry_is_row : (k : ℕ) (x : Pair) → slice_get (finite.entries t) k ≡ Some x → IsRow x
   entry_is_row k x is = record {
-    stands = tree.stands x.0 x.1 (there k x is);
+    allowed = tree.allowed x.0 x.1 (there k x is);
     root = λ at. (tree.root.0, let e : Some x.1 ≡ Some (Dir tree.root.0) = sym (there k x is) ∙ ap (finite.get t) at ∙ tree.root.1 in cc);
   }
 

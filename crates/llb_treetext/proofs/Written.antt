@@ -288,8 +288,8 @@ file_is m content p bytes path =
 
 -- the entry of the parts of an entry
 pub row_from_is : (row : List (List ℕ) × Entry) → IsRow row → row_from (parts_from row) ≡ Some row
-row_from_is (p, Dir m) is = dir_is m p is.stands.path
-row_from_is (p, File m content) is = file_is m content p is.stands.bytes is.stands.path
+row_from_is (p, Dir m) is = dir_is m p is.allowed.path
+row_from_is (p, File m content) is = file_is m content p is.allowed.bytes is.allowed.path
 
 one_solid : (c : ℕ) → 33 ≤ c → Solid (c ∷ [])
 one_solid c le = All-cons (λ b. 33 ≤ b) c [] le (All-nil (λ b. 33 ≤ b))
@@ -307,14 +307,14 @@ file_parts_are m content p bytes path named =
 pub parts_are : (row : List (List ℕ) × Entry) → IsRow row → parts_in (row_text row) ≡ Some (parts_from row)
 parts_are (p, Dir m) is =
     ap (λ o. on o by_kind) (word (100 ∷ []) (meta_text m ++ path_text p) (one_solid 100 (omega arith)))
-    ∙ ap (λ o. on o (λ (m : MetaValue × List ℕ). dir_parts m.0 m.1)) (meta_is m is.stands.meta (path_text p))
-    ∙ dir_parts_are m p is.stands.path
+    ∙ ap (λ o. on o (λ (m : MetaValue × List ℕ). dir_parts m.0 m.1)) (meta_is m is.allowed.meta (path_text p))
+    ∙ dir_parts_are m p is.allowed.path
 parts_are (p, File m content) is =
     ap (λ o. on o by_kind) (word (102 ∷ []) (meta_text m ++ (hex_text content ++ 32 ∷ path_text p)) (one_solid 102 (omega arith)))
     ∙ ap (λ o. on o (λ (m : MetaValue × List ℕ). on (cut_at 32 m.1) (λ c. file_parts m.0 c.0 c.1)))
-    (meta_is m is.stands.meta (hex_text content ++ 32 ∷ path_text p))
-    ∙ ap (λ o. on o (λ (c : List ℕ × List ℕ). file_parts m c.0 c.1)) (word (hex_text content) (path_text p) (content_solid content is.stands.bytes))
-    ∙ file_parts_are m content p is.stands.bytes is.stands.path (λ at. let one = (is.root at).1 in absurd cc)
+    (meta_is m is.allowed.meta (hex_text content ++ 32 ∷ path_text p))
+    ∙ ap (λ o. on o (λ (c : List ℕ × List ℕ). file_parts m c.0 c.1)) (word (hex_text content) (path_text p) (content_solid content is.allowed.bytes))
+    ∙ file_parts_are m content p is.allowed.bytes is.allowed.path (λ at. let one = (is.root at).1 in absurd cc)
 
 -- the entry of the line of an entry
 pub row_is : (row : List (List ℕ) × Entry) → IsRow row → row_in (row_text row) ≡ Some row
@@ -349,11 +349,11 @@ meta_plain m rest is plain = subst Plain (sym (grouped m is rest))
 -- no byte of an entry's line is below a space
 pub row_plain : (row : List (List ℕ) × Entry) → IsRow row → Plain (row_text row)
 row_plain (p, Dir m) is = words_plain (100 ∷ []) (meta_text m ++ path_text p) (one_solid 100 (omega arith))
-    (meta_plain m (path_text p) is.stands.meta (path_plain p is.stands.path))
+    (meta_plain m (path_text p) is.allowed.meta (path_plain p is.allowed.path))
 row_plain (p, File m content) is =
     words_plain (102 ∷ []) (meta_text m ++ (hex_text content ++ 32 ∷ path_text p)) (one_solid 102 (omega arith))
-    (meta_plain m (hex_text content ++ 32 ∷ path_text p) is.stands.meta
-    (words_plain (hex_text content) (path_text p) (content_solid content is.stands.bytes) (path_plain p is.stands.path)))
+    (meta_plain m (hex_text content ++ 32 ∷ path_text p) is.allowed.meta
+    (words_plain (hex_text content) (path_text p) (content_solid content is.allowed.bytes) (path_plain p is.allowed.path)))
 
 one_text : (c : ℕ) → c < 128 → IsUtf8 (c ∷ [])
 one_text c lt = IsUtf8-from_ascii (c ∷ []) (IsAscii-cons c [] lt IsAscii-nil)
@@ -420,8 +420,8 @@ content_utf8 (b ∷ content) bytes = IsUtf8-from_ascii (encode_lower (b ∷ cont
 -- the line of an entry is UTF-8
 pub row_utf8 : (row : List (List ℕ) × Entry) → IsRow row → IsUtf8 (row_text row)
 row_utf8 (p, Dir m) is = words_utf8 (100 ∷ []) (meta_text m ++ path_text p) (one_text 100 (omega arith))
-    (meta_utf8 m (path_text p) is.stands.meta (path_utf8 p is.stands.path))
+    (meta_utf8 m (path_text p) is.allowed.meta (path_utf8 p is.allowed.path))
 row_utf8 (p, File m content) is =
     words_utf8 (102 ∷ []) (meta_text m ++ (hex_text content ++ 32 ∷ path_text p)) (one_text 102 (omega arith))
-    (meta_utf8 m (hex_text content ++ 32 ∷ path_text p) is.stands.meta
-    (words_utf8 (hex_text content) (path_text p) (content_utf8 content is.stands.bytes) (path_utf8 p is.stands.path)))
+    (meta_utf8 m (hex_text content ++ 32 ∷ path_text p) is.allowed.meta
+    (words_utf8 (hex_text content) (path_text p) (content_utf8 content is.allowed.bytes) (path_utf8 p is.allowed.path)))

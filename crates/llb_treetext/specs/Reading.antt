@@ -4,7 +4,7 @@ use Rattle.std.specs.Ordering.{is_lt}
 use Rattle.std.specs.FinMap as finite
 use Rattle.llb_tree.specs.Path.{path_cmp}
 use Rattle.llb_tree.specs.Meta.{MetaValue}
-use Rattle.llb_tree.specs.Tree.{Entry, Dir, TreeMap, CanStand, IsTree, walk}
+use Rattle.llb_tree.specs.Tree.{Entry, Dir, TreeMap, IsAllowedAt, IsTree, walk}
 use Rattle.llb_treetext.specs.TreeText.{line_of, lines_of, tree_text}
 use Rattle.llb_treetext.specs.Faults.{is_memory}
 use Rattle.llb_treetext.specs.declared.fault.TextFault.{TextFault}
@@ -12,7 +12,7 @@ use Rattle.llb_treetext.specs.declared.fault.TextFault.TheVariants.{BadLine, Ord
 
 -- an entry that has a line: it is allowed at its path, and the root is a directory
 pub record IsRow (row : List (List ℕ) × Entry) : Type 0 where
-  pub stands : CanStand row.0 row.1
+  pub allowed : IsAllowedAt row.0 row.1
   pub root : row.0 ≡ [] → (m : MetaValue) × (row.1 ≡ Dir m)
 
 -- the bytes are the text of a tree

@@ -2,3 +2,4 @@ pub mod Limits
 pub mod Faults
 pub mod RecordGrammar
 pub mod Written
+pub mod Digits

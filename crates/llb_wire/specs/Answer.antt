@@ -1,7 +1,6 @@
 -- How a result is specified, in every crate. A rule is a function into values or faults, and it never returns the fault for refused
 -- memory; a call returns what its rule returns, or it lacked memory.
-use Rattle.std.specs.Prelude.{◌≡◌, Bool, true, false, cond, Result, Ok, Err, is_ok}
-use Rattle.std.proofs.Common.{refl}
+use Rattle.std.specs.Prelude.{◌≡◌, Bool, true, false, Result, Ok, Err, is_ok}
 
 -- a refusal for another cause than memory is the one of the rule
 abbrev pub Fails : {Y F : Type 0} → (F → Bool) → F → Result Y F → Type 0
@@ -23,13 +22,3 @@ infixl 10 ◌>>=◌
 abbrev pub ◌>>=◌ : {A B F : Type 0} → Result A F → (A → Result B F) → Result B F
 (Ok x) >>= f = f x
 (Err e) >>= f = Err e
-
--- what goes on to a value had a value to go on with
-pub bind_ok : {A B F : Type 0} (r : Result A F) (f : A → Result B F) (y : B) → (r >>= f) ≡ Ok y → (x : A) × (r ≡ Ok x) × (f x ≡ Ok y)
-bind_ok (Ok x) f y e = (x, refl, e)
-bind_ok (Err d) f y e = absurd cc
-
--- where a test refuses and there is a value, the test is false, and the value is the one
-pub guard_ok : {A F : Type 0} (b : Bool) (d : F) (x y : A) → cond b (Err d) (Ok x) ≡ Ok y → (b ≡ false) × (x ≡ y)
-guard_ok true d x y e = absurd cc
-guard_ok false d x y e = (refl, cc)

@@ -3,3 +3,6 @@ pub mod Varints
 pub mod Own
 pub mod Payloads
 pub mod Records
+pub mod Decimal
+pub mod Answers
+pub mod Sinks

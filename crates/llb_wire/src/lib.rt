@@ -5,6 +5,7 @@
 
 mod boxed;
 mod bytes;
+mod decimal;
 mod fault;
 mod field;
 mod hexadecimal;
@@ -18,6 +19,7 @@ mod writing;
 
 pub use boxed::Boxed;
 pub use bytes::Bytes;
+pub use decimal::magnitude;
 pub use fault::{Memory, WireFault};
 pub use field::{Field, Wire};
 pub use hexadecimal::{is_hex, push_hex, read_hex, text_of_digest};

@@ -8,7 +8,7 @@ use Rattle.llb_model.specs.Table.{Event, Reply}
 use Rattle.llb_model.specs.Run.{run}
 use Rattle.llb_model.proofs.Lists.{inside}
 use Rattle.llb_model.proofs.Runs.{run_one, run_on}
-use Rattle.llb_state.specs.Board.{Seen}
+use Rattle.llb_board.specs.Seen.{BoardValue}
 use Rattle.llb_work.specs.Alone.{Takes}
 use Rattle.llb_work.specs.Crew.{GoesOn, IsAfter, state_in}
 
@@ -30,16 +30,16 @@ both (suc n) (x ∷ xs) = ap (λ l. x ∷ l) (both n xs)
 -- ---- going on
 
 -- a board goes on from itself by no event
-pub goes_nowhere : (b : Seen) → GoesOn b b
+pub goes_nowhere : (b : BoardValue) → GoesOn b b
 unfolding run
 goes_nowhere b = record { build = refl; opening = refl; first = refl; more = []; replies = []; leads = refl; events = sym (append-nil b.events) }
 
 -- a call that changes nothing goes on by no event
-pub stays : (b c : Seen) → c ≡ b → GoesOn b c
+pub stays : (b c : BoardValue) → c ≡ b → GoesOn b c
 stays b c same = subst (λ x. GoesOn b x) (sym same) (goes_nowhere b)
 
 -- an event that is taken is one by which the board goes on
-pub takes_one : (b c : Seen) (e : Event) → Takes b e c → GoesOn b c
+pub takes_one : (b c : BoardValue) (e : Event) → Takes b e c → GoesOn b c
 takes_one b c e takes = record {
   build = takes.build;
   opening = takes.opening;
@@ -51,17 +51,17 @@ takes_one b c e takes = record {
 }
 
 -- a record that goes on is no shorter
-pub no_shorter : (b c : Seen) → GoesOn b c → length b.events ≤ length c.events
+pub no_shorter : (b c : BoardValue) → GoesOn b c → length b.events ≤ length c.events
 no_shorter b c goes = omega (arith, ap length goes.events, length-append b.events goes.more)
 
 -- ---- by equations only
 
 -- the events after the older record
-abbrev behind_front : Seen → Seen → List Event
+abbrev behind_front : BoardValue → BoardValue → List Event
 behind_front s b = drop (length s.events) b.events
 
 -- a record is the older record, followed by the events after it
-whole : (s b : Seen) → IsAfter s b → b.events ≡ s.events ++ behind_front s b
+whole : (s b : BoardValue) → IsAfter s b → b.events ≡ s.events ++ behind_front s b
 whole s b is = sym (both (length s.events) b.events) ∙ ap (λ l. l ++ behind_front s b) is.front
 
 -- a run that leads to a state has replies
@@ -70,13 +70,13 @@ with_replies None t is = absurd cc
 with_replies (Some (s, rs)) t is = (rs, ap (λ (x : State). Some (x, rs)) (inside is))
 
 -- if an older record is a prefix of a newer one and what is after it leads to the newer state, the board has gone on
-pub goes_from : (s b : Seen) → IsAfter s b → GoesOn s b
+pub goes_from : (s b : BoardValue) → IsAfter s b → GoesOn s b
 goes_from s b is =
     let led = with_replies (run s.build s.state (behind_front s b)) b.state is.leads in
     record { build = is.build; opening = is.opening; first = is.first; more = behind_front s b; replies = led.0; leads = led.1; events = whole s b is }
 
 -- a board that goes on from an older one is after it, by equations
-is_after : (s c : Seen) → GoesOn s c → IsAfter s c
+is_after : (s c : BoardValue) → GoesOn s c → IsAfter s c
 is_after s c goes = record {
   build = goes.build;
   opening = goes.opening;
@@ -87,11 +87,11 @@ is_after s c goes = record {
 }
 
 -- a board is after itself, with nothing more in the record
-pub after_itself : (s b : Seen) → s ≡ b → IsAfter s b
+pub after_itself : (s b : BoardValue) → s ≡ b → IsAfter s b
 after_itself s b same = is_after s b (stays s b (sym same))
 
 -- what goes on from a board that goes on from a first one goes on from the first one
-pub goes_further : (a b c : Seen) → GoesOn a b → GoesOn b c → GoesOn a c
+pub goes_further : (a b c : BoardValue) → GoesOn a b → GoesOn b c → GoesOn a c
 goes_further a b c one two = record {
   build = two.build ∙ one.build;
   opening = two.opening ∙ one.opening;
@@ -104,5 +104,5 @@ goes_further a b c one two = record {
 }
 
 -- what goes on from a board that is after the start is after the start too
-pub after_more : (s b c : Seen) → IsAfter s b → GoesOn b c → IsAfter s c
+pub after_more : (s b c : BoardValue) → IsAfter s b → GoesOn b c → IsAfter s c
 after_more s b c is goes = is_after s c (goes_further s b c (goes_from s b is) goes)

@@ -23,8 +23,9 @@ use Rattle.llb_model.proofs.Lists.{inside as some_inside}
 use Rattle.llb_model.proofs.Runs.{run_none, run_first, run_more}
 use Rattle.llb_model.specs.Room.{still_to_come}
 use Rattle.llb_model.proofs.Alone.{Ascends, alone_step, chosen_comes_nearer}
-use Rattle.llb_state.specs.Board.{Seen, ChosenIsGranted, after_event, recorded}
-use Rattle.llb_state.specs.Rules.{claim_of, step_of, settle_of, cancel_of}
+use Rattle.llb_board.specs.Seen.{BoardValue, after_event, recorded}
+use Rattle.llb_board.specs.Laws.{ChosenIsGranted}
+use Rattle.llb_board.specs.Rules.{claim_of, step_of, settle_of, cancel_of}
 use Rattle.llb_events.specs.Causes.{claim_fault, GivesStep, step_fault, GivesSettle, settle_fault, GivesCancel}
 use Rattle.llb_events.specs.Causes.{cancel_fault}
 use Rattle.llb_events.specs.Faults.{GivesClaim}
@@ -46,15 +47,15 @@ inside : {A F : Type 0} {x y : A} → ok_of {F = F} x ≡ ok_of y → x ≡ y
 inside e = cc
 
 -- a call that is granted takes its event
-pub takes_of : {C F : Type 0} (b : Seen) (e : Event) (fault : C → F) (o : Result (State × Reply) C) (n : Seen) (r : Reply)
+pub takes_of : {C F : Type 0} (b : BoardValue) (e : Event) (fault : C → F) (o : Result (State × Reply) C) (n : BoardValue) (r : Reply)
     → table b.build b.state e ≡ result_ok o → recorded b e fault o ≡ Ok (n, r) → Takes b e n
 takes_of {C} {F} b e fault (Err cause) n r is given = absurd cc
 takes_of {C} {F} b e fault (Ok (s, q)) n r is given =
-    let same : after_event b e s ≡ n = ap (λ (x : Seen × Reply). x.0) (inside {F = F} given) in
+    let same : after_event b e s ≡ n = ap (λ (x : BoardValue × Reply). x.0) (inside {F = F} given) in
     subst (Takes b e) same (record { build = refl; opening = refl; first = refl; reply = q; given = is; events = refl })
 
 -- a driver that has done nothing has gone on by no event
-pub goes_nil : (b : Seen) → Goes b b
+pub goes_nil : (b : BoardValue) → Goes b b
 unfolding run
 goes_nil b = record { build = refl; opening = refl; first = refl; more = []; replies = []; leads = refl; chosen = tt; events = sym (append-nil b.events) }
 
@@ -71,7 +72,7 @@ chosen_more b s t (x ∷ es) rs e leads all next =
     )
 
 -- a driver that has gone on goes further by a chosen event that is granted
-pub goes_on : (a b c : Seen) (e : Event) → Goes a b → chosen b.build b.state ≡ Some e → Takes b e c → Goes a c
+pub goes_on : (a b c : BoardValue) (e : Event) → Goes a b → chosen b.build b.state ≡ Some e → Takes b e c → Goes a c
 goes_on a b c e goes next takes = record {
   build = takes.build ∙ goes.build;
   opening = takes.opening ∙ goes.opening;
@@ -87,14 +88,14 @@ goes_on a b c e goes next takes = record {
     given = ap (λ x. table x b.state e) (sym goes.build) ∙ takes.given
 
 -- if the claims so far ascend, they still ascend after a chosen event
-pub ascends_on : (b c : Seen) (e : Event) → IsGraph b.build.graph → IsConsistent b.build b.state → chosen b.build b.state ≡ Some e
+pub ascends_on : (b c : BoardValue) (e : Event) → IsGraph b.build.graph → IsConsistent b.build b.state → chosen b.build b.state ≡ Some e
     → Takes b e c → Ascends b.build b.state b.events → Ascends c.build c.state c.events
 ascends_on b c e graph here is takes up =
     subst (λ x. Ascends x c.state c.events) (sym takes.build) (subst (Ascends b.build c.state) (sym takes.events)
     (alone_step b.build graph b.state c.state e takes.reply b.events here is takes.given up))
 
 -- after a chosen event fewer events are still to come
-pub nearer : (b c : Seen) (e : Event) → Takes b e c → chosen b.build b.state ≡ Some e
+pub nearer : (b c : BoardValue) (e : Event) → Takes b e c → chosen b.build b.state ≡ Some e
     → still_to_come c.build c.state < still_to_come b.build b.state
 nearer b c e takes is =
     let near = chosen_comes_nearer b.build b.state e (c.state, takes.reply) is takes.given in
@@ -102,13 +103,13 @@ nearer b c e takes is =
     omega (arith, near, same)
 
 -- an event makes the record longer by one
-pub longer : (b c : Seen) (e : Event) → Takes b e c → length c.events ≡ length b.events + 1
+pub longer : (b c : BoardValue) (e : Event) → Takes b e c → length c.events ≡ length b.events + 1
 longer b c e takes = ap length takes.events ∙ length-append b.events (e ∷ [])
 
 -- ---- the four calls
 
 -- a claim that returns a job is granted, and is added at the end of the record
-pub claim_takes : {J : Type 0} (reply : J → Reply) (b n : Seen) (w v : ℕ) (r : Result J ClaimFault)
+pub claim_takes : {J : Type 0} (reply : J → Reply) (b n : BoardValue) (w v : ℕ) (r : Result J ClaimFault)
     → GivesClaim (λ job. (n, reply job)) r (claim_of b w v) → is_ok r ≡ true
     → Takes b (Claim w v) n
 unfolding table
@@ -116,20 +117,21 @@ claim_takes reply b n w v (Ok job) gives ok = takes_of b (Claim w v) claim_fault
 claim_takes reply b n w v (Err e) gives ok = absurd cc
 
 -- a step that returns no fault is granted, and is added at the end of the record
-pub step_takes : (b n : Seen) (w : ℕ) (r : Result Stepped StepFault) → GivesStep (λ s. (n, step_reply s)) r (step_of b w) → is_ok r ≡ true → Takes b (Step w) n
+pub step_takes : (b n : BoardValue) (w : ℕ) (r : Result Stepped StepFault) → GivesStep (λ s. (n, step_reply s)) r (step_of b w) → is_ok r ≡ true
+    → Takes b (Step w) n
 unfolding table
 step_takes b n w (Ok s) gives ok = takes_of b (Step w) step_fault (step_grant b.build b.state w) n (step_reply s) refl gives
 step_takes b n w (Err e) gives ok = absurd cc
 
 -- a settle that returns no fault is granted, and is added at the end of the record
-pub settle_takes : (b n : Seen) (w : ℕ) (r : Result Settled SettleFault) → GivesSettle (λ s. (n, settle_reply s)) r (settle_of b w)
+pub settle_takes : (b n : BoardValue) (w : ℕ) (r : Result Settled SettleFault) → GivesSettle (λ s. (n, settle_reply s)) r (settle_of b w)
     → is_ok r ≡ true → Takes b (Settle w) n
 unfolding table
 settle_takes b n w (Ok s) gives ok = takes_of b (Settle w) settle_fault (settle_grant b.build b.state w) n (settle_reply s) refl gives
 settle_takes b n w (Err e) gives ok = absurd cc
 
 -- a settle that is refused is not granted
-pub settle_left : (b n : Seen) (w : ℕ) (r : Result Settled SettleFault) → GivesSettle (λ s. (n, settle_reply s)) r (settle_of b w)
+pub settle_left : (b n : BoardValue) (w : ℕ) (r : Result Settled SettleFault) → GivesSettle (λ s. (n, settle_reply s)) r (settle_of b w)
     → is_ok r ≡ false → IsLeft b (Settle w)
 unfolding table
 settle_left b n w (Ok s) gives refused = absurd cc
@@ -140,14 +142,14 @@ settle_left b n w (Err e) gives refused = by_grant (settle_grant b.build b.state
     by_grant (Ok p) is = absurd cc
 
 -- a cancel that returns no fault is granted, and is added at the end of the record
-pub cancel_takes : (b n : Seen) (w : ℕ) (r : Result Cancelled CancelFault) → GivesCancel (λ s. (n, cancel_reply s)) r (cancel_of b w)
+pub cancel_takes : (b n : BoardValue) (w : ℕ) (r : Result Cancelled CancelFault) → GivesCancel (λ s. (n, cancel_reply s)) r (cancel_of b w)
     → is_ok r ≡ true → Takes b (Cancel w) n
 unfolding table
 cancel_takes b n w (Ok s) gives ok = takes_of b (Cancel w) cancel_fault (cancel_grant b.state w) n (cancel_reply s) refl gives
 cancel_takes b n w (Err e) gives ok = absurd cc
 
 -- a cancel that is refused is not granted
-pub cancel_left : (b n : Seen) (w : ℕ) (r : Result Cancelled CancelFault) → GivesCancel (λ s. (n, cancel_reply s)) r (cancel_of b w)
+pub cancel_left : (b n : BoardValue) (w : ℕ) (r : Result Cancelled CancelFault) → GivesCancel (λ s. (n, cancel_reply s)) r (cancel_of b w)
     → is_ok r ≡ false → IsLeft b (Cancel w)
 unfolding table
 cancel_left b n w (Ok s) gives refused = absurd cc
@@ -158,7 +160,7 @@ cancel_left b n w (Err e) gives refused = by_grant (cancel_grant b.state w) (giv
     by_grant (Ok p) is = absurd cc
 
 -- a chosen event that was not done takes memory
-pub left_over : (b : Seen) (e : Event) → ChosenIsGranted b → chosen b.build b.state ≡ Some e → IsLeft b e → TakesMemory (chosen b.build b.state)
+pub left_over : (b : BoardValue) (e : Event) → ChosenIsGranted b → chosen b.build b.state ≡ Some e → IsLeft b e → TakesMemory (chosen b.build b.state)
 left_over b e granted is left = subst TakesMemory (sym is) (by_event e is left)
   where
     by_event : (e : Event) → chosen b.build b.state ≡ Some e → IsLeft b e → TakesMemory (Some e)
@@ -183,7 +185,7 @@ when_true true P h is = h
 when_true false P h is = absurd cc
 
 -- a record that goes on is no shorter
-pub goes_longer : (a b : Seen) → Goes a b → length a.events ≤ length b.events
+pub goes_longer : (a b : BoardValue) → Goes a b → length a.events ≤ length b.events
 goes_longer a b goes = omega (arith, ap length goes.events, length-append a.events goes.more)
 
 -- at first every worker's count is 0, and past the last worker 0 is read too

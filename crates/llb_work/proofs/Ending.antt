@@ -4,11 +4,11 @@ use Rattle.llb_model.specs.State.{State, opening}
 use Rattle.llb_model.specs.Run.{run, is_complete}
 use Rattle.llb_model.specs.Laws.{IsAtRest, AreChosen, AloneInClaimOrder}
 use Rattle.llb_model.proofs.Runs.{run_none}
-use Rattle.llb_state.specs.Board.{Seen, Replays}
+use Rattle.llb_board.specs.Seen.{BoardValue, Replays}
 use Rattle.llb_work.specs.Alone.{Goes, EndsInClaimOrder}
 
 -- a complete run from a board with an empty record ends in the order of its claims
-pub ends_in_order : (old new : Seen) → Goes old new → Replays old → old.events ≡ [] → is_complete new.build new.state ≡ true
+pub ends_in_order : (old new : BoardValue) → Goes old new → Replays old → old.events ≡ [] → is_complete new.build new.state ≡ true
     → IsAtRest new.state → AloneInClaimOrder new.build
     → EndsInClaimOrder new.build new.opening new.events new.state
 ends_in_order old new goes here none complete rest law =

@@ -2,14 +2,14 @@
 use Rattle.std.proofs.Common.{◌≡◌, ℕ, ◌+◌, ◌<◌, Bool, true, false, cond, List, [], ◌∷◌, length, Option, Some, None, refl, sym, ap, subst, ◌∙◌, arith}
 use Rattle.std.specs.Prelude.{option_map}
 use Rattle.llb_model.specs.Program.{Build}
-use Rattle.llb_model.specs.State.{State, At, Idle, Runs}
+use Rattle.llb_model.specs.State.{State, WorkerStatus, Idle, Runs}
 use Rattle.llb_model.specs.Table.{Event, Step, Settle, Claim, worker_of}
 use Rattle.llb_model.specs.Run.{next_of, next_claim, or_else, chosen, least}
 use Rattle.llb_model.specs.State.{is_finished, program_in, is_ready}
 use Rattle.llb_model.proofs.Lists.{inside}
 
 -- the next event of running workers is one of theirs
-next_worker : (b : Build) (w : ℕ) (ws : List At) (e : Event) → next_of b w ws ≡ Some e → worker_of e < w + length ws
+next_worker : (b : Build) (w : ℕ) (ws : List WorkerStatus) (e : Event) → next_of b w ws ≡ Some e → worker_of e < w + length ws
 next_worker b w [] e is = absurd cc
 next_worker b w (Idle ∷ ws) e is = omega (arith, next_worker b (w + 1) ws e is)
 next_worker b w (Runs x ∷ ws) e is =

@@ -9,7 +9,7 @@ use Rattle.llb_model.specs.Table.{Event, Job, Reply}
 use Rattle.llb_model.specs.Run.{run}
 use Rattle.llb_model.proofs.Events.{workers_stay}
 use Rattle.llb_model.proofs.Runs.{run_keeps}
-use Rattle.llb_state.specs.Board.{Seen}
+use Rattle.llb_board.specs.Seen.{BoardValue}
 use Rattle.llb_events.specs.declared.fault.ClaimFault.{ClaimFault}
 use Rattle.llb_board.specs.Begun.{plain_job}
 use Rattle.llb_work.specs.Crew.{IsAfter}
@@ -33,7 +33,7 @@ second_of : (a b : Bool) → (a && b) ≡ true → b ≡ true
 second_of true b is = is
 second_of false b is = absurd cc
 
-pub is_of_both : (b : Seen) (w v : ℕ) → w < length b.state.workers → v < length b.build.graph.vertices → is_of b w v ≡ true
+pub is_of_both : (b : BoardValue) (w v : ℕ) → w < length b.state.workers → v < length b.build.graph.vertices → is_of b w v ≡ true
 is_of_both b w v worker vertex =
     both (nat_lt w (length b.state.workers)) (nat_lt v (length b.build.graph.vertices)) (lt-ltb w (length b.state.workers) worker)
     (lt-ltb v (length b.build.graph.vertices) vertex)
@@ -45,7 +45,7 @@ workers_same b s t es rs leads =
     (λ i. length s.workers) leads
 
 -- a worker and a vertex of a board are of the board that it began from too
-pub is_of_start : (s b : Seen) (w v : ℕ) → IsAfter s b → is_of b w v ≡ true → is_of s w v ≡ true
+pub is_of_start : (s b : BoardValue) (w v : ℕ) → IsAfter s b → is_of b w v ≡ true → is_of s w v ≡ true
 is_of_start s b w v is has =
     let goes = goes_from s b is in
     let workers = workers_same s.build s.state b.state goes.more goes.replies goes.leads in
@@ -54,7 +54,7 @@ is_of_start s b w v is has =
     && nat_lt v (length x.graph.vertices)) build) ∙ has
 
 -- a claim on a board is one on the board that it began from
-pub claimed_at_first : (s b : Seen) (w v : ℕ) (r : Result Job ClaimFault) → IsAfter s b → IfOk r (IsClaimed b w v) → IfOk r (IsClaimed s w v)
+pub claimed_at_first : (s b : BoardValue) (w v : ℕ) (r : Result Job ClaimFault) → IsAfter s b → IfOk r (IsClaimed b w v) → IfOk r (IsClaimed s w v)
 claimed_at_first s b w v (Err e) is claimed = tt
 claimed_at_first s b w v (Ok job) is claimed = record {
   worker = claimed.worker;
@@ -64,11 +64,11 @@ claimed_at_first s b w v (Ok job) is claimed = record {
 }
 
 -- the job of a worker on a vertex is one on the vertex that it names
-pub claimed_as : (s : Seen) (w v : ℕ) (job : Job) → IsClaimed s w v job → IsClaimed s w job.vertex job
+pub claimed_as : (s : BoardValue) (w v : ℕ) (job : Job) → IsClaimed s w v job → IsClaimed s w job.vertex job
 claimed_as s w v job claimed = subst (λ u. IsClaimed s w u job) (sym claimed.vertex) claimed
 
 -- a stop that may be noted is one at a worker and a vertex of the board
-pub stops_here : (may_stop : ℕ → ℕ → Bool) (b : Seen) (w v : ℕ) → may_be may_stop b (Some (Stopped w v)) ≡ true → StopsSomewhere may_stop b
+pub stops_here : (may_stop : ℕ → ℕ → Bool) (b : BoardValue) (w v : ℕ) → may_be may_stop b (Some (Stopped w v)) ≡ true → StopsSomewhere may_stop b
 stops_here may_stop b w v is =
     let has = second_of (may_stop w v) (is_of b w v) is in (
       w,
@@ -79,5 +79,6 @@ stops_here may_stop b w v is =
     )
 
 -- a stop at a worker and a vertex of the board, where the gate may stop, may be noted
-pub may_be_here : (may_stop : ℕ → ℕ → Bool) (b : Seen) (w v : ℕ) → may_stop w v ≡ true → is_of b w v ≡ true → may_be may_stop b (Some (Stopped w v)) ≡ true
+pub may_be_here : (may_stop : ℕ → ℕ → Bool) (b : BoardValue) (w v : ℕ) → may_stop w v ≡ true → is_of b w v ≡ true → may_be may_stop b (Some (Stopped w v))
+    ≡ true
 may_be_here may_stop b w v may has = both (may_stop w v) (is_of b w v) may has

@@ -10,9 +10,9 @@ use Rattle.llb_model.specs.State as model
 use Rattle.llb_model.specs.Program.{Build}
 use Rattle.llb_model.specs.Table.{Job}
 use Rattle.llb_model.proofs.Lists.{inside}
-use Rattle.llb_events.specs.declared.event.At.{At}
-use Rattle.llb_events.specs.declared.event.At.TheVariants.{Idle, Runs}
-use Rattle.llb_state.specs.Board.{Seen}
+use Rattle.llb_events.specs.declared.event.WorkerStatus.{WorkerStatus}
+use Rattle.llb_events.specs.declared.event.WorkerStatus.TheVariants.{Idle, Runs}
+use Rattle.llb_board.specs.Seen.{BoardValue}
 use Rattle.llb_events.specs.Views.{look_of, worker_look}
 use Rattle.llb_board.specs.Begun.{plain_job, IsKnown}
 use Rattle.llb_work.specs.Turns.{IsClaimed}
@@ -40,20 +40,20 @@ marked_all b k marks here past v =
 
 -- ---- what is known
 
-abbrev vertex_in : At → ℕ
+abbrev vertex_in : WorkerStatus → ℕ
 vertex_in Idle = 0
 vertex_in (Runs v d f) = v
 
-abbrev done_in : At → ℕ
+abbrev done_in : WorkerStatus → ℕ
 done_in Idle = 0
 done_in (Runs v d f) = d
 
 -- if no cache mount is at or before a claimed job's vertex, and its worker has done no micro-step of it, the job is known
-pub known : (given b : Seen) (w v d : ℕ) (f : Bool) (job : Job) → b.build ≡ given.build → IsClaimed given w job.vertex job
+pub known : (given b : BoardValue) (w v d : ℕ) (f : Bool) (job : Job) → b.build ≡ given.build → IsClaimed given w job.vertex job
     → is_plain given.build v ≡ true → Some (Runs v d f) ≡ worker_look b.build b.state w → d ≡ 0 → v ≡ job.vertex → IsKnown b w job
 known given b w v d f job same claimed plain look none vertex = by_at (slice_get b.state.workers w) refl look
   where
-    by_at : (o : Option model.At) → slice_get b.state.workers w ≡ o → Some (Runs v d f) ≡ option_map (look_of b.build) o → IsKnown b w job
+    by_at : (o : Option model.WorkerStatus) → slice_get b.state.workers w ≡ o → Some (Runs v d f) ≡ option_map (look_of b.build) o → IsKnown b w job
     by_at None at is = absurd cc
     by_at (Some model.Idle) at is = absurd cc
     by_at (Some (model.Runs x)) at is =

@@ -8,11 +8,11 @@ use Rattle.llb_model.specs.Table.{Event, Job, Claimed, claim_grant, table}
 use Rattle.llb_model.proofs.Events.{claim_is}
 use Rattle.llb_model.specs.Table.{Reply, Claim, Step, Settle, Cancel}
 use Rattle.llb_model.specs.Landing.{landing}
-use Rattle.llb_state.specs.Board.{Seen, after_event, recorded}
+use Rattle.llb_board.specs.Seen.{BoardValue, after_event, recorded}
 use Rattle.llb_execution.specs.Jobs.{OutcomeValue}
 use Rattle.llb_board.specs.Begun.{ClaimsArePlain}
 use Rattle.llb_board.specs.Landing.{Lands}
-use Rattle.llb_state.specs.Rules.{claim_of, step_of, settle_of, cancel_of}
+use Rattle.llb_board.specs.Rules.{claim_of, step_of, settle_of, cancel_of}
 use Rattle.llb_events.specs.Causes.{claim_fault, GivesStep, GivesSettle, GivesCancel}
 use Rattle.llb_events.specs.Faults.{GivesClaim}
 use Rattle.llb_events.specs.Views.{claim_reply, step_reply, settle_reply, cancel_reply}
@@ -31,21 +31,21 @@ use Rattle.llb_work.proofs.Afters.{stays, takes_one}
 use Rattle.llb_work.proofs.Here.{is_of_both}
 
 -- a claim adds its event to the record or changes nothing, so the board goes on either way
-pub claim_goes : {J : Type 0} (reply : J → Reply) (b n : Seen) (w v : ℕ) (r : Result J ClaimFault) → GivesClaim (λ job. (n, reply job)) r (claim_of b w v)
+pub claim_goes : {J : Type 0} (reply : J → Reply) (b n : BoardValue) (w v : ℕ) (r : Result J ClaimFault) → GivesClaim (λ job. (n, reply job)) r (claim_of b w v)
     → OnErr r (n ≡ b)
     → GoesOn b n
 claim_goes reply b n w v (Ok job) gives err = takes_one b n (Claim w v) (claim_takes reply b n w v (Ok job) gives refl)
 claim_goes reply b n w v (Err e) gives err = stays b n err
 
 -- if a recorded call returns a board and a reply, it was granted with the state of that board and that reply
-granted : {C F : Type 0} (b n : Seen) (e : Event) (fault : C → F) (o : Result (State × Reply) C) (r : Reply) → recorded b e fault o ≡ Ok (n, r)
+granted : {C F : Type 0} (b n : BoardValue) (e : Event) (fault : C → F) (o : Result (State × Reply) C) (r : Reply) → recorded b e fault o ≡ Ok (n, r)
     → result_ok o ≡ Some (n.state, r)
 granted {C} {F} b n e fault (Err cause) r given = absurd cc
 granted {C} {F} b n e fault (Ok (s, q)) r given =
-    let same : ◌≡◌ {A = Seen × Reply} (after_event b e s, q) (n, r) = inside_ok given in
-    ap (λ (x : Seen × Reply). Some (x.0.state, x.1)) same
+    let same : ◌≡◌ {A = BoardValue × Reply} (after_event b e s, q) (n, r) = inside_ok given in
+    ap (λ (x : BoardValue × Reply). Some (x.0.state, x.1)) same
   where
-    inside_ok : {x y : Seen × Reply} → ◌≡◌ {A = Result (Seen × Reply) F} (Ok x) (Ok y) → x ≡ y
+    inside_ok : {x y : BoardValue × Reply} → ◌≡◌ {A = Result (BoardValue × Reply) F} (Ok x) (Ok y) → x ≡ y
     inside_ok e = cc
 
 job_in : Job → Reply → Job
@@ -53,7 +53,7 @@ job_in other (Claimed job) = job
 job_in other r = other
 
 -- a claim that is granted is of a worker and a vertex of the board, and so is its job
-pub claim_here : (b n : Seen) (w v : ℕ) (r : Result Job ClaimFault) → ClaimsArePlain b → GivesClaim (λ job. (n, claim_reply job)) r (claim_of b w v)
+pub claim_here : (b n : BoardValue) (w v : ℕ) (r : Result Job ClaimFault) → ClaimsArePlain b → GivesClaim (λ job. (n, claim_reply job)) r (claim_of b w v)
     → IfOk r (IsClaimed b w v)
 unfolding table job_in
 claim_here b n w v (Err e) plain gives = tt
@@ -71,36 +71,36 @@ claim_here b n w v (Ok job) plain gives =
     }
 
 -- a step adds its event to the record or changes nothing, so the board goes on either way
-pub step_goes : (b n : Seen) (w : ℕ) (r : Result Stepped StepFault) → GivesStep (λ s. (n, step_reply s)) r (step_of b w) → OnErr r (n ≡ b) → GoesOn b n
+pub step_goes : (b n : BoardValue) (w : ℕ) (r : Result Stepped StepFault) → GivesStep (λ s. (n, step_reply s)) r (step_of b w) → OnErr r (n ≡ b) → GoesOn b n
 step_goes b n w (Ok s) gives err = takes_one b n (Step w) (step_takes b n w (Ok s) gives refl)
 step_goes b n w (Err e) gives err = stays b n err
 
 -- a settle adds its event to the record or changes nothing, so the board goes on either way
-pub settle_goes : (b n : Seen) (w : ℕ) (r : Result Settled SettleFault) → GivesSettle (λ s. (n, settle_reply s)) r (settle_of b w) → OnErr r (n ≡ b)
+pub settle_goes : (b n : BoardValue) (w : ℕ) (r : Result Settled SettleFault) → GivesSettle (λ s. (n, settle_reply s)) r (settle_of b w) → OnErr r (n ≡ b)
     → GoesOn b n
 settle_goes b n w (Ok s) gives err = takes_one b n (Settle w) (settle_takes b n w (Ok s) gives refl)
 settle_goes b n w (Err e) gives err = stays b n err
 
 -- a cancel adds its event to the record or changes nothing, so the board goes on either way
-pub cancel_goes : (b n : Seen) (w : ℕ) (r : Result Cancelled CancelFault) → GivesCancel (λ s. (n, cancel_reply s)) r (cancel_of b w) → OnErr r (n ≡ b)
+pub cancel_goes : (b n : BoardValue) (w : ℕ) (r : Result Cancelled CancelFault) → GivesCancel (λ s. (n, cancel_reply s)) r (cancel_of b w) → OnErr r (n ≡ b)
     → GoesOn b n
 cancel_goes b n w (Ok s) gives err = takes_one b n (Cancel w) (cancel_takes b n w (Ok s) gives refl)
 cancel_goes b n w (Err e) gives err = stays b n err
 
 -- after a landing the board goes on
-land_leads : (b n : Seen) (w : ℕ) (o : OutcomeValue) (reply : Reply) → Lands b w o n reply → GoesOn b n
+land_leads : (b n : BoardValue) (w : ℕ) (o : OutcomeValue) (reply : Reply) → Lands b w o n reply → GoesOn b n
 land_leads b n w o reply lands = record {
-  build = ap (λ (x : Seen). x.build) lands.recorded;
-  opening = ap (λ (x : Seen). x.opening) lands.recorded;
-  first = ap (λ (x : Seen). x.first) lands.recorded;
+  build = ap (λ (x : BoardValue). x.build) lands.recorded;
+  opening = ap (λ (x : BoardValue). x.opening) lands.recorded;
+  first = ap (λ (x : BoardValue). x.first) lands.recorded;
   more = landing w o.count;
   replies = lands.replies ++ reply ∷ [];
   leads = lands.runs;
-  events = ap (λ (x : Seen). x.events) lands.recorded;
+  events = ap (λ (x : BoardValue). x.events) lands.recorded;
 }
 
 -- a landing adds its block of events to the record or changes nothing, so the board goes on either way
-pub land_goes : (b n : Seen) (w : ℕ) (o : OutcomeValue) (r : Result Settled LandFault) → IfOk r (λ s. Lands b w o n (settle_reply s)) → OnErr r (n ≡ b)
+pub land_goes : (b n : BoardValue) (w : ℕ) (o : OutcomeValue) (r : Result Settled LandFault) → IfOk r (λ s. Lands b w o n (settle_reply s)) → OnErr r (n ≡ b)
     → GoesOn b n
 land_goes b n w o (Ok s) gives err = land_leads b n w o (settle_reply s) gives
 land_goes b n w o (Err e) gives err = stays b n err

@@ -6,10 +6,10 @@ use Rattle.llb_model.specs.Table.{Event, Claim, Step, Settle, Cancel, Reply, tab
 use Rattle.llb_model.specs.Run.{run, events_by, is_complete}
 use Rattle.llb_model.specs.Order.{at_first, order, claims_in}
 use Rattle.llb_model.specs.Laws.{AreChosen}
-use Rattle.llb_state.specs.Board.{Seen}
+use Rattle.llb_board.specs.Seen.{BoardValue}
 
 -- one event that the table grants is added at the end of the record
-pub record Takes (old : Seen) (e : Event) (new : Seen) : Type 0 where
+pub record Takes (old : BoardValue) (e : Event) (new : BoardValue) : Type 0 where
   pub build : new.build ≡ old.build
   pub opening : new.opening ≡ old.opening
   pub first : new.first ≡ old.first
@@ -18,7 +18,7 @@ pub record Takes (old : Seen) (e : Event) (new : Seen) : Type 0 where
   pub events : new.events ≡ old.events ++ e ∷ []
 
 -- events that are chosen and granted one after another are added at the end of the record
-pub record Goes (old new : Seen) : Type 0 where
+pub record Goes (old new : BoardValue) : Type 0 where
   pub build : new.build ≡ old.build
   pub opening : new.opening ≡ old.opening
   pub first : new.first ≡ old.first
@@ -39,7 +39,7 @@ pub record EndsInClaimOrder (b : Build) (o : Opening) (es : List Event) (s : Sta
   pub store : s.store ≡ (order b (at_first b o.store) (claims_in replies)).store
 
 -- for each worker, how many of the events that were added are its own
-abbrev pub MadeBy : Seen → Seen → List ℕ → Type 0
+abbrev pub MadeBy : BoardValue → BoardValue → List ℕ → Type 0
 MadeBy old new made = (w : ℕ) → w < 64 → slice_index made w ≡ events_by w (drop (length old.events) new.events)
 
 -- an event that may end a run because memory is refused: a settle and a cancel take no memory
@@ -51,7 +51,7 @@ TakesMemory (Some (Cancel w)) = ⊥
 TakesMemory None = ⊥
 
 -- why an event that takes no memory was not done: it is not granted
-abbrev pub IsLeft : Seen → Event → Type 0
+abbrev pub IsLeft : BoardValue → Event → Type 0
 IsLeft b (Claim w v) = ⊤
 IsLeft b (Step w) = ⊤
 IsLeft b (Settle w) = table b.build b.state (Settle w) ≡ None

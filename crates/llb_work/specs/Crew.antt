@@ -4,10 +4,10 @@ use Rattle.llb_model.specs.Program.{Build}
 use Rattle.llb_model.specs.State.{State}
 use Rattle.llb_model.specs.Table.{Event, Reply}
 use Rattle.llb_model.specs.Run.{run}
-use Rattle.llb_state.specs.Board.{Seen, opened}
+use Rattle.llb_board.specs.Seen.{BoardValue, opened}
 
 -- events that are granted one after another are added at the end of the record
-pub record GoesOn (old new : Seen) : Type 0 where
+pub record GoesOn (old new : BoardValue) : Type 0 where
   pub build : new.build ≡ old.build
   pub opening : new.opening ≡ old.opening
   pub first : new.first ≡ old.first
@@ -16,11 +16,12 @@ pub record GoesOn (old new : Seen) : Type 0 where
   pub leads : run old.build old.state more ≡ Some (new.state, replies)
   pub events : new.events ≡ old.events ++ more
 
+-- the state of an answer
 abbrev pub state_in : State × List Reply → State
 state_in a = a.0
 
 -- the same, stated by equations only: the older record is a prefix of the record, and what is after it leads to the state
-pub record IsAfter (start found : Seen) : Type 0 where
+pub record IsAfter (start found : BoardValue) : Type 0 where
   pub build : found.build ≡ start.build
   pub opening : found.opening ≡ start.opening
   pub first : found.first ≡ start.first
@@ -28,12 +29,13 @@ pub record IsAfter (start found : Seen) : Type 0 where
   pub leads : option_map state_in (run start.build start.state (drop (length start.events) found.events)) ≡ Some found.state
 
 -- the sum of the workers' counts is the number of events that were added
-abbrev pub Counts : List ℕ → Seen → Seen → Type 0
+abbrev pub Counts : List ℕ → BoardValue → BoardValue → Type 0
 Counts made old new = sum made + length old.events ≡ length new.events
 
 -- a build without vertices; the board opened on it, on which nothing has happened, is used where no board is given
 abbrev pub no_build : Build
 no_build = record { graph = record { vertices = []; result = record { vertex = 0; index = 0 } }; locals = [] }
 
-abbrev pub nothing : Seen
+-- the board that stands where none is: of no graph and no workers
+abbrev pub nothing : BoardValue
 nothing = opened no_build 0 []

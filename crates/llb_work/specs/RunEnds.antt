@@ -1,6 +1,6 @@
 -- What a run returns.
 use Rattle.std.specs.Prelude.{ℕ, ◌<◌, ◌&&◌, nat_lt, List, length, Bool, true, false, Option, Some, None, IsTrue}
-use Rattle.llb_state.specs.Board.{Seen}
+use Rattle.llb_board.specs.Seen.{BoardValue}
 use Rattle.llb_work.specs.Crew.{GoesOn, Counts}
 use Rattle.llb_work.specs.declared.end.RunFault.{RunFault}
 use Rattle.llb_work.specs.declared.end.RunFault.TheVariants.{Memory, Stopped, Thread, Foreign}
@@ -16,19 +16,19 @@ is_foreign (Some Thread) = false
 is_foreign (Some (Foreign b)) = true
 
 -- the board that is returned goes on from the given one, and the workers' counts add up to the number of events that were added
-abbrev pub Leads : Seen → List ℕ → Seen → Type 0
+abbrev pub Leads : BoardValue → List ℕ → BoardValue → Type 0
 Leads given made found = GoesOn given found × Counts made given found
 
 -- a worker of a board and a vertex of its graph at which a gate may stop
-abbrev pub StopsSomewhere : (ℕ → ℕ → Bool) → Seen → Type 0
+abbrev pub StopsSomewhere : (ℕ → ℕ → Bool) → BoardValue → Type 0
 StopsSomewhere may_stop b = (w : ℕ) × (v : ℕ) × (w < length b.state.workers) × (v < length b.build.graph.vertices) × IsTrue (may_stop w v)
 
 -- a worker and a vertex of a board
-abbrev pub is_of : Seen → ℕ → ℕ → Bool
+abbrev pub is_of : BoardValue → ℕ → ℕ → Bool
 is_of b w v = nat_lt w (length b.state.workers) && nat_lt v (length b.build.graph.vertices)
 
 -- if a stop is noted, the gate may stop there, and the worker and the vertex are of the board that was given
-abbrev pub may_be : (ℕ → ℕ → Bool) → Seen → Option Noted → Bool
+abbrev pub may_be : (ℕ → ℕ → Bool) → BoardValue → Option Noted → Bool
 may_be may_stop b None = true
 may_be may_stop b (Some noted.Memory) = true
 may_be may_stop b (Some noted.Thread) = true

@@ -2,7 +2,7 @@
 use Rattle.std.specs.Prelude.{◌≡◌, ℕ, true, Some}
 use Rattle.llb_model.specs.Table.{Job}
 use Rattle.llb_model.specs.Outcome.{is_plain}
-use Rattle.llb_state.specs.Board.{Seen}
+use Rattle.llb_board.specs.Seen.{BoardValue}
 use Rattle.llb_board.specs.Begun.{plain_job}
 use Rattle.llb_work.specs.RunEnds.{is_of}
 use Rattle.llb_work.specs.declared.shared_board.Turn.{Turn}
@@ -11,14 +11,14 @@ use Rattle.llb_work.specs.declared.shared_board.Brought.{Brought}
 use Rattle.llb_work.specs.declared.shared_board.Brought.TheVariants.{Nothing, Number, Outcome}
 
 -- the job of a worker of the board on a vertex of the board; it is the plain job if no cache mount is at or before the vertex
-pub record IsClaimed (b : Seen) (w v : ℕ) (job : Job) : Type 0 where
+pub record IsClaimed (b : BoardValue) (w v : ℕ) (job : Job) : Type 0 where
   pub worker : job.worker ≡ w
   pub vertex : job.vertex ≡ v
   pub has : is_of b w v ≡ true
   pub plain : is_plain b.build v ≡ true → plain_job b.build w v ≡ Some job
 
 -- what a worker is to work on, or to pass the gate for, is a vertex of the board, and the worker is one of the board's workers
-abbrev pub IsHere : Seen → ℕ → Turn → Type 0
+abbrev pub IsHere : BoardValue → ℕ → Turn → Type 0
 IsHere b w (Work job) = IsClaimed b w job.vertex job
 IsHere b w (Pass v) = is_of b w v ≡ true
 IsHere b w Again = Unit {0}
@@ -26,7 +26,7 @@ IsHere b w Next = Unit {0}
 IsHere b w End = Unit {0}
 
 -- an outcome that a worker brings is that of a job that it has claimed
-abbrev pub IsBrought : Seen → ℕ → Brought → Type 0
+abbrev pub IsBrought : BoardValue → ℕ → Brought → Type 0
 IsBrought b w Nothing = Unit {0}
 IsBrought b w (Number v) = Unit {0}
 IsBrought b w (Outcome o) = IsClaimed b w o.job.vertex o.job

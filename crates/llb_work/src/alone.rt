@@ -2,7 +2,7 @@
 
 ghost use Rattle.std.specs.Prelude.{◌≡◌, ◌<◌, ◌==◌, ◌↔◌, ◌⊎◌, ℕ, Some, None, [], length, slice_get, slice_index, IfSome, true};
 ghost use Rattle.std.specs.Bool.{OnTrue, OnFalse};
-ghost use Rattle.llb_model.specs.Table.{Claim, Step, Settle, Cancel, worker_of};
+ghost use Rattle.llb_model.specs.Table.{worker_of};
 ghost use Rattle.llb_events.specs.Views.{event_of};
 ghost use Rattle.llb_model.specs.Outcome.{outcome};
 ghost use Rattle.llb_model.specs.Run.{chosen, is_complete, claims_of, AreAscending, StandsPlainly};
@@ -17,36 +17,6 @@ use llb_board::laws::{
 };
 use llb_board::{Board, Event};
 
-fn claims(board: &mut Board, w: u32, v: u32) -> bool
-    ensures taken { OnTrue result (Takes board.old (Claim w v) board.new) }
-    ensures kept { OnFalse result (board.new ≡ board.old) }
-{
-    board.claim(w, v).is_ok()
-}
-
-fn steps(board: &mut Board, w: u32) -> bool
-    ensures taken { OnTrue result (Takes board.old (Step w) board.new) }
-    ensures kept { OnFalse result (board.new ≡ board.old) }
-{
-    board.step(w).is_ok()
-}
-
-fn settles(board: &mut Board, w: u32) -> bool
-    ensures taken { OnTrue result (Takes board.old (Settle w) board.new) }
-    ensures kept { OnFalse result (board.new ≡ board.old) }
-    ensures left { OnFalse result (IsLeft board.old (Settle w)) }
-{
-    board.settle(w).is_ok()
-}
-
-fn cancels(board: &mut Board, w: u32) -> bool
-    ensures taken { OnTrue result (Takes board.old (Cancel w) board.new) }
-    ensures kept { OnFalse result (board.new ≡ board.old) }
-    ensures left { OnFalse result (IsLeft board.old (Cancel w)) }
-{
-    board.cancel(w).is_ok()
-}
-
 /// Does one event and returns whether it was granted; if it was refused, the board is unchanged.
 pub(crate) fn do_event(board: &mut Board, event: Event) -> bool
     ensures taken { OnTrue result (Takes board.old (event_of event) board.new) }
@@ -54,10 +24,10 @@ pub(crate) fn do_event(board: &mut Board, event: Event) -> bool
     ensures left { OnFalse result (IsLeft board.old (event_of event)) }
 {
     match event {
-        Event::Claim(w, v) => claims(board, w, v),
-        Event::Step(w) => steps(board, w),
-        Event::Settle(w) => settles(board, w),
-        Event::Cancel(w) => cancels(board, w),
+        Event::Claim(w, v) => board.claim(w, v).is_ok(),
+        Event::Step(w) => board.step(w).is_ok(),
+        Event::Settle(w) => board.settle(w).is_ok(),
+        Event::Cancel(w) => board.cancel(w).is_ok(),
     }
 }
 

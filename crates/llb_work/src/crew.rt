@@ -80,7 +80,7 @@ pub(crate) fn run_crew<S: Gated + Send + Sync, G: Gate + Sync, R: Threads + Wait
     requires parts { (begin.blank.parts ≡ S.parts) × (begin.blank.parts ≡ begin.workers) }
     requires few { begin.workers ≤ 64 }
     requires same { begin.start ≡ begin.board }
-    requires given { begin.board ≡ S.given }
+    requires start { begin.board ≡ S.start }
     requires stop { (w v : ℕ) → IsTrue (G.may_stop w v) → S.may_stop w v ≡ true }
     ensures start { result.start ≡ begin.board }
     ensures after { IsAfter begin.board result.board }
@@ -131,10 +131,10 @@ pub(crate) fn run_crew<S: Gated + Send + Sync, G: Gate + Sync, R: Threads + Wait
 fn closed<S: Gated>(shared: SharedBoard<S>, share: Share<S>, made: [u64; 64]) -> CrewEnd
     requires whole { share.parts ≡ S.parts }
     requires made { share.amount ≡ sum made }
-    ensures start { result.start ≡ S.given }
-    ensures after { IsAfter S.given result.board }
-    ensures made { Counts result.made S.given result.board }
-    ensures stops { may_be S.may_stop S.given result.noted ≡ true }
+    ensures start { result.start ≡ S.start }
+    ensures after { IsAfter S.start result.board }
+    ensures made { Counts result.made S.start result.board }
+    ensures stops { may_be S.may_stop S.start result.noted ≡ true }
 {
     let SharedBoard {
         board,

@@ -1,7 +1,7 @@
 //! What a worker notes under the lock, and the count of the events that it has made.
 
 ghost use Rattle.std.specs.Prelude.{◌≡◌, ◌+◌, ◌≤◌, ℕ, Bool, true};
-ghost use Rattle.llb_state.specs.Board.{Seen};
+ghost use Rattle.llb_board.specs.Seen.{BoardValue};
 ghost use Rattle.llb_work.specs.Crew.{nothing};
 
 use std::marker::Brand;
@@ -22,13 +22,13 @@ pub(crate) enum Noted {
 pub(crate) trait Gated: Ledger {
     ghost may_stop: { ℕ → ℕ → Bool };
 
-    ghost given: { Seen };
+    ghost start: { BoardValue };
 }
 
 impl Gated for Brand {
     ghost may_stop = { λ w v. true };
 
-    ghost given = { nothing };
+    ghost start = { nothing };
 }
 
 /// How many events a worker has made, with its share of the ledger.

@@ -8,9 +8,7 @@ ghost use Rattle.llb_model.specs.Program.{has_cache};
 ghost use Rattle.llb_work.specs.Supplies.{ArePlain};
 
 use llb_board::Board;
-use llb_execution::mounts_of;
-use llb_loader::{Edge, MountType, Vertex};
-use llb_state::is_marked;
+use llb_loader::{Edge, MountType, Vertex, mounts_of};
 use std::alloc::Global;
 
 /// Returns for each vertex, by number, whether no cache mount is at or before it; `None` if memory is refused.
@@ -54,4 +52,11 @@ fn has_cache(vertex: &Vertex) -> bool
         }
     }
     false
+}
+
+/// Returns whether a vertex is marked; one past the marks is not.
+pub(crate) fn is_marked(marks: &[bool], v: u32) -> bool
+    ensures { result ≡ unwrap_or (slice_get marks.now v) false }
+{
+    marks.get(v as usize).copied().unwrap_or(false)
 }

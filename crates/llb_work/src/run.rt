@@ -2,7 +2,7 @@
 
 ghost use Rattle.std.specs.Prelude.{◌≡◌, ◌≤◌, ◌+◌, ◌⊎◌, ℕ, Bool, sum, length, true, false, Some, None};
 ghost use Rattle.llb_model.specs.Run.{is_complete};
-ghost use Rattle.llb_state.specs.Board.{Seen};
+ghost use Rattle.llb_board.specs.Seen.{BoardValue};
 ghost use Rattle.llb_work.specs.Crew.{GoesOn, Counts};
 ghost use Rattle.llb_work.specs.RunEnds.{is_foreign, may_be, StopsSomewhere, Leads};
 
@@ -101,7 +101,7 @@ fn ended(board: Board, made: [u64; 64], noted: Option<Noted>) -> RunEnd
     ensures made { sum result.made + length board.events ≡ sum made + length result.board.events }
     ensures own { is_foreign result.fault ≡ false }
     ensures complete { result.fault ≡ None → is_complete result.board.build result.board.state ≡ true }
-    ensures stopped { (may_stop : ℕ → ℕ → Bool) (given : Seen) → may_be may_stop given noted ≡ true → result.fault ≡ Some RunFault.Stopped
+    ensures stopped { (may_stop : ℕ → ℕ → Bool) (given : BoardValue) → may_be may_stop given noted ≡ true → result.fault ≡ Some RunFault.Stopped
         → StopsSomewhere may_stop given }
 {
     let Some(noted) = noted else {
@@ -114,7 +114,7 @@ fn ended(board: Board, made: [u64; 64], noted: Option<Noted>) -> RunEnd
 // Returns what was noted, as a fault.
 fn fault_of(noted: Noted) -> RunFault
     ensures own { is_foreign (Some result) ≡ false }
-    ensures stopped { (may_stop : ℕ → ℕ → Bool) (given : Seen) → may_be may_stop given (Some noted) ≡ true → result ≡ RunFault.Stopped
+    ensures stopped { (may_stop : ℕ → ℕ → Bool) (given : BoardValue) → may_be may_stop given (Some noted) ≡ true → result ≡ RunFault.Stopped
         → StopsSomewhere may_stop given }
 {
     match noted {

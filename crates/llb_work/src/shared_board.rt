@@ -5,7 +5,7 @@
 ghost use Rattle.std.specs.Prelude.{◌≡◌, ◌+◌, ℕ, length, true, Some, IfOk};
 ghost use Rattle.std.specs.Bool.{OnTrue};
 ghost use Rattle.std.specs.Coded.{codes};
-ghost use Rattle.llb_tree.specs.Tree.{coded_tree};
+ghost use Rattle.llb_tree.specs.Coded.{coded_tree};
 ghost use Rattle.llb_board.specs.Begun.{IsKnown};
 ghost use Rattle.llb_board.specs.Store.{coded_store};
 ghost use Rattle.llb_work.specs.Crew.{IsAfter};
@@ -16,12 +16,12 @@ ghost use Rattle.llb_work.specs.Turns.{IsBrought, IsClaimed, IsHere};
 use crate::granted;
 use crate::held::Held;
 use crate::noted::{Gated, Noted, Tally, count};
+use crate::plain::is_marked;
 use llb_board::{
-    At, Board, ClaimFault, Job, LandFault, Outcome, SettleFault, Settled, Status, StepFault,
-    Stepped,
+    Board, ClaimFault, Job, LandFault, Outcome, SettleFault, Settled, Status, StepFault, Stepped,
+    WorkerStatus,
 };
 use llb_cache::Key;
-use llb_state::is_marked;
 use std::sync::ledger::Book;
 
 /// The board under the lock.
@@ -33,11 +33,11 @@ pub(crate) struct SharedBoard<S: Gated> {
     pub held: Held,
     pub calls: Book<S>,
     pub noted: Option<Noted>,
-    pub ghost kept: { start ≡ S.given } by { Prim.hlevel (codes, coded_tree, coded_store) },
-    pub ghost after: { IsAfter S.given board } by { Prim.hlevel (codes, coded_tree, coded_store) },
-    pub ghost marks: { ArePlain S.given.build plain.items },
-    pub ghost counted: { calls.total + length S.given.events ≡ length board.events },
-    pub ghost stops: { may_be S.may_stop S.given noted ≡ true },
+    pub ghost kept: { start ≡ S.start } by { Prim.hlevel (codes, coded_tree, coded_store) },
+    pub ghost after: { IsAfter S.start board } by { Prim.hlevel (codes, coded_tree, coded_store) },
+    pub ghost marks: { ArePlain S.start.build plain.items },
+    pub ghost counted: { calls.total + length S.start.events ≡ length board.events },
+    pub ghost stops: { may_be S.may_stop S.start noted ≡ true },
 }
 
 /// What a worker brings to the lock.
@@ -74,8 +74,8 @@ pub(crate) fn make_shared_board<S: Gated>(
     calls: Book<S>,
 ) -> SharedBoard<S>
     requires plain { ArePlain board.build plain.items }
-    requires kept { start ≡ S.given }
-    requires given { board ≡ S.given }
+    requires kept { start ≡ S.start }
+    requires start { board ≡ S.start }
     requires empty { calls.total ≡ 0 }
 {
     SharedBoard {
@@ -91,7 +91,7 @@ pub(crate) fn make_shared_board<S: Gated>(
 impl<S: Gated> SharedBoard<S> {
     /// Notes why the run ends, unless something is noted already.
     pub(crate) fn note(&mut self, noted: Noted)
-        requires { may_be S.may_stop S.given (Some noted) ≡ true }
+        requires { may_be S.may_stop S.start (Some noted) ≡ true }
     {
         if self.noted.is_none() {
             self.noted = Some(noted);
@@ -100,7 +100,7 @@ impl<S: Gated> SharedBoard<S> {
 
     // Claims a vertex for a worker, and counts the event for the worker.
     fn claim(&mut self, w: u32, v: u32, mine: &mut Tally<S>) -> Result<Job, ClaimFault>
-        ensures { IfOk result (IsClaimed S.given w v) }
+        ensures { IfOk result (IsClaimed S.start w v) }
     {
         let before = self.board.events().len();
         let claimed = granted::claim(&mut self.board, w, v);
@@ -110,7 +110,7 @@ impl<S: Gated> SharedBoard<S> {
 
     // Lands on the board what a worker has worked out, and counts the events for the worker.
     fn land(&mut self, w: u32, outcome: Outcome, mine: &mut Tally<S>) -> Result<Settled, LandFault>
-        requires { IsClaimed S.given w outcome.job.vertex outcome.job }
+        requires { IsClaimed S.start w outcome.job.vertex outcome.job }
     {
         let known = self.is_known(w, outcome.job());
         let before = self.board.events().len();
@@ -122,11 +122,11 @@ impl<S: Gated> SharedBoard<S> {
     // Returns whether a job is known to be what its worker runs: no cache mount is at or before its vertex, and the worker has done no
     // micro-step of it.
     fn is_known(&self, w: u32, job: &Job) -> bool
-        requires { IsClaimed S.given w job.now.vertex job.now }
+        requires { IsClaimed S.start w job.now.vertex job.now }
         ensures { OnTrue result (IsKnown self.now.board w job.now) }
     {
         match self.board.worker(w) {
-            Some(At::Runs(v, 0, _)) => v == job.vertex() && is_marked(&self.plain, v),
+            Some(WorkerStatus::Runs(v, 0, _)) => v == job.vertex() && is_marked(&self.plain, v),
             _ => false,
         }
     }
@@ -157,7 +157,7 @@ impl<S: Gated> SharedBoard<S> {
     /// Cancels what a worker runs and notes why the run ends, both in one hold of the lock: another worker never sees a ready vertex that
     /// is in no queue while nothing is noted.
     pub(crate) fn give_up(&mut self, w: u32, noted: Noted, mine: &mut Tally<S>)
-        requires { may_be S.may_stop S.given (Some noted) ≡ true }
+        requires { may_be S.may_stop S.start (Some noted) ≡ true }
     {
         self.cancel(w, mine);
         self.note(noted);
@@ -173,8 +173,8 @@ impl<S: Gated> SharedBoard<S> {
         mine: &mut Tally<S>,
         news: &mut Vec<u32>,
     ) -> Turn
-        requires { IsBrought S.given w brought }
-        ensures { IsHere S.given w result }
+        requires { IsBrought S.start w brought }
+        ensures { IsHere S.start w result }
     {
         match brought {
             Brought::Nothing => self.go_on(w, mine, news),
@@ -189,30 +189,30 @@ impl<S: Gated> SharedBoard<S> {
 
     // Does one event of what a worker runs. A worker that runs nothing ends if the run is over.
     fn go_on(&mut self, w: u32, mine: &mut Tally<S>, news: &mut Vec<u32>) -> Turn
-        ensures { IsHere S.given w result }
+        ensures { IsHere S.start w result }
     {
         match self.board.worker(w) {
             None => Turn::End,
-            Some(At::Runs(_, _, true)) => {
+            Some(WorkerStatus::Runs(_, _, true)) => {
                 self.release(w, news);
                 let settled = self.settle(w, mine);
                 self.left(settled.ok(), news)
             }
-            Some(At::Runs(_, _, false)) => match self.step(w, mine) {
+            Some(WorkerStatus::Runs(_, _, false)) => match self.step(w, mine) {
                 Err(StepFault::Memory) => {
                     self.give_up(w, Noted::Memory, mine);
                     Turn::End
                 }
                 _ => Turn::Again,
             },
-            Some(At::Idle) if self.is_over() => Turn::End,
-            Some(At::Idle) => Turn::Next,
+            Some(WorkerStatus::Idle) if self.is_over() => Turn::End,
+            Some(WorkerStatus::Idle) => Turn::Next,
         }
     }
 
     // Claims a vertex, unless the run is over. If the vertex is not ready, its number is dropped: another worker has it.
     fn take(&mut self, w: u32, v: u32, mine: &mut Tally<S>, news: &mut Vec<u32>) -> Turn
-        ensures { IsHere S.given w result }
+        ensures { IsHere S.start w result }
     {
         if self.is_over() {
             return Turn::End;
@@ -231,7 +231,7 @@ impl<S: Gated> SharedBoard<S> {
 
     // Returns what a worker is to do after it has left a vertex, or after its landing or settle was refused.
     fn left(&mut self, settled: Option<Settled>, news: &mut Vec<u32>) -> Turn
-        ensures { (w : ℕ) → IsHere S.given w result }
+        ensures { (w : ℕ) → IsHere S.start w result }
     {
         match settled {
             None => Turn::Again,
@@ -263,7 +263,7 @@ impl<S: Gated> SharedBoard<S> {
 
     // Lets a number wait for a key that another worker has. If it had waited for another key, adds the next number of that key to `news`.
     fn wait_for(&mut self, key: Key, v: u32, news: &mut Vec<u32>) -> Turn
-        ensures { (w : ℕ) → IsHere S.given w result }
+        ensures { (w : ℕ) → IsHere S.start w result }
     {
         let next = self.held.answered(v, Some(&key));
         if self.held.push(key, v).is_err() {
@@ -284,7 +284,7 @@ impl<S: Gated> SharedBoard<S> {
 
     // Notes `Memory`, which was refused to a worker that runs nothing, and ends the worker.
     fn stop(&mut self) -> Turn
-        ensures { (w : ℕ) → IsHere S.given w result }
+        ensures { (w : ℕ) → IsHere S.start w result }
     {
         self.note(Noted::Memory);
         Turn::End
@@ -292,8 +292,8 @@ impl<S: Gated> SharedBoard<S> {
 
     // Returns how a claimed vertex is worked on: under the lock if it shows a shared cache, otherwise away from it.
     fn begun(&self, w: u32, job: Job) -> Turn
-        requires { IsClaimed S.given w job.vertex job }
-        ensures { IsHere S.given w result }
+        requires { IsClaimed S.start w job.vertex job }
+        ensures { IsHere S.start w result }
     {
         if self.board.has_shared(w) {
             return Turn::Pass(job.vertex());

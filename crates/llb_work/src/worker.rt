@@ -2,7 +2,7 @@
 //! takes numbers from the queue.
 
 ghost use Rattle.std.specs.Prelude.{◌≡◌, ℕ, true, IsTrue, IfSome};
-ghost use Rattle.llb_state.specs.Board.{Seen};
+ghost use Rattle.llb_board.specs.Seen.{BoardValue};
 ghost use Rattle.llb_work.specs.Passes.{IsPassFor};
 ghost use Rattle.llb_work.specs.RunEnds.{is_of};
 ghost use Rattle.llb_work.specs.Turns.{IsBrought, IsClaimed, IsHere};
@@ -59,10 +59,10 @@ impl<'x, S: Gated, G: Gate, R: Wait> Crew<'x, S, G, R> {
     // Does what a worker has to do away from the lock. Returns what it brings back; `None` if it ends.
     fn away(self, w: u32, turn: Turn, kit: &mut WorkerKit<S>) -> Option<Brought>
         requires stop { (w v : ℕ) → IsTrue (G.may_stop w v) → S.may_stop w v ≡ true }
-        requires here { IsHere S.given w turn }
+        requires here { IsHere S.start w turn }
         requires pass { IsPassFor self.queue.now w kit.old.pass }
         ensures pass { IsPassFor self.entry.queue.now w kit.new.pass }
-        ensures brought { IfSome result (IsBrought S.given w) }
+        ensures brought { IfSome result (IsBrought S.start w) }
     {
         match turn {
             Turn::End => None,
@@ -78,7 +78,7 @@ impl<'x, S: Gated, G: Gate, R: Wait> Crew<'x, S, G, R> {
     fn taken(self, w: u32, kit: &mut WorkerKit<S>) -> Option<Brought>
         requires { IsPassFor self.queue.now w kit.old.pass }
         ensures pass { IsPassFor self.entry.queue.now w kit.new.pass }
-        ensures brought { (b : Seen) → IfSome result (IsBrought b w) }
+        ensures brought { (b : BoardValue) → IfSome result (IsBrought b w) }
     {
         let backoff = Backoff::new();
         for _i in self.rt.forever() {
@@ -118,8 +118,8 @@ impl<'x, S: Gated, G: Gate, R: Wait> Crew<'x, S, G, R> {
     // Passes the gate. If the gate stops the worker there, gives the vertex up and notes the stop.
     fn passed(self, w: u32, v: u32, tally: &mut Tally<S>) -> Option<Brought>
         requires stop { (w v : ℕ) → IsTrue (G.may_stop w v) → S.may_stop w v ≡ true }
-        requires here { is_of S.given w v ≡ true }
-        ensures { IfSome result (IsBrought S.given w) }
+        requires here { is_of S.start w v ≡ true }
+        ensures { IfSome result (IsBrought S.start w) }
     {
         match self.gate.pass(w, v) {
             Ok(()) => Some(Brought::Nothing),
@@ -135,8 +135,8 @@ impl<'x, S: Gated, G: Gate, R: Wait> Crew<'x, S, G, R> {
     // Works on a job and returns its outcome. If that fails, gives its vertex up and notes why.
     fn worked(self, w: u32, job: Job, tally: &mut Tally<S>) -> Option<Brought>
         requires stop { (w v : ℕ) → IsTrue (G.may_stop w v) → S.may_stop w v ≡ true }
-        requires here { IsClaimed S.given w job.vertex job }
-        ensures { IfSome result (IsBrought S.given w) }
+        requires here { IsClaimed S.start w job.vertex job }
+        ensures { IfSome result (IsBrought S.start w) }
     {
         let (worker, vertex) = (job.worker(), job.vertex());
         let noted = match work(self.alloc, job, self.gate) {

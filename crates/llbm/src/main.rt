@@ -49,7 +49,7 @@ fn errors(rt: &HostRuntime) -> io::Result<LineWriter<Stderr>> {
 fn main(rt: HostRuntime) -> ExitCode {
     let alloc = rt.alloc();
     let Ok(mut err) = errors(&rt) else {
-        // Cannot be met: a buffer for no bytes takes no memory.
+        // Unreachable: a buffer for no bytes takes no memory.
         return ExitCode::from(3);
     };
     let words = match words_given(&rt) {

@@ -1,6 +1,6 @@
 use Rattle.std.proofs.Common.{arith}
 use Rattle.std.proofs.lemmas.Bool.Decides.{nat_tests}
-use Rattle.llb_asm.proofs.Digits.{signed_plain}
+use Rattle.llb_asm.proofs.Unsigned.{signed_plain}
 use Rattle.llb_asm.proofs.values.signed_in.Goals as goal
 use Rattle.llb_asm.proofs.values.signed_in.Goals.{in_default-via-then-text-lt1, in_default-via-else-text-lt1+in_default-1}
 

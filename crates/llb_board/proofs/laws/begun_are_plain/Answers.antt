@@ -1,4 +1,4 @@
-use Rattle.llb_state.proofs.Sound.{plain}
+use Rattle.llb_board.proofs.Sound.{plain}
 use Rattle.llb_board.proofs.Begun.{begun_are_plain, claims_are_plain, known_land}
 use Rattle.llb_board.proofs.laws.begun_are_plain.Goals as goal
 

@@ -7,9 +7,10 @@ use Rattle.llb_tree.specs.Tree.{TreeMap}
 use Rattle.llb_cache.specs.declared.key.Key.{Key}
 use Rattle.llb_cache.specs.Key.{same_key}
 use Rattle.llb_cache.specs.Rows.{instance_made, instance_there}
-use Rattle.llb_cache.specs.declared.need.Place.{Place}
+use Rattle.llb_cache.specs.declared.need.Instance.{Instance}
 use Rattle.llb_cache.specs.Caches.{Row, same_place, with_trees}
-use Rattle.llb_cache.specs.Firsts.{set_trees, absent_found, written_absent}
+use Rattle.llb_cache.specs.FirstRows.{set_trees}
+use Rattle.llb_cache.specs.LawsOfFirstRows.{absent_found, written_absent}
 use Rattle.llb_cache.specs.Marks.{marked}
 use Rattle.llb_cache.proofs.Marked.{remarked, marked_new, keys_stay, Sets}
 use Rattle.llb_cache.proofs.Placed.{ordered_again}
@@ -47,7 +48,7 @@ written c w = row_written (rows c) c.in-Some.i c.index_mut-in-Some.result.now w 
 keys : (c : After-len) (w : List TreeMap) → keys_of (slice_set (rows c) c.in-Some.i (c.index_mut-in-Some.result.now.0, w)) ≡ keys_of (rows c)
 keys c w = ap (λ (es : List Row). keys_of es) (written c w) ∙ keys_stay (rows c) c.in-Some.i w
 
-marked_there : (c : After-len) (w : List TreeMap) (q : Place)
+marked_there : (c : After-len) (w : List TreeMap) (q : Instance)
     → marked (keys_of (slice_set (rows c) c.in-Some.i (c.index_mut-in-Some.result.now.0, w))) (slice_set (marks c) c.in-Some.i c.set.new.self) q
     ≡ cond (same_place q c.args.ready.place) true (marked (keys_of (rows c)) (marks c) q)
 marked_there c w q =

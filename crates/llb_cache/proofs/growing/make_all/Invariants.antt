@@ -2,10 +2,10 @@ use Rattle.std.proofs.Common.{◌≡◌, ◌≤◌, ◌+◌, true, length, map, 
 use Rattle.std.specs.List.{All}
 use Rattle.std.specs.Map.{keys_of}
 use Rattle.std.specs.Prelude.{if◌then◌else◌}
-use Rattle.llb_cache.specs.declared.need.Place.{Place}
+use Rattle.llb_cache.specs.declared.need.Instance.{Instance}
 use Rattle.llb_cache.specs.Caches.{made_all}
 use Rattle.llb_cache.specs.Growing.{shown, FitsIn}
-use Rattle.llb_cache.specs.Ordered.{AreOrdered, HasRoom}
+use Rattle.llb_cache.specs.RowOrder.{AreOrdered, HasRoom}
 use Rattle.llb_cache.specs.Marks.{marked, is_one_of}
 use Rattle.llb_cache.proofs.growing.make_all.Given as goal
 
@@ -17,7 +17,7 @@ invariant-loop-ready l = record {
   each : length l.marks.items ≡ length l.rows.entries.items;
   room : All FitsIn l.ready-iterator.rest.items;
   made : made_all l.rows.entries.items (map shown l.ready-iterator.rest.items) ≡ made_all l.fn.rows.entries.items (map shown l.fn.readies.items);
-  marks : (q : Place)
+  marks : (q : Instance)
       → (if is_one_of (map (λ r. r.place) l.ready-iterator.rest.items) q then true else marked (keys_of l.rows.entries.items) l.marks.items q)
       ≡ (if is_one_of (map (λ r. r.place) l.fn.readies.items) q then true else marked (keys_of l.fn.rows.entries.items) l.fn.marks.items q);
 }

@@ -4,7 +4,7 @@ use Rattle.llb_tree.specs.Tree.{TreeMap}
 use Rattle.llb_cache.specs.declared.key.Key.{Key}
 use Rattle.llb_cache.specs.Key.{same_key}
 use Rattle.llb_cache.specs.Caches.{Row}
-use Rattle.llb_cache.specs.Firsts.{set_trees}
+use Rattle.llb_cache.specs.FirstRows.{set_trees}
 use Rattle.llb_cache.specs.Rows.{trees_there, tree_put}
 use Rattle.llb_cache.proofs.Marked.{keys_stay}
 use Rattle.llb_cache.proofs.Placed.{ordered_again}

@@ -1,6 +1,6 @@
 use Rattle.std.proofs.Common.{List, ℕ, subst, sym}
 use Rattle.llb_cache.specs.Caches.{Row}
-use Rattle.llb_cache.specs.Ordered.{IsOrdered}
+use Rattle.llb_cache.specs.RowOrder.{IsOrdered}
 use Rattle.llb_cache.proofs.Placed.{none_ordered}
 use Rattle.llb_cache.proofs.rows.no_rows.Goals as goal
 

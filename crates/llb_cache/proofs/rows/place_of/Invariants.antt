@@ -1,5 +1,5 @@
 use Rattle.std.proofs.Common.{◌≡◌, ℕ, ◌-◌, ◌<◌, ◌≤◌, true, false, length}
-use Rattle.llb_cache.specs.Ordered.{is_before, row_at}
+use Rattle.llb_cache.specs.RowOrder.{is_before, row_at}
 use Rattle.llb_cache.proofs.rows.place_of.Given as goal
 
 abbrev pub invariant-loop-low : goal.invariant-loop-low

@@ -1,6 +1,6 @@
 use Rattle.std.proofs.Common.{subst}
 use Rattle.llb_loader.specs.Laws.{HasOneAnswerIn}
-use Rattle.llb_state.specs.Board.{Replays}
+use Rattle.llb_board.specs.Seen.{Replays}
 use Rattle.llb_commands.proofs.Alike.{loads_as_one}
 use Rattle.llb_commands.proofs.Always as always
 use Rattle.llb_commands.proofs.laws.aim.Goals as goal

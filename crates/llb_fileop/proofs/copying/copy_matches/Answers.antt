@@ -18,7 +18,7 @@ returns-then-is_empty c =
     let zero : length c.in_ok-sources.sources.items ≡ 0 = omega (arith, eqb-true _ _ (sym c.is_empty.ensures ∙ c.if-is_empty.true)) in
     let none : matching pattern c.args.second.now ≡ [] = sym found ∙ no_path c.in_ok-sources.sources.items zero in
     subst (λ r. tree.Gives (λ t. t) c.absent.result r)
-    (sym (copy_none c.args.action.now c.args.dest.now c.args.second.now c.args.base.now (matching pattern c.args.second.now)
+    (sym (copy_none c.args.action.now (c.args.dest.now.path, c.args.dest.now.inside) c.args.second.now c.args.base.now (matching pattern c.args.second.now)
     c.args.action.now.allow_empty_wildcard none)) c.absent.ensures
 
 pub copy_one-requires : goal.copy_one-requires
@@ -32,14 +32,15 @@ copy_one-requires c =
 
 pub loop-path-init : goal.loop-path-init
 loop-path-init c =
-    ap (copy_each c.args.action.now c.args.dest.now c.args.second.now c.deref-path-items.result.now) (sym (same_Ok c.in_ok-tree.ensures))
+    ap (copy_each c.args.action.now (c.args.dest.now.path, c.args.dest.now.inside) c.args.second.now c.deref-path-items.result.now)
+    (sym (same_Ok c.in_ok-tree.ensures))
 
 pub loop-path-preserved : goal.loop-path-preserved
 loop-path-preserved c =
     let items = c.deref-path-items.result.now in
-    sym (copy_next c.args.action.now c.args.dest.now c.args.second.now c.loop-path.tree items c.loop-path.path-index c.path-item.result
-    c.loop-path-test.true c.path-item.is
-    ∙ ap (λ r. r >>= copy_each c.args.action.now c.args.dest.now c.args.second.now (drop (c.loop-path.path-index + 1) items))
+    sym (copy_next c.args.action.now (c.args.dest.now.path, c.args.dest.now.inside) c.args.second.now c.loop-path.tree items c.loop-path.path-index
+    c.path-item.result c.loop-path-test.true c.path-item.is
+    ∙ ap (λ r. r >>= copy_each c.args.action.now (c.args.dest.now.path, c.args.dest.now.inside) c.args.second.now (drop (c.loop-path.path-index + 1) items))
     c.in_ok-copy_one.ensures)
     ∙ c.loop-path.invariant
 
@@ -50,14 +51,15 @@ returns-in_err-copy_one c =
     let found = c.deref-path-items.ensures.value
     ∙ sources_are pattern c.parts.result.now c.args.second.now c.in_ok-sources.sources.items c.parts.ensures c.in_ok-sources.ensures in
     let f : is_memory c.in_err-copy_one.field-0.0 ≡ false
-    → copy_chosen c.args.action.now c.args.dest.now c.args.base.now c.args.second.now (EachMatch pattern) ≡ Err c.in_err-copy_one.field-0.0
+    → copy_chosen c.args.action.now (c.args.dest.now.path, c.args.dest.now.inside) c.args.base.now c.args.second.now (EachMatch pattern)
+    ≡ Err c.in_err-copy_one.field-0.0
     = λ m.
-    copy_some c.args.action.now c.args.dest.now c.args.second.now c.args.base.now pattern items found
+    copy_some c.args.action.now (c.args.dest.now.path, c.args.dest.now.inside) c.args.second.now c.args.base.now pattern items found
     (λ none. false≢true (sym c.if-is_empty.false ∙ c.is_empty.ensures ∙ eq-eqb _ _ (omega (arith, none, ap length c.deref-path-items.ensures.value))))
     ∙ sym c.loop-path.invariant
-    ∙ copy_next c.args.action.now c.args.dest.now c.args.second.now c.loop-path.tree items c.loop-path.path-index c.path-item.result
-    c.loop-path-test.true c.path-item.is
-    ∙ ap (λ r. r >>= copy_each c.args.action.now c.args.dest.now c.args.second.now (drop (c.loop-path.path-index + 1) items))
+    ∙ copy_next c.args.action.now (c.args.dest.now.path, c.args.dest.now.inside) c.args.second.now c.loop-path.tree items c.loop-path.path-index
+    c.path-item.result c.loop-path-test.true c.path-item.is
+    ∙ ap (λ r. r >>= copy_each c.args.action.now (c.args.dest.now.path, c.args.dest.now.inside) c.args.second.now (drop (c.loop-path.path-index + 1) items))
     (c.in_err-copy_one.ensures m) in
     search rules
 
@@ -67,8 +69,8 @@ returns c =
     let items = c.deref-path-items.result.now in
     let found = c.deref-path-items.ensures.value
     ∙ sources_are pattern c.parts.result.now c.args.second.now c.in_ok-sources.sources.items c.parts.ensures c.in_ok-sources.ensures in
-    copy_some c.args.action.now c.args.dest.now c.args.second.now c.args.base.now pattern items found
+    copy_some c.args.action.now (c.args.dest.now.path, c.args.dest.now.inside) c.args.second.now c.args.base.now pattern items found
     (λ none. false≢true (sym c.if-is_empty.false ∙ c.is_empty.ensures ∙ eq-eqb _ _ (omega (arith, none, ap length c.deref-path-items.ensures.value))))
     ∙ sym c.loop-path.invariant
-    ∙ ap (λ ps. copy_each c.args.action.now c.args.dest.now c.args.second.now ps c.loop-path.tree)
+    ∙ ap (λ ps. copy_each c.args.action.now (c.args.dest.now.path, c.args.dest.now.inside) c.args.second.now ps c.loop-path.tree)
     (drop_all c.loop-path.path-index items c.loop-path-test.false)

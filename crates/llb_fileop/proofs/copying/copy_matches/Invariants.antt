@@ -3,5 +3,5 @@ use Rattle.llb_fileop.specs.Copying.{copy_each}
 use Rattle.llb_fileop.proofs.copying.copy_matches.Given as goal
 
 abbrev pub invariant-loop-path : goal.invariant-loop-path
-invariant-loop-path l = copy_each l.action l.dest l.second (drop l.path-index l.path-items) l.tree
-    ≡ copy_each l.action l.dest l.second l.path-items l.base
+invariant-loop-path l = copy_each l.action (l.dest.path, l.dest.inside) l.second (drop l.path-index l.path-items) l.tree
+    ≡ copy_each l.action (l.dest.path, l.dest.inside) l.second l.path-items l.base

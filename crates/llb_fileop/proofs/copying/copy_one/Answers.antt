@@ -12,7 +12,7 @@ pub returns : goal.returns
 returns c =
     let given = copied c.args.action.now.mode c.args.action.now.owner in
     let es = at_target c.args.second.now c.args.source.now c.in_ok-goal.goal in
-    let place = target c.args.action.now c.args.dest.now c.args.second.now c.args.source.now c.args.tree.now in
+    let place = target c.args.action.now (c.args.dest.now.path, c.args.dest.now.inside) c.args.second.now c.args.source.now c.args.tree.now in
     let rule : land_at given es c.in_ok-goal.goal c.if-action.tree ≡ copy_to c.args.action.now c.args.second.now c.args.source.now place
     c.args.tree.now = elim c.if-action.branch [
       | then-action+in_ok-make_parents w ↦

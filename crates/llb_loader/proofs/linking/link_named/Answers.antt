@@ -11,7 +11,7 @@ use Rattle.llb_loader.specs.Numbering.{IsNumbering, HasCycle}
 use Rattle.llb_loader.specs.RowLookup.{rows_named}
 use Rattle.llb_loader.specs.Features.{feature_of}
 use Rattle.llb_loader.specs.Rules.{output_count, MeetsRules}
-use Rattle.llb_loader.specs.Linking.{Plan, plan, op_at, links_in, ReachedRow, IsOrdered, IsTaken, IsValid, IsWhole}
+use Rattle.llb_loader.specs.Linking.{Plan, plan, op_at, links_in, ReachedRow, IsOrdered, IsSupported, IsValid, IsWhole}
 use Rattle.llb_loader.specs.Checks.{RefusesFeature, RefusesRule, RefusesIndex, FitsAll, asked_of}
 use Rattle.llb_loader.proofs.Plans.{in_range}
 use Rattle.llb_loader.proofs.Refusals.{refuses_feature, refuses_rule, refuses_index, refused_by, asked_linked, indexes_fit}
@@ -33,16 +33,16 @@ order_is rows p found order e is n = subst (λ (g : List (List ℕ)). IsNumberin
     (subst (λ (o : Option (Vec ℕ)). IfSome o (λ v. IsNumbering (lists rows) p.start v.items)) is n)
 
 taken_is : (p : Plan) (order : List ℕ) (seen : List Bool) (ops : List Op) → IsOrdered p order → ((k : ℕ) → IsMarked seen k ↔ ReachedRow p k) → ops ≡ p.ops
-    → ((k : ℕ) → IsMarked seen k → feature_of (op_at ops k) ≡ None) → IsTaken p order
+    → ((k : ℕ) → IsMarked seen k → feature_of (op_at ops k) ≡ None) → IsSupported p order
 taken_is p order seen ops ordered exact same free = record {
   ordered = ordered;
   featureless = λ k r. subst (λ (xs : List Op). feature_of (op_at xs k) ≡ None) same (free k ((exact k).1 r));
 }
 
-valid_is : (p : Plan) (order : List ℕ) (seen : List Bool) (ops : List Op) → IsTaken p order → ((k : ℕ) → IsMarked seen k ↔ ReachedRow p k) → ops ≡ p.ops
+valid_is : (p : Plan) (order : List ℕ) (seen : List Bool) (ops : List Op) → IsSupported p order → ((k : ℕ) → IsMarked seen k ↔ ReachedRow p k) → ops ≡ p.ops
     → ((k : ℕ) → IsMarked seen k → MeetsRules (op_at ops k)) → IsValid p order
 valid_is p order seen ops taken exact same met = record {
-  taken = taken;
+  supported = taken;
   valid = λ k r. subst (λ (xs : List Op). MeetsRules (op_at xs k)) same (met k ((exact k).1 r));
 }
 

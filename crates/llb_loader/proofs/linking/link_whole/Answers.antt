@@ -36,16 +36,16 @@ ranks_of-requires-clause-range c k d h =
 pub first_edge-result-requires-clause-some : goal.first_edge-result-requires-clause-some
 first_edge-result-requires-clause-some c =
     let h : c.args.linked.terminal < length c.args.ops.items =
-    (let t = c.requires.whole.valid.taken.ordered.named.started.result.terminal.holds.0 in let l = c.requires.ops in omega (arith, t, l)) in
+    (let t = c.requires.whole.valid.supported.ordered.named.started.result.terminal.holds.0 in let l = c.requires.ops in omega (arith, t, l)) in
     let e = ap (λ (o : Op). length o.inputs) (op_read c.args.ops.items c.args.linked.terminal c.index-2.result.now h c.index-2.ensures) in
-    let s = c.requires.whole.valid.taken.ordered.named.started.result.input in
+    let s = c.requires.whole.valid.supported.ordered.named.started.result.input in
     omega (arith, e, s)
 
 pub first_edge-result-requires-clause-index : goal.first_edge-result-requires-clause-index
 first_edge-result-requires-clause-index c =
     let p = plan c.args.linked.rows.now c.args.ops.items c.args.linked.terminal c.args.linked.start in
     let h : c.args.linked.terminal < length c.args.ops.items =
-    (let t = c.requires.whole.valid.taken.ordered.named.started.result.terminal.holds.0 in let l = c.requires.ops in omega (arith, t, l)) in
+    (let t = c.requires.whole.valid.supported.ordered.named.started.result.terminal.holds.0 in let l = c.requires.ops in omega (arith, t, l)) in
     let read = op_read c.args.ops.items c.args.linked.terminal c.index-2.result.now h c.index-2.ensures in
     subst (λ (o : Op). IsBelow 1_025 (input_at o 0).index) read
     (whole.index_small p c.args.order.now c.requires.whole c.requires.ops c.requires.within c.args.linked.terminal 0 (inr (refl, refl)))
@@ -54,7 +54,7 @@ pub first_edge-result-requires-clause-vertex : goal.first_edge-result-requires-c
 first_edge-result-requires-clause-vertex c =
     let p = plan c.args.linked.rows.now c.args.ops.items c.args.linked.terminal c.args.linked.start in
     let s : c.args.linked.start < length c.in_ok-ranks.ranks.items =
-    (let b = started_below p c.requires.whole.valid.taken.ordered.named.started in let a =
+    (let b = started_below p c.requires.whole.valid.supported.ordered.named.started in let a =
     links_len c.args.linked.links.now p c.requires.links in let n = c.in_ok-ranks.ensures.len in let l = c.requires.ops in omega (arith, a, b, n, l)) in
     let small : All (λ r. r < 65_536) c.in_ok-ranks.ranks.items = c.in_ok-ranks.ensures.small 65_536 (omega arith)
     (let s = c.requires.short in let f = c.requires.few in omega (arith, s, f)) in
@@ -114,9 +114,9 @@ pub of_parts-requires : goal.of_parts-requires
 of_parts-requires c =
     let p = plan c.args.linked.rows.now c.args.ops.items c.args.linked.terminal c.args.linked.start in
     let h : c.args.linked.terminal < length c.args.ops.items =
-    (let t = c.requires.whole.valid.taken.ordered.named.started.result.terminal.holds.0 in let l = c.requires.ops in omega (arith, t, l)) in
+    (let t = c.requires.whole.valid.supported.ordered.named.started.result.terminal.holds.0 in let l = c.requires.ops in omega (arith, t, l)) in
     let s : c.args.linked.start < length c.in_ok-ranks.ranks.items =
-    (let b = started_below p c.requires.whole.valid.taken.ordered.named.started in let a =
+    (let b = started_below p c.requires.whole.valid.supported.ordered.named.started in let a =
     links_len c.args.linked.links.now p c.requires.links in let n = c.in_ok-ranks.ensures.len in let l = c.requires.ops in omega (arith, a, b, n, l)) in
     let result = result_is p c.in_ok-ranks.ranks.items c.first_edge-result.result c.index.result.now c.index-2.result.now s c.index.ensures
     (op_read c.args.ops.items c.args.linked.terminal c.index-2.result.now h c.index-2.ensures) c.first_edge-result.ensures in
@@ -130,9 +130,9 @@ pub returns-clause-graph : goal.returns-clause-graph
 returns-clause-graph c =
     let p = plan c.args.linked.rows.now c.args.ops.items c.args.linked.terminal c.args.linked.start in
     let h : c.args.linked.terminal < length c.args.ops.items =
-    (let t = c.requires.whole.valid.taken.ordered.named.started.result.terminal.holds.0 in let l = c.requires.ops in omega (arith, t, l)) in
+    (let t = c.requires.whole.valid.supported.ordered.named.started.result.terminal.holds.0 in let l = c.requires.ops in omega (arith, t, l)) in
     let s : c.args.linked.start < length c.in_ok-ranks.ranks.items =
-    (let b = started_below p c.requires.whole.valid.taken.ordered.named.started in let a =
+    (let b = started_below p c.requires.whole.valid.supported.ordered.named.started in let a =
     links_len c.args.linked.links.now p c.requires.links in let n = c.in_ok-ranks.ensures.len in let l = c.requires.ops in omega (arith, a, b, n, l)) in
     let result = result_is p c.in_ok-ranks.ranks.items c.first_edge-result.result c.index.result.now c.index-2.result.now s c.index.ensures
     (op_read c.args.ops.items c.args.linked.terminal c.index-2.result.now h c.index-2.ensures) c.first_edge-result.ensures in

@@ -11,4 +11,4 @@ on-requires-clause-caches c = c.new.ensures.items ∙ ap (map mount_of) (sym (no
 pub run_all-requires-clause-cacheless : goal.run_all-requires-clause-cacheless
 run_all-requires-clause-cacheless c =
     let v = c.args.vertex.now in
-    ap shown_in c.in_ok-view.ensures ∙ bare_on c.args.locals.now v v.op.kind c.args.inputs.items c.requires.cacheless
+    ap shown_in c.in_ok-workspace.ensures ∙ bare_on c.args.locals.now v v.op.kind c.args.inputs.items c.requires.cacheless

@@ -3,4 +3,4 @@ use Rattle.llb_plain.proofs.Steps.{Leaves}
 use Rattle.llb_plain.proofs.running.run_all.Given as goal
 
 abbrev pub invariant-loop-k : goal.invariant-loop-k
-invariant-loop-k l = Leaves (program_of l.vertex).steps l.initial.view l.k l.view l.trees.items
+invariant-loop-k l = Leaves (program_of l.vertex).steps l.initial.workspace l.k l.workspace l.trees.items

@@ -1,5 +1,5 @@
 use Rattle.std.proofs.Common.{subst}
-use Rattle.llb_state.specs.Board.{Replays}
+use Rattle.llb_board.specs.Seen.{Replays}
 use Rattle.llb_session.proofs.Told.{go_prints}
 use Rattle.llb_session.proofs.laws.go_prints_the_run.Goals as goal
 

@@ -2,11 +2,11 @@ use Rattle.std.proofs.Common.{◌≡◌, List, Option, None, replicate, sym, ap,
 use Rattle.std.specs.Prelude.{option_map}
 use Rattle.llb_loader.specs.declared.graph.Vertex.{Vertex}
 use Rattle.llb_tree.specs.Tree.{TreeMap, empty_tree}
-use Rattle.llb_model.specs.Program.{View, program_at, outputs_of}
+use Rattle.llb_model.specs.Program.{Workspace, program_at, outputs_of}
 use Rattle.llb_state.proofs.ending.outputs.Goals as goal
 
 -- where there is no vertex, there are no outputs
-none_of : (o : Option Vertex) (view : View) (trees : List TreeMap) → o ≡ None → trees ≡ replicate (program_at o).outputs empty_tree
+none_of : (o : Option Vertex) (view : Workspace) (trees : List TreeMap) → o ≡ None → trees ≡ replicate (program_at o).outputs empty_tree
     → trees ≡ outputs_of (program_at o) view
 unfolding outputs_of
 none_of o view trees none is =

@@ -1,5 +1,5 @@
 use Rattle.std.proofs.Common.{◌≡◌, map, take}
-use Rattle.llb_needs.specs.Needs.{number_of}
+use Rattle.llb_state.specs.Needs.{number_of}
 use Rattle.llb_state.proofs.landing.has_numbers.Given as goal
 
 abbrev pub invariant-loop-i : goal.invariant-loop-i

@@ -1,7 +1,7 @@
 use Rattle.std.proofs.Common.{◌≡◌, ◌<◌, ◌∙◌, ap, length, get_or, rules}
 use Rattle.std.specs.Prelude.{Some}
 use Rattle.std.proofs.lemmas.Option.{slice_get-get_or}
-use Rattle.llb_cache.specs.declared.need.Place.{Place}
+use Rattle.llb_cache.specs.declared.need.Instance.{Instance}
 use Rattle.llb_state.proofs.Lists.{got_has}
 use Rattle.llb_state.proofs.landing.has_trees.Goals as goal
 
@@ -10,4 +10,4 @@ has_tree-requires c =
     let p = c.index-places-i.result in
     let low : c.loop-i.i < length c.args.places.now = search rules in
     let is : get_or c.args.places.now c.loop-i.i p ≡ p = search rules in
-    c.requires p (got_has c.args.places.now c.loop-i.i p (slice_get-get_or c.args.places.now c.loop-i.i p low ∙ ap (λ (q : Place). Some q) is))
+    c.requires p (got_has c.args.places.now c.loop-i.i p (slice_get-get_or c.args.places.now c.loop-i.i p low ∙ ap (λ (q : Instance). Some q) is))

@@ -1,5 +1,5 @@
 use Rattle.std.proofs.Common.{arith}
-use Rattle.llb_tree.proofs.Alike.{names_in, alike_all, same_kids}
+use Rattle.llb_tree.proofs.SameNames.{names_in, alike_all, same_kids}
 use Rattle.llb_tree.proofs.covering.are_alike.Goals as goal
 
 pub returns : goal.returns

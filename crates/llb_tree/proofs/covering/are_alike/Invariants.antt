@@ -1,5 +1,5 @@
 use Rattle.std.proofs.Common.{◌≡◌, map, take}
-use Rattle.llb_tree.proofs.Alike.{names_in}
+use Rattle.llb_tree.proofs.SameNames.{names_in}
 use Rattle.llb_tree.proofs.covering.are_alike.Given as goal
 
 abbrev pub invariant-loop-i : goal.invariant-loop-i

@@ -1,5 +1,5 @@
 use Rattle.llb_tree.specs.Nodes.{kids_in}
-use Rattle.llb_tree.proofs.Alike.{covers_same}
+use Rattle.llb_tree.proofs.SameNames.{covers_same}
 use Rattle.llb_tree.proofs.covering.covers.Goals as goal
 
 pub returns-then-are_alike : goal.returns-then-are_alike

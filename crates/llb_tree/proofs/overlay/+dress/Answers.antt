@@ -77,8 +77,8 @@ dressed-returns t c = elim c.match-node.branch [
       let way = c.args.way.now in
       let was = kind.File w.in-File.meta w.in-File.content in
       ap map_of w.kind-is
-      ∙ node_dressed way was (kind.File w.given.result w.in_ok-try_clone-in-File.field-0) tt
-      (λ i. tree.File (w.given.ensures i) (w.in_ok-try_clone-in-File.ensures i)) refl
+      ∙ node_dressed way was (kind.File w.laid_meta.result w.in_ok-try_clone-in-File.field-0) tt
+      (λ i. tree.File (w.laid_meta.ensures i) (w.in_ok-try_clone-in-File.ensures i)) refl
       ∙ ap (dress way) (ap map_of (sym w.in-File.is) ∙ c.node.view_is)
   | dressed-in-Dir+in_ok-list-in-Dir+in_ok-in_pieces-in-Dir w ↦
       let way = c.args.way.now in
@@ -88,6 +88,6 @@ dressed-returns t c = elim c.match-node.branch [
       let made = ap (map pair_of) w.in_ok-in_pieces-in-Dir.ensures.same ∙ listed in
       let sorted = subst (λ k. AreSorted (kids_of k)) w.in-Dir.is (sorted_kids _ c.node.invariant) in
       ap map_of w.kind-is
-      ∙ node_dressed way was (kind.Dir w.given-in-Dir.result w.in_ok-in_pieces-in-Dir.field-0) sorted (ap tree.Dir w.given-in-Dir.ensures) made
+      ∙ node_dressed way was (kind.Dir w.laid_meta-in-Dir.result w.in_ok-in_pieces-in-Dir.field-0) sorted (ap tree.Dir w.laid_meta-in-Dir.ensures) made
       ∙ ap (dress way) (ap map_of (sym w.in-Dir.is) ∙ c.node.view_is)
 ]

@@ -1,7 +1,7 @@
 use Rattle.std.proofs.Common.{sym, subst}
 use Rattle.llb_model.proofs.Alone.{Ascends}
 use Rattle.llb_model.specs.Run.{chosen}
-use Rattle.llb_state.specs.Board.{Seen}
+use Rattle.llb_board.specs.Seen.{BoardValue}
 use Rattle.llb_events.specs.Views.{event_of}
 use Rattle.llb_work.specs.Alone.{TakesMemory}
 use Rattle.llb_work.proofs.Driving.{goes_nil, goes_on, ascends_on, nearer, left_over}
@@ -28,5 +28,5 @@ loop-event-smaller c =
 pub returns-then-not-do_event-clause-stops : goal.returns-then-not-do_event-clause-stops
 returns-then-not-do_event-clause-stops c =
     let b = c.loop-event.board in
-    subst (λ (x : Seen). TakesMemory (chosen x.build x.state)) (sym c.if-not-do_event.ensures.kept)
+    subst (λ (x : BoardValue). TakesMemory (chosen x.build x.state)) (sym c.if-not-do_event.ensures.kept)
     (left_over b (event_of c.in-Some.event) c.chosen_is_granted.ensures (sym c.in-Some.ensures) c.if-not-do_event.ensures.left)

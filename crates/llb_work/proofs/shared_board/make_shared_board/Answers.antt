@@ -1,14 +1,14 @@
 use Rattle.std.proofs.Common.{ap, arith, length, refl, sym, ◌∙◌}
 use Rattle.llb_model.specs.Outcome.{is_plain}
-use Rattle.llb_state.specs.Board.{Seen}
+use Rattle.llb_board.specs.Seen.{BoardValue}
 use Rattle.llb_work.proofs.Afters.{after_itself}
 use Rattle.llb_work.proofs.shared_board.make_shared_board.Goals as goal
 
 pub invariant_of-result : goal.invariant_of-result
 invariant_of-result g c = record {
   kept = c.requires.kept;
-  after = after_itself g.S.Gated.given c.args.board (sym c.requires.given);
-  marks = λ v. c.requires.plain v ∙ ap (λ (b : Seen). is_plain b.build v) c.requires.given;
-  counted = omega (arith, c.requires.empty, ap (λ (b : Seen). length b.events) c.requires.given);
+  after = after_itself g.S.Gated.start c.args.board (sym c.requires.start);
+  marks = λ v. c.requires.plain v ∙ ap (λ (b : BoardValue). is_plain b.build v) c.requires.start;
+  counted = omega (arith, c.requires.empty, ap (λ (b : BoardValue). length b.events) c.requires.start);
   stops = refl;
 }

@@ -1,64 +1,44 @@
-use Rattle.std.proofs.Common.{◌≡◌, ◌∙◌, List, map, refl, sym, ap, subst, rules}
-use Rattle.std.specs.Prelude.{Bool, false, Some, IsTrue, slice_get}
-use Rattle.llb_model.specs.State.{Runs}
-use Rattle.llb_state.specs.Board.{Seen}
-use Rattle.llb_board.specs.Landing.{CanLand, RunsAlone}
-use Rattle.llb_state.specs.Jobs.{has_shared}
-use Rattle.llb_state.specs.Room.{seen}
-use Rattle.llb_state.specs.Views.{at_of, leased_by, execution_of}
-use Rattle.llb_state.specs.declared.stand.Desk.{Desk}
-use Rattle.llb_board.proofs.Landed.{runs_vertex}
-use Rattle.llb_state.proofs.Stepping.{held_within}
+use Rattle.std.proofs.Common.{◌≡◌, ◌∙◌, Option, Some, sym, ap, subst}
+use Rattle.std.specs.List.{list_any}
+use Rattle.std.specs.Prelude.{slice_get}
+use Rattle.llb_model.specs.Caches.{Instance}
+use Rattle.llb_model.specs.State.{WorkerStatus}
+use Rattle.llb_state.specs.Caches.{places_at}
+use Rattle.llb_state.specs.Jobs.{is_shared, has_shared}
+use Rattle.llb_board.specs.Seen.{BoardValue, seen}
+use Rattle.llb_board.specs.Landing.{RunsAlone, RunsShared}
+use Rattle.llb_board.proofs.Choices.{runs_at}
+use Rattle.llb_board.proofs.Landed.{runs_vertex, on_false}
 use Rattle.llb_board.proofs.board.Board.can_land.Goals as goal
 
-not_true : IsTrue false → ⊥
-not_true e = cc
-
-pub is_run_of-requires-clause-vertex : goal.is_run_of-requires-clause-vertex
-is_run_of-requires-clause-vertex c =
+pub is_run_of-requires : goal.is_run_of-requires
+is_run_of-requires c =
     let b = c.self.inside in
-    let x = execution_of c.in-Some-Runs.execution in
-    let runs : slice_get (map at_of b.desks.items) c.args.w ≡ Some (Runs x)
-    = ap (λ (ds : List Desk). slice_get (map at_of ds) c.args.w) (sym c.deref.ensures.value) ∙ sym c.in-Some-Runs.ensures
-    ∙ ap (λ d. Some (at_of d)) c.in-Some-Runs.field-0-is in
-    runs_vertex (seen b.build b.start.rows b.stands.items b.desks.items b.caches.rows b.history.list) c.self.invariant.kept.replays c.args.w x runs
+    record { there = runs_vertex (seen b.vertices b.start.rows b.workers b.history.list) c.self.invariant.replays c.args.w }
 
-pub is_run_of-requires-clause-within : goal.is_run_of-requires-clause-within
-is_run_of-requires-clause-within c =
+pub returns-then-has_shared-clause-err : goal.returns-then-has_shared-clause-err
+returns-then-has_shared-clause-err c =
     let b = c.self.inside in
-    let x = execution_of c.in-Some-Runs.execution in
-    let runs : slice_get (map at_of b.desks.items) c.args.w ≡ Some (Runs x)
-    = ap (λ (ds : List Desk). slice_get (map at_of ds) c.args.w) (sym c.deref.ensures.value) ∙ sym c.in-Some-Runs.ensures
-    ∙ ap (λ d. Some (at_of d)) c.in-Some-Runs.field-0-is in
-    held_within b.caches.rows b.caches.out (slice_get (map leased_by b.desks.items) c.args.w) x.places c.is_exclusive.ensures.there
-    (c.self.invariant.kept.leased.has c.args.w x runs)
+    let r = runs_at b.vertices.build (slice_get b.workers.workers c.args.w) c.in-Some-Runs.field-0-0 c.in-Some-Runs.field-0-1 c.in-Some-Runs.field-0-2
+    (sym c.look.ensures.looks ∙ c.in-Some-Runs.is ∙ ap (λ a. Some a) c.in-Some-Runs.field-0-is) in
+    let x = r.0 in
+    let held : has_shared x ≡ c.has_shared.result
+    = ap (λ (o : Option WorkerStatus). list_any (λ (p : Instance). is_shared p.key.mode) (places_at o)) (sym r.1)
+    ∙ ap (list_any (λ (p : Instance). is_shared p.key.mode)) (sym c.places.ensures) ∙ sym c.has_shared.ensures in
+    subst (λ (m : BoardValue). RunsShared m c.args.w) c.self.view_is (record { x = x; runs = r.1; shared = held ∙ c.if-has_shared.true })
 
 pub returns-then-not-is_run_of-clause-err : goal.returns-then-not-is_run_of-clause-err
 returns-then-not-is_run_of-clause-err c =
     let b = c.self.inside in
-    let x = execution_of c.in-Some-Runs.execution in
-    let runs : slice_get (map at_of b.desks.items) c.args.w ≡ Some (Runs x)
-    = ap (λ (ds : List Desk). slice_get (map at_of ds) c.args.w) (sym c.deref.ensures.value) ∙ sym c.in-Some-Runs.ensures
-    ∙ ap (λ d. Some (at_of d)) c.in-Some-Runs.field-0-is in
-    let alone : has_shared x ≡ false = search rules in
-    subst (λ (m : Seen). RunsAlone m c.args.w c.args.job.now) c.self.view_is (record {
+    let r = runs_at b.vertices.build (slice_get b.workers.workers c.args.w) c.in-Some-Runs.field-0-0 c.in-Some-Runs.field-0-1 c.in-Some-Runs.field-0-2
+    (sym c.look.ensures.looks ∙ c.in-Some-Runs.is ∙ ap (λ a. Some a) c.in-Some-Runs.field-0-is) in
+    let x = r.0 in
+    let held : has_shared x ≡ c.has_shared.result
+    = ap (λ (o : Option WorkerStatus). list_any (λ (p : Instance). is_shared p.key.mode) (places_at o)) (sym r.1)
+    ∙ ap (list_any (λ (p : Instance). is_shared p.key.mode)) (sym c.places.ensures) ∙ sym c.has_shared.ensures in
+    subst (λ (m : BoardValue). RunsAlone m c.args.w c.args.job.now) c.self.view_is (record {
       x = x;
-      runs = runs;
-      alone = alone;
-      other = λ is. not_true (subst (λ (r : Bool). IsTrue r) c.if-not-is_run_of.true (c.is_run_of.ensures.1 is));
-    })
-
-pub returns-else-not-is_run_of-clause-ok : goal.returns-else-not-is_run_of-clause-ok
-returns-else-not-is_run_of-clause-ok c =
-    let b = c.self.inside in
-    let x = execution_of c.in-Some-Runs.execution in
-    let runs : slice_get (map at_of b.desks.items) c.args.w ≡ Some (Runs x)
-    = ap (λ (ds : List Desk). slice_get (map at_of ds) c.args.w) (sym c.deref.ensures.value) ∙ sym c.in-Some-Runs.ensures
-    ∙ ap (λ d. Some (at_of d)) c.in-Some-Runs.field-0-is in
-    let alone : has_shared x ≡ false = search rules in
-    subst (λ (m : Seen). CanLand m c.args.w c.args.job.now) c.self.view_is (record {
-      x = x;
-      runs = runs;
-      alone = alone;
-      own = c.is_run_of.ensures.0 (subst (λ (r : Bool). IsTrue r) (sym c.if-not-is_run_of.false) refl);
+      runs = r.1;
+      alone = held ∙ c.if-has_shared.false;
+      other = λ is. on_false c.is_run_of.result _ c.is_run_of.ensures.no c.if-not-is_run_of.true (record { x = x; runs = r.1; own = is });
     })

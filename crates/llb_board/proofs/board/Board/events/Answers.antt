@@ -4,28 +4,27 @@ use Rattle.llb_model.specs.Room.{most_events, owed, still_to_come}
 use Rattle.llb_model.specs.State.{State}
 use Rattle.llb_model.specs.Table.{Reply}
 use Rattle.llb_model.proofs.Rooms.{run_has_few}
-use Rattle.llb_state.specs.Board.{Seen, Replays, replies_in}
-use Rattle.llb_state.specs.Room.{seen}
+use Rattle.llb_board.specs.Seen.{BoardValue, Replays, replies_in, seen}
 use Rattle.llb_board.proofs.board.Board.events.Goals as goal
 
 -- the replies of a record that replays are those that it replays with
-replies_so : (b : Seen) (here : Replays b) → here.replies ≡ replies_in b
+replies_so : (b : BoardValue) (here : Replays b) → here.replies ≡ replies_in b
 replies_so b here = sym (ap (λ o. unwrap_or (option_map (λ (a : State × List Reply). a.1) o) []) here.leads)
 
 pub returns-clause-bound : goal.returns-clause-bound
 returns-clause-bound c =
     let i = c.self.inside in
-    let b = seen i.build i.start.rows i.stands.items i.desks.items i.caches.rows i.history.list in
-    let few = run_has_few b.build b.opening b.state b.events c.self.invariant.kept.replays.replies c.self.invariant.kept.replays.leads in
+    let b = seen i.vertices i.start.rows i.workers i.history.list in
+    let few = run_has_few b.build b.opening b.state b.events c.self.invariant.replays.replies c.self.invariant.replays.leads in
     rw c.events.ensures.list
-    (subst (λ (s : Seen). still_to_come s.build s.state + length i.history.list ≤ most_events s.build (replies_in s)) c.self.view_is
-    (subst (λ rs. still_to_come b.build b.state + length i.history.list ≤ most_events b.build rs) (replies_so b c.self.invariant.kept.replays) few))
+    (subst (λ (s : BoardValue). still_to_come s.build s.state + length i.history.list ≤ most_events s.build (replies_in s)) c.self.view_is
+    (subst (λ rs. still_to_come b.build b.state + length i.history.list ≤ most_events b.build rs) (replies_so b c.self.invariant.replays) few))
 
 pub returns-clause-room : goal.returns-clause-room
 returns-clause-room c =
     let i = c.self.inside in
-    let b = seen i.build i.start.rows i.stands.items i.desks.items i.caches.rows i.history.list in
+    let b = seen i.vertices i.start.rows i.workers i.history.list in
     rw c.events.ensures.room
-    (subst (λ (s : Seen). i.history.space.room + owed s.build s.state.statuses (replies_in s) ≡ most_events s.build (replies_in s)) c.self.view_is
-    (subst (λ rs. i.history.space.room + owed b.build b.state.statuses rs ≡ most_events b.build rs) (replies_so b c.self.invariant.kept.replays)
-    c.self.invariant.kept.room))
+    (subst (λ (s : BoardValue). i.history.space.room + owed s.build s.state.statuses (replies_in s) ≡ most_events s.build (replies_in s)) c.self.view_is
+    (subst (λ rs. i.history.space.room + owed b.build b.state.statuses rs ≡ most_events b.build rs) (replies_so b c.self.invariant.replays)
+    c.self.invariant.room))

@@ -1,6 +1,6 @@
 use Rattle.std.proofs.Common.{◌≡◌, List, false, ap, subst, sym, ◌∙◌}
 use Rattle.std.specs.Map.{keys_of}
-use Rattle.llb_cache.specs.declared.need.Place.{Place}
+use Rattle.llb_cache.specs.declared.need.Instance.{Instance}
 use Rattle.llb_cache.specs.Caches.{CachesValue, Leases, places_of}
 use Rattle.llb_cache.specs.Marks.{IsMarked, Remarks, is_one_of}
 use Rattle.llb_cache.proofs.Holding.{back_marked}
@@ -15,7 +15,7 @@ invariant_of-self c =
     let places : c.places_at.result.now ≡ places_of before.out lease = c.places_at.ensures ∙ ap (λ (o : Leases). places_of o lease) c.deref.ensures.value in (
       subst (λ (o : Leases). IsMarked (record { rows = before.rows; out = o }) new) (sym c.take_back.ensures)
           (back_marked before lease marks new c.self.invariant.0
-          (subst (λ (ps : List Place). Remarks (keys_of before.rows) marks (keys_of before.rows) new (is_one_of ps) false) places c.unmark_all.ensures.marks)
+          (subst (λ (ps : List Instance). Remarks (keys_of before.rows) marks (keys_of before.rows) new (is_one_of ps) false) places c.unmark_all.ensures.marks)
           c.unmark_all.ensures.each),
       c.self.invariant.1,
     )

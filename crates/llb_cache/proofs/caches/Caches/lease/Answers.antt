@@ -1,9 +1,9 @@
 use Rattle.std.proofs.Common.{List, None, Ok, true, cond, length, ap, find, map, subst, sym, ℕ, ◌<◌, ◌∙◌, ◌≡◌}
 use Rattle.std.specs.Map.{keys_of}
 use Rattle.llb_cache.specs.declared.need.Need.{Need}
-use Rattle.llb_cache.specs.declared.need.Place.{Place}
+use Rattle.llb_cache.specs.declared.need.Instance.{Instance}
 use Rattle.llb_cache.specs.declared.growing.Ready.{Ready}
-use Rattle.llb_cache.specs.Caches.{CachesValue, Row, Leases, Taken, is_shut, leases, free_lease, with_lease, taken, made_all, granted, lease_of}
+use Rattle.llb_cache.specs.Caches.{CachesValue, Row, Leases, Taken, is_locked_and_held, leases, free_lease, with_lease, taken, made_all, granted, lease_of}
 use Rattle.llb_cache.specs.Caches.{places_of, place_for}
 use Rattle.llb_cache.specs.Growing.{shown}
 use Rattle.llb_cache.specs.Marks.{IsMarked, marked, is_one_of}
@@ -20,10 +20,10 @@ before c = record { rows = c.self.inside.rows.entries.items; out = c.self.inside
 abbrev behind : After-take_lease-number → CachesValue
 behind c = record { rows = c.make_all.new.rows.entries.items; out = c.take_lease-number.new.out.items }
 
-none_refused : (c : After-take_lease-number) → find (is_shut (before c).out) c.args.needs ≡ None
+none_refused : (c : After-take_lease-number) → find (is_locked_and_held (before c).out) c.args.needs ≡ None
 none_refused c =
-    ap (λ (v : CachesValue). find (is_shut v.out) c.args.needs) c.self.view_is
-    ∙ ap (λ (ns : List Need). find (is_shut c.args.self.now.out) ns) (sym c.into_vec.ensures) ∙ c.in_ok-needs.ensures.0
+    ap (λ (v : CachesValue). find (is_locked_and_held v.out) c.args.needs) c.self.view_is
+    ∙ ap (λ (ns : List Need). find (is_locked_and_held c.args.self.now.out) ns) (sym c.into_vec.ensures) ∙ c.in_ok-needs.ensures.0
 
 takes : (c : After-take_lease-number) → map shown c.in_ok-readies.readies.items ≡ taken (before c).out c.in_ok-needs.needs.items
 takes c = c.in_ok-readies.ensures.takes ∙ ap (λ (v : CachesValue). taken v.out c.in_ok-needs.needs.items) (sym c.self.view_is)
@@ -54,7 +54,7 @@ invariant_of-self-2 c =
     let new = c.make_all.new.marks.items in (
       subst (λ (g : ℕ × CachesValue). IsMarked g.1 new) (all_granted c)
           (lease_marked (before c) c.args.needs c.self.inside.marks.items new c.self.invariant.0 (few c) c.requires.differ (none_refused c)
-          (λ (q : Place). ap (λ (g : ℕ × CachesValue). marked (keys_of g.1.rows) new q) (all_granted c) ∙ c.make_all.ensures.marks q
+          (λ (q : Instance). ap (λ (g : ℕ × CachesValue). marked (keys_of g.1.rows) new q) (all_granted c) ∙ c.make_all.ensures.marks q
           ∙ (λ i. cond (is_one_of (placed c i) q) true (marked (keys_of (c.reserve.ensures.entries i)) (c.reserve-2.ensures.items i) q)))
           (c.make_all.ensures.each ∙ ap (λ (g : ℕ × CachesValue). length g.1.rows) (sym (all_granted c)))),
       c.make_all.ensures.order,

@@ -2,8 +2,8 @@ use Rattle.std.proofs.Common.{◌||◌, ap, ◌∙◌}
 use Rattle.std.specs.List.{list_any}
 use Rattle.llb_events.specs.Views.{event_of}
 use Rattle.llb_stepper.specs.Told.{meets_told}
-use Rattle.llb_stepper.specs.ByKind.{is_met_by_reply}
-use Rattle.llb_stepper.proofs.ByKind.{meets}
+use Rattle.llb_stepper.specs.BreakpointSets.{is_met_by_reply}
+use Rattle.llb_stepper.proofs.BreakpointSets.{meets}
 use Rattle.llb_stepper.proofs.breakpoints.Breakpoints.is_met_by.Goals as goal
 
 pub returns-then-is_met_by_event : goal.returns-then-is_met_by_event

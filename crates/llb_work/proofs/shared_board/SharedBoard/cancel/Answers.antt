@@ -9,7 +9,7 @@ invariant_of-self g c =
     let now = c.len.ensures ∙ ap length c.events-2.ensures.all in
     record {
       kept = old.kept;
-      after = after_more g.S.Gated.given old.board c.cancel.new.board old.after c.cancel.ensures.goes;
+      after = after_more g.S.Gated.start old.board c.cancel.new.board old.after c.cancel.ensures.goes;
       marks = old.marks;
       counted = omega (arith, before, now, c.count.ensures, old.counted);
       stops = old.stops;

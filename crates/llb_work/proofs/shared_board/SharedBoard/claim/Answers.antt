@@ -10,7 +10,7 @@ invariant_of-self g c =
     let now = c.len.ensures ∙ ap length c.events-2.ensures.all in
     record {
       kept = old.kept;
-      after = after_more g.S.Gated.given old.board c.claim-claimed.new.board old.after c.claim-claimed.ensures.goes;
+      after = after_more g.S.Gated.start old.board c.claim-claimed.new.board old.after c.claim-claimed.ensures.goes;
       marks = old.marks;
       counted = omega (arith, before, now, c.count.ensures, old.counted);
       stops = old.stops;
@@ -18,5 +18,5 @@ invariant_of-self g c =
 
 pub returns : goal.returns
 returns g c =
-    claimed_at_first g.S.Gated.given c.args.self.now.board c.args.w c.args.v c.claim-claimed.result c.args.self.now.after
+    claimed_at_first g.S.Gated.start c.args.self.now.board c.args.w c.args.v c.claim-claimed.result c.args.self.now.after
     c.claim-claimed.ensures.claimed

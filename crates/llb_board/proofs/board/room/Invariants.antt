@@ -1,0 +1,5 @@
+use Rattle.llb_board.proofs.Counted.{CountedSoFar}
+use Rattle.llb_board.proofs.board.room.Given as goal
+
+abbrev pub invariant-loop-v : goal.invariant-loop-v
+invariant-loop-v l = CountedSoFar l.vertices.build.graph.vertices l.v l.all

@@ -1,0 +1,61 @@
+-- The record of events, the room for it, and how often each vertex was cancelled, as contracts see them.
+use Rattle.std.specs.Prelude.{ℕ, zero, suc, ◌+◌, ◌-◌, List, length, take, Option, Some, None, get_or, slice_get, slice_set}
+use Rattle.llb_model.specs.Table.{Event, Claim, Step, Settle, Cancel}
+
+-- the events so far, and how many there is room for
+pub record Recorded : Type 0 where
+  pub list : List Event
+  pub room : ℕ
+
+-- the room for events, and by number how often each vertex was cancelled
+pub record Space : Type 0 where
+  pub room : ℕ
+  pub cancels : List ℕ
+
+-- the events, the first first, and the room for events to come
+pub record HistoryValue : Type 0 where
+  pub list : List Event
+  pub space : Space
+
+-- the room that a claim takes for a vertex with this number of events that was cancelled n times: none at its first claim
+abbrev pub taken : ℕ → ℕ → ℕ
+taken events zero = 0
+taken events (suc n) = events
+
+-- the room that a claim of vertex v takes which is to have so many events
+abbrev pub taken_by : ℕ → ℕ → Space → ℕ
+taken_by v events s = taken events (get_or s.cancels v 0)
+
+-- the room after a claim, and after one is taken back
+abbrev pub claimed : ℕ → ℕ → Space → Space
+claimed v events s = record s { room = s.room + taken_by v events s }
+
+-- the room without what such a claim took
+abbrev pub unclaimed : ℕ → ℕ → Space → Space
+unclaimed v events s = record s { room = s.room - taken_by v events s }
+
+-- the counts after a cancel, and after one is taken back
+abbrev pub cancelled : ℕ → Space → Space
+cancelled v s = record s { cancels = slice_set s.cancels v (get_or s.cancels v 0 + 1) }
+
+-- the room where vertex v was cancelled once less
+abbrev pub uncancelled : ℕ → Space → Space
+uncancelled v s = record s { cancels = slice_set s.cancels v (get_or s.cancels v 0 - 1) }
+
+-- ---- the last event taken back
+
+-- all items of a list but the last, and the last
+abbrev pub front : {A : Type 0} → List A → List A
+front xs = take (length xs - 1) xs
+
+-- the last item of a list
+abbrev pub last_of : {A : Type 0} → List A → Option A
+last_of xs = slice_get xs (length xs - 1)
+
+-- the room and the counts before an event of vertex v, which has this number of events: a claim had taken room, a cancel was counted
+abbrev pub space_back : Option Event → ℕ → ℕ → Space → Space
+space_back (Some (Claim w u)) v events s = unclaimed v events s
+space_back (Some (Step w)) v events s = s
+space_back (Some (Settle w)) v events s = s
+space_back (Some (Cancel w)) v events s = uncancelled v s
+space_back None v events s = s

@@ -1,7 +1,0 @@
-use Rattle.std.proofs.Common.{◌≡◌, drop}
-use Rattle.std.specs.List.{find}
-use Rattle.llb_cache.specs.Caches.{is_shut}
-use Rattle.llb_cache.proofs.caches.Caches.first_shut.Given as goal
-
-abbrev pub invariant-loop-i : goal.invariant-loop-i
-invariant-loop-i l = find (is_shut l.self.out) (drop l.i l.needs) ≡ find (is_shut l.self.out) l.needs

@@ -1,0 +1,457 @@
+//! What a program works on, which owns its data: it begins on the trees of the vertex's inputs, each micro-step changes it, and the
+//! outputs are taken from it at the end. It rests on what one action, one laying and one command do.
+
+ghost use Rattle.std.specs.Prelude.{◌≡◌, ◌<◌, List, length, map, option_map, replicate, unwrap_or, Some, None, Result, IfOk, OnOk, OnErr};
+ghost use Rattle.std.specs.List.{All};
+ghost use Rattle.llb_tree.specs.Tree.{TreeMap, empty_tree};
+ghost use Rattle.llb_merge.specs.Laying.{lay};
+ghost use Rattle.llb_fileop.specs.Faults.{Gives};
+ghost use Rattle.llb_fileop.specs.declared.fault.ActFault.{ActFault};
+ghost use Rattle.llb_loader.specs.Graph.{IsVertexOf};
+ghost use Rattle.llb_model.specs.Caches.{Distinct};
+ghost use Rattle.llb_model.specs.Program.{program_of, workspace_on, local_tree, mount_of, needs_of, trees_in, base_in, with_tree, with_result, tried};
+ghost use Rattle.llb_model.specs.Program.{tree_fault_number, fault_number, is_and, all_and, is_run, exit_of, last_of, lay_on, run_on, step_on, outputs_of};
+ghost use Rattle.llb_execution.specs.Marks.{put_back, Results, Laid};
+ghost use Rattle.llb_execution.specs.Marks as marks;
+ghost use Rattle.llb_execution.specs.Parts.{step_in, own_of, work_with, left_with, is_skipped, mounts_in, shown_in};
+
+use crate::filling::run_filled;
+use crate::micro_step::MicroStep;
+use crate::mounting::{input_tree, view_of};
+use crate::outputs::outputs_of;
+use crate::refusal::NoMemory;
+use llb_applet::{Join, Joined, Setting};
+use llb_fileop::{ActFault, act};
+use llb_loader::{Locals, Vertex};
+use llb_merge::lay_over;
+use llb_model::VertexFault;
+use llb_mount::View as Mounts;
+use llb_ops::{Action, Kind};
+use llb_tree::{Tree, TreeFault};
+use llb_wire::Memory;
+use std::alloc::Global;
+use std::marker::Model;
+
+/// What a program works on: for a source its local tree, for a file op the trees of its inputs and the results so far, for a
+/// merge the trees of its inputs and what is laid so far, for an exec its mounts, of which those that show caches are empty, and
+/// the status of the last command that ran.
+pub struct Workspace {
+    pub(crate) own: Own,
+}
+
+// Written out, so that the crates above drop one by this one function.
+impl Drop for Workspace {
+    fn drop(self) {
+        let Workspace { own: _ } = self;
+    }
+}
+
+// What a workspace owns: a local tree; the trees of inputs and the results so far; the trees of inputs and what is laid; or mounts, the numbers of
+// those that show caches, and the last status.
+#[derive(Drop)]
+pub(crate) enum Own {
+    Local(Tree),
+    Files(Vec<Tree>, Vec<Tree>),
+    Layers(Vec<Tree>, Tree),
+    Mounted(Mounts, Vec<u32>, u32),
+}
+
+impl Model for Workspace {
+    ghost use Rattle.std.specs.Coded.{codes};
+    ghost use Rattle.llb_tree.specs.Coded.{coded_tree};
+    ghost use Rattle.llb_model.specs.Program as model;
+    ghost use Rattle.llb_execution.specs.Parts.{own_of};
+
+    ghost Value = { model.Workspace };
+
+    ghost coded = { Prim.hlevel (codes, coded_tree) };
+
+    ghost view = { λ v. own_of v.own };
+}
+
+impl Workspace {
+    /// Makes the workspace before the first micro-step of a vertex: on the trees of its inputs, with the numbers of the mounts that show caches, in
+    /// the order of the needs. Fails with `Memory` alone.
+    pub fn on(
+        alloc: Global,
+        locals: &Locals,
+        vertex: &Vertex,
+        inputs: Vec<Tree>,
+        caches: Vec<u32>,
+    ) -> Result<Workspace, Memory>
+        requires kind { IsVertexOf vertex.now vertex.now.op.kind }
+        requires caches { caches.items ≡ map mount_of (needs_of vertex.now) }
+        ensures { IfOk result (λ v. v ≡ workspace_on locals.now vertex.now vertex.now.op.kind inputs.items) }
+    {
+        let own = own_on(alloc, locals, vertex, inputs, caches)?;
+        Ok(Workspace { own })
+    }
+
+    /// Returns an equal second owner, whose trees are shared. Fails with `Memory` alone.
+    pub fn copy(&self) -> Result<Workspace, Memory>
+        ensures { IfOk result (λ v. v ≡ self.now) }
+    {
+        let own = copy_of(&self.own)?;
+        Ok(Workspace { own })
+    }
+
+    /// Returns the status of the last command that ran, 0 before one has. Does not allocate.
+    pub fn last(&self) -> u32
+        ensures { result ≡ last_of self.now }
+    {
+        match &self.own {
+            Own::Mounted(_, _, last) => *last,
+            _ => 0,
+        }
+    }
+
+    /// Returns whether a micro-step is a command that is skipped here: it changes nothing. Does not allocate.
+    pub fn skips(&self, step: MicroStep<'_>) -> bool
+        ensures { result ≡ is_skipped (step_in step.entry) self.now }
+    {
+        match step {
+            MicroStep::Run(_, command, _) => !runs_after(command.join, self.last()),
+            _ => false,
+        }
+    }
+
+    /// Does micro-step k; that number is in its fault. The trees are those of the instances of the caches that the workspace shows,
+    /// in the order of the needs, and a command leaves them as it changes them. Returns the fault, where there is one, and
+    /// then the workspace and the trees are as they were but for the last status. Fails with `Memory` alone; then they
+    /// are as they were.
+    pub fn step(
+        &mut self,
+        alloc: Global,
+        k: u32,
+        step: MicroStep<'_>,
+        trees: &mut Vec<Tree>,
+    ) -> Result<Option<VertexFault>, Memory>
+        requires apart { Distinct (shown_in self.old) }
+        requires within { All (λ n. n < mounts_in self.old) (shown_in self.old) }
+        requires count { length trees.old.items ≡ length (shown_in self.old) }
+        ensures left { IfOk result (λ fault. record { work = work_with self.new trees.new.items; fault = fault }
+            ≡ step_on k (Some (step_in step.entry)) (work_with self.old trees.old.items)) }
+        ensures mounts { mounts_in self.new ≡ mounts_in self.old }
+        ensures shown { shown_in self.new ≡ shown_in self.old }
+        ensures count { length trees.new.items ≡ length trees.old.items }
+        ensures err { OnErr result ((self.new ≡ self.old) × (trees.new.items ≡ trees.old.items)) }
+    {
+        match step {
+            MicroStep::ReadLocal => Ok(None),
+            MicroStep::Act(action) => {
+                let second = self.tree(action.secondary_input);
+                let acted = match self.tree(action.input) {
+                    Some(base) => act(alloc, action, base, second),
+                    None => act(alloc, action, &empty(alloc)?, second),
+                };
+                Ok(self.put_result(k, acted)?)
+            }
+            MicroStep::LayInput(input) => {
+                self.lay(alloc, input)?;
+                Ok(None)
+            }
+            MicroStep::Run(setting, command, later) => {
+                Ok(self.run(k, setting, command, later, trees)?)
+            }
+        }
+    }
+
+    /// Returns the outputs of what all micro-steps of the vertex left, each in the place of an empty tree that was made for it
+    /// (`empty_trees`). Does not allocate.
+    pub fn into_outputs(self, outputs: Vec<Tree>, vertex: &Vertex) -> Vec<Tree>
+        requires { outputs.items ≡ replicate vertex.now.outputs empty_tree }
+        ensures { result.items ≡ outputs_of (program_of vertex.now) self }
+    {
+        let Workspace { own } = self;
+        outputs_of(own, outputs, vertex)
+    }
+
+    // Puts in what action k returned: its tree as one result more, or else its fault.
+    fn put_result(
+        &mut self,
+        k: u32,
+        acted: Result<Tree, ActFault>,
+    ) -> Result<Option<VertexFault>, NoMemory>
+        ensures left { IfOk result (λ fault. (rule : Result TreeMap ActFault) (trees : List TreeMap) → Gives (λ t. t) acted rule
+            → left_with self.new trees fault ≡ tried (work_with self.old trees) (with_result k self.old rule)) }
+        ensures err { OnErr result (self.new ≡ self.old) }
+    {
+        match acted {
+            Ok(tree) => {
+                self.push(tree)?;
+                Ok(None)
+            }
+            Err(ActFault::Memory) => Err(NoMemory),
+            Err(fault) => Ok(Some(VertexFault::Action(k, number(fault)))),
+        }
+    }
+
+    // The tree with that number, which an action can begin with; `None` means the empty tree.
+    fn tree(&self, number: i64) -> Option<&Tree>
+        ensures { unwrap_or (option_map (λ t. t.now) result) empty_tree ≡ base_in number (trees_in self.now) }
+    {
+        if number < 0 {
+            return None;
+        }
+        let at = number as usize;
+        match &self.own {
+            Own::Local(_) => None,
+            Own::Mounted(_, _, _) => None,
+            Own::Layers(inputs, _) => inputs.get(at),
+            Own::Files(inputs, results) => {
+                if at < inputs.len() {
+                    return inputs.get(at);
+                }
+                results.get(at - inputs.len())
+            }
+        }
+    }
+
+    // One result more of a file op.
+    fn push(&mut self, tree: Tree) -> Result<(), NoMemory>
+        ensures ok { OnOk result (self.new ≡ with_tree self.old tree) }
+        ensures err { OnErr result (self.new ≡ self.old) }
+    {
+        match &mut self.own {
+            Own::Files(_, results) => {
+                results.push(tree)?;
+                Ok(())
+            }
+            // Unreachable.
+            _ => Ok(()),
+        }
+    }
+
+    // A merge's input is laid over those before it.
+    fn lay(&mut self, alloc: Global, input: i64) -> Result<(), NoMemory>
+        ensures ok { OnOk result (self.new ≡ lay_on input self.old) }
+        ensures err { OnErr result (self.new ≡ self.old) }
+    {
+        match &mut self.own {
+            Own::Layers(inputs, laid) => lay_input(alloc, laid, inputs, input),
+            // Unreachable.
+            _ => Ok(()),
+        }
+    }
+
+    // The first results of a file op, by their count.
+    pub(crate) fn keep_results(&mut self, count: usize)
+        ensures { self.new ≡ put_back (Results count) self.old }
+    {
+        match &mut self.own {
+            Own::Files(_, results) => results.truncate(count),
+            _ => {}
+        }
+    }
+
+    // What was laid of a merge.
+    pub(crate) fn put_laid(&mut self, tree: Tree)
+        ensures { self.new ≡ put_back (Laid tree) self.old }
+    {
+        match &mut self.own {
+            Own::Layers(_, laid) => *laid = tree,
+            _ => {}
+        }
+    }
+
+    // The mounts of an exec, and its last status.
+    pub(crate) fn put_mounts(&mut self, mounts: Mounts, last: u32)
+        ensures { self.new ≡ put_back (marks.Mounts mounts last) self.old }
+    {
+        match &mut self.own {
+            Own::Mounted(shown, _, status) => {
+                *shown = mounts;
+                *status = last;
+            }
+            _ => {}
+        }
+    }
+
+    // Command k runs on an exec's mounts, of which those that show caches have these trees meanwhile; or it is skipped, by its join
+    // and the last status. Returns its fault: its status, where no later command may run.
+    fn run(
+        &mut self,
+        k: u32,
+        setting: &Setting,
+        command: &Joined,
+        later: &[Joined],
+        trees: &mut Vec<Tree>,
+    ) -> Result<Option<VertexFault>, NoMemory>
+        requires apart { Distinct (shown_in self.old) }
+        requires within { All (λ n. n < mounts_in self.old) (shown_in self.old) }
+        requires count { length trees.old.items ≡ length (shown_in self.old) }
+        ensures left { IfOk result (λ fault. left_with self.new trees.new.items fault
+            ≡ run_on k setting.now command.now (all_and later.now) self.old trees.old.items) }
+        ensures err { OnErr result ((self.new ≡ self.old) × (trees.new.items ≡ trees.old.items)) }
+    {
+        match &mut self.own {
+            Own::Mounted(mounts, caches, last) => {
+                if !runs_after(command.join, *last) {
+                    return Ok(None);
+                }
+                let alloc = *trees.allocator();
+                let status = run_filled(alloc, &command.command, setting, mounts, caches, trees)?;
+                *last = status;
+                Ok(exit_of(k, status, later))
+            }
+            // Unreachable.
+            _ => Ok(None),
+        }
+    }
+}
+
+// A second owner of all that a workspace has.
+fn copy_of(own: &Own) -> Result<Own, NoMemory>
+    ensures { IfOk result (λ o. own_of o ≡ own_of own.now) }
+{
+    match own {
+        Own::Local(tree) => Ok(Own::Local(tree.copy()?)),
+        Own::Files(inputs, results) => {
+            let alloc = *inputs.allocator();
+            Ok(Own::Files(tree_copies(alloc, inputs)?, tree_copies(alloc, results)?))
+        }
+        Own::Layers(inputs, laid) => {
+            let alloc = *inputs.allocator();
+            Ok(Own::Layers(tree_copies(alloc, inputs)?, laid.copy()?))
+        }
+        Own::Mounted(mounts, numbers, last) => {
+            Ok(Own::Mounted(mounts.copy()?, numbers.clone()?, *last))
+        }
+    }
+}
+
+// Second owners of trees.
+pub(crate) fn tree_copies(alloc: Global, trees: &[Tree]) -> Result<Vec<Tree>, NoMemory>
+    ensures { IfOk result (λ v. v.items ≡ trees.now) }
+{
+    let mut copies = Vec::new(alloc);
+    for tree in trees {
+        copies.push(tree.copy()?)?;
+    }
+    Ok(copies)
+}
+
+// What a vertex's program begins on.
+fn own_on(
+    alloc: Global,
+    locals: &Locals,
+    vertex: &Vertex,
+    inputs: Vec<Tree>,
+    caches: Vec<u32>,
+) -> Result<Own, NoMemory>
+    requires kind { IsVertexOf vertex.now vertex.now.op.kind }
+    requires caches { caches.items ≡ map mount_of (needs_of vertex.now) }
+    ensures { IfOk result (λ own. own_of own ≡ workspace_on locals.now vertex.now vertex.now.op.kind inputs.items) }
+{
+    match &vertex.op.kind {
+        Some(Kind::Source(_)) => Ok(Own::Local(local_tree(alloc, locals, vertex)?)),
+        Some(Kind::Merge(_)) => Ok(Own::Layers(inputs, Tree::empty(alloc)?)),
+        Some(Kind::Exec(exec)) => {
+            let mounts = view_of(alloc, inputs.as_slice(), exec.get().mounts.as_slice())?;
+            Ok(Own::Mounted(mounts, caches, 0))
+        }
+        _ => Ok(Own::Files(inputs, Vec::new(alloc))),
+    }
+}
+
+// A copy of the local tree of a source.
+fn local_tree(alloc: Global, locals: &Locals, vertex: &Vertex) -> Result<Tree, NoMemory>
+    ensures { IfOk result (λ t. t ≡ local_tree locals.now vertex.now) }
+{
+    let name = vertex.local_name().unwrap_or("");
+    match locals.get(name) {
+        Some(tree) => Ok(tree.copy()?),
+        None => Ok(Tree::empty(alloc)?),
+    }
+}
+
+// An empty tree.
+fn empty(alloc: Global) -> Result<Tree, NoMemory>
+    ensures { IfOk result (λ t. t ≡ empty_tree) }
+{
+    Ok(Tree::empty(alloc)?)
+}
+
+// The number of an action's fault.
+fn number(fault: ActFault) -> u32
+    ensures { result ≡ fault_number fault }
+{
+    match fault {
+        ActFault::File(fault) => tree_number(fault),
+        ActFault::BadPattern => 52,
+        ActFault::Memory => 53,
+    }
+}
+
+// The number of a tree's fault.
+fn tree_number(fault: TreeFault) -> u32
+    ensures { result ≡ tree_fault_number fault }
+{
+    match fault {
+        TreeFault::NotFound => 21,
+        TreeFault::NotDir => 22,
+        TreeFault::IsDir => 23,
+        TreeFault::Conflict => 24,
+        TreeFault::Root => 25,
+        TreeFault::BadName => 26,
+        TreeFault::Memory => 27,
+    }
+}
+
+// Lays one of the inputs over a tree; -1 is the empty tree.
+fn lay_input(alloc: Global, laid: &mut Tree, inputs: &[Tree], input: i64) -> Result<(), NoMemory>
+    ensures ok { OnOk result (laid.new ≡ lay laid.old (base_in input inputs.now)) }
+    ensures err { OnErr result (laid.new ≡ laid.old) }
+{
+    match input_tree(inputs, input) {
+        Some(upper) => lay_over(laid, upper)?,
+        None => lay_over(laid, &Tree::empty(alloc)?)?,
+    }
+    Ok(())
+}
+
+// Whether a command that is joined so runs after a last status.
+fn runs_after(join: Join, last: u32) -> bool
+    ensures { result ≡ is_run join last }
+{
+    match join {
+        Join::Then => true,
+        Join::And => last == 0,
+        Join::Or => last != 0,
+    }
+}
+
+fn is_and(join: Join) -> bool
+    ensures { result ≡ is_and join }
+{
+    match join {
+        Join::And => true,
+        _ => false,
+    }
+}
+
+// Whether each of these commands is joined by `&&`.
+fn are_ands(commands: &[Joined]) -> bool
+    ensures { result ≡ all_and commands.now }
+{
+    for command in commands {
+        if !is_and(command.join) {
+            return false;
+        }
+    }
+    true
+}
+
+// The fault of a command that ended with a status other than 0, where no later one may run. Those after it are looked at only then:
+// all that this passes over are skipped, so that a whole script costs no more than its length.
+fn exit_of(command: u32, status: u32, later: &[Joined]) -> Option<VertexFault>
+    ensures { result ≡ exit_of command (all_and later.now) status }
+{
+    if status == 0 {
+        return None;
+    }
+    if are_ands(later) {
+        return Some(VertexFault::Exit(command, status));
+    }
+    None
+}

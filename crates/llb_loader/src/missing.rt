@@ -1,0 +1,21 @@
+//! The local trees that a graph names and that are not given.
+
+ghost use Rattle.std.specs.Prelude.{◌≡◌, option_map};
+ghost use Rattle.llb_loader.specs.Missing.{missing_local};
+
+use crate::graph::Graph;
+use crate::locals::Locals;
+
+/// Returns the name of the first local source, by vertex, that has no tree. Does not allocate.
+pub fn missing_local<'a>(graph: &'a Graph, locals: &Locals) -> Option<&'a str>
+    ensures { option_map (λ t. t.now) result ≡ missing_local locals.now graph.now.vertices }
+{
+    for vertex in graph.vertices() {
+        if let Some(name) = vertex.local_name() {
+            if locals.get(name).is_none() {
+                return Some(name);
+            }
+        }
+    }
+    None
+}

@@ -1,5 +1,0 @@
-use Rattle.llb_state.proofs.Counted.{CountedSoFar}
-use Rattle.llb_state.proofs.fresh.room.Given as goal
-
-abbrev pub invariant-loop-v : goal.invariant-loop-v
-invariant-loop-v l = CountedSoFar l.build.graph.vertices l.v l.all

@@ -1,0 +1,26 @@
+-- How entries and trees are coded by numbers, so that they are values of models. No contract speaks of it.
+use Rattle.std.specs.Prelude.{◌≡◌, ℕ, List, Option, Some, None, refl}
+use Rattle.std.specs.FinMap as finite
+use Rattle.std.specs.Coded.{Coded, code_by, coded×, coded_ℕ, coded_list, coded_option}
+use Rattle.llb_tree.specs.Tree.{Entry, Dir, File, TreeMap}
+
+-- an entry is stored as its meta, and the content of a file
+abbrev pub packed : Entry → (ℕ × (ℕ × ℕ)) × Option (List ℕ)
+packed (Dir m) = ((m.mode, (m.uid, m.gid)), None)
+packed (File m bytes) = ((m.mode, (m.uid, m.gid)), Some bytes)
+
+abbrev pub unpacked : (ℕ × (ℕ × ℕ)) × Option (List ℕ) → Entry
+unpacked (m, None) = Dir (record { mode = m.0; uid = m.1.0; gid = m.1.1 })
+unpacked (m, Some bytes) = File (record { mode = m.0; uid = m.1.0; gid = m.1.1 }) bytes
+
+pub unpacked-packed : (e : Entry) → unpacked (packed e) ≡ e
+unpacked-packed (Dir m) = refl
+unpacked-packed (File m bytes) = refl
+
+abbrev pub coded_entry : Coded Entry
+coded_entry = code_by ((ℕ × (ℕ × ℕ)) × Option (List ℕ))
+    (coded× (coded× coded_ℕ (coded× coded_ℕ coded_ℕ)) (coded_option (coded_list coded_ℕ))) packed unpacked unpacked-packed
+
+-- a tree by its entries
+abbrev pub coded_tree : Coded TreeMap
+coded_tree = finite.code (coded_list (coded_list coded_ℕ)) coded_entry

@@ -1,0 +1,21 @@
+-- The numbers that decimal digits spell.
+use Rattle.std.specs.Prelude.{ℕ, ◌-◌, ◌^◌, ◌==◌, ◌&&◌, not, nat_lt, nat_le, if◌then◌else◌, Bool, List, length, Option}
+use Rattle.std.specs.List.{list_all}
+use Rattle.std.specs.Str.Parse.{digits_value}
+use Rattle.llb_wire.specs.Texts.{where_so}
+
+-- whether a byte is a decimal digit
+abbrev pub is_digit : ℕ → Bool
+is_digit b = nat_le 48 b && nat_le b 57
+
+-- the number that one or more decimal digits spell
+unfoldable pub magnitude : List ℕ → Option ℕ
+magnitude text = where_so (not (length text == 0) && list_all is_digit text) (digits_value 10 text)
+
+-- a number as a 64-bit number holds it: 2^64 - 1 for all numbers above it
+abbrev pub capped : ℕ → ℕ
+capped n = if nat_lt n (2 ^ 64) then n else 2 ^ 64 - 1
+
+-- a number that is below a limit
+abbrev pub below : ℕ → ℕ → Option ℕ
+below limit n = where_so (nat_lt n limit) n
