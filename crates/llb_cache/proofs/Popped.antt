@@ -1,6 +1,6 @@
 -- The order of the keys without the last row.
-use Rattle.std.proofs.Common.{◌≡◌, ◌≢◌, ℕ, zero, suc, ◌+◌, ◌-◌, ◌<◌, ◌≤◌, Bool, true, false, List, [], ◌∷◌, length, take, remove}
-use Rattle.std.proofs.Common.{slice_index_or, refl, sym, ap, ◌∙◌, subst, inl, inr, ◌⊎◌, arith, true≢false}
+use Rattle.std.proofs.Common.{◌≡◌, ◌≢◌, ℕ, zero, suc, ◌+◌, ◌-◌, ◌<◌, ◌≤◌, true, false, List, [], ◌∷◌, length, take, remove}
+use Rattle.std.proofs.Common.{refl, sym, ap, ◌∙◌, subst, inl, inr, ◌⊎◌, arith, true≢false}
 use Rattle.std.specs.List.{IsDistinct, AllByRecursion}
 use Rattle.std.specs.Map.{keys_of}
 use Rattle.std.specs.declared.cmp.Ordering.{Ordering}
@@ -10,12 +10,10 @@ use Rattle.std.specs.Cmp.{eq_by_cmp_equiv}
 use Rattle.std.proofs.lemmas.Bool.{cases_lt}
 use Rattle.std.proofs.lemmas.List.{length-take-le}
 use Rattle.std.proofs.lemmas.List.Edits.{length-remove, get_or-remove_below, get_or-remove_above}
-use Rattle.std.proofs.lemmas.Map.Keys.{IsDistinct-head, IsDistinct-tail}
 use Rattle.llb_cache.specs.declared.key.Key.{Key}
 use Rattle.llb_cache.specs.Key.{same_key}
 use Rattle.llb_cache.specs.Order.{key_cmp, key_cmp-IsTotalOrder}
 use Rattle.llb_cache.specs.Caches.{Row}
-use Rattle.llb_cache.specs.Growth.{front}
 use Rattle.llb_cache.specs.Ordered.{key_at, row_at, is_before, IsOrdered, IsPlace}
 
 not_both : (o : Ordering) → is_eq o ≡ true → is_lt o ≡ true → ⊥
@@ -43,7 +41,7 @@ found_at es order n place is below at = go (is.each n below)
       | inl low ↦ absurd (not_before_itself (key_at es n) (ap (λ m. is_before es m (key_at es n)) (sym row) ∙ at.before j low))
       | inr high ↦ elim (cases_lt place j) [
         | inl past ↦ absurd (true≢false (sym (is.rising place j past within) ∙ ap (λ m. is_before es (row_at order place) (key_at es m)) row
-          ∙ at.behind place (omega arith) (omega (arith, past, within))))
+            ∙ at.behind place (omega arith) (omega (arith, past, within))))
         | inr end ↦ let here : j ≡ place = omega (arith, high, end) in (omega (arith, within, here), ap (row_at order) (sym here) ∙ row)
       ]
     ]
@@ -97,14 +95,14 @@ module _ (es : List Row) (order : List ℕ) (n place : ℕ) (is : IsOrdered es o
   old_row y below row other = elim (cases_lt (row_at order y) n) [
     | inl low ↦ low
     | inr high ↦
-      let same : row_at order y ≡ row_at order place = (let e : row_at order y ≡ n = omega (arith, high, row) in e) ∙ sym last in
-      absurd (elim (cases_lt y place) [
-        | inl low ↦ one_place es order y place is low within same
-        | inr past ↦ elim (cases_lt place y) [
-          | inl up ↦ one_place es order place y is up below (sym same)
-          | inr end ↦ other (omega (arith, past, end))
-        ]
-      ])
+        let same : row_at order y ≡ row_at order place = (let e : row_at order y ≡ n = omega (arith, high, row) in e) ∙ sym last in
+        absurd (elim (cases_lt y place) [
+          | inl low ↦ one_place es order y place is low within same
+          | inr past ↦ elim (cases_lt place y) [
+            | inl up ↦ one_place es order place y is up below (sym same)
+            | inr end ↦ other (omega (arith, past, end))
+          ]
+        ])
   ]
 
   apart : (x y : ℕ) → (((x < place) × (y ≡ x)) ⊎ ((place ≤ x) × (y ≡ x + 1))) → y ≢ place
@@ -133,8 +131,8 @@ module _ (es : List Row) (order : List ℕ) (n place : ℕ) (is : IsOrdered es o
     | inr high ↦ elim (cases_lt place j) [
       | inl past ↦ above j below row past
       | inr end ↦
-        let same : j ≡ place = omega (arith, high, end) in
-        let e : n ≡ i = sym last ∙ ap (row_at order) (sym same) ∙ row in absurd (omega (arith, low, e))
+          let same : j ≡ place = omega (arith, high, end) in
+          let e : n ≡ i = sym last ∙ ap (row_at order) (sym same) ∙ row in absurd (omega (arith, low, e))
     ]
   ]
     where

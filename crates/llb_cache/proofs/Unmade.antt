@@ -58,9 +58,9 @@ fewer_shorter : (rows : List Row) (key : Key) (o : Option (List TreeMap)) (k : K
 fewer_shorter rows key None k at = omega arith
 fewer_shorter rows key (Some ts) k at = elim (counted rows key (front ts) k) [
   | inl h ↦
-    let own : length (trees_of rows k) ≡ length ts =
-    ap (λ l. length (trees_of rows l)) h.0 ∙ ap (λ (o : Option (List TreeMap)). length (unwrap_or o [])) at in
-    omega (arith, h.1, own, front_length ts)
+      let own : length (trees_of rows k) ≡ length ts =
+      ap (λ l. length (trees_of rows l)) h.0 ∙ ap (λ (o : Option (List TreeMap)). length (unwrap_or o [])) at in
+      omega (arith, h.1, own, front_length ts)
   | inr h ↦ omega (arith, h)
 ]
 

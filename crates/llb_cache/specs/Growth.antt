@@ -9,7 +9,8 @@ use Rattle.llb_cache.specs.declared.key.Key.{Key}
 use Rattle.llb_cache.specs.declared.need.Need.{Need}
 use Rattle.llb_cache.specs.declared.need.Instance.{Instance}
 use Rattle.llb_cache.specs.Key.{same_key}
-use Rattle.llb_cache.specs.Caches.{CachesValue, Row, trees_of, with_trees, place_for, is_held, leases, places_of, free_lease, with_lease, given_back, IsExclusive}
+use Rattle.llb_cache.specs.Caches.{CachesValue, Row, trees_of, with_trees, place_for, is_held, leases, places_of, free_lease, with_lease, given_back}
+use Rattle.llb_cache.specs.Caches.{IsExclusive}
 
 -- all items of a list but the last
 abbrev pub front : {A : Type 0} → List A → List A

@@ -1,4 +1,4 @@
-//! What a lease adds to the rows, told before it is granted, and the lease taken back with what it added.
+//! What a lease of a key adds to the rows, which is known before it is granted, and how a lease is taken back with what it added.
 
 ghost use Rattle.std.specs.Prelude.{◌≡◌, ◌≢◌, List, length, AllPairs};
 ghost use Rattle.std.specs.Map.{keys_of};
@@ -15,11 +15,14 @@ use crate::marks::Marks;
 use crate::need::Instance;
 use crate::rows::{Rows, pop_instance, pop_row, row_of};
 
-/// What a lease of a key adds: nothing where its instance is there, an instance of a key that is there, or a row for a new key.
+/// What a lease of a key adds to the rows.
 #[derive(Clone, Copy)]
 pub enum Growth {
+    /// The instance is there.
     Nothing,
+    /// The key is there, and has one instance more.
     NewInstance,
+    /// The key is new, and has a row with one instance.
     NewRow,
 }
 
@@ -41,8 +44,8 @@ impl Caches {
         }
     }
 
-    /// Takes a lease that is out back, with what it added, given for each need, as `growth` told it before. No other lease may have one of
-    /// the instances that are removed. Does not allocate.
+    /// Takes a lease back that is out, and removes what it added: for each of its needs what `growth` returned before. No other lease may have
+    /// one of the instances that are removed. Does not allocate.
     pub fn take_back(&mut self, lease: Lease, growths: &[Growth])
         requires out { IsOut self.old.out lease }
         requires there { AreThere (taken_back self.old lease growths.now).rows (taken_back self.old lease growths.now).out }
@@ -62,8 +65,8 @@ impl Caches {
         take_back(&mut self.out, lease.number);
     }
 
-    /// A law: a lease of needs whose keys differ that is taken back right after it was granted, with what `growth` told for each need before,
-    /// leaves the caches exactly as they were.
+    /// A law: a lease of needs whose keys differ leaves the caches exactly as they were, if it is taken back right after it was granted, with
+    /// what `growth` returned for each need before.
     pub fn grants_come_back(&self)
         ensures { (needs : List asked.Need) → AllPairs (λ n m. n.key ≢ m.key) needs → taken_back (granted self.now needs).1 (granted self.now needs).0
             (growths self.now needs) ≡ self.now }

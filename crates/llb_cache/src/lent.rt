@@ -1,4 +1,5 @@
-//! A lease that is made ready while memory may be refused, and put out later without memory. Its instances are there, and no row changes.
+//! A lease that is made ready while memory may be refused, and put out later without memory. Its instances are there by then, and no row
+//! changes.
 
 ghost use Rattle.std.specs.Prelude.{◌≡◌, ◌<◌, ◌≤◌, true, [], length, vec_capacity, IfOk};
 ghost use Rattle.std.specs.List.{All};
@@ -20,7 +21,8 @@ use llb_wire::Many;
 use std::alloc::Global;
 use std::marker::Model;
 
-/// What a lease of instances that are there is made of without memory. Contracts see the instances, and how many leases there is room for.
+/// What a lease of instances that are there is made of without memory: their keys, the room of their marks, and a list with room for leases.
+/// Contracts see the instances, and how many leases there is room for.
 pub struct Lent {
     places: Many<Instance>,
     marks: Vec<Marks>,
@@ -131,7 +133,11 @@ fn mark(rows: &Rows, marks: &mut Vec<Marks>, place: &Instance, room: Marks)
 }
 
 // Puts a lease out, under the least number that is free. Where all numbers are taken, the leases move into the room.
-fn put_lease(out: &mut Vec<Option<Many<Instance>>>, places: Many<Instance>, room: Vec<Option<Many<Instance>>>) -> u32
+fn put_lease(
+    out: &mut Vec<Option<Many<Instance>>>,
+    places: Many<Instance>,
+    room: Vec<Option<Many<Instance>>>,
+) -> u32
     requires short { length out.old.items ≤ 65536 }
     requires empty { room.items ≡ [] }
     requires room { leases out.old.items < vec_capacity room }

@@ -1,5 +1,5 @@
 -- The workers before an event: what their leases have is there, and the instances of a worker that runs again can be leased.
-use Rattle.std.proofs.Common.{◌≡◌, ◌≢◌, ℕ, ◌<◌, ◌≤◌, Bool, true, false, List, [], map, length, Option, Some, None, unwrap_or, inl, inr, refl, sym, ap, subst, ◌∙◌}
+use Rattle.std.proofs.Common.{◌≡◌, ◌≢◌, ℕ, ◌<◌, ◌≤◌, Bool, true, false, List, [], length, Option, Some, None, unwrap_or, inl, inr, refl, sym, ap, subst, ◌∙◌}
 use Rattle.std.proofs.Common.{arith}
 use Rattle.std.specs.Prelude.{slice_get, slice_set}
 use Rattle.std.specs.List.{All}
@@ -45,7 +45,8 @@ lease_places out workers ls w l leased there = by_worker (slice_get workers w) r
 
 all_within : (rows : List Row) (ps : List Instance) → AreWithin rows ps → All (λ (p : Instance). p.number < length (trees_of rows p.key)) ps
 all_within rows ps within =
-    All-from_recursion (λ (p : Instance). p.number < length (trees_of rows p.key)) ps (all_by (λ (p : Instance). p.number < length (trees_of rows p.key)) ps within)
+    All-from_recursion (λ (p : Instance). p.number < length (trees_of rows p.key)) ps
+    (all_by (λ (p : Instance). p.number < length (trees_of rows p.key)) ps within)
 
 lease_inside : {k n : ℕ} → ◌≡◌ {A = Option (Option ℕ)} (Some (Some k)) (Some (Some n)) → k ≡ n
 lease_inside e = cc

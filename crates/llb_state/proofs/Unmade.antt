@@ -1,19 +1,19 @@
 -- The lists of instances before a claim and before a micro-step come back, and what is known of instances whose keys differ or that are there.
-use Rattle.std.proofs.Common.{◌≡◌, ◌≢◌, ℕ, ◌<◌, false, List, [], ◌∷◌, length, map, Some, unwrap_or, inl, inr, refl, sym, ap, subst, ◌∙◌, arith}
+use Rattle.std.proofs.Common.{◌≡◌, ◌≢◌, ◌<◌, List, [], ◌∷◌, length, map, unwrap_or, inl, inr, refl, sym, ap, subst, ◌∙◌, arith}
 use Rattle.std.specs.Prelude.{slice_get, Option}
 use Rattle.std.specs.List.{AllPairs, AllByRecursion}
 use Rattle.std.proofs.lemmas.Option.{slice_get_within}
 use Rattle.llb_cache.specs.declared.growth.Growth.{Growth}
 use Rattle.llb_cache.specs.declared.key.Key.{Key}
 use Rattle.llb_cache.specs.Caches as cache
-use Rattle.llb_cache.specs.Caches.{CachesValue, Row, AreApart, trees_of, tree_at, made}
+use Rattle.llb_cache.specs.Caches.{CachesValue, Row, AreApart, trees_of, made}
 use Rattle.llb_cache.specs.Growth.{growth_by, growth_at, unmade, unmade_one}
 use Rattle.llb_cache.specs.Members.{In, pairs_cons}
 use Rattle.llb_cache.specs.Removed.{unmade_made, look_made}
 use Rattle.llb_tree.specs.Tree.{TreeMap, empty_tree}
 use Rattle.llb_model.specs.Caches.{Instance, Store, content, put_all, trees_at, Hold, Has, Distinct}
 use Rattle.llb_model.specs.Program.{Need, key_of, base_in}
-use Rattle.llb_model.specs.State.{WorkerStatus, held, places_for, place_for, first_trees}
+use Rattle.llb_model.specs.State.{WorkerStatus, held, places_for, first_trees}
 use Rattle.llb_model.specs.Kept.{store_of}
 use Rattle.llb_model.specs.Leases.{HoldsAs, put_each}
 use Rattle.llb_model.proofs.Kept.{shows_instances}

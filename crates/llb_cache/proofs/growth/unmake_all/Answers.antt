@@ -22,7 +22,8 @@ unmade_nil : (rows : List Row) (ps : List Instance) → unmade rows ps [] ≡ ro
 unmade_nil rows [] = refl
 unmade_nil rows (p ∷ ps) = refl
 
-none_removed : (rows : List Row) (ps : List Instance) (gs : List Growth) (k : ℕ) → (length ps ≤ k) ⊎ (length gs ≤ k) → unmade rows (drop k ps) (drop k gs) ≡ rows
+none_removed : (rows : List Row) (ps : List Instance) (gs : List Growth) (k : ℕ) → (length ps ≤ k) ⊎ (length gs ≤ k) → unmade rows (drop k ps) (drop k gs)
+    ≡ rows
 none_removed rows ps gs k (inl end) = ap (λ (qs : List Instance). unmade rows qs (drop k gs)) (drop_all k ps end)
 none_removed rows ps gs k (inr end) = ap (λ (hs : List Growth). unmade rows (drop k ps) hs) (drop_all k gs end) ∙ unmade_nil rows (drop k ps)
 

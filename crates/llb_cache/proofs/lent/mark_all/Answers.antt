@@ -1,4 +1,4 @@
-use Rattle.std.proofs.Common.{◌≡◌, true, cond, List, [], ◌∷◌, Bool, length, drop, rules, refl, sym, ap, subst, ◌∙◌}
+use Rattle.std.proofs.Common.{◌≡◌, true, cond, List, [], ◌∷◌, length, drop, rules, refl, sym, ap, subst, ◌∙◌}
 use Rattle.std.specs.Map.{keys_of}
 use Rattle.std.proofs.lemmas.List.{nil_from_length}
 use Rattle.llb_cache.specs.declared.need.Instance.{Instance}

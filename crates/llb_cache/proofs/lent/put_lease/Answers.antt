@@ -1,4 +1,4 @@
-use Rattle.std.proofs.Common.{◌≡◌, ℕ, ◌<◌, ◌≤◌, length, vec_len, vec_capacity, Result, Ok, Err, IsOk, is_ok, rules, refl, sym, ap, ◌∙◌, arith, true≢false}
+use Rattle.std.proofs.Common.{◌≡◌, ℕ, ◌<◌, length, vec_len, vec_capacity, Result, Ok, Err, IsOk, is_ok, rules, refl, sym, ap, ◌∙◌, arith, true≢false}
 use Rattle.std.specs.Prelude.{if◌then◌else◌}
 use Rattle.std.proofs.Math.Facts.{Fits-of_lt}
 use Rattle.llb_cache.specs.Caches.{Leases, free_lease}

@@ -21,7 +21,8 @@ pub returns-clause-undo : goal.returns-clause-undo
 returns-clause-undo c =
     let b = c.self.inside in
     walk_back b.vertices b.start.rows b.workers b.history.list
-    (subst (λ (m : BoardValue). IsGraph m.build.graph) (sym c.self.view_is) c.is_graph.ensures) _ (event_of c.args.event) c.in_ok-reply.reply c.in_ok-undo.undo c.self.invariant.replays
+    (subst (λ (m : BoardValue). IsGraph m.build.graph) (sym c.self.view_is) c.is_graph.ensures) _
+    (event_of c.args.event) c.in_ok-reply.reply c.in_ok-undo.undo c.self.invariant.replays
     (ap (λ (m : BoardValue). walk_of m (event_of c.args.event)) c.self.view_is ∙ c.in_ok-reply.ensures.gives)
     c.in_ok-undo.ensures.marks
     ∙ c.self.view_is
@@ -30,6 +31,7 @@ pub returns-clause-can : goal.returns-clause-can
 returns-clause-can c =
     let b = c.self.inside in
     walk_can b.vertices b.start.rows b.workers b.history.list
-    (subst (λ (m : BoardValue). IsGraph m.build.graph) (sym c.self.view_is) c.is_graph.ensures) _ (event_of c.args.event) c.in_ok-reply.reply c.in_ok-undo.undo c.self.invariant.replays
+    (subst (λ (m : BoardValue). IsGraph m.build.graph) (sym c.self.view_is) c.is_graph.ensures) _
+    (event_of c.args.event) c.in_ok-reply.reply c.in_ok-undo.undo c.self.invariant.replays
     (ap (λ (m : BoardValue). walk_of m (event_of c.args.event)) c.self.view_is ∙ c.in_ok-reply.ensures.gives)
     c.in_ok-undo.ensures.marks

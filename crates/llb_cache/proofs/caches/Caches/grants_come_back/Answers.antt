@@ -1,7 +1,4 @@
-use Rattle.std.proofs.Common.{subst}
-use Rattle.std.proofs.Common.{◌≡◌, ◌≢◌, List}
-use Rattle.std.specs.List.{AllPairs}
-use Rattle.llb_cache.specs.declared.need.Need.{Need}
+use Rattle.std.proofs.Common.{◌≡◌, subst}
 use Rattle.llb_cache.specs.Caches.{CachesValue, granted}
 use Rattle.llb_cache.specs.Growth.{growths, taken_back}
 use Rattle.llb_cache.proofs.Reversed.{comes_back}

@@ -1,6 +1,5 @@
 use Rattle.std.proofs.Common.{◌≡◌, ℕ, List, false, sym, ap, subst, ◌∙◌}
 use Rattle.std.specs.Map.{keys_of}
-use Rattle.llb_cache.specs.declared.key.Key.{Key}
 use Rattle.llb_cache.specs.declared.need.Instance.{Instance}
 use Rattle.llb_cache.specs.Caches.{CachesValue, Row, Leases, AreThere, places_of, given_back}
 use Rattle.llb_cache.specs.Growth.{unmade, taken_back}
@@ -29,11 +28,10 @@ invariant_of-self c =
     let there : AreThere rows (given_back before lease).out = subst (λ (rs : List Row). AreThere rs (given_back before lease).out) (sym are)
     (subst (λ (n : ℕ). AreThere (taken_back before n c.args.growths.now).rows (taken_back before n c.args.growths.now).out) (sym c.lease.view_is)
     (subst (λ (v : CachesValue). AreThere (taken_back v c.args.lease c.args.growths.now).rows (taken_back v c.args.lease c.args.growths.now).out)
-    (sym c.self.view_is) c.requires.there)) in
-    (
-    subst (λ (o : Leases). IsMarked (record { rows = rows; out = o }) new) (sym c.take_back.ensures)
-    (unmade_marked (given_back before lease) rows freed new given there
-    (fewer_rows before.rows rows (places_of before.out lease) c.args.growths.now are)
-    c.unmake_all.ensures.each c.unmake_all.ensures.marks),
+    (sym c.self.view_is) c.requires.there)) in (
+      subst (λ (o : Leases). IsMarked (record { rows = rows; out = o }) new) (sym c.take_back.ensures)
+          (unmade_marked (given_back before lease) rows freed new given there
+          (fewer_rows before.rows rows (places_of before.out lease) c.args.growths.now are)
+          c.unmake_all.ensures.each c.unmake_all.ensures.marks),
       c.unmake_all.ensures.order,
     )

@@ -1,5 +1,5 @@
-use Rattle.std.proofs.Common.{◌≡◌, ◌∙◌, List, map, sym, ap, subst}
-use Rattle.llb_state.specs.Room.{Supplies, ready_made}
+use Rattle.std.proofs.Common.{◌∙◌, map, sym, ap, subst}
+use Rattle.llb_state.specs.Room.{ready_made}
 use Rattle.llb_state.specs.Undo.{Back, CanPutBack, workers_before, supplies_before, rows_before, change_in}
 use Rattle.llb_state.specs.Views.{at_of}
 use Rattle.llb_state.specs.Workers.{WorkersValue}

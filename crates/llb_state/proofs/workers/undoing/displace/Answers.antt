@@ -12,7 +12,7 @@ use Rattle.llb_state.specs.Views.{at_of}
 use Rattle.llb_state.specs.declared.stand.Desk.TheVariants as desk
 use Rattle.llb_state.specs.declared.workers.undoing.Back as undo
 use Rattle.llb_state.proofs.Lists.{length_map}
-use Rattle.llb_state.proofs.Undoings.{Can, PutsBack, can_by, is_out, still_there, unclaims, as_many, unsteps, lends, resumes}
+use Rattle.llb_state.proofs.Undoings.{PutsBack, can_by, is_out, still_there, unclaims, as_many, unsteps, lends, resumes}
 use Rattle.llb_state.proofs.workers.undoing.displace.Goals as goal
 use Rattle.llb_state.proofs.workers.undoing.displace.Goals.{After-take_back, After-write_back, After-lend_again-lease}
 
@@ -34,7 +34,8 @@ take_back-requires-clause-there c =
     let v = c.args.caches.now in
     let l = c.make_idle-lease.result in
     subst (λ (gs : List Growth). AreThere (taken_back v l gs).rows (taken_back v l gs).out) (sym c.deref.ensures.value)
-    (still_there ds v c.requires.crew c.in-Unclaim.w c.in-Unclaim.vertex c.in-Unclaim.growths.items (can_by c.args.seats.now.items c.args.caches.now c.args.back _ c.in-Unclaim.is c.requires.can) l c.make_idle-lease.ensures.leased)
+    (still_there ds v c.requires.crew c.in-Unclaim.w c.in-Unclaim.vertex c.in-Unclaim.growths.items
+    (can_by c.args.seats.now.items c.args.caches.now c.args.back _ c.in-Unclaim.is c.requires.can) l c.make_idle-lease.ensures.leased)
 
 unclaimed : (c : After-take_back)
     → PutsBack c.args.seats.now.items c.args.caches.now (Unclaim c.in-Unclaim.w c.in-Unclaim.vertex c.in-Unclaim.growths.items)
@@ -42,7 +43,8 @@ unclaimed : (c : After-take_back)
 unclaimed c =
     let v = c.args.caches.now in
     let l = c.make_idle-lease.result in
-    unclaims c.args.seats.now.items v c.requires.crew c.in-Unclaim.w c.in-Unclaim.vertex c.in-Unclaim.growths.items (can_by c.args.seats.now.items c.args.caches.now c.args.back _ c.in-Unclaim.is c.requires.can) l
+    unclaims c.args.seats.now.items v c.requires.crew c.in-Unclaim.w c.in-Unclaim.vertex c.in-Unclaim.growths.items
+    (can_by c.args.seats.now.items c.args.caches.now c.args.back _ c.in-Unclaim.is c.requires.can) l
     c.make_idle-lease.ensures.leased c.make_idle-lease.new.desks.items c.take_back.new.caches c.make_idle-lease.ensures.idle
     (c.take_back.ensures ∙ ap (λ (gs : List Growth). taken_back v l gs) c.deref.ensures.value)
 
@@ -75,7 +77,8 @@ step_back-lease-requires c =
 
 pub write_back-requires-clause-count : goal.write_back-requires-clause-count
 write_back-requires-clause-count c =
-    as_many c.args.seats.now.items c.args.caches.now c.requires.crew c.in-Unstep.w c.in-Unstep.mark c.in-Unstep.trees.items (can_by c.args.seats.now.items c.args.caches.now c.args.back _ c.in-Unstep.is c.requires.can)
+    as_many c.args.seats.now.items c.args.caches.now c.requires.crew c.in-Unstep.w c.in-Unstep.mark c.in-Unstep.trees.items
+    (can_by c.args.seats.now.items c.args.caches.now c.args.back _ c.in-Unstep.is c.requires.can)
     c.step_back-lease.result c.step_back-lease.ensures.leased
 
 pub write_back-requires-clause-few : goal.write_back-requires-clause-few
@@ -85,7 +88,8 @@ unstepped : (c : After-write_back)
     → PutsBack c.args.seats.now.items c.args.caches.now (Unstep c.in-Unstep.w c.in-Unstep.mark c.in-Unstep.trees.items)
     c.step_back-lease.new.desks.items c.write_back.new.caches
 unstepped c =
-    unsteps c.args.seats.now.items c.args.caches.now c.requires.crew c.in-Unstep.w c.in-Unstep.mark c.in-Unstep.trees.items (can_by c.args.seats.now.items c.args.caches.now c.args.back _ c.in-Unstep.is c.requires.can)
+    unsteps c.args.seats.now.items c.args.caches.now c.requires.crew c.in-Unstep.w c.in-Unstep.mark c.in-Unstep.trees.items
+    (can_by c.args.seats.now.items c.args.caches.now c.args.back _ c.in-Unstep.is c.requires.can)
     c.step_back-lease.result c.step_back-lease.ensures.leased c.step_back-lease.new.desks.items c.write_back.new.caches c.step_back-lease.ensures.before
     c.write_back.ensures.rows c.write_back.ensures.out
 
@@ -111,12 +115,14 @@ returns-in-Unstep-clause-crew c = (unstepped (goal.at.returns-in-Unstep-clause-c
 
 pub lend_again-lease-requires : goal.lend_again-lease-requires
 lend_again-lease-requires c =
-    lends c.args.seats.now.items c.args.caches.now c.requires.crew c.in-Resume.field-0 c.in-Resume.w c.in-Resume.execution c.in-Resume.lent (can_by c.args.seats.now.items c.args.caches.now c.args.back _ c.in-Resume.is c.requires.can)
+    lends c.args.seats.now.items c.args.caches.now c.requires.crew c.in-Resume.field-0 c.in-Resume.w c.in-Resume.execution c.in-Resume.lent
+    (can_by c.args.seats.now.items c.args.caches.now c.args.back _ c.in-Resume.is c.requires.can)
 
 pub index_mut-requires : goal.index_mut-requires
 index_mut-requires c =
     let ds = c.args.seats.now.items in
-    let low = slice_get_within (map at_of ds) c.in-Resume.w Idle (can_by c.args.seats.now.items c.args.caches.now c.args.back _ c.in-Resume.is c.requires.can).behind.idle in
+    let low = slice_get_within (map at_of ds) c.in-Resume.w Idle
+    (can_by c.args.seats.now.items c.args.caches.now c.args.back _ c.in-Resume.is c.requires.can).behind.idle in
     let len : vec_len c.args.seats.now ≡ length ds = search rules in
     omega (arith, low, len, length_map at_of ds)
 
@@ -125,7 +131,8 @@ resumed : (c : After-lend_again-lease)
     (Resume c.in-Resume.field-0 c.in-Resume.w (left_in c.in-Resume.execution) c.in-Resume.lent)
     (slice_set c.args.seats.now.items c.in-Resume.w (desk.Runs c.lend_again-lease.result c.in-Resume.execution)) c.lend_again-lease.new.caches
 resumed c =
-    resumes c.args.seats.now.items c.args.caches.now c.requires.crew c.in-Resume.field-0 c.in-Resume.w c.in-Resume.execution c.in-Resume.lent (can_by c.args.seats.now.items c.args.caches.now c.args.back _ c.in-Resume.is c.requires.can)
+    resumes c.args.seats.now.items c.args.caches.now c.requires.crew c.in-Resume.field-0 c.in-Resume.w c.in-Resume.execution c.in-Resume.lent
+    (can_by c.args.seats.now.items c.args.caches.now c.args.back _ c.in-Resume.is c.requires.can)
     c.lend_again-lease.result _ c.lend_again-lease.new.caches c.lend_again-lease.ensures refl
 
 pub returns-in-Resume-clause-workers : goal.returns-in-Resume-clause-workers
@@ -145,4 +152,3 @@ returns-in-Resume-clause-rows c =
 
 pub returns-in-Resume-clause-crew : goal.returns-in-Resume-clause-crew
 returns-in-Resume-clause-crew c = (resumed (goal.at.returns-in-Resume-clause-crew c).After-lend_again-lease).crew
-
