@@ -4,7 +4,7 @@ use Rattle.llb_cache.specs.Marks.{Unmarks}
 use Rattle.llb_cache.proofs.Unmade.{marks_front}
 use Rattle.llb_cache.proofs.growth.unmake.Goals as goal
 
-pub returns-in-NewRow-clause-marks : goal.returns-in-Row-clause-marks
+pub returns-in-NewRow-clause-marks : goal.returns-in-NewRow-clause-marks
 returns-in-NewRow-clause-marks c =
     let es = c.args.rows.now.entries.items in
     let marks = c.args.marks.now.items in
