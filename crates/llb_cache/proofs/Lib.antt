@@ -8,3 +8,7 @@ pub mod Holding
 pub mod Placed
 pub mod Searched
 pub mod Written
+pub mod Unmade
+pub mod Popped
+pub mod Again
+pub mod Reversed

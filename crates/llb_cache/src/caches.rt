@@ -24,7 +24,7 @@ use std::marker::Model;
 /// A lease that is out, by its number: the least that no other lease has.
 #[derive(Clone, Copy)]
 pub struct Lease {
-    number: u32,
+    pub(crate) number: u32,
 }
 
 impl Model for Lease {

@@ -5,6 +5,7 @@ ghost use Rattle.std.specs.Prelude.{◌≡◌, ◌<◌, ◌+◌, ℕ, false, [],
 ghost use Rattle.std.specs.Prelude.{is_some, option_map, position, slice_get};
 ghost use Rattle.std.specs.Map.{keys_of, values_of, lookup};
 ghost use Rattle.llb_cache.specs.Caches.{with_trees};
+ghost use Rattle.llb_cache.specs.Growth.{front, shorter};
 ghost use Rattle.llb_cache.specs.Key.{same_key};
 ghost use Rattle.llb_cache.specs.RowOrder.{is_before, IsPlace, AreOrdered, HasRoom};
 
@@ -133,4 +134,30 @@ pub(crate) fn add_row(rows: &mut Rows, key: Key, trees: Trees)
     let place = place_of(rows, &key.by_ref());
     rows.order.insert(place, rows.entries.len()).unwrap();
     rows.entries.push_reserved((key, trees));
+}
+
+// Removes the last row, where there is one.
+pub(crate) fn pop_row(rows: &mut Rows)
+    requires { AreOrdered rows.old }
+    ensures rows { rows.new.entries.items ≡ front rows.old.entries.items }
+    ensures order { AreOrdered rows.new }
+{
+    let len = rows.entries.len();
+    if len > 0 {
+        let place = place_of(rows, &rows.entries[len - 1].0.by_ref());
+        rows.order.remove(place);
+        rows.entries.truncate(len - 1);
+    }
+}
+
+// Removes the last instance of a key, where it has one.
+pub(crate) fn pop_instance(rows: &mut Rows, key: &Key)
+    requires { AreOrdered rows.old }
+    ensures rows { rows.new.entries.items ≡ shorter rows.old.entries.items key.now (lookup (same_key key.now) rows.old.entries.items) }
+    ensures keys { keys_of rows.new.entries.items ≡ keys_of rows.old.entries.items }
+    ensures order { AreOrdered rows.new }
+{
+    if let Some(i) = row_of(rows, &key.by_ref()) {
+        rows.entries[i].1.pop();
+    }
 }

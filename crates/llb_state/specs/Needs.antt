@@ -2,6 +2,8 @@
 use Rattle.std.specs.Prelude.{◌≡◌, pos, ℕ, Bool, ◌&&◌, List, [], ◌∷◌, map, Option, Some, None, slice_get, Result, Ok, Err, if◌then◌else◌}
 use Rattle.llb_cache.specs.declared.key.Key.{Key}
 use Rattle.llb_cache.specs.declared.need.Need as cache_need
+use Rattle.llb_cache.specs.declared.growth.Growth.{Growth}
+use Rattle.llb_cache.specs.Growth.{growth_at}
 use Rattle.llb_cache.specs.Caches as cache
 use Rattle.llb_cache.specs.Caches.{Leases, is_held, is_locked}
 use Rattle.llb_tree.specs.Tree.{TreeMap}
@@ -59,3 +61,7 @@ taken_with c inputs needs = (
   first_trees (store_of c.rows) inputs (places_taken c.out needs) needs,
   asked inputs needs,
 )
+
+-- what a lease of a need adds
+abbrev pub growth_for : cache.CachesValue → Need → Growth
+growth_for c n = growth_at c.rows (cache.place_for c.out n.key)

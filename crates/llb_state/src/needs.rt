@@ -1,7 +1,7 @@
 //! The caches that a vertex shows, and what its claim takes of them: the instances, the trees that they begin with, and the needs
 //! of a lease. Stands on the mounts of a vertex and on caches, which it only reads.
 
-ghost use Rattle.std.specs.Prelude.{◌≡◌, ◌==◌, ◌<◌, ◌^◌, Ok, IfErr, true, false, not, map, length, option_map, unwrap_or};
+ghost use Rattle.std.specs.Prelude.{◌≡◌, ◌<◌, ◌^◌, Ok, IfErr, IfOk, true, map, length, option_map, unwrap_or};
 ghost use Rattle.llb_loader.specs.Mounts.{key_of, seed_of};
 ghost use Rattle.llb_loader.specs.Rules.{kind_mounts};
 ghost use Rattle.llb_model.specs.Caches.{content};
@@ -9,12 +9,12 @@ ghost use Rattle.llb_model.specs.Kept.{store_of};
 ghost use Rattle.llb_model.specs.Leases.{asked};
 ghost use Rattle.llb_model.specs.Program.{needs_of, mount_of, base_in, mode_of, key_as, seed_as};
 ghost use Rattle.llb_model.specs.State.{first_trees};
-ghost use Rattle.llb_state.specs.Needs.{need_of, first_held_key, unless_held, places_taken, number_of, taken_with, HasEdges};
+ghost use Rattle.llb_state.specs.Needs.{need_of, first_held_key, unless_held, places_taken, number_of, taken_with, growth_for, HasEdges};
 ghost use Rattle.llb_cache.specs.Key.{seed_by};
 ghost use Rattle.llb_events.specs.Faults.{GivesClaim, claim_memory, claim_may_want};
 
-use llb_cache::{Caches, Instance, Key, KeyRef, Mode, Need};
-use llb_events::ClaimFault;
+use llb_cache::{Caches, Growth, Instance, Key, KeyRef, Mode, Need};
+use llb_events::{ClaimFault, Memory};
 use llb_execution::input_tree;
 use llb_loader::{Vertex, cache_in, mounts_of};
 use llb_ops::Mount;
@@ -59,17 +59,22 @@ pub(crate) fn wanted_by(
     }
 }
 
-/// Returns whether a vertex shows a cache. Does not allocate.
-pub(crate) fn shows_cache(vertex: &Vertex) -> bool
+/// Returns what a claim of a vertex would add to the caches, for each cache that it shows. Fails with 141 `Memory` alone.
+pub(crate) fn growths_of(
+    alloc: Global,
+    caches: &Caches,
+    vertex: &Vertex,
+) -> Result<Vec<Growth>, Memory>
     requires { HasEdges vertex.now }
-    ensures { result ≡ not (length (needs_of vertex.now) == 0) }
+    ensures { IfOk result (λ gs. gs.items ≡ map (growth_for caches.now) (needs_of vertex.now)) }
 {
+    let mut growths = Vec::new(alloc);
     for mount in mounts_of(&vertex.op.kind) {
-        if key_shown(vertex, mount).is_some() {
-            return true;
+        if let Some(key) = key_shown(vertex, mount) {
+            growths.push(caches.growth(&key))?;
         }
     }
-    false
+    Ok(growths)
 }
 
 // The first locked key that a vertex shows and a lease has. Does not allocate.
