@@ -21,4 +21,4 @@ pub use key::{Key, Mode, Seed};
 pub use key_ref::KeyRef;
 pub use llb_tree::{Text, Tree};
 pub use llb_wire::Many;
-pub use need::{Instance, Need};
+pub use need::{Found, Instance, Need};
