@@ -213,7 +213,7 @@ impl Caches {
     pub fn next_instance(&self, key: &Key) -> u32
         ensures { result ≡ number_for self.now.out key.now key.now.mode }
     {
-        self.look_up(&key.by_ref(), None).number
+        self.number_for(&key.by_ref(), None)
     }
 
     /// Returns how many leases are out. Does not allocate.

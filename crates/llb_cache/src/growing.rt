@@ -18,12 +18,12 @@ use llb_tree::Tree;
 use llb_wire::Many;
 use std::alloc::Global;
 
-// What a need takes: an instance, the row in which its key was found, the tree that it holds where it is new, and room for it and for
+// What a need takes: an instance, the row that is tried first for its key, the tree that it holds where it is new, and room for it and for
 // its mark.
 #[derive(Drop)]
 pub(crate) struct Ready {
     pub(crate) place: Instance,
-    pub(crate) row: Option<usize>,
+    pub(crate) near: Option<usize>,
     pub(crate) tree: Tree,
     pub(crate) room: Room,
     pub(crate) marks: Marks,
@@ -57,13 +57,13 @@ fn make(rows: &mut Rows, marks: &mut Vec<Marks>, ready: Ready)
 {
     let Ready {
         place,
-        row,
+        near,
         tree,
         room,
         marks: free,
     } = ready;
     let Instance { key, number } = place;
-    match row_near(rows, &key.by_ref(), row) {
+    match row_near(rows, &key.by_ref(), near) {
         Some(i) => {
             marks[i].set(number, free);
             let trees = &mut rows.entries[i].1;

@@ -35,8 +35,8 @@ pub(crate) fn count(out: &[Option<Many<Instance>>]) -> u32
 }
 
 impl Caches {
-    /// Returns what the caches have of a key. The row of number `near` is tried first, and the others are searched only if that has another
-    /// key: so a row that was found before costs one comparison. Does not allocate.
+    /// Returns what the caches have of a key. The row of number `near` is tried first, at the cost of one comparison; only if it does not have
+    /// the key, the rows are searched. Does not allocate.
     pub fn look_up(&self, key: &KeyRef<'_>, near: Option<usize>) -> Found<'_>
         ensures row { result.row ≡ position (same_key key.now) (keys_of self.now.rows) }
         ensures held { result.is_held ≡ (is_locked key.now.mode && is_held self.now.out (place key.now 0)) }
@@ -54,14 +54,26 @@ impl Caches {
         }
     }
 
-    // Whether a key is locked, and a lease has its instance.
+    // Whether a key is locked, and a lease has its instance. Only a locked key is looked up.
     pub(crate) fn holds_locked(&self, key: &KeyRef<'_>, near: Option<usize>) -> bool
         ensures { result ≡ (is_locked key.now.mode && is_held self.now.out (place key.now 0)) }
     {
-        if key.is_locked() {
-            return self.look_up(key, near).is_held;
+        match key.mode() {
+            Mode::Shared => false,
+            Mode::Private => false,
+            Mode::Locked => self.look_up(key, near).is_held,
         }
-        false
+    }
+
+    // The number of the instance that is chosen for a key. Only a private key is looked up.
+    pub(crate) fn number_for(&self, key: &KeyRef<'_>, near: Option<usize>) -> u32
+        ensures { result ≡ number_for self.now.out key.now key.now.mode }
+    {
+        match key.mode() {
+            Mode::Shared => 0,
+            Mode::Locked => 0,
+            Mode::Private => self.look_up(key, near).number,
+        }
     }
 
     // The first need whose locked key is held.
@@ -108,9 +120,8 @@ impl Caches {
         let alloc = *self.out.allocator();
         let mut readies = Vec::new(alloc);
         for need in needs {
-            let found = self.look_up(&need.key.by_ref(), row_for(rows, readies.len()));
-            let number = found.number;
-            let row = found.row;
+            let near = row_for(rows, readies.len());
+            let number = self.number_for(&need.key.by_ref(), near);
             let room = Room::up_to(alloc, number)?;
             let marks = Marks::up_to(alloc, number)?;
             let place = Instance {
@@ -119,7 +130,7 @@ impl Caches {
             };
             readies.push(Ready {
                 place,
-                row,
+                near,
                 tree: need.tree,
                 room,
                 marks,

@@ -1,25 +1,62 @@
 -- The mounts of a vertex that are left to look at, and what a claim takes of caches as they were found.
-use Rattle.std.proofs.Common.{◌≡◌, ◌<◌, ℕ, suc, List, [], ◌∷◌, length, map, drop, refl, sym, ap, ◌∙◌, arith}
-use Rattle.std.specs.Prelude.{Option, option_map, unwrap_or, slice_get}
+use Rattle.std.proofs.Common.{◌≡◌, ◌<◌, ℕ, suc, Bool, true, false, cond, ◌&&◌, List, [], ◌∷◌, length, map, drop, refl, sym, ap, ◌∙◌, arith}
+use Rattle.std.specs.Prelude.{Option, Some, None, option_map, unwrap_or, slice_get}
 use Rattle.std.specs.List.{All}
+use Rattle.llb_cache.specs.declared.key.Key.{Key}
 use Rattle.llb_cache.specs.Caches as cache
-use Rattle.llb_cache.specs.Caches.{trees_of}
+use Rattle.llb_cache.specs.Caches.{Leases, trees_of, is_held, is_locked}
+use Rattle.llb_ops.specs.declared.exec.Mount.{Mount}
 use Rattle.llb_loader.specs.declared.graph.Vertex.{Vertex}
+use Rattle.llb_loader.specs.Mounts.{CacheKey}
 use Rattle.llb_loader.specs.Rules.{kind_mounts}
 use Rattle.llb_tree.specs.Tree.{TreeMap}
 use Rattle.llb_model.specs.Caches.{Instance, content, place}
 use Rattle.llb_model.specs.Kept.{store_of}
 use Rattle.llb_model.specs.Leases.{asked}
-use Rattle.llb_model.specs.Program.{Need, base_in, key_of, needs_from}
+use Rattle.llb_model.specs.Program.{Need, base_in, key_as, key_of, with_need, needs_from}
 use Rattle.llb_model.specs.State.{first_trees}
 use Rattle.llb_model.proofs.Kept.{shows_instances}
 use Rattle.llb_state.specs.declared.needs.Wanted.{Wanted}
-use Rattle.llb_state.specs.Needs.{IsFound, need_of, number_of, place_found, first_tree, places_taken, taken_by, taken_with}
+use Rattle.llb_state.specs.Needs.{is_locked_and_held, first_held_key, if_locked, IsFound, need_of, number_of, place_found, first_tree}
+use Rattle.llb_state.specs.Needs.{places_taken, taken_by, taken_with}
 
 -- ---- the mounts that are left
 
 abbrev pub needs_left : Vertex → ℕ → List Need
 needs_left v i = needs_from v.op.inputs i (drop i (kind_mounts v.op.kind))
+
+-- a key that is locked is a key that is shown
+locked_shown : (o : Option Key) (k : Key) → if_locked o ≡ Some k → o ≡ Some k
+locked_shown None k is = absurd cc
+locked_shown (Some l) k is = go (is_locked l.mode) is
+  where
+    go : (b : Bool) → cond b (Some l) None ≡ Some k → Some l ≡ Some k
+    go true is = is
+    go false is = absurd cc
+
+by_key : (out : Leases) (i : ℕ) (m : Mount) (o : Option CacheKey) (rest : List Need) (k : Key) → option_map key_as o ≡ Some k
+    → first_held_key out (with_need i m o rest) ≡ cond (is_locked_and_held out k) (Some k) (first_held_key out rest)
+by_key out i m None rest k is = absurd cc
+by_key out i m (Some l) rest k is =
+    let same : key_as l ≡ k = ap (λ (o : Option Key). unwrap_or o k) is in
+    ap (λ l. cond (is_locked_and_held out l) (Some l) (first_held_key out rest)) same
+
+-- a mount that shows no locked key is passed over
+pub none_locked : (out : Leases) (i : ℕ) (m : Mount) (o : Option CacheKey) (rest : List Need) → None ≡ if_locked (option_map key_as o)
+    → first_held_key out (with_need i m o rest) ≡ first_held_key out rest
+none_locked out i m None rest none = refl
+none_locked out i m (Some l) rest none = go (is_locked (key_as l).mode) refl none
+  where
+    go : (b : Bool) → is_locked (key_as l).mode ≡ b → None ≡ cond b (Some (key_as l)) None
+        → cond (is_locked_and_held out (key_as l)) (Some (key_as l)) (first_held_key out rest) ≡ first_held_key out rest
+    go true is none = absurd cc
+    go false is none = ap (λ b. cond (b && is_held out (place (key_as l) 0)) (Some (key_as l)) (first_held_key out rest)) is
+
+-- a locked key decides whether it is the first that is held
+pub one_locked : (out : Leases) (i : ℕ) (m : Mount) (o : Option CacheKey) (rest : List Need) (k : Key) (b : Bool) → Some k ≡ if_locked (option_map key_as o)
+    → b ≡ is_locked_and_held out k → first_held_key out (with_need i m o rest) ≡ cond b (Some k) (first_held_key out rest)
+one_locked out i m o rest k b is held =
+    by_key out i m o rest k (locked_shown (option_map key_as o) k (sym is)) ∙ ap (λ b. cond b (Some k) (first_held_key out rest)) (sym held)
 
 -- ---- what is taken
 
