@@ -6,6 +6,7 @@ pub mod Differing
 pub mod Marked
 pub mod Holding
 pub mod Placed
+pub mod Chosen
 pub mod Searched
 pub mod Written
 pub mod Unmade

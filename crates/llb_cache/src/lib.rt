@@ -25,4 +25,4 @@ pub use key_ref::KeyRef;
 pub use lent::Lent;
 pub use llb_tree::{Text, Tree};
 pub use llb_wire::Many;
-pub use need::{Instance, Need};
+pub use need::{Found, Instance, Need};

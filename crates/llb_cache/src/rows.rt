@@ -1,13 +1,13 @@
 //! The keys with the trees of their instances, and the row of each key. A look searches the rows in the order of their keys, so that
 //! it costs the logarithm of their number, whatever the keys are.
 
-ghost use Rattle.std.specs.Prelude.{◌≡◌, ◌<◌, ◌+◌, ℕ, false, [], length, IfSome, OnOk, IsSome, Some};
+ghost use Rattle.std.specs.Prelude.{◌≡◌, ◌<◌, ◌+◌, ℕ, true, false, [], length, IfSome, OnOk, IsSome, Some};
 ghost use Rattle.std.specs.Prelude.{is_some, option_map, position, slice_get};
 ghost use Rattle.std.specs.Map.{keys_of, values_of, lookup};
 ghost use Rattle.llb_cache.specs.Caches.{with_trees};
 ghost use Rattle.llb_cache.specs.Growth.{front, shorter};
 ghost use Rattle.llb_cache.specs.Key.{same_key};
-ghost use Rattle.llb_cache.specs.RowOrder.{is_before, IsPlace, AreOrdered, HasRoom};
+ghost use Rattle.llb_cache.specs.RowOrder.{key_at, is_before, IsPlace, AreOrdered, HasRoom};
 
 use crate::fault::Memory;
 use crate::key::Key;
@@ -87,6 +87,33 @@ pub(crate) fn row_of(rows: &Rows, key: &KeyRef<'_>) -> Option<usize>
     } else {
         None
     }
+}
+
+// Whether a row is there and has a key.
+fn has_key(rows: &Rows, row: usize, key: &KeyRef<'_>) -> bool
+    ensures within { result ≡ true → row < length rows.now.entries.items }
+    ensures same { result ≡ true → same_key key.now (key_at rows.now.entries.items row) ≡ true }
+{
+    match rows.entries.get(row) {
+        Some(entry) => key.is(&entry.0.by_ref()),
+        None => false,
+    }
+}
+
+// The number of a key's row: that which is tried first, if it has the key; else a search finds it.
+pub(crate) fn row_near(rows: &Rows, key: &KeyRef<'_>, near: Option<usize>) -> Option<usize>
+    requires { AreOrdered rows.now }
+    ensures at { result ≡ position (same_key key.now) (keys_of rows.now.entries.items) }
+    ensures found { is_some result ≡ is_some (lookup (same_key key.now) rows.now.entries.items) }
+    ensures within { IfSome result (λ i. i < length rows.now.entries.items) }
+    ensures value { IfSome result (λ i. slice_get (values_of rows.now.entries.items) i ≡ lookup (same_key key.now) rows.now.entries.items) }
+{
+    if let Some(row) = near {
+        if has_key(rows, row, key) {
+            return Some(row);
+        }
+    }
+    row_of(rows, key)
 }
 
 // The trees of a key, where it has a row.

@@ -42,9 +42,13 @@ fn content(alloc: Global, caches: &Caches, place: &Instance) -> Result<Tree, Ste
     }
 }
 
-/// Leases instances for these needs, whose keys differ; `None` if there are no needs. Fails with 111 and the first locked key that is
-/// held, or with 112 `Memory`; then the caches are as they were.
-pub fn lease_for(caches: &mut Caches, needs: Vec<Need>) -> Result<Option<Lease>, LeaseFault>
+/// Leases instances for these needs, whose keys differ and are looked for in these rows first; `None` if there are no needs. Fails with 111
+/// and the first locked key that is held, or with 112 `Memory`; then the caches are as they were.
+pub fn lease_for(
+    caches: &mut Caches,
+    needs: Vec<Need>,
+    rows: &[Option<usize>],
+) -> Result<Option<Lease>, LeaseFault>
     requires differ { AllPairs (λ n m. n.key ≢ m.key) needs.items }
     requires few { leases caches.old.out < 65536 }
     ensures gives { Gives (λ l. (l, caches.new)) result (lease_if caches.old needs.items) }
@@ -53,7 +57,7 @@ pub fn lease_for(caches: &mut Caches, needs: Vec<Need>) -> Result<Option<Lease>,
     if needs.is_empty() {
         return Ok(None);
     }
-    Ok(Some(caches.lease(Many::new(needs))?))
+    Ok(Some(caches.lease_near(Many::new(needs), rows)?))
 }
 
 /// Gives back a lease that is out, if there is one.

@@ -3,7 +3,7 @@ use Rattle.llb_loader.specs.Rules.{kind_mounts}
 use Rattle.llb_model.specs.Program.{needs_of}
 use Rattle.llb_state.specs.Needs.{first_held_key}
 use Rattle.llb_state.proofs.Wanted.{needs_left}
-use Rattle.llb_state.proofs.needs.first_held_key.Given as goal
+use Rattle.llb_state.proofs.needs.last_locked.Given as goal
 
 abbrev pub invariant-loop-mount : goal.invariant-loop-mount
 invariant-loop-mount l = record {

@@ -9,8 +9,8 @@ use Rattle.llb_cache.specs.Growing.{shown}
 use Rattle.llb_cache.specs.Marks.{IsMarked, marked, is_one_of}
 use Rattle.llb_cache.proofs.Granting.{is_granted, not_refused, granted_has, places_shown}
 use Rattle.llb_cache.proofs.Holding.{lease_marked}
-use Rattle.llb_cache.proofs.caches.Caches.lease.Goals as goal
-use Rattle.llb_cache.proofs.caches.Caches.lease.Goals.{After-take_lease-number}
+use Rattle.llb_cache.proofs.caches.Caches.lease_near.Goals as goal
+use Rattle.llb_cache.proofs.caches.Caches.lease_near.Goals.{After-take_lease-number}
 
 -- the caches at the call
 abbrev before : After-take_lease-number → CachesValue
