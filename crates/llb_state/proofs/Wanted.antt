@@ -29,11 +29,13 @@ abbrev pub needs_left : Vertex → ℕ → List Need
 needs_left v i = needs_from v.op.inputs i (drop i (kind_mounts v.op.kind))
 
 -- the mount at hand, before those that are left behind it
-pub needs_next : (v : Vertex) (i : ℕ) (m : Mount) → i < length (kind_mounts v.op.kind) → m ≡ get_or (kind_mounts v.op.kind) i m
+pub needs_next : (v : Vertex) (items : List Mount) (i : ℕ) (m : Mount) → items ≡ kind_mounts v.op.kind → i < length items → m ≡ get_or items i m
     → needs_left v i ≡ with_need i m (mounts.key_of v.op.inputs m) (needs_left v (i + 1))
-needs_next v i m below read =
-    at_drop_more (needs_from v.op.inputs i) (kind_mounts v.op.kind) i m below
-    ∙ ap (λ x. with_need i x (mounts.key_of v.op.inputs x) (needs_left v (i + 1))) (sym read)
+needs_next v items i m same below read =
+    ap (λ (ms : List Mount). needs_from v.op.inputs i (drop i ms)) (sym same)
+    ∙ at_drop_more (needs_from v.op.inputs i) items i m below
+    ∙ ap (λ x. with_need i x (mounts.key_of v.op.inputs x) (needs_from v.op.inputs (i + 1) (drop (i + 1) items))) (sym read)
+    ∙ ap (λ (ms : List Mount). with_need i m (mounts.key_of v.op.inputs m) (needs_from v.op.inputs (i + 1) (drop (i + 1) ms))) same
 
 -- a key that is locked is a key that is shown
 locked_shown : (o : Option Key) (k : Key) → if_locked o ≡ Some k → o ≡ Some k

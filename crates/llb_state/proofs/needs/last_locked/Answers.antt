@@ -1,20 +1,8 @@
-use Rattle.std.proofs.Common.{◌≡◌, ◌<◌, ◌+◌, ℕ, List, length, get_or, cond, Some, sym, ap, ◌∙◌, subst}
-use Rattle.std.specs.Prelude.{Option}
-use Rattle.llb_cache.specs.declared.key.Key.{Key}
-use Rattle.llb_ops.specs.declared.exec.Mount.{Mount}
-use Rattle.llb_loader.specs.declared.graph.Vertex.{Vertex}
+use Rattle.std.proofs.Common.{◌+◌, cond, Some, sym, ap, ◌∙◌}
 use Rattle.llb_loader.specs.Mounts.{key_of}
-use Rattle.llb_loader.specs.Rules.{kind_mounts}
-use Rattle.llb_model.specs.Program.{with_need, needs_of}
 use Rattle.llb_state.specs.Needs.{first_held_key}
 use Rattle.llb_state.proofs.Wanted.{needs_left, needs_next, none_locked, one_locked}
 use Rattle.llb_state.proofs.needs.last_locked.Goals as goal
-
--- the needs from the mount at hand on
-next : (v : Vertex) (items : List Mount) (i : ℕ) (m : Mount) → items ≡ kind_mounts v.op.kind → i < length items → m ≡ get_or items i m
-    → needs_left v i ≡ with_need i m (key_of v.op.inputs m) (needs_left v (i + 1))
-next v items i m same below read =
-    needs_next v i m (subst (λ (ms : List Mount). i < length ms) same below) (read ∙ ap (λ (ms : List Mount). get_or ms i m) same)
 
 pub loop-mount-preserved-in_default : goal.loop-mount-preserved-in_default
 loop-mount-preserved-in_default c =
@@ -24,7 +12,7 @@ loop-mount-preserved-in_default c =
     let m = c.mount-item.result in
     record {
       mounts = c.loop-mount.invariant.mounts;
-      shut = sym (ap (first_held_key out) (next v _ i m c.loop-mount.invariant.mounts c.loop-mount-test.true c.mount-item.is)
+      shut = sym (ap (first_held_key out) (needs_next v _ i m c.loop-mount.invariant.mounts c.loop-mount-test.true c.mount-item.is)
           ∙ none_locked out i m (key_of v.op.inputs m) (needs_left v (i + 1)) (sym c.in_default.is ∙ c.locked_key_shown.ensures))
           ∙ c.loop-mount.invariant.shut;
     }
@@ -35,7 +23,7 @@ returns-then-found c =
     let v = c.args.vertex.now in
     let i = c.loop-mount.mount-index in
     let m = c.mount-item.result in
-    sym c.loop-mount.invariant.shut ∙ ap (first_held_key out) (next v _ i m c.loop-mount.invariant.mounts c.loop-mount-test.true c.mount-item.is)
+    sym c.loop-mount.invariant.shut ∙ ap (first_held_key out) (needs_next v _ i m c.loop-mount.invariant.mounts c.loop-mount-test.true c.mount-item.is)
     ∙ one_locked out i m (key_of v.op.inputs m) (needs_left v (i + 1)) c.in-Some.key c.look_up-found.result.is_held
     (sym c.in-Some.is ∙ c.locked_key_shown.ensures) c.look_up-found.ensures.held
     ∙ ap (λ b. cond b (Some c.in-Some.key) (first_held_key out (needs_left v (i + 1)))) c.if-found.true
@@ -48,7 +36,7 @@ loop-mount-preserved c =
     let m = c.mount-item.result in
     record {
       mounts = c.loop-mount.invariant.mounts;
-      shut = sym (ap (first_held_key out) (next v _ i m c.loop-mount.invariant.mounts c.loop-mount-test.true c.mount-item.is)
+      shut = sym (ap (first_held_key out) (needs_next v _ i m c.loop-mount.invariant.mounts c.loop-mount-test.true c.mount-item.is)
           ∙ one_locked out i m (key_of v.op.inputs m) (needs_left v (i + 1)) c.in-Some.key c.look_up-found.result.is_held
           (sym c.in-Some.is ∙ c.locked_key_shown.ensures) c.look_up-found.ensures.held
           ∙ ap (λ b. cond b (Some c.in-Some.key) (first_held_key out (needs_left v (i + 1)))) c.if-found.false)

@@ -1,28 +1,19 @@
-use Rattle.std.proofs.Common.{◌≡◌, ◌<◌, ◌+◌, ◌++◌, ◌∷◌, ℕ, List, length, get_or, map, sym, ap, ◌∙◌, subst}
+use Rattle.std.proofs.Common.{◌+◌, ◌++◌, List, map, sym, ap, ◌∙◌, subst}
 use Rattle.std.specs.List.{All}
 use Rattle.std.proofs.lemmas.List.Elements.{All-push}
-use Rattle.llb_ops.specs.declared.exec.Mount.{Mount}
-use Rattle.llb_loader.specs.declared.graph.Vertex.{Vertex}
 use Rattle.llb_loader.specs.Mounts.{key_of}
-use Rattle.llb_loader.specs.Rules.{kind_mounts}
-use Rattle.llb_model.specs.Program.{Need, with_need}
+use Rattle.llb_model.specs.Program.{Need}
 use Rattle.llb_state.specs.declared.needs.Wanted.{Wanted}
 use Rattle.llb_state.specs.Needs.{IsFound, need_of}
 use Rattle.llb_state.proofs.Wanted.{needs_left, needs_next, none_shown, one_shown, one_more}
 use Rattle.llb_state.proofs.needs.wants.Goals as goal
-
--- the needs from the mount at hand on
-next : (v : Vertex) (items : List Mount) (i : ℕ) (m : Mount) → items ≡ kind_mounts v.op.kind → i < length items → m ≡ get_or items i m
-    → needs_left v i ≡ with_need i m (key_of v.op.inputs m) (needs_left v (i + 1))
-next v items i m same below read =
-    needs_next v i m (subst (λ (ms : List Mount). i < length ms) same below) (read ∙ ap (λ (ms : List Mount). get_or ms i m) same)
 
 pub loop-i-preserved-in_default : goal.loop-i-preserved-in_default
 loop-i-preserved-in_default c =
     let v = c.args.vertex.now in
     let i = c.loop-i.i in
     let m = c.mount-item.result in
-    let step = next v _ i m c.loop-i.invariant.mounts c.loop-i-test.true c.mount-item.is
+    let step = needs_next v _ i m c.loop-i.invariant.mounts c.loop-i-test.true c.mount-item.is
     ∙ none_shown i m (key_of v.op.inputs m) (needs_left v (i + 1)) (sym c.in_default.is ∙ c.key_shown.ensures) in
     record {
       mounts = c.loop-i.invariant.mounts;
@@ -36,7 +27,7 @@ loop-i-preserved c =
     let i = c.loop-i.i in
     let m = c.mount-item.result in
     let w : Wanted = record { mount = i; key = c.in-Some.key; input = m.input; found = c.look_up-found.result } in
-    let step = next v _ i m c.loop-i.invariant.mounts c.loop-i-test.true c.mount-item.is
+    let step = needs_next v _ i m c.loop-i.invariant.mounts c.loop-i-test.true c.mount-item.is
     ∙ one_shown i m (key_of v.op.inputs m) (needs_left v (i + 1)) c.in-Some.key (sym c.in-Some.is ∙ c.key_shown.ensures) in
     record {
       mounts = c.loop-i.invariant.mounts;
