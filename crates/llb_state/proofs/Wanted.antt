@@ -1,12 +1,15 @@
 -- The mounts of a vertex that are left to look at, and what a claim takes of caches as they were found.
-use Rattle.std.proofs.Common.{◌≡◌, ◌<◌, ℕ, suc, Bool, true, false, cond, ◌&&◌, List, [], ◌∷◌, length, map, drop, refl, sym, ap, ◌∙◌, arith}
+use Rattle.std.proofs.Common.{◌≡◌, ◌<◌, ◌+◌, ℕ, suc, Bool, true, false, cond, ◌&&◌, List, [], ◌∷◌, ◌++◌, length, map, drop, get_or, refl, sym, ap}
+use Rattle.std.proofs.Common.{◌∙◌, arith}
 use Rattle.std.specs.Prelude.{Option, Some, None, option_map, unwrap_or, slice_get}
 use Rattle.std.specs.List.{All}
+use Rattle.std.proofs.lemmas.List.{at_drop_more}
 use Rattle.llb_cache.specs.declared.key.Key.{Key}
 use Rattle.llb_cache.specs.Caches as cache
 use Rattle.llb_cache.specs.Caches.{Leases, trees_of, is_held, is_locked}
 use Rattle.llb_ops.specs.declared.exec.Mount.{Mount}
 use Rattle.llb_loader.specs.declared.graph.Vertex.{Vertex}
+use Rattle.llb_loader.specs.Mounts as mounts
 use Rattle.llb_loader.specs.Mounts.{CacheKey}
 use Rattle.llb_loader.specs.Rules.{kind_mounts}
 use Rattle.llb_tree.specs.Tree.{TreeMap}
@@ -24,6 +27,15 @@ use Rattle.llb_state.specs.Needs.{places_taken, taken_by, taken_with}
 
 abbrev pub needs_left : Vertex → ℕ → List Need
 needs_left v i = needs_from v.op.inputs i (drop i (kind_mounts v.op.kind))
+
+-- the mount at hand, before those that are left behind it
+pub needs_next : (v : Vertex) (items : List Mount) (i : ℕ) (m : Mount) → items ≡ kind_mounts v.op.kind → i < length items → m ≡ get_or items i m
+    → needs_left v i ≡ with_need i m (mounts.key_of v.op.inputs m) (needs_left v (i + 1))
+needs_next v items i m same below read =
+    ap (λ (ms : List Mount). needs_from v.op.inputs i (drop i ms)) (sym same)
+    ∙ at_drop_more (needs_from v.op.inputs i) items i m below
+    ∙ ap (λ x. with_need i x (mounts.key_of v.op.inputs x) (needs_from v.op.inputs (i + 1) (drop (i + 1) items))) (sym read)
+    ∙ ap (λ (ms : List Mount). with_need i m (mounts.key_of v.op.inputs m) (needs_from v.op.inputs (i + 1) (drop (i + 1) ms))) same
 
 -- a key that is locked is a key that is shown
 locked_shown : (o : Option Key) (k : Key) → if_locked o ≡ Some k → o ≡ Some k
@@ -57,6 +69,24 @@ pub one_locked : (out : Leases) (i : ℕ) (m : Mount) (o : Option CacheKey) (res
     → b ≡ is_locked_and_held out k → first_held_key out (with_need i m o rest) ≡ cond b (Some k) (first_held_key out rest)
 one_locked out i m o rest k b is held =
     by_key out i m o rest k (locked_shown (option_map key_as o) k (sym is)) ∙ ap (λ b. cond b (Some k) (first_held_key out rest)) (sym held)
+
+-- a mount that shows no cache needs none
+pub none_shown : (i : ℕ) (m : Mount) (o : Option CacheKey) (rest : List Need) → None ≡ option_map key_as o → with_need i m o rest ≡ rest
+none_shown i m None rest none = refl
+none_shown i m (Some k) rest none = absurd cc
+
+-- and one that shows one needs it
+pub one_shown : (i : ℕ) (m : Mount) (o : Option CacheKey) (rest : List Need) (k : Key) → Some k ≡ option_map key_as o
+    → with_need i m o rest ≡ record { mount = i; key = k; input = m.input } ∷ rest
+one_shown i m None rest k is = absurd cc
+one_shown i m (Some l) rest k is =
+    let same : k ≡ key_as l = ap (λ (o : Option Key). unwrap_or o k) is in
+    ap (λ l. ◌∷◌ {A = Need} (record { mount = i; key = l; input = m.input }) rest) (sym same)
+
+-- one more that is wanted, before those that are left
+pub one_more : (ws : List Wanted) (w : Wanted) (rest : List Need) → map need_of (ws ++ w ∷ []) ++ rest ≡ map need_of ws ++ need_of w ∷ rest
+one_more [] w rest = refl
+one_more (v ∷ ws) w rest = ap (λ ns. need_of v ∷ ns) (one_more ws w rest)
 
 -- ---- what is taken
 

@@ -89,13 +89,14 @@ fn last_locked<'a>(caches: &Caches, vertex: &'a Vertex) -> Result<Option<usize>,
 {
     let mut row = None;
     for mount in mounts_of(&vertex.op.kind) {
-        if let Some(key) = locked_key_shown(vertex, mount) {
-            let found = caches.look_up(&key, None);
-            if found.is_held {
-                return Err(key);
-            }
-            row = found.row;
+        let Some(key) = locked_key_shown(vertex, mount) else {
+            continue;
+        };
+        let found = caches.look_up(&key, None);
+        if found.is_held {
+            return Err(key);
         }
+        row = found.row;
     }
     Ok(row)
 }
@@ -114,15 +115,16 @@ fn wants<'a>(
 {
     let mut wanted = Vec::new(alloc);
     for (i, mount) in mounts_of(&vertex.op.kind).iter().enumerate() {
-        if let Some(key) = key_shown(vertex, mount) {
-            let found = caches.look_up(&key, near);
-            wanted.push(Wanted {
-                mount: i as u32,
-                key,
-                input: mount.input,
-                found,
-            })?;
-        }
+        let Some(key) = key_shown(vertex, mount) else {
+            continue;
+        };
+        let found = caches.look_up(&key, near);
+        wanted.push(Wanted {
+            mount: i as u32,
+            key,
+            input: mount.input,
+            found,
+        })?;
     }
     Ok(wanted)
 }
