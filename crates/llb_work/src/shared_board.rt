@@ -178,16 +178,15 @@ impl<S: Gated> SharedBoard<S> {
         ensures { IsHere S.start w result.0 }
     {
         let owners = Owners::of(*news.allocator(), &self.board, w, &brought);
-        let turn = match brought {
-            Brought::Nothing => self.go_on(w, mine, news),
-            Brought::Number(v) => self.take(w, v, mine, news),
+        match brought {
+            Brought::Nothing => (self.go_on(w, mine, news), owners),
+            Brought::Number(v) => (self.take(w, v, mine, news), owners),
             Brought::Outcome(outcome) => {
                 self.release(w, news);
                 let landed = self.land(w, outcome, mine);
-                self.left(landed.ok(), news)
+                (self.left(landed.ok(), news), owners)
             }
-        };
-        (turn, owners)
+        }
     }
 
     // Does one event of what a worker runs. A worker that runs nothing ends if the run is over.
