@@ -31,8 +31,9 @@ impl Caches {
     pub fn growth(&self, key: &KeyRef<'_>) -> Growth
         ensures { result ≡ growth_at self.now.rows (place_for self.now.out key.now) }
     {
-        let number = self.number_for(key);
-        match row_of(&self.rows, key) {
+        let row = row_of(&self.rows, key);
+        let number = self.number_for(key, row);
+        match row {
             Some(i) => {
                 if (number as usize) < self.rows.entries[i].1.len() {
                     Growth::Nothing
