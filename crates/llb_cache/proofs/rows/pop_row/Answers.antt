@@ -1,4 +1,4 @@
-use Rattle.std.proofs.Common.{◌≡◌, ℕ, ◌+◌, ◌-◌, List, length, remove, vec_len, rules, sym, ◌∙◌, subst, arith}
+use Rattle.std.proofs.Common.{◌≡◌, ℕ, ◌+◌, ◌-◌, List, length, vec_len, rules, sym, ◌∙◌, subst, arith}
 use Rattle.llb_cache.specs.declared.key.Key.{Key}
 use Rattle.llb_cache.specs.Caches.{Row}
 use Rattle.llb_cache.specs.RowOrder.{key_at, IsOrdered, IsPlace}
