@@ -81,7 +81,8 @@ pub one_shown : (i : ℕ) (m : Mount) (o : Option CacheKey) (rest : List Need) (
 one_shown i m None rest k is = absurd cc
 one_shown i m (Some l) rest k is =
     let same : k ≡ key_as l = ap (λ (o : Option Key). unwrap_or o k) is in
-    ap (λ l. ◌∷◌ {A = Need} (record { mount = i; key = l; input = m.input }) rest) (sym same)
+    let shown : Key → List Need = λ l. record { mount = i; key = l; input = m.input } ∷ rest in
+    ap shown (sym same)
 
 -- one more that is wanted, before those that are left
 pub one_more : (ws : List Wanted) (w : Wanted) (rest : List Need) → map need_of (ws ++ w ∷ []) ++ rest ≡ map need_of ws ++ need_of w ∷ rest
