@@ -3,13 +3,17 @@ use Rattle.std.proofs.Common.{◌≡◌, ℕ, ◌+◌, ◌<◌, List, [], ◌∷
 use Rattle.std.specs.Prelude.{slice_get, slice_set}
 use Rattle.std.proofs.lemmas.Option.{slice_get_within}
 use Rattle.llb_cache.specs.Caches.{Row}
+use Rattle.llb_cache.specs.declared.key.Key.{Key}
+use Rattle.llb_tree.specs.Tree.{TreeMap}
 use Rattle.llb_execution.specs.Marks.{Mark, put_back}
 use Rattle.llb_execution.specs.Parts.{mounts_in}
 use Rattle.llb_execution.proofs.Stepping.{seen_so}
+use Rattle.llb_loader.specs.Graph.{IsGraph}
 use Rattle.llb_loader.specs.declared.graph.Vertex.{Vertex}
-use Rattle.llb_model.specs.Caches.{trees_at}
+use Rattle.llb_model.specs.Caches.{Instance, Distinct, trees_at}
 use Rattle.llb_model.specs.Kept.{store_of}
-use Rattle.llb_model.specs.Program.{program_at, step_on}
+use Rattle.llb_model.specs.Laws.{HasDistinctNeeds}
+use Rattle.llb_model.specs.Program.{Build, key_of, program_at, step_on}
 use Rattle.llb_model.specs.Room.{events_of, cancel_counts}
 use Rattle.llb_model.specs.Run.{run}
 use Rattle.llb_model.specs.State.{State, opening, Status, Running, Execution, WorkerStatus, Idle, Runs, work_of}
@@ -17,23 +21,27 @@ use Rattle.llb_model.specs.Table.{Event, Claim, Step, Settle, Cancel, Reply, Can
 use Rattle.llb_model.proofs.Cancels.{event_returns}
 use Rattle.llb_model.proofs.Events.{Answer, step_is, cancel_is}
 use Rattle.llb_model.proofs.Lists.{inside, get_set_same, length_set}
+use Rattle.llb_model.proofs.Needs.{graph_distinct}
 use Rattle.llb_model.proofs.Owing.{IsRoomy}
 use Rattle.llb_model.proofs.Runs.{run_more}
-use Rattle.llb_state.specs.Room.{Supplies, needed, supplies_for}
+use Rattle.llb_model.proofs.Separate.{held_once}
+use Rattle.llb_model.proofs.There.{held_are_there}
+use Rattle.llb_state.specs.Room.{Supplies, needed, needs_at, supplies_for}
 use Rattle.llb_state.specs.Undo.{Back, Unclaim, Unstep, Resume, Displaced, workers_before, with_view_back, step_before, rows_before, supplies_before}
 use Rattle.llb_state.specs.Undo.{change_in, IsBehind, CanPutBack}
-use Rattle.llb_state.specs.Undoing.{Before}
 use Rattle.llb_state.specs.Vertices.{VerticesValue, IsWhole}
 use Rattle.llb_state.specs.Workers.{WorkersValue}
 use Rattle.llb_state.specs.declared.workers.undoing.End.TheVariants as end
-use Rattle.llb_state.proofs.Lists.{map_set, set_same, get_map}
+use Rattle.llb_state.proofs.Lists.{map_set, set_same, get_map, length_map}
+use Rattle.llb_state.proofs.Needed.{few_needs}
+use Rattle.llb_state.proofs.Unmade.{within_held}
 use Rattle.llb_board.specs.Seen.{BoardValue, Replays, opening_with, seen}
 use Rattle.llb_board.specs.Kept.{IsBoard}
 use Rattle.llb_board.specs.History.{Space, front, last_of, space_back}
-use Rattle.llb_board.specs.Undo.{statuses_before, store_before, undone, event_before, CanUndo}
+use Rattle.llb_board.specs.Undo.{statuses_before, undone, event_before, CanUndo}
 use Rattle.llb_board.proofs.Kept.{waits_whole, runs_whole, has_vertex}
 use Rattle.llb_board.proofs.Recorded.{last_is}
-use Rattle.llb_board.proofs.Sound.{consistent}
+use Rattle.llb_board.proofs.Sound.{consistent, reached}
 use Rattle.llb_board.proofs.Spaces.{SpaceBefore, space_stayed, space_unclaimed, space_uncancelled}
 
 -- ---- the workers as the event left them
@@ -42,11 +50,11 @@ runs_inside : {x y : Execution} → ◌≡◌ {A = Option WorkerStatus} (Some (R
 runs_inside e = cc
 
 -- a view that is put back has as many mounts, since the micro-step that is taken back kept them
-unstepped_mounts : (b : BoardValue) (o : Option Before) (w : ℕ) (mark : Mark) (x : Execution) → CanUndo (record { back = Unstep w mark; caches = o }) b
+unstepped_mounts : (b : BoardValue) (w : ℕ) (mark : Mark) (ts : List TreeMap) (x : Execution) → CanUndo (record { back = Unstep w mark ts }) b
     → slice_get b.state.workers w ≡ Some (Runs x)
     → mounts_in (put_back mark x.own) ≡ mounts_in x.own
-unstepped_mounts b o w mark x can runs =
-    let s = (undone (record { back = Unstep w mark; caches = o }) b).state in
+unstepped_mounts b w mark ts x can runs =
+    let s = (undone (record { back = Unstep w mark ts }) b).state in
     let c = step_is b.build s w _ can.last.gives in
     let y = with_view_back mark x in
     let before : slice_get s.workers w ≡ Some (Runs y)
@@ -59,18 +67,46 @@ unstepped_mounts b o w mark x can runs =
     sym (ap (λ (z : Execution). mounts_in z.own) own ∙ (seen_so c.x.done c.step c.x.own (trees_at s.store c.x.places)).mounts
     ∙ ap (λ (z : Execution). mounts_in z.own) is)
 
-behind : (b : BoardValue) (k : Back) (o : Option Before) → Replays b → CanUndo (record { back = k; caches = o }) b → IsBehind k b.state.workers
-behind b (Unclaim w v) o here can =
+-- the keys of a vertex's needs differ
+pub distinct_needs : (b : Build) → HasDistinctNeeds b → (v : ℕ) (o : Option Vertex) → slice_get b.graph.vertices v ≡ o → Distinct (map key_of (needs_at o))
+distinct_needs b differ v None at = tt
+distinct_needs b differ v (Some y) at = differ v y at
+
+behind : (b : BoardValue) (k : Back) → IsGraph b.build.graph → Replays b → CanUndo (record { back = k }) b → IsBehind k b.state.workers
+behind b (Unclaim w v gs) graph here can =
     let r = (consistent b here).running v w can.stands.runs in
     slice_get_within b.state.workers w (Runs r.0) r.1
-behind b (Unstep w mark) o here can =
-    record { x = can.stands.x; runs = can.stands.runs; mounts = unstepped_mounts b o w mark can.stands.x can can.stands.runs }
-behind b (Resume e w left) o here can = can.stands.idle
+behind b (Unstep w mark ts) graph here can = record {
+  x = can.stands.x;
+  runs = can.stands.runs;
+  mounts = unstepped_mounts b w mark ts can.stands.x can can.stands.runs;
+  count = can.stands.count;
+  few =
+      let v = slice_get b.build.graph.vertices can.stands.x.vertex in
+      let many : length can.stands.x.places ≡ length (needs_at v)
+      = sym (length_map (λ (p : Instance). p.key) can.stands.x.places) ∙ ap length can.stands.keys ∙ length_map key_of (needs_at v) in
+      omega (arith, can.stands.count, many, few_needs b.build.graph can.stands.x.vertex graph);
+}
+behind b (Resume e w left lent) graph here can = record {
+  idle = can.stands.idle;
+  keys = subst (λ (ks : List Key). Distinct ks) (sym (can.stands.keys ∙ ap (λ (s : Supplies). s.keys) can.stands.supplies))
+      (distinct_needs b.build (graph_distinct b.build graph) left.execution.vertex (slice_get b.build.graph.vertices left.execution.vertex) refl);
+  ready = can.stands.ready;
+}
 
--- what an event displaced can be put back
-pub can_put_back : (vs : VerticesValue) (first : List Row) (ws : WorkersValue) (es : List Event) (u : Displaced) → Replays (seen vs first ws es)
-    → CanUndo u (seen vs first ws es) → CanPutBack u ws
-can_put_back vs first ws es u here can = record { behind = behind (seen vs first ws es) u.back u.caches here can; leased = can.leased }
+-- what an event displaced can be put back: the workers before it hold instances that are there, and exclusively where their keys say so
+pub can_put_back : (vs : VerticesValue) (first : List Row) (ws : WorkersValue) (es : List Event) (u : Displaced) → IsGraph vs.build.graph
+    → Replays (seen vs first ws es) → CanUndo u (seen vs first ws es) → CanPutBack u ws
+can_put_back vs first ws es u graph here can =
+    let n = undone u (seen vs first ws es) in
+    let at = reached n can.replays in
+    record {
+      behind = behind (seen vs first ws es) u.back graph here can;
+      there = λ w x p runs has.
+          let held = held_are_there vs.build (graph_distinct vs.build graph) n.state at w x runs in
+          within_held n.rows x.places held.1.0 held.1.1 p has;
+      once = λ w v x y p. held_once vs.build n.state at w v x y p;
+    }
 
 -- ---- the vertex that has another status
 
@@ -78,31 +114,31 @@ change_inside : {v u : ℕ} {s t : Status} → ◌≡◌ {A = Option (ℕ × Sta
 change_inside e = (ap (λ (p : ℕ × Status). p.0) (inside e), ap (λ (p : ℕ × Status). p.1) (inside e))
 
 pub changed : (k : Back) (statuses : List Status) (v : ℕ) (s : Status) → Some (v, s) ≡ change_in k → statuses_before k statuses ≡ slice_set statuses v s
-changed (Unclaim w u) statuses v s is = let h = change_inside (sym is) in λ i. slice_set statuses (h.0 i) (h.1 i)
-changed (Unstep w mark) statuses v s is = absurd cc
-changed (Resume e w left) statuses v s is = let h = change_inside (sym is) in λ i. slice_set statuses (h.0 i) (h.1 i)
+changed (Unclaim w u gs) statuses v s is = let h = change_inside (sym is) in λ i. slice_set statuses (h.0 i) (h.1 i)
+changed (Unstep w mark ts) statuses v s is = absurd cc
+changed (Resume e w left lent) statuses v s is = let h = change_inside (sym is) in λ i. slice_set statuses (h.0 i) (h.1 i)
 
 pub unchanged : (k : Back) (statuses : List Status) → None ≡ change_in k → statuses_before k statuses ≡ statuses
-unchanged (Unclaim w u) statuses is = absurd cc
-unchanged (Unstep w mark) statuses is = refl
-unchanged (Resume e w left) statuses is = absurd cc
+unchanged (Unclaim w u gs) statuses is = absurd cc
+unchanged (Unstep w mark ts) statuses is = refl
+unchanged (Resume e w left lent) statuses is = absurd cc
 
 -- that status has no trees
 pub change_whole : (k : Back) (o : Option Vertex) (v : ℕ) (s : Status) → Some (v, s) ≡ change_in k → IsWhole o s
-change_whole (Unclaim w u) o v s is = subst (IsWhole o) (change_inside (sym is)).1 (waits_whole o)
-change_whole (Unstep w mark) o v s is = absurd cc
-change_whole (Resume e w left) o v s is = subst (IsWhole o) (change_inside (sym is)).1 (runs_whole o w)
+change_whole (Unclaim w u gs) o v s is = subst (IsWhole o) (change_inside (sym is)).1 (waits_whole o)
+change_whole (Unstep w mark ts) o v s is = absurd cc
+change_whole (Resume e w left lent) o v s is = subst (IsWhole o) (change_inside (sym is)).1 (runs_whole o w)
 
 -- and it is that of a vertex
-pub change_low : (b : BoardValue) (k : Back) (o : Option Before) (v : ℕ) (s : Status) → CanUndo (record { back = k; caches = o }) b → Some (v, s) ≡ change_in k
+pub change_low : (b : BoardValue) (k : Back) (v : ℕ) (s : Status) → CanUndo (record { back = k }) b → Some (v, s) ≡ change_in k
     → v < length b.state.statuses
-change_low b (Unclaim w u) o v s can is =
+change_low b (Unclaim w u gs) v s can is =
     let same = (change_inside (sym is)).0 in
     subst (λ n. n < length b.state.statuses) same (slice_get_within b.state.statuses u (Running w) can.stands.runs)
-change_low b (Unstep w mark) o v s can is = absurd cc
-change_low b (Resume e w left) o v s can is =
+change_low b (Unstep w mark ts) v s can is = absurd cc
+change_low b (Resume e w left lent) v s can is =
     let same = (change_inside (sym is)).0 in
-    let m = undone (record { back = Resume e w left; caches = o }) b in
+    let m = undone (record { back = Resume e w left lent }) b in
     let runs : slice_get m.state.workers w ≡ Some (Runs left.execution) = get_set_same b.state.workers w (Runs left.execution) Idle can.stands.idle in
     let ran = (consistent m can.replays).working w left.execution runs in
     let low = slice_get_within m.state.statuses left.execution.vertex (Running w) ran in
@@ -112,19 +148,15 @@ change_low b (Resume e w left) o v s can is =
 -- ---- what is left
 
 pub as_many : (k : Back) (workers : List WorkerStatus) → length (workers_before k workers) ≡ length workers
-as_many (Unclaim w v) workers = length_set workers w Idle
-as_many (Unstep w mark) workers = length_set workers w (step_before mark (slice_get workers w))
-as_many (Resume e w left) workers = length_set workers w (Runs left.execution)
-
-store_by : (o : Option Before) (rows : List Row) → store_of (rows_before o rows) ≡ store_before o (store_of rows)
-store_by (Some c) rows = refl
-store_by None rows = refl
+as_many (Unclaim w v gs) workers = length_set workers w Idle
+as_many (Unstep w mark ts) workers = length_set workers w (step_before mark (slice_get workers w))
+as_many (Resume e w left lent) workers = length_set workers w (Runs left.execution)
 
 -- what an undo leaves of the statuses and of the workers
 pub record Leaves (vs : VerticesValue) (ws us : WorkersValue) (old : List Status) (u : Displaced) : Type 0 where
   pub statuses : old ≡ statuses_before u.back vs.statuses
   pub workers : us.workers ≡ workers_before u.back ws.workers
-  pub rows : us.rows ≡ rows_before u.caches ws.rows
+  pub rows : us.rows ≡ rows_before u.back ws.workers ws.rows
   pub supplies : us.supplies ≡ supplies_before u.back ws.supplies
 
 -- it is seen as the board that `undone` gives
@@ -132,7 +164,7 @@ pub undone_is : (vs : VerticesValue) (first : List Row) (ws us : WorkersValue) (
     → seen (record vs { statuses = old }) first us (front es) ≡ undone u (seen vs first ws es)
 undone_is vs first ws us es old u leaves =
     let many : length us.workers ≡ length ws.workers = ap length leaves.workers ∙ as_many u.back ws.workers in
-    let store = ap store_of leaves.rows ∙ store_by u.caches ws.rows in
+    let store = ap store_of leaves.rows in
     λ i. record {
       build = vs.build;
       opening = opening_with (many i) first;
@@ -143,19 +175,19 @@ undone_is vs first ws us es old u leaves =
     }
 
 -- each worker has the supplies of its vertex
-fits_before : (b : BoardValue) (k : Back) (o : Option Before) (supplies : List Supplies) → CanUndo (record { back = k; caches = o }) b
+fits_before : (b : BoardValue) (k : Back) (supplies : List Supplies) → CanUndo (record { back = k }) b
     → supplies ≡ map (needed b.build) b.state.workers
     → supplies_before k supplies ≡ map (needed b.build) (workers_before k b.state.workers)
-fits_before b (Unclaim w v) o supplies can fits =
+fits_before b (Unclaim w v gs) supplies can fits =
     ap (λ l. slice_set l w (supplies_for None)) fits ∙ sym (map_set (needed b.build) b.state.workers w Idle)
-fits_before b (Unstep w mark) o supplies can fits =
+fits_before b (Unstep w mark ts) supplies can fits =
     let ws = b.state.workers in
     let x = can.stands.x in
     fits
     ∙ sym (set_same (map (needed b.build) ws) w (needed b.build (Runs x)) (get_map (needed b.build) ws w (Runs x) can.stands.runs))
     ∙ sym (map_set (needed b.build) ws w (Runs (with_view_back mark x)))
     ∙ ap (λ a. map (needed b.build) (slice_set ws w (step_before mark a))) (sym can.stands.runs)
-fits_before b (Resume e w left) o supplies can fits =
+fits_before b (Resume e w left lent) supplies can fits =
     (λ i. slice_set (fits i) w (can.stands.supplies i)) ∙ sym (map_set (needed b.build) b.state.workers w (Runs left.execution))
 
 -- ---- the record before
@@ -191,11 +223,11 @@ ends_with b ws space u kept can =
     }
 
 -- the room and the counts before the event, where a vertex has another status than before
-pub space_changed : (b : BoardValue) (space : Space) (k : Back) (o : Option Before) (v n : ℕ) (s : Status) → Replays b
-    → (ends : EndsWith b space (record { back = k; caches = o })) → CanUndo (record { back = k; caches = o }) b
+pub space_changed : (b : BoardValue) (space : Space) (k : Back) (v n : ℕ) (s : Status) → Replays b
+    → (ends : EndsWith b space (record { back = k })) → CanUndo (record { back = k }) b
     → Some (v, s) ≡ change_in k → n ≡ length (program_at (slice_get b.build.graph.vertices v)).steps
     → SpaceBefore b.build ends.replies (event_before k) space (space_back (last_of b.events) v (n + 2) space)
-space_changed b space (Unclaim w u) o v n s here ends can is counts =
+space_changed b space (Unclaim w u gs) v n s here ends can is counts =
     let same = (change_inside (sym is)).0 in
     let x = has_vertex b here u (Running w) can.stands.runs in
     let many : n + 2 ≡ events_of x.0
@@ -205,14 +237,14 @@ space_changed b space (Unclaim w u) o v n s here ends can is counts =
     (sym (last_is b.events _ (Claim w u) can.last.events))
     (subst (λ m. SpaceBefore b.build ends.replies (Claim w u) space (space_back (Some (Claim w u)) m (n + 2) space)) same
     (space_unclaimed b.build _ w u (n + 2) x.0 _ ends.replies space x.1 many ends.gives ends.counted))
-space_changed b space (Unstep w mark) o v n s here ends can is counts = absurd cc
-space_changed b space (Resume end.Settle w left) o v n s here ends can is counts =
+space_changed b space (Unstep w mark ts) v n s here ends can is counts = absurd cc
+space_changed b space (Resume end.Settle w left lent) v n s here ends can is counts =
     subst (λ e. SpaceBefore b.build ends.replies (Settle w) space (space_back e v (n + 2) space))
     (sym (last_is b.events _ (Settle w) can.last.events))
     (space_stayed b.build _ (Settle w) _ ends.replies space (λ u e. cc) refl ends.gives ends.counted)
-space_changed b space (Resume end.Cancel w left) o v n s here ends can is counts =
+space_changed b space (Resume end.Cancel w left lent) v n s here ends can is counts =
     let same = (change_inside (sym is)).0 in
-    let m = undone (record { back = Resume end.Cancel w left; caches = o }) b in
+    let m = undone (record { back = Resume end.Cancel w left lent }) b in
     let x = left.execution in
     let runs : slice_get m.state.workers w ≡ Some (Runs x) = get_set_same b.state.workers w (Runs x) Idle can.stands.idle in
     let y = has_vertex m can.replays x.vertex (Running w) ((consistent m can.replays).working w x runs) in
@@ -226,15 +258,15 @@ space_changed b space (Resume end.Cancel w left) o v n s here ends can is counts
     (subst (λ r. space.cancels ≡ cancel_counts b.build (ends.replies ++ r ∷ [])) reply ends.counted)))
 
 -- and where none has
-pub space_unchanged : (b : BoardValue) (space : Space) (k : Back) (o : Option Before) (v n : ℕ) → (ends : EndsWith b space (record { back = k; caches = o }))
-    → CanUndo (record { back = k; caches = o }) b
+pub space_unchanged : (b : BoardValue) (space : Space) (k : Back) (v n : ℕ) → (ends : EndsWith b space (record { back = k }))
+    → CanUndo (record { back = k }) b
     → None ≡ change_in k
     → SpaceBefore b.build ends.replies (event_before k) space (space_back (last_of b.events) v n space)
-space_unchanged b space (Unclaim w u) o v n ends can is = absurd cc
-space_unchanged b space (Unstep w mark) o v n ends can is =
+space_unchanged b space (Unclaim w u gs) v n ends can is = absurd cc
+space_unchanged b space (Unstep w mark ts) v n ends can is =
     subst (λ e. SpaceBefore b.build ends.replies (Step w) space (space_back e v n space)) (sym (last_is b.events _ (Step w) can.last.events))
     (space_stayed b.build _ (Step w) _ ends.replies space (λ u e. cc) refl ends.gives ends.counted)
-space_unchanged b space (Resume e w left) o v n ends can is = absurd cc
+space_unchanged b space (Resume e w left lent) v n ends can is = absurd cc
 
 -- ---- the invariant
 
@@ -254,6 +286,6 @@ undo_keeps vs first ws us es space more old u kept can ends before leaves =
       replays = replays;
       room = subst (IsRoomy vs.build n.state ends.replies) (sym before.room) returned.1;
       counted = before.counted;
-      fits = leaves.supplies ∙ fits_before b u.back u.caches ws.supplies can kept.fits ∙ ap (map (needed vs.build)) (sym leaves.workers);
+      fits = leaves.supplies ∙ fits_before b u.back ws.supplies can kept.fits ∙ ap (map (needed vs.build)) (sym leaves.workers);
     } in
     subst (λ (s : BoardValue). IsBoard s us more) (sym (undone_is vs first ws us es old u leaves)) here

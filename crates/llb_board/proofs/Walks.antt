@@ -1,41 +1,51 @@
 -- An event that is granted, and the board before it: the event's undo leads back there, and can be done.
-use Rattle.std.proofs.Common.{◌≡◌, ℕ, ◌+◌, ◌-◌, Bool, ◌||◌, List, [], ◌∷◌, ◌++◌, length, Option, Some, None, is_some, refl, sym, ap}
-use Rattle.std.proofs.Common.{subst, ◌∙◌, arith}
+use Rattle.std.proofs.Common.{◌≡◌, ℕ, ◌+◌, ◌-◌, Bool, ◌||◌, List, [], ◌∷◌, ◌++◌, map, length, Option, Some, None, is_some, refl, sym, ap}
+use Rattle.std.proofs.Common.{subst, unwrap_or, ◌∙◌, arith}
 use Rattle.std.specs.Prelude.{Result, Ok, Err, slice_get, slice_set, nat_le, if◌then◌else◌}
 use Rattle.llb_cache.specs.Caches.{Row}
+use Rattle.llb_cache.specs.declared.key.Key.{Key}
+use Rattle.llb_cache.specs.Growth.{growth_at, unmade}
+use Rattle.llb_loader.specs.Graph.{IsGraph}
+use Rattle.llb_tree.specs.Tree.{empty_tree}
 use Rattle.llb_execution.specs.Marks.{mark_of}
 use Rattle.llb_execution.specs.Parts.{mounts_in}
 use Rattle.llb_execution.proofs.Marks.{puts_back}
-use Rattle.llb_loader.specs.declared.graph.Vertex.{Vertex}
 use Rattle.llb_model.specs.declared.fault.VertexFault.{VertexFault}
-use Rattle.llb_model.specs.Caches.{Store, put_all, trees_at}
+use Rattle.llb_model.specs.Caches.{Instance, Hold, Distinct, content, put_all, trees_at}
 use Rattle.llb_model.specs.Program.{Build, MicroStep, needs_of, step_on}
 use Rattle.llb_model.specs.State.{Status, Waiting, Running, Settled, Execution, WorkerStatus, Idle, Runs, State, program_in, work_of, next_step, ending_from}
 use Rattle.llb_model.specs.State.{held}
-use Rattle.llb_model.specs.State.{places_for, begin_at}
+use Rattle.llb_model.specs.State.{places_for, begin_at, first_trees}
 use Rattle.llb_model.specs.Table.{Event, Claim, Step, Settle, Cancel, worker_of, with_step, step_by, after_end, table}
 use Rattle.llb_model.specs.Kept.{store_of}
-use Rattle.llb_model.specs.Leases.{AreLeased}
+use Rattle.llb_model.specs.Leases.{put_each}
+use Rattle.llb_model.proofs.Claims.{places_distinct, places_length, first_length}
 use Rattle.llb_model.proofs.Events.{Answer, IsStep, claim_places, claim_is, step_is, settle_is, cancel_is}
-use Rattle.llb_model.proofs.Lists.{get_set_same}
+use Rattle.llb_model.proofs.Lists.{get_set_same, length_set}
+use Rattle.llb_model.proofs.Needs.{graph_distinct}
+use Rattle.llb_model.proofs.Parts.{step_keeps}
+use Rattle.llb_model.proofs.Stores.{hold_all}
+use Rattle.llb_model.proofs.There.{held_are_there}
 use Rattle.llb_events.specs.Causes.{faulted, claim_fault, step_fault, settle_fault, cancel_fault}
 use Rattle.llb_events.specs.declared.fault.WalkFault.{WalkFault}
 use Rattle.llb_events.specs.declared.fault.WalkFault.TheVariants as walk
-use Rattle.llb_state.specs.Caches.{written, places_at, rows_after}
+use Rattle.llb_state.specs.Caches.{written, places_at, rows_after, lent_of}
 use Rattle.llb_state.specs.Room.{needs_at}
 use Rattle.llb_state.specs.Undo.{Back, Unclaim, Unstep, Resume, Displaced, walk_in, end_of, workers_before, with_view_back, step_before, rows_before}
-use Rattle.llb_state.specs.Undo.{HasNoPlaces, FitsLeases, KeepsWhere, MarksClaim, MarksStep, MarksEnd, MarksIn}
-use Rattle.llb_state.specs.Undoing.{Before}
+use Rattle.llb_state.specs.Undo.{taken_at, MarksClaim, MarksStep, MarksEnd, MarksIn}
 use Rattle.llb_state.specs.Vertices.{VerticesValue}
 use Rattle.llb_state.specs.Workers.{WorkersValue}
 use Rattle.llb_state.specs.declared.workers.undoing.End.{End}
 use Rattle.llb_state.specs.declared.workers.undoing.End.TheVariants as end
-use Rattle.llb_state.proofs.Lists.{set_back, front_again}
+use Rattle.llb_state.proofs.Lists.{length_map, set_back, front_again}
+use Rattle.llb_state.proofs.Rewritten.{AreKeysApart}
+use Rattle.llb_state.proofs.Unmade.{keys_apart, keys_for, unwritten, unstepped}
 use Rattle.llb_board.specs.Seen.{BoardValue, Replays, seen, after_event, recorded}
-use Rattle.llb_board.specs.Undo.{told_as, walk_of, statuses_before, store_before, undone, event_before, IsLast, StandsBehind, CanUndo}
+use Rattle.llb_board.specs.Undo.{told_as, walk_of, statuses_before, undone, event_before, IsLast, StandsBehind, CanUndo}
 use Rattle.llb_board.specs.declared.walk.Reply as replied
 use Rattle.llb_board.proofs.Calls.{claim_done, step_done, settle_done, cancel_done}
-use Rattle.llb_board.proofs.Sound.{consistent}
+use Rattle.llb_board.proofs.Sound.{consistent, reached}
+use Rattle.llb_board.proofs.Undone.{distinct_needs}
 
 -- ---- what `walk` returns
 
@@ -62,41 +72,24 @@ granted b n (Cancel w) r is = told_of b n (Cancel w) cancel_fault walk.Cancel _ 
 
 -- ---- back to the board before
 
--- the parts of the state are those before the event
+-- the parts of the board are those before the event
 record LeadsBack (u : Displaced) (b : BoardValue) (e : Event) (s : State) : Type 0 where
   statuses : statuses_before u.back s.statuses ≡ b.state.statuses
   workers : workers_before u.back s.workers ≡ b.state.workers
-  store : store_before u.caches s.store ≡ b.state.store
-  rows : rows_before u.caches (rows_after b.rows s (worker_of e)) ≡ b.rows
+  store : store_of b.rows ≡ b.state.store
+  rows : rows_before u.back s.workers (rows_after b.rows s (worker_of e)) ≡ b.rows
 
 leads_back : (u : Displaced) (b : BoardValue) (e : Event) (s : State) → LeadsBack u b e s → undone u (after_event b e s) ≡ b
-leads_back u b e s to = λ i. record {
-  build = b.build;
-  opening = b.opening;
-  first = b.first;
-  state = record { statuses = to.statuses i; workers = to.workers i; store = to.store i };
-  rows = to.rows i;
-  events = front_again b.events e i;
-}
-
--- the caches are those that were kept, or nothing of them has changed
-store_back : {A : Type 0} (shown : List A) (ws : WorkersValue) (o : Option Before) (store : Store) → KeepsWhere shown ws o
-    → (shown ≡ [] → store ≡ store_of ws.rows)
-    → store_before o store ≡ store_of ws.rows
-store_back shown ws (Some c) store keeps stays = ap store_of keeps.rows
-store_back shown ws None store keeps stays = stays keeps
-
-rows_back : {A : Type 0} (shown : List A) (ws : WorkersValue) (o : Option Before) (rows : List Row) → KeepsWhere shown ws o → (shown ≡ [] → rows ≡ ws.rows)
-    → rows_before o rows ≡ ws.rows
-rows_back shown ws (Some c) rows keeps stays = keeps.rows
-rows_back shown ws None rows keeps stays = stays keeps
-
-fits_leases : {A : Type 0} (shown : List A) (k : Back) (ws : WorkersValue) (workers : List WorkerStatus) (o : Option Before) → workers_before k workers
-    ≡ ws.workers
-    → KeepsWhere shown ws o → (shown ≡ [] → HasNoPlaces k)
-    → FitsLeases k workers o
-fits_leases shown k ws workers (Some c) is keeps none = subst (λ us. AreLeased c.caches.out us c.leases) (sym is) keeps.leased
-fits_leases shown k ws workers None is keeps none = none keeps
+leads_back u b e s to =
+    let store = ap store_of to.rows ∙ to.store in
+    λ i. record {
+      build = b.build;
+      opening = b.opening;
+      first = b.first;
+      state = record { statuses = to.statuses i; workers = to.workers i; store = store i };
+      rows = to.rows i;
+      events = front_again b.events e i;
+    }
 
 -- an event that is granted is the last of the record after it
 last_of : (u : Displaced) (b : BoardValue) (k : Back) (a : Answer) → table b.build b.state (event_before k) ≡ Some a → u.back ≡ k
@@ -107,15 +100,21 @@ last_of u b k a grants same is = record {
   events = λ i. (sym is i).events ++ event_before (sym same i) ∷ [];
 }
 
+can_undo : (u : Displaced) (b : BoardValue) (k : Back) (a : Answer) → Replays b → table b.build b.state (event_before k) ≡ Some a
+    → undone u (after_event b (event_before k) a.0) ≡ b → u.back ≡ k → StandsBehind k (after_event b (event_before k) a.0)
+    → CanUndo u (after_event b (event_before k) a.0)
+can_undo u b k a here grants is same stands =
+    let n = after_event b (event_before k) a.0 in
+    record {
+      replays = subst Replays (sym is) here;
+      last = last_of u b k a grants same is;
+      stands = subst (λ (x : Back). StandsBehind x n) (sym same) stands;
+    }
+
 -- what an undo of an event does
 pub record Undoes (b : BoardValue) (e : Event) (s : State) (u : Displaced) : Type 0 where
   pub back : undone u (after_event b e s) ≡ b
   pub can : CanUndo u (after_event b e s)
-
--- ---- of a claim, in parts
-
-needs_are : (vertex : Vertex) (o : Option Vertex) → o ≡ Some vertex → needs_at o ≡ [] → needs_of vertex ≡ []
-needs_are vertex o there none = ap needs_at (sym there) ∙ none
 
 -- ---- of a step, in parts
 
@@ -176,23 +175,9 @@ worker_ends end.Cancel w = refl
 
 -- ---- the board before
 
-module _ (vs : VerticesValue) (first : List Row) (ws : WorkersValue) (es : List Event) where
+module _ (vs : VerticesValue) (first : List Row) (ws : WorkersValue) (es : List Event) (graph : IsGraph vs.build.graph) where
   abbrev b : BoardValue
   b = seen vs first ws es
-
-  can_undo : {A : Type 0} (shown : List A) (u : Displaced) (k : Back) (a : Answer) → Replays b → table b.build b.state (event_before k) ≡ Some a
-      → undone u (after_event b (event_before k) a.0) ≡ b → u.back ≡ k → StandsBehind k (after_event b (event_before k) a.0)
-      → KeepsWhere shown ws u.caches
-      → (shown ≡ [] → HasNoPlaces k) → CanUndo u (after_event b (event_before k) a.0)
-  can_undo shown u k a here grants is same stands keeps none =
-      let n = after_event b (event_before k) a.0 in
-      record {
-        replays = subst Replays (sym is) here;
-        last = last_of u b k a grants same is;
-        stands = subst (λ (x : Back). StandsBehind x n) (sym same) stands;
-        leased = fits_leases shown u.back ws n.state.workers u.caches (ap (λ (m : BoardValue). m.state.workers) is) keeps
-            (λ e. subst HasNoPlaces (sym same) (none e));
-      }
 
   -- ---- of a claim
 
@@ -201,28 +186,37 @@ module _ (vs : VerticesValue) (first : List Row) (ws : WorkersValue) (es : List 
   claim_back w v a u here grants marks =
       let c = claim_is b.build b.state w v a grants in
       let s = b.state in
+      let needs = needs_of c.start.vertex in
       let ps = claim_places s c.start in
       let work = begin_at b.build s.store c.start ps in
       let z : Execution = record { vertex = v; done = 0; fault = None; own = work.own; places = ps } in
-      let none : needs_at (slice_get b.build.graph.vertices v) ≡ [] → ps ≡ []
-      = λ e. ap (places_for (held s.workers)) (needs_are c.start.vertex _ c.begins.there e) in
+      let k = Unclaim w v (map (growth_at b.rows) (taken_at vs ws v)) in
+      let differ = graph_distinct b.build graph v c.start.vertex c.begins.there in
+      let count = places_length (held s.workers) needs in
+      let taken : taken_at vs ws v ≡ ps = ap (λ o. places_for (held s.workers) (needs_at o)) c.begins.there in
       let runs : slice_get a.0.workers w ≡ Some (Runs z)
       = ap (λ (t : Answer). slice_get t.0.workers w) c.gives ∙ get_set_same s.workers w (Runs z) Idle c.idle in
+      let firsts = first_trees (store_of b.rows) c.start.inputs ps needs in
+      let apart : AreKeysApart ps = keys_apart ps (subst (λ (ks : List Key). Distinct ks) (sym (keys_for (held s.workers) needs)) differ) in
+      let hold : Hold (put_all (store_of b.rows) ps firsts) ps firsts =
+      hold_all (store_of b.rows) ps firsts (places_distinct (held s.workers) needs differ) (first_length (store_of b.rows) c.start.inputs ps needs count) in
+      let rows : rows_before k a.0.workers (rows_after b.rows a.0 w) ≡ b.rows =
+      ap (λ o. unmade (written a.0.store b.rows (places_at o)) (places_at o) (map (growth_at b.rows) (taken_at vs ws v))) runs
+      ∙ ap (λ (qs : List Instance). unmade (written a.0.store b.rows ps) ps (map (growth_at b.rows) qs)) taken
+      ∙ ap (λ (t : Answer). unmade (written t.0.store b.rows ps) ps (map (growth_at b.rows) ps)) c.gives
+      ∙ unwritten (put_all (store_of b.rows) ps firsts) b.rows c.start.inputs ps needs apart count hold in
       let is = leads_back u b (Claim w v) a.0 (record {
         statuses = ap (λ k. statuses_before k a.0.statuses) marks.back
             ∙ ap (λ (t : Answer). slice_set t.0.statuses v Waiting) c.gives ∙ set_back s.statuses v (Running w) Waiting c.begins.waits;
         workers = ap (λ k. workers_before k a.0.workers) marks.back
             ∙ ap (λ (t : Answer). slice_set t.0.workers w Idle) c.gives ∙ set_back s.workers w (Runs z) Idle c.idle;
-        store = store_back (needs_at (slice_get b.build.graph.vertices v)) ws u.caches a.0.store marks.caches
-            (λ e. ap (λ (t : Answer). t.0.store) c.gives ∙ ap (λ qs. put_all s.store qs work.trees) (none e));
-        rows = rows_back (needs_at (slice_get b.build.graph.vertices v)) ws u.caches (rows_after b.rows a.0 w) marks.caches
-            (λ e. ap (λ o. written a.0.store b.rows (places_at o)) runs ∙ ap (written a.0.store b.rows) (none e));
+        store = refl;
+        rows = ap (λ k. rows_before k a.0.workers (rows_after b.rows a.0 w)) marks.back ∙ rows;
       }) in
       record {
         back = is;
-        can = can_undo (needs_at (slice_get b.build.graph.vertices v)) u (Unclaim w v) a here grants is marks.back
-            (record { runs = ap (λ (t : Answer). slice_get t.0.statuses v) c.gives ∙ get_set_same s.statuses v (Running w) Waiting c.begins.waits })
-            marks.caches (λ e. tt);
+        can = can_undo u b k a here grants is marks.back
+            (record { runs = ap (λ (t : Answer). slice_get t.0.statuses v) c.gives ∙ get_set_same s.statuses v (Running w) Waiting c.begins.waits });
       }
 
   -- ---- of a step
@@ -235,29 +229,39 @@ module _ (vs : VerticesValue) (first : List Row) (ws : WorkersValue) (es : List 
       let left = step_on x.done (Some c.step) (work_of s x) in
       let z = with_step x left in
       let mark = mark_of x.own in
+      let was = trees_at (store_of b.rows) x.places in
+      let k = Unstep w mark was in
       let runs : slice_get a.0.workers w ≡ Some (Runs z) = ap (λ (t : Answer). slice_get t.0.workers w) c.gives
       ∙ get_set_same s.workers w (Runs z) (Runs x) marks.runs in
       let again : step_before mark (slice_get a.0.workers w) ≡ Runs x
       = ap (step_before mark) runs ∙ ap (λ y. Runs y) (view_back s x c.step (clean (program_in b.build x).steps x c.step c.next)) in
+      let there = held_are_there b.build (graph_distinct b.build graph) s (reached b here) w x marks.runs in
+      let apart : AreKeysApart x.places = keys_apart x.places (subst (λ (ks : List Key). Distinct ks) (sym marks.keys)
+      (distinct_needs b.build (graph_distinct b.build graph) x.vertex (slice_get b.build.graph.vertices x.vertex) refl)) in
+      let count : length left.work.trees ≡ length x.places
+      = step_keeps x.done (Some c.step) (work_of s x) ∙ length_map (λ p. unwrap_or (content s.store p) empty_tree) x.places in
+      let rows : rows_before k a.0.workers (rows_after b.rows a.0 w) ≡ b.rows =
+      ap (λ o. put_each (written a.0.store b.rows (places_at o)) (places_at o) was) runs
+      ∙ ap (λ (t : Answer). put_each (written t.0.store b.rows x.places) x.places was) c.gives
+      ∙ unstepped b.rows x.places left.work.trees there.1.0 there.0 apart count there.1.1 in
       let is = leads_back u b (Step w) a.0 (record {
         statuses = ap (λ k. statuses_before k a.0.statuses) marks.back ∙ ap (λ (t : Answer). t.0.statuses) c.gives;
         workers = ap (λ k. workers_before k a.0.workers) marks.back
             ∙ ap (slice_set a.0.workers w) again ∙ ap (λ (t : Answer). slice_set t.0.workers w (Runs x)) c.gives
             ∙ set_back s.workers w (Runs z) (Runs x) marks.runs;
-        store = store_back x.places ws u.caches a.0.store marks.caches
-            (λ e. ap (λ (t : Answer). t.0.store) c.gives ∙ ap (λ qs. put_all s.store qs left.work.trees) e);
-        rows = rows_back x.places ws u.caches (rows_after b.rows a.0 w) marks.caches
-            (λ e. ap (λ o. written a.0.store b.rows (places_at o)) runs ∙ ap (written a.0.store b.rows) e);
+        store = refl;
+        rows = ap (λ k. rows_before k a.0.workers (rows_after b.rows a.0 w)) marks.back ∙ rows;
       }) in
       record {
         back = is;
-        can = can_undo x.places u (Unstep w mark) a here grants is marks.back
+        can = can_undo u b k a here grants is marks.back
             (record {
               x = z;
               runs = runs;
-              mounts = ap mounts_in (puts_back x.own x.done (Some c.step) (trees_at s.store x.places))
-                  ∙ marks.mounts;
-            }) marks.caches (λ e. tt);
+              mounts = ap mounts_in (puts_back x.own x.done (Some c.step) (trees_at s.store x.places)) ∙ marks.mounts;
+              count = length_map (λ p. unwrap_or (content (store_of b.rows) p) empty_tree) x.places;
+              keys = marks.keys;
+            });
       }
 
   -- ---- of a settle or a cancel
@@ -269,22 +273,26 @@ module _ (vs : VerticesValue) (first : List Row) (ws : WorkersValue) (es : List 
       let x = marks.left.execution in
       let c = leaves_by b.build s e w a x marks.runs grants in
       let ran = (consistent b here).working w x marks.runs in
+      let k = Resume e w marks.left (lent_of x.places (length s.workers + 1)) in
       let idle : slice_get a.0.workers w ≡ Some Idle = ap (λ (t : State). slice_get t.workers w) c.gives ∙ get_set_same s.workers w Idle (Runs x) marks.runs in
+      let many : length a.0.workers ≡ length s.workers = ap (λ (t : State). length t.workers) c.gives ∙ length_set s.workers w Idle in
       let is = leads_back u b (end_of e w) a.0 (record {
         statuses = ap (λ k. statuses_before k a.0.statuses) marks.back
             ∙ ap (λ (t : State). slice_set t.statuses x.vertex (Running w)) c.gives ∙ set_back s.statuses x.vertex c.status (Running w) ran;
         workers = ap (λ k. workers_before k a.0.workers) marks.back
             ∙ ap (λ (t : State). slice_set t.workers w (Runs x)) c.gives ∙ set_back s.workers w Idle (Runs x) marks.runs;
-        store = store_back x.places ws u.caches a.0.store marks.caches (λ none. ap (λ (t : State). t.store) c.gives);
-        rows = ap (λ k. rows_before u.caches (rows_after b.rows a.0 k)) (worker_ends e w)
-            ∙ rows_back x.places ws u.caches (rows_after b.rows a.0 w) marks.caches (λ none. ap (λ o. written a.0.store b.rows (places_at o)) idle);
+        store = refl;
+        rows = ap (λ k. rows_before k a.0.workers (rows_after b.rows a.0 (worker_of (end_of e w)))) marks.back
+            ∙ ap (λ v. rows_after b.rows a.0 v) (worker_ends e w) ∙ ap (λ o. written a.0.store b.rows (places_at o)) idle;
       }) in
       record {
         back = is;
-        can = can_undo x.places u (Resume e w marks.left) a here grants is marks.back (record {
+        can = can_undo u b k a here grants is marks.back (record {
           idle = idle;
           supplies = marks.supplies;
-        }) marks.caches (λ none. none);
+          keys = marks.keys;
+          ready = ap (λ n. lent_of x.places (n + 1)) (sym many);
+        });
       }
 
   -- ---- of any event

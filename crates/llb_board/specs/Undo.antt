@@ -1,15 +1,19 @@
 -- An event as `walk` does it, what it displaces, and the board after the event is taken back.
-use Rattle.std.specs.Prelude.{◌≡◌, ℕ, List, [], ◌∷◌, ◌++◌, length, Option, Some, None, Result, Ok, Err, slice_get, slice_set}
+use Rattle.std.specs.Prelude.{◌≡◌, ℕ, ◌+◌, List, [], ◌∷◌, ◌++◌, length, map, Option, Some, Result, Ok, Err, slice_get, slice_set}
 use Rattle.llb_wire.specs.Answer as answer
+use Rattle.llb_cache.specs.Growth.{LentValue}
+use Rattle.llb_tree.specs.Tree.{TreeMap}
 use Rattle.llb_execution.specs.Marks.{Mark, put_back}
 use Rattle.llb_execution.specs.Parts.{mounts_in}
-use Rattle.llb_model.specs.Caches.{Store}
+use Rattle.llb_model.specs.Caches.{Instance}
 use Rattle.llb_model.specs.Kept.{store_of}
+use Rattle.llb_model.specs.Program.{key_of}
 use Rattle.llb_model.specs.State.{Status, Waiting, Running, Execution, Idle, Runs}
 use Rattle.llb_model.specs.Table as table
-use Rattle.llb_state.specs.Room.{supplies_for, mounts_at}
-use Rattle.llb_state.specs.Undo.{Back, Unclaim, Unstep, Resume, Displaced, walk_memory, end_of, workers_before, rows_before, FitsLeases}
-use Rattle.llb_state.specs.Undoing.{Left, Before}
+use Rattle.llb_state.specs.Caches.{lent_of}
+use Rattle.llb_state.specs.Room.{supplies_for, mounts_at, needs_at}
+use Rattle.llb_state.specs.Undo.{Back, Unclaim, Unstep, Resume, Displaced, walk_memory, end_of, workers_before, rows_before}
+use Rattle.llb_state.specs.Undoing.{Left}
 use Rattle.llb_events.specs.declared.event.Stepped.TheVariants as stepped
 use Rattle.llb_events.specs.declared.event.Settled.TheVariants as settled
 use Rattle.llb_events.specs.declared.fault.WalkFault.{WalkFault}
@@ -55,14 +59,9 @@ GivesWalk = answer.Gives walk_memory
 
 -- the statuses of the vertices before the event
 abbrev pub statuses_before : Back → List Status → List Status
-statuses_before (Unclaim w v) statuses = slice_set statuses v Waiting
-statuses_before (Unstep w mark) statuses = statuses
-statuses_before (Resume e w left) statuses = slice_set statuses left.execution.vertex (Running w)
-
--- the instances of the caches before the event: those that were kept, or else as they are
-abbrev pub store_before : Option Before → Store → Store
-store_before (Some c) store = store_of c.caches.rows
-store_before None store = store
+statuses_before (Unclaim w v growths) statuses = slice_set statuses v Waiting
+statuses_before (Unstep w mark trees) statuses = statuses
+statuses_before (Resume e w left lent) statuses = slice_set statuses left.execution.vertex (Running w)
 
 -- the board after an undo
 abbrev pub undone : Displaced → BoardValue → BoardValue
@@ -70,9 +69,9 @@ undone u b = record b {
   state = record {
     statuses = statuses_before u.back b.state.statuses;
     workers = workers_before u.back b.state.workers;
-    store = store_before u.caches b.state.store;
+    store = store_of (rows_before u.back b.state.workers b.rows);
   };
-  rows = rows_before u.caches b.rows;
+  rows = rows_before u.back b.state.workers b.rows;
   events = front b.events;
 }
 
@@ -80,9 +79,9 @@ undone u b = record b {
 
 -- the event that is taken back
 abbrev pub event_before : Back → table.Event
-event_before (Unclaim w v) = table.Claim w v
-event_before (Unstep w mark) = table.Step w
-event_before (Resume e w left) = end_of e w
+event_before (Unclaim w v growths) = table.Claim w v
+event_before (Unstep w mark trees) = table.Step w
+event_before (Resume e w left lent) = end_of e w
 
 -- the event that is taken back is the last of the record
 pub record IsLast (u : Displaced) (b : BoardValue) : Type 0 where
@@ -90,30 +89,34 @@ pub record IsLast (u : Displaced) (b : BoardValue) : Type 0 where
   pub gives : table.table b.build (undone u b).state (event_before u.back) ≡ Some (b.state, reply)
   pub events : b.events ≡ (undone u b).events ++ event_before u.back ∷ []
 
--- the worker and its vertex are as the event left them, and what is put back has the supplies that the build asks for
+-- the worker and its vertex are as the event left them, what is put back has the supplies that the build asks for, there is a tree for each instance of
+-- the worker, and the lease that is ready is one of the instances that it left
 pub record IsBegun (b : BoardValue) (w v : ℕ) : Type 0 where
   pub runs : slice_get b.state.statuses v ≡ Some (Running w)
 
 -- worker w runs, and the mark fits what it runs
-pub record IsStepped (b : BoardValue) (w : ℕ) (mark : Mark) : Type 0 where
+pub record IsStepped (b : BoardValue) (w : ℕ) (mark : Mark) (trees : List TreeMap) : Type 0 where
   pub x : Execution
   pub runs : slice_get b.state.workers w ≡ Some (Runs x)
   pub mounts : mounts_in (put_back mark x.own) ≡ length (mounts_at (slice_get b.build.graph.vertices x.vertex))
+  pub count : length trees ≡ length x.places
+  pub keys : map (λ (p : Instance). p.key) x.places ≡ map key_of (needs_at (slice_get b.build.graph.vertices x.vertex))
 
 -- worker w is idle, and has left this
-pub record IsLeft (b : BoardValue) (w : ℕ) (left : Left) : Type 0 where
+pub record IsLeft (b : BoardValue) (w : ℕ) (left : Left) (lent : Option LentValue) : Type 0 where
   pub idle : slice_get b.state.workers w ≡ Some Idle
   pub supplies : left.supplies ≡ supplies_for (slice_get b.build.graph.vertices left.execution.vertex)
+  pub keys : map (λ (p : Instance). p.key) left.execution.places ≡ left.supplies.keys
+  pub ready : lent ≡ lent_of left.execution.places (length b.state.workers + 1)
 
 -- a board is as an event leaves it that displaced this
 abbrev pub StandsBehind : Back → BoardValue → Type 0
-StandsBehind (Unclaim w v) b = IsBegun b w v
-StandsBehind (Unstep w mark) b = IsStepped b w mark
-StandsBehind (Resume e w left) b = IsLeft b w left
+StandsBehind (Unclaim w v growths) b = IsBegun b w v
+StandsBehind (Unstep w mark trees) b = IsStepped b w mark trees
+StandsBehind (Resume e w left lent) b = IsLeft b w left lent
 
 -- the board that an undo leaves is one that events lead to, and whose parts fit
 pub record CanUndo (u : Displaced) (b : BoardValue) : Type 0 where
   pub replays : Replays (undone u b)
   pub last : IsLast u b
   pub stands : StandsBehind u.back b
-  pub leased : FitsLeases u.back b.state.workers u.caches

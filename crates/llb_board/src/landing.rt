@@ -1,9 +1,10 @@
 //! The landing of an outcome: the block of all micro-steps that a worker has left and of its settle, for work that was done away from
 //! the board. It settles and does no micro-step. `land` compares trees, by value alone; `land_known` compares nothing.
 
-ghost use Rattle.std.specs.Prelude.{◌≡◌, slice_get, IfOk, IfErr, OnOk, OnErr};
+ghost use Rattle.std.specs.Prelude.{◌≡◌, option_map, slice_get, IfOk, IfErr, OnOk, OnErr};
 ghost use Rattle.std.specs.List.{list_any};
 ghost use Rattle.llb_model.specs.Caches as model;
+ghost use Rattle.llb_model.specs.State.{Execution, runs};
 ghost use Rattle.llb_state.specs.Jobs.{is_shared};
 ghost use Rattle.llb_board.specs.Begun.{IsKnown};
 ghost use Rattle.llb_board.specs.Landing.{CanLand, StandsInWay, IsRefused, land_fault, places_had, runs_shared, IsThrough, Lands};
@@ -14,7 +15,7 @@ use crate::fault::LandFault;
 use crate::laws::begun_are_plain;
 use llb_cache::{Instance, Mode};
 use llb_events::{Settled, WorkerStatus};
-use llb_execution::{Job, Outcome};
+use llb_execution::{Job, Outcome, Workspace};
 
 /// Why an outcome does not land.
 #[derive(Clone, Copy)]
@@ -68,6 +69,13 @@ impl Board {
         ensures { result.now ≡ places_had (slice_get self.now.state.workers w) }
     {
         self.workers.places(w)
+    }
+
+    /// Returns the workspace of what a worker runs; `None` where it runs nothing, or there is no such worker. Does not allocate.
+    pub fn workspace(&self, w: u32) -> Option<&Workspace>
+        ensures { option_map (λ v. v.now) result ≡ option_map (λ (x : Execution). x.own) (runs (slice_get self.now.state.workers w)) }
+    {
+        self.workers.workspace(w)
     }
 
     // Checks that the outcome of a job lands; otherwise returns the first cause why it does not.

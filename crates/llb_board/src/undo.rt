@@ -12,6 +12,7 @@ impl Board {
         requires { CanUndo undo self.old }
         ensures { self.new ≡ undone undo self.old }
     {
+        self.is_graph();
         match self.workers.put_back(undo) {
             Some(change) => {
                 let v = change.vertex;

@@ -33,6 +33,7 @@ impl Board {
         ensures can { IfOk result (λ r. CanUndo r.undo self.new) }
         ensures err { OnErr result (self.new ≡ self.old) }
     {
+        self.is_graph();
         let undo = self.workers.before(self.alloc, &self.vertices, event)?;
         let reply = self.happen(event)?;
         Ok(Walked { reply, undo })

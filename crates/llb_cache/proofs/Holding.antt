@@ -31,12 +31,12 @@ put_marked c p tree marks rows written keys is = record {
 
 -- ---- who has an instance after a lease, and after its end
 
-by_cases : (b c : Bool) → (b ≡ true → c ≡ true) → (c ≡ true → b ≡ true) → b ≡ c
+pub by_cases : (b c : Bool) → (b ≡ true → c ≡ true) → (c ≡ true → b ≡ true) → b ≡ c
 by_cases true c f g = sym (f refl)
 by_cases false true f g = g refl
 by_cases false false f g = refl
 
-never : (b : Bool) → (b ≡ true → ⊥) → b ≡ false
+pub never : (b : Bool) → (b ≡ true → ⊥) → b ≡ false
 never true none = absurd (none refl)
 never false none = refl
 
@@ -60,7 +60,7 @@ not_free (Some ps ∷ out) zero qs at e = let first : free_lease (Some ps ∷ ou
 not_free (Some ps ∷ out) (suc a) qs at e =
     let first : free_lease (Some ps ∷ out) ≡ 1 + free_lease out = refl in not_free out a qs at (omega (arith, e, first))
 
-still_out : (out : Leases) (ps : List Instance) (a : ℕ) (qs : List Instance) → Has out a qs → Has (with_lease out (free_lease out) ps) a qs
+pub still_out : (out : Leases) (ps : List Instance) (a : ℕ) (qs : List Instance) → Has out a qs → Has (with_lease out (free_lease out) ps) a qs
 still_out out ps a qs at = go (nat_lt (free_lease out) (length out))
   where
     go : (b : Bool) → Has (cond b (slice_set out (free_lease out) (Some ps)) (out ++ Some ps ∷ [])) a qs

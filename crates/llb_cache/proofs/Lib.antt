@@ -6,5 +6,10 @@ pub mod Differing
 pub mod Marked
 pub mod Holding
 pub mod Placed
+pub mod Chosen
 pub mod Searched
 pub mod Written
+pub mod Unmade
+pub mod Popped
+pub mod Again
+pub mod Reversed

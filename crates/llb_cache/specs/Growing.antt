@@ -1,6 +1,7 @@
 -- What a lease has ready before anything changes.
-use Rattle.std.specs.Prelude.{◌≡◌, ℕ, ◌<◌, false, length, slice_index_or, Option, Some, None}
+use Rattle.std.specs.Prelude.{◌≡◌, ℕ, ◌<◌, Bool, false, List, [], ◌∷◌, length, slice_index_or, Option, Some, None}
 use Rattle.llb_cache.specs.declared.need.Need.{Need}
+use Rattle.llb_cache.specs.declared.need.Instance.{Instance}
 use Rattle.llb_cache.specs.declared.growing.Ready.{Ready}
 use Rattle.llb_cache.specs.declared.fault.LeaseFault.{LeaseFault}
 use Rattle.llb_cache.specs.declared.fault.LeaseFault.TheVariants.{Held}
@@ -20,3 +21,15 @@ pub record FitsIn (r : Ready) : Type 0 where
 abbrev pub IsRefusal : Option Need → LeaseFault → Type 0
 IsRefusal None e = ⊥
 IsRefusal (Some n) e = e ≡ Held n.key
+
+-- there is room for an instance's mark, with none set
+pub record HasRoomFor (p : Instance) (marks : List Bool) : Type 0 where
+  pub mark : p.number < length marks
+  pub clear : (k : ℕ) → slice_index_or marks k false ≡ false
+
+-- for each instance there is the room of its mark
+abbrev pub FitEach : List Instance → List (List Bool) → Type 0
+FitEach [] [] = Unit {0}
+FitEach [] (m ∷ rooms) = ⊥
+FitEach (p ∷ ps) [] = ⊥
+FitEach (p ∷ ps) (m ∷ rooms) = HasRoomFor p m × FitEach ps rooms

@@ -100,7 +100,7 @@ pub free_within : (out : Leases) → free_lease out ≤ length out
 free_within out = prefix_len-le-length _ out
 
 -- where all numbers are taken, there are as many leases as numbers
-all_out : (out : Leases) → length out ≤ free_lease out → leases out ≡ length out
+pub all_out : (out : Leases) → length out ≤ free_lease out → leases out ≡ length out
 all_out [] h = refl
 all_out (None ∷ out) h = absurd (omega (arith, h))
 all_out (Some ps ∷ out) h =

@@ -1,11 +1,11 @@
 -- Marks of the instances that leases have: for each key, in the order of the keys, one mark for each number or fewer.
-use Rattle.std.specs.Prelude.{◌≡◌, Bool, false, List, [], ◌∷◌, length, slice_index_or, if◌then◌else◌}
+use Rattle.std.specs.Prelude.{◌≡◌, ◌⊎◌, Bool, false, List, [], ◌∷◌, length, slice_index_or, if◌then◌else◌}
 use Rattle.std.specs.List.{list_any}
 use Rattle.std.specs.Map.{keys_of}
 use Rattle.llb_cache.specs.declared.key.Key.{Key}
 use Rattle.llb_cache.specs.declared.need.Instance.{Instance}
 use Rattle.llb_cache.specs.Key.{same_key}
-use Rattle.llb_cache.specs.Caches.{CachesValue, IsCaches, IsExclusive, same_place, is_held}
+use Rattle.llb_cache.specs.Caches.{CachesValue, Row, IsCaches, IsExclusive, same_place, is_held, trees_of}
 
 -- whether an instance is marked
 unfoldable pub marked : List Key → List (List Bool) → Instance → Bool
@@ -26,3 +26,8 @@ pub record IsMarked (c : CachesValue) (marks : List (List Bool)) : Type 0 where
   pub caches : IsCaches c
   pub each : length marks ≡ length c.rows
   pub exact : (p : Instance) → IsExclusive p.key.mode → marked (keys_of c.rows) marks p ≡ is_held c.out p
+
+-- a mark is as it was, or its key has no instance left and it has none
+abbrev pub Unmarks : List Row → List (List Bool) → List Row → List (List Bool) → Type 0
+Unmarks rows marks rows' marks' = (p : Instance) → (marked (keys_of rows') marks' p ≡ marked (keys_of rows) marks p)
+    ⊎ ((marked (keys_of rows') marks' p ≡ false) × (length (trees_of rows' p.key) ≡ 0))

@@ -60,7 +60,7 @@ tree_put es p tree i old w place at is =
 
 -- ---- look-ups after a write
 
-found_again : (rows : List Row) (k : Key) (ts : List TreeMap) → lookup (same_key k) (with_trees rows k ts) ≡ Some ts
+pub found_again : (rows : List Row) (k : Key) (ts : List TreeMap) → lookup (same_key k) (with_trees rows k ts) ≡ Some ts
 found_again [] k ts = ap (λ b. cond b (Some ts) None) (key_itself k)
 found_again (r ∷ rows) k ts = go (same_key k r.0) refl (found_again rows k ts)
   where
@@ -69,7 +69,7 @@ found_again (r ∷ rows) k ts = go (same_key k r.0) refl (found_again rows k ts)
     go true is rest = ap (λ b. cond b (Some ts) (lookup (same_key k) rows)) is
     go false is rest = ap (λ b. cond b (Some r.1) (lookup (same_key k) (with_trees rows k ts))) is ∙ rest
 
-found_before : (rows : List Row) (k l : Key) (ts : List TreeMap) → same_key l k ≡ false
+pub found_before : (rows : List Row) (k l : Key) (ts : List TreeMap) → same_key l k ≡ false
     → lookup (same_key l) (with_trees rows k ts) ≡ lookup (same_key l) rows
 found_before [] k l ts apart = ap (λ b. cond b (Some ts) None) apart
 found_before (r ∷ rows) k l ts apart = go (same_key k r.0) refl (found_before rows k l ts apart)

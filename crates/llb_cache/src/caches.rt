@@ -24,7 +24,7 @@ use std::marker::Model;
 /// A lease that is out, by its number: the least that no other lease has.
 #[derive(Clone, Copy)]
 pub struct Lease {
-    number: u32,
+    pub(crate) number: u32,
 }
 
 impl Model for Lease {
@@ -116,8 +116,24 @@ impl Caches {
         ensures last { MemoryLast result (lease_of self.old needs) }
         ensures err { OnErr result (self.new ≡ self.old) }
     {
-        let needs = self.admitted(needs.into_vec())?;
-        let readies = self.readied(needs)?;
+        self.lease_near(needs, &[])
+    }
+
+    /// Leases as `lease` does. The rows of these numbers, one for each need, are tried first for the keys of the needs.
+    pub fn lease_near(
+        &mut self,
+        needs: Many<Need>,
+        rows: &[Option<usize>],
+    ) -> Result<Lease, LeaseFault>
+        requires differ { AllPairs (λ n m. n.key ≢ m.key) needs }
+        requires few { leases self.old.out < 65536 }
+        ensures gives { Gives (λ l. (l, self.new)) result (lease_of self.old needs) }
+        ensures has { IfOk result (λ l. places_of self.new.out l ≡ map (λ n. place_for self.old.out n.key) needs) }
+        ensures last { MemoryLast result (lease_of self.old needs) }
+        ensures err { OnErr result (self.new ≡ self.old) }
+    {
+        let needs = self.admitted(needs.into_vec(), rows)?;
+        let readies = self.readied(needs, rows)?;
         let places = places_for(*self.out.allocator(), &readies)?;
         reserve(&mut self.rows, readies.len())?;
         self.marks.reserve(readies.len())?;
@@ -190,14 +206,14 @@ impl Caches {
     pub fn is_locked_and_held(&self, key: &KeyRef<'_>) -> bool
         ensures { result ≡ (is_locked key.now.mode && is_held self.now.out (place key.now 0)) }
     {
-        self.holds_locked(key)
+        self.holds_locked(key, None)
     }
 
     /// Returns the number of the instance that a lease of this key would have now. Does not allocate.
     pub fn next_instance(&self, key: &Key) -> u32
         ensures { result ≡ number_for self.now.out key.now key.now.mode }
     {
-        self.number_for(&key.by_ref())
+        self.number_for(&key.by_ref(), None)
     }
 
     /// Returns how many leases are out. Does not allocate.

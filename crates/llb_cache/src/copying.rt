@@ -34,7 +34,7 @@ fn copied_entries(entries: &Vec<(Key, Trees)>) -> Result<Vec<(Key, Trees)>, Memo
 }
 
 // An equal second owner of a list of instances.
-fn copied_places(alloc: Global, places: &[Instance]) -> Result<Many<Instance>, Memory>
+pub(crate) fn copied_places(alloc: Global, places: &[Instance]) -> Result<Many<Instance>, Memory>
     ensures { IfOk result (λ ps. ps ≡ places.now) }
 {
     let mut copies = Vec::new(alloc);

@@ -11,17 +11,19 @@ ghost use Rattle.llb_cache.specs.RowOrder.{AreOrdered, HasRoom};
 use crate::fault::Memory;
 use crate::marks::Marks;
 use crate::need::Instance;
-use crate::rows::{Rows, add_row, row_of};
+use crate::rows::{Rows, add_row, row_near, row_of};
 use crate::search::free_lease;
 use crate::trees::{Room, Trees};
 use llb_tree::Tree;
 use llb_wire::Many;
 use std::alloc::Global;
 
-// What a need takes: an instance, the tree that it holds where it is new, and room for it and for its mark.
+// What a need takes: an instance, the row that is tried first for its key, the tree that it holds where it is new, and room for it and for
+// its mark.
 #[derive(Drop)]
 pub(crate) struct Ready {
     pub(crate) place: Instance,
+    pub(crate) near: Option<usize>,
     pub(crate) tree: Tree,
     pub(crate) room: Room,
     pub(crate) marks: Marks,
@@ -55,12 +57,13 @@ fn make(rows: &mut Rows, marks: &mut Vec<Marks>, ready: Ready)
 {
     let Ready {
         place,
+        near,
         tree,
         room,
         marks: free,
     } = ready;
     let Instance { key, number } = place;
-    match row_of(rows, &key.by_ref()) {
+    match row_near(rows, &key.by_ref(), near) {
         Some(i) => {
             marks[i].set(number, free);
             let trees = &mut rows.entries[i].1;

@@ -2,6 +2,7 @@
 
 ghost use Rattle.std.specs.Prelude.{◌≡◌, ◌==◌, not, length, option_map, true, IfErr, IfOk};
 ghost use Rattle.std.specs.Option.{option_cmp};
+ghost use Rattle.llb_cache.specs.Caches.{is_locked};
 ghost use Rattle.llb_cache.specs.Key.{same_key, seed_by, has_digest, has_text};
 ghost use Rattle.llb_cache.specs.KeyOrder.{mode_place, seed_cmp, key_cmp};
 
@@ -47,6 +48,17 @@ impl<'a> KeyRef<'a> {
         let seed = owned_seed(alloc, self.seed)?;
         let mode = self.mode;
         Ok(Key { id, seed, mode })
+    }
+
+    /// Returns whether the cache is locked. Does not allocate.
+    pub fn is_locked(&self) -> bool
+        ensures { result ≡ is_locked self.now.mode }
+    {
+        match self.mode {
+            Mode::Shared => false,
+            Mode::Private => false,
+            Mode::Locked => true,
+        }
     }
 
     // How the cache is shared.

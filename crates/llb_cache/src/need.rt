@@ -1,4 +1,4 @@
-//! What is asked of a lease, and what it has: an instance of a cache for each need.
+//! What is asked of a lease, what it has, an instance of a cache for each need, and what a look-up finds of a key.
 
 ghost use Rattle.std.specs.Prelude.{◌≡◌, IfOk};
 
@@ -18,6 +18,19 @@ pub struct Need {
 pub struct Instance {
     pub key: Key,
     pub number: u32,
+}
+
+/// What caches have of a key.
+#[derive(Drop)]
+pub struct Found<'a> {
+    /// The number of the key's row, `None` if it has none. A later look-up may try that row first.
+    pub row: Option<usize>,
+    /// Whether a lease of the key would be refused: it is locked, and a lease has its instance.
+    pub is_held: bool,
+    /// The number of the instance that a lease of the key would have.
+    pub number: u32,
+    /// The tree of that instance, `None` where it is not there.
+    pub tree: Option<&'a Tree>,
 }
 
 impl Instance {

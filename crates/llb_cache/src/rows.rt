@@ -1,12 +1,13 @@
 //! The keys with the trees of their instances, and the row of each key. A look searches the rows in the order of their keys, so that
 //! it costs the logarithm of their number, whatever the keys are.
 
-ghost use Rattle.std.specs.Prelude.{◌≡◌, ◌<◌, ◌+◌, ℕ, false, [], length, IfSome, OnOk, IsSome, Some};
+ghost use Rattle.std.specs.Prelude.{◌≡◌, ◌<◌, ◌+◌, ℕ, true, false, [], length, IfSome, OnOk, IsSome, Some};
 ghost use Rattle.std.specs.Prelude.{is_some, option_map, position, slice_get};
 ghost use Rattle.std.specs.Map.{keys_of, values_of, lookup};
 ghost use Rattle.llb_cache.specs.Caches.{with_trees};
+ghost use Rattle.llb_cache.specs.Growth.{front, shorter};
 ghost use Rattle.llb_cache.specs.Key.{same_key};
-ghost use Rattle.llb_cache.specs.RowOrder.{is_before, IsPlace, AreOrdered, HasRoom};
+ghost use Rattle.llb_cache.specs.RowOrder.{key_at, is_before, IsPlace, AreOrdered, HasRoom};
 
 use crate::fault::Memory;
 use crate::key::Key;
@@ -88,6 +89,33 @@ pub(crate) fn row_of(rows: &Rows, key: &KeyRef<'_>) -> Option<usize>
     }
 }
 
+// Whether a row is there and has a key.
+fn has_key(rows: &Rows, row: usize, key: &KeyRef<'_>) -> bool
+    ensures within { result ≡ true → row < length rows.now.entries.items }
+    ensures same { result ≡ true → same_key key.now (key_at rows.now.entries.items row) ≡ true }
+{
+    match rows.entries.get(row) {
+        Some(entry) => key.is(&entry.0.by_ref()),
+        None => false,
+    }
+}
+
+// The number of a key's row: that which is tried first, if it has the key; else a search finds it.
+pub(crate) fn row_near(rows: &Rows, key: &KeyRef<'_>, near: Option<usize>) -> Option<usize>
+    requires { AreOrdered rows.now }
+    ensures at { result ≡ position (same_key key.now) (keys_of rows.now.entries.items) }
+    ensures found { is_some result ≡ is_some (lookup (same_key key.now) rows.now.entries.items) }
+    ensures within { IfSome result (λ i. i < length rows.now.entries.items) }
+    ensures value { IfSome result (λ i. slice_get (values_of rows.now.entries.items) i ≡ lookup (same_key key.now) rows.now.entries.items) }
+{
+    if let Some(row) = near {
+        if has_key(rows, row, key) {
+            return Some(row);
+        }
+    }
+    row_of(rows, key)
+}
+
 // The trees of a key, where it has a row.
 pub(crate) fn trees_with<'a>(rows: &'a Rows, key: &Key) -> Option<&'a Trees>
     requires { AreOrdered rows.now }
@@ -133,4 +161,30 @@ pub(crate) fn add_row(rows: &mut Rows, key: Key, trees: Trees)
     let place = place_of(rows, &key.by_ref());
     rows.order.insert(place, rows.entries.len()).unwrap();
     rows.entries.push_reserved((key, trees));
+}
+
+// Removes the last row, where there is one.
+pub(crate) fn pop_row(rows: &mut Rows)
+    requires { AreOrdered rows.old }
+    ensures rows { rows.new.entries.items ≡ front rows.old.entries.items }
+    ensures order { AreOrdered rows.new }
+{
+    let len = rows.entries.len();
+    if len > 0 {
+        let place = place_of(rows, &rows.entries[len - 1].0.by_ref());
+        rows.order.remove(place);
+        rows.entries.truncate(len - 1);
+    }
+}
+
+// Removes the last instance of a key, where it has one.
+pub(crate) fn pop_instance(rows: &mut Rows, key: &Key)
+    requires { AreOrdered rows.old }
+    ensures rows { rows.new.entries.items ≡ shorter rows.old.entries.items key.now (lookup (same_key key.now) rows.old.entries.items) }
+    ensures keys { keys_of rows.new.entries.items ≡ keys_of rows.old.entries.items }
+    ensures order { AreOrdered rows.new }
+{
+    if let Some(i) = row_of(rows, &key.by_ref()) {
+        rows.entries[i].1.pop();
+    }
 }

@@ -1,14 +1,13 @@
-//! What leases have, and what is free. A look at an instance uses its key's row and the mark of its number, and reads no lease.
+//! What leases have, and what is free. A look-up of a key reads its row and the marks beside it, and no lease.
 
-ghost use Rattle.std.specs.Prelude.{◌≡◌, ◌≢◌, ◌↔◌, ◌<◌, ◌≤◌, ◌&&◌, ℕ, true, false, IsTrue, AllPairs, length, map, slice_get, IfOk, IfSome};
-ghost use Rattle.std.specs.Prelude.{MatchResult, None, option_and_then};
+ghost use Rattle.std.specs.Prelude.{◌≡◌, ◌≢◌, ◌↔◌, ◌<◌, ◌≤◌, ◌&&◌, false, IsTrue, AllPairs, List, length, map, slice_get, slice_index_or};
+ghost use Rattle.std.specs.Prelude.{IfOk, IfSome, MatchResult, Some, None, option_and_then, option_map, position};
 ghost use Rattle.std.specs.List.{All, list_any, find};
-ghost use Rattle.std.specs.Map.{keys_of};
+ghost use Rattle.std.specs.Map.{keys_of, values_of};
+ghost use Rattle.llb_tree.specs.Tree.{TreeMap};
 ghost use Rattle.llb_cache.specs.Key.{same_key};
-ghost use Rattle.llb_cache.specs.Caches.{place, is_held, leases, taken, number_for, is_locked, is_locked_and_held, free_lease};
+ghost use Rattle.llb_cache.specs.Caches.{place, trees_of, is_held, leases, taken, number_for, is_locked, is_locked_and_held, free_lease};
 ghost use Rattle.llb_cache.specs.Growing.{shown, FitsIn, IsRefusal};
-ghost use Rattle.llb_cache.specs.Marks.{marked};
-ghost use Rattle.llb_cache.specs.RowOrder.{AreOrdered};
 
 use crate::caches::Caches;
 use crate::fault::{LeaseFault, Memory};
@@ -16,35 +15,10 @@ use crate::growing::Ready;
 use crate::key::Mode;
 use crate::key_ref::KeyRef;
 use crate::marks::Marks;
-use crate::need::{Instance, Need};
-use crate::rows::{Rows, row_of};
+use crate::need::{Found, Instance, Need};
+use crate::rows::{Rows, row_near};
 use crate::trees::Room;
 use llb_wire::Many;
-
-// Whether an instance is marked.
-fn is_marked(rows: &Rows, marks: &[Marks], key: &KeyRef<'_>, number: u32) -> bool
-    requires order { AreOrdered rows.now }
-    requires each { length marks.now ≡ length rows.now.entries.items }
-    ensures { result ≡ marked (keys_of rows.now.entries.items) marks.now (place key.now number) }
-{
-    match row_of(rows, key) {
-        Some(i) => marks[i].has(number),
-        None => false,
-    }
-}
-
-// The least number of a key without a mark.
-fn first_unmarked(rows: &Rows, marks: &[Marks], key: &KeyRef<'_>) -> usize
-    requires order { AreOrdered rows.now }
-    requires each { length marks.now ≡ length rows.now.entries.items }
-    ensures below { (k : ℕ) → k < result → marked (keys_of rows.now.entries.items) marks.now (place key.now k) ≡ true }
-    ensures clear { marked (keys_of rows.now.entries.items) marks.now (place key.now result) ≡ false }
-{
-    match row_of(rows, key) {
-        Some(i) => marks[i].first_clear(),
-        None => 0,
-    }
-}
 
 // How many leases are out.
 pub(crate) fn count(out: &[Option<Many<Instance>>]) -> u32
@@ -61,35 +35,54 @@ pub(crate) fn count(out: &[Option<Many<Instance>>]) -> u32
 }
 
 impl Caches {
-    // Whether a key is locked, and a lease has its instance.
-    pub(crate) fn holds_locked(&self, key: &KeyRef<'_>) -> bool
+    /// Returns what the caches have of a key. The row of number `near` is tried first, at the cost of one comparison; only if it does not have
+    /// the key, the rows are searched. Does not allocate.
+    pub fn look_up(&self, key: &KeyRef<'_>, near: Option<usize>) -> Found<'_>
+        ensures row { result.row ≡ position (same_key key.now) (keys_of self.now.rows) }
+        ensures held { result.is_held ≡ (is_locked key.now.mode && is_held self.now.out (place key.now 0)) }
+        ensures number { result.number ≡ number_for self.now.out key.now key.now.mode }
+        ensures tree { option_map (λ t. t.now) result.tree ≡ slice_get (trees_of self.now.rows key.now) result.number }
+    {
+        let Some(row) = row_near(&self.rows, key, near) else {
+            return nothing_found();
+        };
+        let marks = &self.marks[row];
+        match key.mode() {
+            Mode::Shared => found_in(&self.rows, row, 0, false),
+            Mode::Private => found_in(&self.rows, row, marks.first_clear() as u32, false),
+            Mode::Locked => found_in(&self.rows, row, 0, marks.has(0)),
+        }
+    }
+
+    // Whether a key is locked, and a lease has its instance. Only a locked key is looked up.
+    pub(crate) fn holds_locked(&self, key: &KeyRef<'_>, near: Option<usize>) -> bool
         ensures { result ≡ (is_locked key.now.mode && is_held self.now.out (place key.now 0)) }
     {
         match key.mode() {
             Mode::Shared => false,
             Mode::Private => false,
-            Mode::Locked => is_marked(&self.rows, &self.marks, key, 0),
+            Mode::Locked => self.look_up(key, near).is_held,
         }
     }
 
-    // The number of the instance that is chosen for a key.
-    pub(crate) fn number_for(&self, key: &KeyRef<'_>) -> u32
+    // The number of the instance that is chosen for a key. Only a private key is looked up.
+    pub(crate) fn number_for(&self, key: &KeyRef<'_>, near: Option<usize>) -> u32
         ensures { result ≡ number_for self.now.out key.now key.now.mode }
     {
         match key.mode() {
             Mode::Shared => 0,
             Mode::Locked => 0,
-            Mode::Private => first_unmarked(&self.rows, &self.marks, key) as u32,
+            Mode::Private => self.look_up(key, near).number,
         }
     }
 
     // The first need whose locked key is held.
-    fn first_held(&self, needs: &[Need]) -> Option<usize>
+    fn first_held(&self, needs: &[Need], rows: &[Option<usize>]) -> Option<usize>
         ensures found { find (is_locked_and_held self.now.out) needs.now ≡ option_and_then (slice_get needs.now) result }
         ensures within { IfSome result (λ i. i < length needs.now) }
     {
         for (i, need) in needs.iter().enumerate() {
-            if self.holds_locked(&need.key.by_ref()) {
+            if self.holds_locked(&need.key.by_ref(), row_for(rows, i)) {
                 return Some(i);
             }
         }
@@ -97,11 +90,15 @@ impl Caches {
     }
 
     // The needs, where no locked key of theirs is held; else the first such key.
-    pub(crate) fn admitted(&self, needs: Vec<Need>) -> Result<Vec<Need>, LeaseFault>
+    pub(crate) fn admitted(
+        &self,
+        needs: Vec<Need>,
+        rows: &[Option<usize>],
+    ) -> Result<Vec<Need>, LeaseFault>
         ensures { MatchResult result (λ ns. (find (is_locked_and_held self.now.out) needs.items ≡ None) × (ns.items ≡ needs.items))
             (IsRefusal (find (is_locked_and_held self.now.out) needs.items)) }
     {
-        match self.first_held(&needs) {
+        match self.first_held(&needs, rows) {
             Some(i) => {
                 let mut needs = needs;
                 let need = needs.swap_remove(i);
@@ -112,14 +109,19 @@ impl Caches {
     }
 
     // What the needs take where these leases are out.
-    pub(crate) fn readied(&self, needs: Vec<Need>) -> Result<Vec<Ready>, Memory>
+    pub(crate) fn readied(
+        &self,
+        needs: Vec<Need>,
+        rows: &[Option<usize>],
+    ) -> Result<Vec<Ready>, Memory>
         ensures takes { IfOk result (λ rs. map shown rs.items ≡ taken self.now.out needs.items) }
         ensures room { IfOk result (λ rs. All FitsIn rs.items) }
     {
         let alloc = *self.out.allocator();
         let mut readies = Vec::new(alloc);
         for need in needs {
-            let number = self.number_for(&need.key.by_ref());
+            let near = row_for(rows, readies.len());
+            let number = self.number_for(&need.key.by_ref(), near);
             let room = Room::up_to(alloc, number)?;
             let marks = Marks::up_to(alloc, number)?;
             let place = Instance {
@@ -128,12 +130,55 @@ impl Caches {
             };
             readies.push(Ready {
                 place,
+                near,
                 tree: need.tree,
                 room,
                 marks,
             })?;
         }
         Ok(readies)
+    }
+}
+
+// What is found of a key that has no row.
+fn nothing_found<'a>() -> Found<'a>
+    ensures row { result.row ≡ None }
+    ensures held { result.is_held ≡ false }
+    ensures number { result.number ≡ 0 }
+    ensures tree { option_map (λ t. t.now) result.tree ≡ None }
+{
+    Found {
+        row: None,
+        is_held: false,
+        number: 0,
+        tree: None,
+    }
+}
+
+// What is found in a row, where a lease would have the instance of this number.
+fn found_in(rows: &Rows, row: usize, number: u32, is_held: bool) -> Found<'_>
+    requires { row < length rows.now.entries.items }
+    ensures row { result.row ≡ Some row }
+    ensures held { result.is_held ≡ is_held }
+    ensures number { result.number ≡ number }
+    ensures tree { (trees : List TreeMap) → slice_get (values_of rows.now.entries.items) row ≡ Some trees
+        → option_map (λ t. t.now) result.tree ≡ slice_get trees number }
+{
+    Found {
+        row: Some(row),
+        is_held,
+        number,
+        tree: rows.entries[row].1.get(number),
+    }
+}
+
+// The row that is tried first for the need of a number; no row past the last number.
+fn row_for(rows: &[Option<usize>], need: usize) -> Option<usize>
+    ensures { result ≡ slice_index_or rows.now need None }
+{
+    match rows.get(need) {
+        Some(row) => *row,
+        None => None,
     }
 }
 

@@ -2,6 +2,7 @@
 //! changes.
 
 ghost use Rattle.std.specs.Prelude.{◌≡◌, ◌↔◌, IsTrue, ◌<◌, ◌++◌, List, [], ◌∷◌, length, slice_get, slice_set, option_map, IfOk, Some};
+ghost use Rattle.llb_cache.specs.Growth.{front};
 
 use crate::fault::Memory;
 use llb_tree::Tree;
@@ -109,6 +110,13 @@ impl Trees {
         items.append(&mut self.items).unwrap();
         items.push_reserved(tree);
         self.items = items;
+    }
+
+    // Drops the last tree, where there is one.
+    pub(crate) fn pop(&mut self)
+        ensures { self.new ≡ front self.old }
+    {
+        self.items.pop();
     }
 
     // Second owners of all trees.

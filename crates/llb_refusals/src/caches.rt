@@ -3,7 +3,7 @@
 use super::growths::{Row, Trial, are_refused};
 use super::told::{fault_told, text_of, text_told};
 use super::written::tree_named;
-use llb_cache::{Caches, Key, Lease, LeaseFault, Many, Memory, Mode, Need, Seed};
+use llb_cache::{Caches, Instance, Key, Lease, LeaseFault, Lent, Many, Memory, Mode, Need, Seed};
 use std::alloc::Global;
 use std::process::Abort;
 
@@ -12,15 +12,17 @@ enum Answer {
     None,
     Lease(Result<Lease, LeaseFault>),
     Copied(Result<Caches, Memory>),
+    Ready(Result<Lent, Memory>),
 }
 
-// Caches, twice, and needs for two calls that take them.
+// Caches, twice, needs for two calls that take them, and instances of their keys.
 #[derive(Drop)]
 struct OnCaches {
     call: &'static str,
     caches: Caches,
     twin: Caches,
     needs: Vec<Many<Need>>,
+    instances: Vec<Instance>,
     answer: Answer,
 }
 
@@ -94,6 +96,19 @@ fn two_needs(rt: &impl Abort, alloc: Global, written: &'static str) -> Vec<Many<
     needs
 }
 
+// The first instance of each key that is needed.
+fn instances_of(rt: &impl Abort, alloc: Global, written: &'static str) -> Vec<Instance> {
+    let mut instances = Vec::new(alloc);
+    for need in needs_of(rt, alloc, written).into_vec() {
+        let instance = Instance {
+            key: need.key,
+            number: 0,
+        };
+        instances.push(instance).expect(rt, "memory");
+    }
+    instances
+}
+
 impl OnCaches {
     // The lease with the instance that its first need has, and how many leases are out.
     fn lease_told(&self, rt: &impl Abort, alloc: Global, lease: Lease) -> String {
@@ -124,13 +139,15 @@ impl Trial for OnCaches {
             caches: caches_of(rt, alloc, out),
             twin: caches_of(rt, alloc, out),
             needs: two_needs(rt, alloc, needs),
+            instances: instances_of(rt, alloc, needs),
             answer: Answer::None,
         }
     }
 
-    fn call(&mut self, _alloc: Global) {
+    fn call(&mut self, alloc: Global) {
         self.answer = match self.call {
             "Caches::copy" => Answer::Copied(self.caches.copy()),
+            "Lent::new" => Answer::Ready(Lent::new(alloc, &self.instances, 2)),
             _ => taken(&mut self.caches, &mut self.needs),
         };
     }
@@ -140,8 +157,9 @@ impl Trial for OnCaches {
             Answer::None => text_told(rt, alloc, "nothing"),
             Answer::Lease(Ok(lease)) => self.lease_told(rt, alloc, *lease),
             Answer::Copied(Ok(copy)) => text_told(rt, alloc, self.copy_told(copy)),
+            Answer::Ready(Ok(_)) => text_told(rt, alloc, "a lease that is ready"),
             Answer::Lease(Err(fault)) => fault_told(rt, alloc, fault),
-            Answer::Copied(Err(fault)) => fault_told(rt, alloc, fault),
+            Answer::Copied(Err(fault)) | Answer::Ready(Err(fault)) => fault_told(rt, alloc, fault),
         }
     }
 
@@ -183,6 +201,12 @@ const ROWS: &[Row] = &[
         "k locked after b locked then p private F",
         "112",
         "the caches",
+    ),
+    (
+        "Lent::new",
+        "k locked, p private F",
+        "112",
+        "a lease that is ready",
     ),
 ];
 

@@ -3,16 +3,15 @@ use Rattle.std.proofs.Common.{◌≡◌, ℕ, ◌<◌, ◌^◌, List, length, ma
 use Rattle.std.specs.Prelude.{Result, Ok}
 use Rattle.std.specs.List.{All}
 use Rattle.llb_cache.specs.declared.need.Need as cache_need
-use Rattle.llb_cache.specs.Caches.{CachesValue, place_for}
+use Rattle.llb_cache.specs.Caches.{CachesValue}
 use Rattle.llb_loader.specs.Rules.{kind_mounts}
 use Rattle.llb_loader.specs.declared.graph.Vertex.{Vertex}
 use Rattle.llb_tree.specs.Tree.{TreeMap}
 use Rattle.llb_model.specs.Caches.{Instance, Distinct}
-use Rattle.llb_model.specs.Kept.{store_of}
-use Rattle.llb_model.specs.Program.{Build, Workspace, Need, mount_of, needs_of, program_of, workspace_on}
+use Rattle.llb_model.specs.Program.{Build, Workspace, Need, key_of, mount_of, needs_of, program_of, workspace_on}
 use Rattle.llb_model.specs.Table.{Claimed}
-use Rattle.llb_model.proofs.Claims.{first_length}
-use Rattle.llb_state.specs.Needs.{Taking, taken_with, places_taken}
+use Rattle.llb_state.specs.declared.needs.Wanted.{Wanted}
+use Rattle.llb_state.specs.Needs.{Taking, taken_by, taken_with, IsFound, need_of, first_tree}
 use Rattle.llb_execution.specs.Jobs.{IsWorkable}
 use Rattle.llb_execution.specs.Parts.{work_with, mounts_in, shown_in}
 use Rattle.llb_state.specs.Room.{Supplies, supplies_for}
@@ -20,7 +19,8 @@ use Rattle.llb_state.specs.Rules.{or_not_ready, Begun, begun}
 use Rattle.llb_state.specs.Begun.{Outfitted, outfit_of}
 use Rattle.llb_events.specs.declared.fault.ClaimFault.{ClaimFault}
 use Rattle.llb_state.proofs.Lists.{length_map}
-use Rattle.llb_state.proofs.Needed.{mounts_on, shown_on, keys_taken}
+use Rattle.llb_state.proofs.Needed.{mounts_on, shown_on}
+use Rattle.llb_state.proofs.Wanted.{keys_found, taken_as}
 use Rattle.llb_state.proofs.Wanting.{needs_apart, needs_within}
 
 inside_ok : {A : Type 0} {x y : A} → ◌≡◌ {A = Result A ClaimFault} (Ok x) (Ok y) → x ≡ y
@@ -58,30 +58,31 @@ put_together w v p = record {
 }
 
 -- each part is the rule's
-pub record AreParts (b : Build) (c : CachesValue) (x : Vertex) (trees : List TreeMap) (p : Parts) : Type 0 where
+pub record AreParts (b : Build) (x : Vertex) (ws : List Wanted) (trees : List TreeMap) (p : Parts) : Type 0 where
   pub view : workspace_on b.locals x x.op.kind trees ≡ p.view
   pub own : workspace_on b.locals x x.op.kind trees ≡ p.own
-  pub taking : taken_with c trees (needs_of x) ≡ taking_of p
+  pub taking : taken_by trees ws ≡ taking_of p
   pub outfit : outfit_of x ≡ p.outfit
 
--- a claim begins what its parts make together, where the inputs have trees and each part is the rule's
-pub begun_of : (b : Build) (c : CachesValue) (w v : ℕ) (x : Vertex) (o : Option (List TreeMap)) (trees : List TreeMap) (p : Parts)
-    → or_not_ready o ≡ Ok trees → AreParts b c x trees p
+-- a claim begins what its parts make together, where the inputs have trees, each part is the rule's, and the caches are as they were found
+pub begun_of : (b : Build) (c : CachesValue) (w v : ℕ) (x : Vertex) (o : Option (List TreeMap)) (trees : List TreeMap) (ws : List Wanted) (p : Parts)
+    → All (IsFound c) ws → map need_of ws ≡ needs_of x → or_not_ready o ≡ Ok trees → AreParts b x ws trees p
     → begun b c w v x o ≡ Ok (put_together w v p)
-begun_of b c w v x o trees p there are =
+begun_of b c w v x o trees ws p found wanted there are =
+    let taking : taken_with c trees (needs_of x) ≡ taking_of p = ap (taken_with c trees) (sym wanted) ∙ sym (taken_as c trees ws found) ∙ are.taking in
     ap (begun b c w v x) (are_ready o trees there)
     ∙ (λ i. Ok (put_together w v (record {
       view = are.view i;
       own = are.own i;
-      places = (are.taking i).0;
-      instances = (are.taking i).1;
-      trees = (are.taking i).2;
-      needs = (are.taking i).3;
+      places = (taking i).0;
+      instances = (taking i).1;
+      trees = (taking i).2;
+      needs = (taking i).3;
       outfit = are.outfit i;
     })))
 
 -- the parts supply a worker with what its vertex asks for: outputs, where commands run, mounts, and the keys of caches
-pub supplied : (b : Build) (c : CachesValue) (x : Vertex) (trees : List TreeMap) (p : Parts) → AreParts b c x trees p
+pub supplied : (b : Build) (x : Vertex) (ws : List Wanted) (trees : List TreeMap) (p : Parts) → map need_of ws ≡ needs_of x → AreParts b x ws trees p
     → ◌≡◌ {A = Supplies}
     (record {
       outputs = p.outfit.outputs;
@@ -91,28 +92,27 @@ pub supplied : (b : Build) (c : CachesValue) (x : Vertex) (trees : List TreeMap)
       keys = map (λ (q : Instance). q.key) p.places;
     })
     (supplies_for (Some x))
-supplied b c x trees p are = λ i. record {
+supplied b x ws trees p wanted are = λ i. record {
   outputs = (sym are.outfit i).outputs;
   setting = (sym are.outfit i).setting;
   mounts = (ap mounts_in (sym are.own) ∙ mounts_on b.locals x x.op.kind trees) i;
   shown = (ap shown_in (sym are.own) ∙ shown_on b.locals x trees) i;
-  keys = (ap (λ (t : Taking). map (λ (q : Instance). q.key) t.0) (sym are.taking) ∙ keys_taken c.out (needs_of x)) i;
+  keys = (ap (λ (t : Taking). map (λ (q : Instance). q.key) t.0) (sym are.taking) ∙ keys_found ws ∙ ap (λ (ns : List Need). map key_of ns) wanted) i;
 }
 
 -- its micro-steps can be done
-pub workable : (b : Build) (c : CachesValue) (x : Vertex) (trees : List TreeMap) (p : Parts) → AreParts b c x trees p → length (program_of x).steps < 2 ^ 32
-    → IsWorkable p.outfit.program (work_with p.view p.trees)
-workable b c x trees p are few =
+pub workable : (b : Build) (x : Vertex) (ws : List Wanted) (trees : List TreeMap) (p : Parts) → map need_of ws ≡ needs_of x → AreParts b x ws trees p
+    → length (program_of x).steps < 2 ^ 32 → IsWorkable p.outfit.program (work_with p.view p.trees)
+workable b x ws trees p wanted are few =
     let needs = needs_of x in
     let shown : shown_in p.view ≡ map mount_of needs = ap shown_in (sym are.view) ∙ shown_on b.locals x trees in
     let mounts : mounts_in p.view ≡ length (kind_mounts x.op.kind) = ap mounts_in (sym are.view) ∙ mounts_on b.locals x x.op.kind trees in
-    let places = places_taken c.out needs in
-    let many : length places ≡ length needs = length_map (λ (n : Need). place_for c.out n.key) needs in
+    let many : length ws ≡ length needs = sym (length_map need_of ws) ∙ ap (λ (ns : List Need). length ns) wanted in
     record {
       apart = subst Distinct (sym shown) (needs_apart x);
       within = subst (λ (n : ℕ). All (λ m. m < n) (shown_in p.view)) (sym mounts)
           (subst (λ (ms : List ℕ). All (λ m. m < length (kind_mounts x.op.kind)) ms) (sym shown) (needs_within x));
-      count = ap (λ (t : Taking). length t.2) (sym are.taking) ∙ first_length (store_of c.rows) trees places needs many ∙ many
-          ∙ sym (length_map mount_of needs) ∙ ap length (sym shown);
+      count = ap (λ (t : Taking). length t.2) (sym are.taking) ∙ length_map (first_tree trees) ws ∙ many ∙ sym (length_map mount_of needs)
+          ∙ ap length (sym shown);
       few = subst (λ (o : Outfitted). length o.program.steps < 2 ^ 32) are.outfit few;
     }

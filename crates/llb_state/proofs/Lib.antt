@@ -17,12 +17,13 @@ pub mod Calls
 pub mod Kept
 pub mod Skipping
 pub mod Stepping
-pub mod PutBack
 pub mod Alike
 pub mod Stages
 pub mod InStep
 pub mod Crews
 pub mod Worked
+pub mod Unmade
+pub mod Leasable
 pub mod Claims
 pub mod Landings
 pub mod Undoings

@@ -48,11 +48,6 @@ shown_of_kind locals v None inputs is = ap (λ o. map mount_of (needs_from v.op.
 pub shown_on : (locals : List Local) (v : Vertex) (inputs : List TreeMap) → shown_in (workspace_on locals v v.op.kind inputs) ≡ map mount_of (needs_of v)
 shown_on locals v inputs = shown_of_kind locals v v.op.kind inputs refl
 
--- the instances have the keys of the needs
-pub keys_taken : (out : Leases) (needs : List Need) → map (λ (p : Instance). p.key) (places_taken out needs) ≡ map key_of needs
-keys_taken out [] = refl
-keys_taken out (n ∷ needs) = ap (λ ks. n.key ∷ ks) (keys_taken out needs)
-
 -- ---- how many needs there are
 
 needs_fewer : (inputs : List Input) (i : ℕ) (ms : List Mount) → length (needs_from inputs i ms) ≤ length ms

@@ -26,7 +26,7 @@ AreKeysApart (p ∷ ps) = ((q : Instance) → Has ps q → p.key ≢ q.key) × A
 abbrev pub AreWithin : List Row → List Instance → Type 0
 AreWithin rows ps = (p : Instance) → Has ps p → p.number < length (trees_of rows p.key)
 
-other_key : (k l : Key) → k ≢ l → same_key k l ≡ false
+pub other_key : (k l : Key) → k ≢ l → same_key k l ≡ false
 other_key k l apart = go (same_key k l) refl
   where
     go : (b : Bool) → same_key k l ≡ b → b ≡ false

@@ -1,27 +1,39 @@
--- What an event displaced is put back: the workers, their supplies and their leases.
-use Rattle.std.proofs.Common.{◌≡◌, ℕ, zero, suc, ◌-◌, ◌<◌, List, [], ◌∷◌, map, length, Option, Some, None, inr, refl, sym, ap, subst, ◌∙◌, arith}
+-- What an event displaced is put back: the workers, their supplies, their leases and the lists of instances.
+use Rattle.std.proofs.Common.{◌≡◌, ℕ, zero, suc, ◌+◌, ◌-◌, ◌<◌, List, [], ◌∷◌, map, length, Option, Some, None, unwrap_or, inl, inr, refl, sym, ap, subst}
+use Rattle.std.proofs.Common.{◌∙◌, arith}
 use Rattle.std.specs.Prelude.{slice_get, slice_set}
 use Rattle.std.specs.Option.{ForSome}
 use Rattle.std.proofs.lemmas.Option.{slice_get_within}
-use Rattle.llb_cache.specs.Caches.{CachesValue, Row, Leases}
+use Rattle.llb_cache.specs.declared.growth.Growth.{Growth}
+use Rattle.llb_cache.specs.Caches.{CachesValue, Leases, AreThere, trees_of}
+use Rattle.llb_cache.specs.Growth.{LentValue, CanLend, unmade}
+use Rattle.llb_tree.specs.Tree.{TreeMap}
 use Rattle.llb_execution.specs.Marks.{Mark, put_back}
 use Rattle.llb_execution.specs.Parts.{mounts_in}
 use Rattle.llb_execution.proofs.Marks.{shown_back}
-use Rattle.llb_model.specs.Leases.{AreLeased}
+use Rattle.llb_model.specs.Caches.{Instance}
+use Rattle.llb_model.specs.Leases.{AreLeased, put_each}
 use Rattle.llb_model.specs.State.{WorkerStatus, Idle, Runs, Execution}
-use Rattle.llb_model.proofs.Lists.{get_within, length_set}
+use Rattle.llb_model.proofs.Lists.{length_set}
+use Rattle.llb_state.specs.Caches.{IsOutIf, given_back, taken_back, leased_places, places_at, lent_of, lent_if}
 use Rattle.llb_state.specs.Room.{ready_made, supplies_of}
-use Rattle.llb_state.specs.Undo.{Unclaim, Unstep, Resume, workers_before, step_before, IsStepped, HasNoPlaces, FitsLeases, Back, rows_before}
-use Rattle.llb_state.specs.Undoing.{Before, caches_in, desk_before, leases_before, caches_before, HasPlaceFor}
+use Rattle.llb_state.specs.Undo.{Back, Unclaim, Unstep, Resume, back_in, workers_before, supplies_before, rows_before, step_before, IsStepped, CanPutBack}
+use Rattle.llb_state.specs.Undoing.{desk_before, left_in}
 use Rattle.llb_state.specs.Views.{at_of, leased_by, execution_of}
 use Rattle.llb_state.specs.declared.stand.Desk.{Desk}
 use Rattle.llb_state.specs.declared.stand.Desk.TheVariants as desk
 use Rattle.llb_state.specs.declared.stand.Execution as own
-use Rattle.llb_state.specs.declared.undoing.Before as before
-use Rattle.llb_state.proofs.Crews.{Crew}
+use Rattle.llb_state.specs.declared.workers.undoing.Back as undo
+use Rattle.llb_state.specs.declared.workers.undoing.End.{End}
+use Rattle.llb_state.proofs.Calls.{LeasedNew}
+use Rattle.llb_state.proofs.Crews.{Crew, crew_set}
 use Rattle.llb_state.proofs.Kept.{leased_claimed}
-use Rattle.llb_state.proofs.Lists.{map_set, get_map, set_same}
+use Rattle.llb_state.proofs.Leasable.{lease_places, leased_there, can_lend}
+use Rattle.llb_state.proofs.Lent.{leased_settled, lease_out}
+use Rattle.llb_state.proofs.Lists.{map_set, get_map, set_same, length_map}
 use Rattle.llb_state.proofs.Stepping.{leased_stepped}
+use Rattle.llb_state.proofs.Unmade.{keys_apart}
+use Rattle.llb_state.proofs.Worked.{seen_of}
 
 -- ---- a micro-step
 
@@ -37,15 +49,15 @@ seat_at (desk.Runs l y ∷ ds) zero x at = (l, y, refl, runs_inside at)
 seat_at (d ∷ ds) (suc w) x at = seat_at ds w x at
 
 -- a worker whose micro-step is taken back keeps its lease, and has the same supplies
-pub record IsUnstepped (ds new : List Desk) (out : Leases) (w : ℕ) (mark : Mark) : Type 0 where
+pub record IsUnstepped (ds new : List Desk) (out : Leases) (w : ℕ) (mark : Mark) (ts : List TreeMap) : Type 0 where
   pub low : w < length ds
-  pub workers : map at_of new ≡ workers_before (Unstep w mark) (map at_of ds)
+  pub workers : map at_of new ≡ workers_before (Unstep w mark ts) (map at_of ds)
   pub made : map ready_made new ≡ map ready_made ds
   pub leased : AreLeased out (map at_of new) (map leased_by new)
 
-pub unstepped : (ds new : List Desk) (out : Leases) (w : ℕ) (mark : Mark) → IsStepped (map at_of ds) w mark
-    → AreLeased out (map at_of ds) (map leased_by ds) → new ≡ slice_set ds w (desk_before mark (slice_get ds w)) → IsUnstepped ds new out w mark
-unstepped ds new out w mark behind leased is =
+pub unstepped : (ds new : List Desk) (out : Leases) (w : ℕ) (mark : Mark) (ts : List TreeMap) → IsStepped (map at_of ds) w mark ts
+    → AreLeased out (map at_of ds) (map leased_by ds) → new ≡ slice_set ds w (desk_before mark (slice_get ds w)) → IsUnstepped ds new out w mark ts
+unstepped ds new out w mark ts behind leased is =
     let r = seat_at ds w behind.x behind.runs in
     let l = r.0 in
     let x = r.1 in
@@ -65,75 +77,116 @@ unstepped ds new out w mark behind leased is =
           (leased_stepped out out ds w l x y leased at refl refl);
     }
 
--- ---- a settle or a cancel
+-- ---- what is left
 
--- a worker that runs again without instances needs no lease
-pub resumed : (ds : List Desk) (out : Leases) (w : ℕ) (x : own.Execution) → AreLeased out (map at_of ds) (map leased_by ds)
-    → slice_get (map at_of ds) w ≡ Some Idle → x.places.items ≡ []
-    → AreLeased out (map at_of (slice_set ds w (desk.Runs None x))) (map leased_by (slice_set ds w (desk.Runs None x)))
-resumed ds out w x leased idle none =
-    leased_claimed out ds w None x [] out leased idle none (inr (refl, refl, refl))
+-- what an event displaced can be put back
+abbrev pub Can : List Desk → CachesValue → Back → Type 0
+Can ds c k = CanPutBack (record { back = k }) (seen_of ds c.rows)
 
--- ---- caches that are put back
+pub can_by : (ds : List Desk) (c : CachesValue) (k j : undo.Back) → k ≡ j → Can ds c (back_in k) → Can ds c (back_in j)
+can_by ds c k j is can = subst (λ (i : undo.Back). Can ds c (back_in i)) is can
 
--- each lease has a worker that runs
-place_for : (out : Leases) (workers : List WorkerStatus) (ls : List (Option ℕ)) → AreLeased out workers ls → HasPlaceFor ls workers
-place_for out workers ls leased = record { count = leased.count; idle = λ w at. by_lease w at (slice_get ls w) refl }
-  where
-    apart : (x : Execution) → ◌≡◌ {A = Option WorkerStatus} (Some (Runs x)) (Some Idle) → ⊥
-    apart x e = cc
+-- seats and caches that what an event displaced is put back into
+pub record PutsBack (ds : List Desk) (c : CachesValue) (k : Back) (new : List Desk) (d : CachesValue) : Type 0 where
+  pub workers : map at_of new ≡ workers_before k (map at_of ds)
+  pub made : map ready_made new ≡ supplies_before k (map ready_made ds)
+  pub rows : d.rows ≡ rows_before k (map at_of ds) c.rows
+  pub crew : Crew new d.out
 
-    by_lease : (w : ℕ) → slice_get workers w ≡ Some Idle → (o : Option (Option ℕ)) → slice_get ls w ≡ o → slice_get ls w ≡ Some None
-    by_lease w at None is =
-        let low = slice_get_within workers w Idle at in
-        let count = leased.count in
-        let there = get_within ls w (omega (arith, low, count)) in
-        absurd (let same : ◌≡◌ {A = Option (Option ℕ)} None (Some there.0) = sym is ∙ there.1 in cc)
-    by_lease w at (Some None) is = is
-    by_lease w at (Some (Some l)) is = let r = leased.runs w l is in absurd (apart r.0 (sym r.1 ∙ at))
+module _ (ds : List Desk) (c : CachesValue) (crew : Crew ds c.out) where
+  places : (w : ℕ) (l : Option ℕ) → slice_get (map leased_by ds) w ≡ Some l → leased_places c.out l ≡ places_at (slice_get (map at_of ds) w)
+  places w l there = lease_places c.out (map at_of ds) (map leased_by ds) w l crew.leased there
 
--- the caches that are to be put back have a lease for each worker that runs
-pub places_put : (k : Back) (o : Option before.Before) (workers now : List WorkerStatus) → FitsLeases k workers (caches_in o) → now ≡ workers_before k workers
-    → ForSome o (λ c. HasPlaceFor c.leases.items now)
-places_put k o workers now fits same c is =
-    place_for c.caches.out now c.leases.items
-    (subst (λ ws. AreLeased c.caches.out ws c.leases.items) (sym same)
-    (subst (λ (x : Option before.Before). FitsLeases k workers (caches_in x)) is fits))
+  -- ---- of a claim
 
-as_many : (k : Back) (workers : List WorkerStatus) → length (workers_before k workers) ≡ length workers
-as_many (Unclaim w v) workers = length_set workers w Idle
-as_many (Unstep w mark) workers = length_set workers w (step_before mark (slice_get workers w))
-as_many (Resume e w left) workers = length_set workers w (Runs left.execution)
+  -- the worker's lease, if it has one, is out
+  pub is_out : (w : ℕ) (l : Option ℕ) → slice_get (map leased_by ds) w ≡ Some l → IsOutIf c.out l
+  is_out w l there = lease_out c.out (map at_of ds) (map leased_by ds) w l crew.leased there
 
-leased_put : (k : Back) (ds ds1 ds2 : List Desk) (c1 c2 : CachesValue) (o : Option Before) → FitsLeases k (map at_of ds) o
-    → map at_of ds1 ≡ workers_before k (map at_of ds) → (HasNoPlaces k → AreLeased c1.out (map at_of ds1) (map leased_by ds1))
-    → map at_of ds2 ≡ map at_of ds1 → map leased_by ds2 ≡ leases_before o (map leased_by ds1) → c2 ≡ caches_before o c1
-    → AreLeased c2.out (map at_of ds2) (map leased_by ds2)
-leased_put k ds ds1 ds2 c1 c2 (Some b) fits first else workers leases caches =
-    subst (λ ws. AreLeased c2.out ws (map leased_by ds2)) (sym (workers ∙ first))
-    (subst (AreLeased c2.out (workers_before k (map at_of ds))) (sym leases)
-    (subst (λ (x : CachesValue). AreLeased x.out (workers_before k (map at_of ds)) b.leases) (sym caches) fits))
-leased_put k ds ds1 ds2 c1 c2 None fits first else workers leases caches =
-    subst (λ ws. AreLeased c2.out ws (map leased_by ds2)) (sym workers)
-    (subst (AreLeased c2.out (map at_of ds1)) (sym leases)
-    (subst (λ (x : CachesValue). AreLeased x.out (map at_of ds1) (map leased_by ds1)) (sym caches) (else fits)))
+  module _ (w v : ℕ) (gs : List Growth) (can : Can ds c (Unclaim w v gs)) (l : Option ℕ) (there : slice_get (map leased_by ds) w ≡ Some l) where
+    idled : AreLeased (given_back c l).out (map at_of (slice_set ds w desk.Idle)) (map leased_by (slice_set ds w desk.Idle))
+    idled = leased_settled c ds w l crew.leased there
 
--- with the caches and their leases put back, or as they are, each running worker has its own lease
-pub crew_put : (k : Back) (ds ds1 ds2 : List Desk) (out : Leases) (c1 c2 : CachesValue) (o : Option Before) → Crew ds out
-    → FitsLeases k (map at_of ds) o
-    → map at_of ds1 ≡ workers_before k (map at_of ds) → (HasNoPlaces k → AreLeased c1.out (map at_of ds1) (map leased_by ds1))
-    → map at_of ds2 ≡ map at_of ds1 → map leased_by ds2 ≡ leases_before o (map leased_by ds1) → c2 ≡ caches_before o c1 → Crew ds2 c2.out
-crew_put k ds ds1 ds2 out c1 c2 o crew fits first else workers leases caches =
-    let count : length (map at_of ds2) ≡ length (map at_of ds) = ap length (workers ∙ first) ∙ as_many k (map at_of ds) in
-    let some = crew.some in
-    let few = crew.few in
-    record {
-      some = omega (arith, count, some);
-      few = omega (arith, count, few);
-      leased = leased_put k ds ds1 ds2 c1 c2 o fits first else workers leases caches;
-    }
+    unmade_rows : (taken_back c l gs).rows ≡ rows_before (Unclaim w v gs) (map at_of ds) c.rows
+    unmade_rows = ap (λ (ps : List Instance). unmade c.rows ps gs) (places w l there)
 
--- the lists of instances come from the caches that are put back, or stay
-pub rows_put : (o : Option Before) (c c' : CachesValue) (rows : List Row) → c.rows ≡ rows → c' ≡ caches_before o c → c'.rows ≡ rows_before o rows
-rows_put (Some k) c c' rows same caches = ap (λ (x : CachesValue). x.rows) caches
-rows_put None c c' rows same caches = ap (λ (x : CachesValue). x.rows) caches ∙ same
+    -- the other leases keep what they have
+    pub still_there : AreThere (taken_back c l gs).rows (taken_back c l gs).out
+    still_there =
+        leased_there (map at_of (slice_set ds w desk.Idle)) (taken_back c l gs).rows (given_back c l).out (map leased_by (slice_set ds w desk.Idle))
+        (λ u x p runs has. subst (λ rows. p.number < length (trees_of rows p.key)) (sym unmade_rows)
+        (can.there u x p (ap (λ (ws : List WorkerStatus). slice_get ws u) (sym (map_set at_of ds w desk.Idle)) ∙ runs) has)) idled
+
+    pub unclaims : (new : List Desk) (d : CachesValue) → new ≡ slice_set ds w desk.Idle → d ≡ taken_back c l gs → PutsBack ds c (Unclaim w v gs) new d
+    unclaims new d seats caches =
+        subst (λ (s : List Desk × CachesValue). PutsBack ds c (Unclaim w v gs) s.0 s.1) (λ i. (sym seats i, sym caches i)) (record {
+          workers = map_set at_of ds w desk.Idle;
+          made = map_set ready_made ds w desk.Idle;
+          rows = unmade_rows;
+          crew = crew_set ds w desk.Idle c.out (given_back c l).out crew idled;
+        })
+
+  -- ---- of a micro-step
+
+  module _ (w : ℕ) (mark : Mark) (ts : List TreeMap) (can : Can ds c (Unstep w mark ts)) (l : Option ℕ)
+      (there : slice_get (map leased_by ds) w ≡ Some l) where
+    -- there is a tree for each instance of the worker's lease
+    pub as_many : length ts ≡ length (leased_places c.out l)
+    as_many = can.behind.count ∙ sym (ap length (places w l there ∙ ap places_at can.behind.runs))
+
+    pub unsteps : (new : List Desk) (d : CachesValue) → new ≡ slice_set ds w (desk_before mark (slice_get ds w))
+        → d.rows ≡ put_each c.rows (leased_places c.out l) ts → d.out ≡ c.out → PutsBack ds c (Unstep w mark ts) new d
+    unsteps new d seats rows out =
+        let is = unstepped ds new c.out w mark ts can.behind crew.leased seats in
+        let count : length (map at_of new) ≡ length (map at_of ds)
+        = ap (λ (es : List Desk). length (map at_of es)) seats ∙ length_map at_of (slice_set ds w (desk_before mark (slice_get ds w)))
+        ∙ length_set ds w (desk_before mark (slice_get ds w)) ∙ sym (length_map at_of ds) in
+        let some = crew.some in
+        let few = crew.few in
+        record {
+          workers = is.workers;
+          made = is.made;
+          rows = rows ∙ ap (λ (ps : List Instance). put_each c.rows ps ts) (places w l there);
+          crew = record {
+            some = omega (arith, count, some);
+            few = omega (arith, count, few);
+            leased = subst (λ (o : Leases). AreLeased o (map at_of new) (map leased_by new)) (sym out) is.leased;
+          };
+        }
+
+  -- ---- of a settle or a cancel
+
+  module _ (e : End) (w : ℕ) (x : own.Execution) (lent : Option LentValue) (can : Can ds c (Resume e w (left_in x) lent)) where
+    lent_is : (ps : List Instance) (room : ℕ) (k : LentValue) → lent_of ps room ≡ Some k → record { places = ps; room = room } ≡ k
+    lent_is [] room k is = absurd cc
+    lent_is (p ∷ ps) room k is = ap (λ o. unwrap_or o k) is
+
+    -- the lease that is ready can be put out
+    pub lends : ForSome lent (CanLend c)
+    lends k is =
+        let workers = map at_of ds in
+        subst (CanLend c) (lent_is x.places.items (length workers + 1) k (sym can.behind.ready ∙ is))
+        (can_lend c.rows c.out workers (map leased_by ds) w (execution_of x) (length workers + 1) can.there can.once can.behind.idle crew.leased
+        (keys_apart x.places.items can.behind.keys) crew.few (omega arith))
+
+    -- what it is put out as
+    lent_new : (ps : List Instance) (room : ℕ) (l : Option ℕ) (d : CachesValue) → (l, d) ≡ lent_if c (lent_of ps room) → LeasedNew c.out l ps d.out
+    lent_new [] room l d is = inr (ap (λ (p : Option ℕ × CachesValue). p.0) is, refl, ap (λ (p : Option ℕ × CachesValue). p.1.out) is)
+    lent_new (p ∷ ps) room l d is = inl (ap (λ (p : Option ℕ × CachesValue). p.0) is, ap (λ (p : Option ℕ × CachesValue). p.1.out) is)
+
+    -- it changes no row
+    lent_rows : (o : Option LentValue) (l : Option ℕ) (d : CachesValue) → (l, d) ≡ lent_if c o → d.rows ≡ c.rows
+    lent_rows None l d is = ap (λ (p : Option ℕ × CachesValue). p.1.rows) is
+    lent_rows (Some k) l d is = ap (λ (p : Option ℕ × CachesValue). p.1.rows) is
+
+    pub resumes : (l : Option ℕ) (new : List Desk) (d : CachesValue) → (l, d) ≡ lent_if c lent → new ≡ slice_set ds w (desk.Runs l x)
+        → PutsBack ds c (Resume e w (left_in x) lent) new d
+    resumes l new d lends seats =
+        let out = lent_new x.places.items (length (map at_of ds) + 1) l d (lends ∙ ap (lent_if c) can.behind.ready) in
+        subst (λ (es : List Desk). PutsBack ds c (Resume e w (left_in x) lent) es d) (sym seats) (record {
+          workers = map_set at_of ds w (desk.Runs l x);
+          made = map_set ready_made ds w (desk.Runs l x);
+          rows = lent_rows lent l d lends;
+          crew = crew_set ds w (desk.Runs l x) c.out d.out crew
+              (leased_claimed c.out ds w l x x.places.items d.out crew.leased can.behind.idle refl out);
+        })

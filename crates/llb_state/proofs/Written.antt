@@ -68,7 +68,7 @@ set_got (u ∷ ts) zero t at = let same : t ≡ u = ap (λ o. unwrap_or o u) (sy
 set_got (u ∷ ts) (suc n) t at = ap (λ vs. u ∷ vs) (set_got ts n t at)
 
 -- an instance that shows its tree, or else the one that it begins with
-made_shown : (rows : List Row) (p : Instance) (t : TreeMap) → showing rows p (unwrap_or (content (store_of rows) p) t) ≡ made rows p t
+pub made_shown : (rows : List Row) (p : Instance) (t : TreeMap) → showing rows p (unwrap_or (content (store_of rows) p) t) ≡ made rows p t
 made_shown rows p t = go (nat_lt p.number (length (trees_of rows p.key))) refl
   where
     go : (b : Bool) → nat_lt p.number (length (trees_of rows p.key)) ≡ b
@@ -105,7 +105,7 @@ all_shown s rows out inputs (n ∷ needs) apart reached hold =
     ∙ all_shown s next out inputs needs apart.1 (λ q h. let grows = (makes rows p t).grows q.key in let low =
     reached q (inr h) in omega (arith, low, grows)) (subst (Hold s ps) (sym trees) hold.1)
 
-taken_places : (out : Leases) (inputs : List TreeMap) (needs : List Need)
+pub taken_places : (out : Leases) (inputs : List TreeMap) (needs : List Need)
     → places_taken out needs ≡ map (λ (t : Taken). t.0) (cache.taken out (asked inputs needs))
 taken_places out inputs [] = refl
 taken_places out inputs (n ∷ needs) = ap (λ ps. cache.place_for out n.key ∷ ps) (taken_places out inputs needs)

@@ -3,6 +3,8 @@ use Rattle.std.specs.Prelude.{ℕ, List, [], ◌∷◌, ◌++◌, length, Option
 use Rattle.std.specs.Prelude.{slice_set, nat_lt, Result, Ok, Err, if◌then◌else◌}
 use Rattle.llb_cache.specs.Caches as cache
 use Rattle.llb_cache.specs.Caches.{Row, Leases, trees_of, with_trees}
+use Rattle.llb_cache.specs.declared.growth.Growth.{Growth}
+use Rattle.llb_cache.specs.Growth.{LentValue, unmade, lent_again}
 use Rattle.llb_tree.specs.Tree.{TreeMap, empty_tree}
 use Rattle.llb_model.specs.Caches.{Instance, Store, content}
 use Rattle.llb_model.specs.State.{WorkerStatus, Idle, Runs, State}
@@ -35,6 +37,20 @@ out_without out None = out
 -- the caches after a lease is given back
 abbrev pub given_back : cache.CachesValue → Option ℕ → cache.CachesValue
 given_back c l = record c { out = out_without c.out l }
+
+-- the caches after a lease is taken back with what it added
+abbrev pub taken_back : cache.CachesValue → Option ℕ → List Growth → cache.CachesValue
+taken_back c l gs = record (given_back c l) { rows = unmade c.rows (leased_places c.out l) gs }
+
+-- what a lease of instances is made of, if there are some
+abbrev pub lent_of : List Instance → ℕ → Option LentValue
+lent_of [] room = None
+lent_of (p ∷ ps) room = Some (record { places = p ∷ ps; room = room })
+
+-- a lease that was made ready, if there is one
+abbrev pub lent_if : cache.CachesValue → Option LentValue → Option ℕ × cache.CachesValue
+lent_if c None = (None, c)
+lent_if c (Some l) = (Some (cache.free_lease c.out), lent_again c l.places)
 
 -- the result of a lease, the lease as an optional one
 abbrev pub some_lease : Result (ℕ × cache.CachesValue) LeaseFault → Result (Option ℕ × cache.CachesValue) LeaseFault

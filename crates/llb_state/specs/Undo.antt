@@ -1,10 +1,16 @@
 -- What an event displaces of the workers, and the workers after it is put back.
-use Rattle.std.specs.Prelude.{◌≡◌, ℕ, ◌-◌, ◌<◌, Bool, true, false, List, [], length, Option, Some, None, Result, slice_get, slice_set}
-use Rattle.llb_cache.specs.Caches.{Row}
+use Rattle.std.specs.Prelude.{◌≡◌, ℕ, ◌+◌, ◌-◌, ◌^◌, ◌<◌, Bool, true, false, List, length, map, Option, Some, None, Result, slice_get, slice_set}
+use Rattle.llb_cache.specs.declared.growth.Growth.{Growth}
+use Rattle.llb_cache.specs.Caches.{Row, trees_of}
+use Rattle.llb_cache.specs.Growth.{LentValue, growth_at, unmade}
+use Rattle.llb_tree.specs.Tree.{TreeMap}
 use Rattle.llb_execution.specs.Marks.{Mark, mark_of, put_back}
 use Rattle.llb_execution.specs.Parts.{mounts_in}
-use Rattle.llb_model.specs.Leases.{AreLeased}
-use Rattle.llb_model.specs.State.{State, Status, Waiting, Running, Execution, WorkerStatus, Idle, Runs}
+use Rattle.llb_model.specs.Caches.{Instance, Has, Distinct, IsExclusive, trees_at}
+use Rattle.llb_model.specs.Kept.{store_of}
+use Rattle.llb_model.specs.Leases.{put_each}
+use Rattle.llb_model.specs.Program.{key_of}
+use Rattle.llb_model.specs.State.{State, Status, Waiting, Running, Execution, WorkerStatus, Idle, Runs, held, places_for}
 use Rattle.llb_model.specs.Table as table
 use Rattle.llb_events.specs.declared.fault.WalkFault.{WalkFault}
 use Rattle.llb_events.specs.declared.fault.WalkFault.TheVariants as walk
@@ -12,7 +18,8 @@ use Rattle.llb_events.specs.declared.fault.SettleFault.TheVariants as no_settle
 use Rattle.llb_events.specs.declared.fault.CancelFault.TheVariants as no_cancel
 use Rattle.llb_state.specs.Room.{Supplies, supplies_for, mounts_at, needs_at}
 use Rattle.llb_events.specs.Causes.{faulted, settle_fault, cancel_fault}
-use Rattle.llb_state.specs.Undoing.{Left, left_in, Before}
+use Rattle.llb_state.specs.Caches.{places_at, lent_of}
+use Rattle.llb_state.specs.Undoing.{Left, left_in}
 use Rattle.llb_state.specs.Vertices.{VerticesValue, status_of}
 use Rattle.llb_state.specs.Workers.{WorkersValue, state_in, claim_in, step_in}
 use Rattle.llb_state.specs.declared.workers.undoing.Back as undo
@@ -55,22 +62,22 @@ not_running end.Cancel = walk.Cancel no_cancel.NotRunning
 
 -- ---- what an event displaces
 
--- a claim displaces the vertex that waited, a step what it can change of a view, a settle and a cancel what the worker ran
+-- a claim displaces the vertex that waited, and what its lease added is known; a step displaces what it can change of a view, and the trees of the worker's
+-- instances; a settle and a cancel displace what the worker ran, and the lease of its instances
 pub data Back : Type 0 where
-  Unclaim : ℕ → ℕ → Back
-  Unstep : ℕ → Mark → Back
-  Resume : End → ℕ → Left → Back
+  Unclaim : ℕ → ℕ → List Growth → Back
+  Unstep : ℕ → Mark → List TreeMap → Back
+  Resume : End → ℕ → Left → Option LentValue → Back
 
--- what an event displaced, and the caches as they were if the vertex shows some
+-- what an event displaced
 pub record Displaced : Type 0 where
   pub back : Back
-  pub caches : Option Before
 
 -- what an event displaced, as contracts see it
 abbrev pub back_in : undo.Back → Back
-back_in (back.Unclaim w v) = Unclaim w v
-back_in (back.Unstep w mark) = Unstep w mark
-back_in (back.Resume e w x) = Resume e w (left_in x)
+back_in (back.Unclaim w v growths) = Unclaim w v growths.items
+back_in (back.Unstep w mark trees) = Unstep w mark trees.items
+back_in (back.Resume e w x lent) = Resume e w (left_in x) lent
 
 -- ---- the event taken back
 
@@ -86,26 +93,27 @@ step_before mark None = Idle
 
 -- what the workers did before the event
 abbrev pub workers_before : Back → List WorkerStatus → List WorkerStatus
-workers_before (Unclaim w v) workers = slice_set workers w Idle
-workers_before (Unstep w mark) workers = slice_set workers w (step_before mark (slice_get workers w))
-workers_before (Resume e w left) workers = slice_set workers w (Runs left.execution)
+workers_before (Unclaim w v growths) workers = slice_set workers w Idle
+workers_before (Unstep w mark trees) workers = slice_set workers w (step_before mark (slice_get workers w))
+workers_before (Resume e w left lent) workers = slice_set workers w (Runs left.execution)
 
 -- the supplies of the workers before the event
 abbrev pub supplies_before : Back → List Supplies → List Supplies
-supplies_before (Unclaim w v) supplies = slice_set supplies w (supplies_for None)
-supplies_before (Unstep w mark) supplies = supplies
-supplies_before (Resume e w left) supplies = slice_set supplies w left.supplies
+supplies_before (Unclaim w v growths) supplies = slice_set supplies w (supplies_for None)
+supplies_before (Unstep w mark trees) supplies = supplies
+supplies_before (Resume e w left lent) supplies = slice_set supplies w left.supplies
 
--- the rows of the caches before the event: those that were kept, or else as they are
-abbrev pub rows_before : Option Before → List Row → List Row
-rows_before (Some c) rows = c.caches.rows
-rows_before None rows = rows
+-- the lists of instances, given what the workers do now: only those of the worker's instances change
+abbrev pub rows_before : Back → List WorkerStatus → List Row → List Row
+rows_before (Unclaim w v growths) workers rows = unmade rows (places_at (slice_get workers w)) growths
+rows_before (Unstep w mark trees) workers rows = put_each rows (places_at (slice_get workers w)) trees
+rows_before (Resume e w left lent) workers rows = rows
 
 -- which vertex goes back to which status
 abbrev pub change_in : Back → Option (ℕ × Status)
-change_in (Unclaim w v) = Some (v, Waiting)
-change_in (Unstep w mark) = None
-change_in (Resume e w left) = Some (left.execution.vertex, Running w)
+change_in (Unclaim w v growths) = Some (v, Waiting)
+change_in (Unstep w mark trees) = None
+change_in (Resume e w left lent) = Some (left.execution.vertex, Running w)
 
 -- a vertex and the status that it goes back to
 abbrev pub change_of : change.Change → ℕ × Status
@@ -113,72 +121,67 @@ change_of c = (c.vertex, status_of c.stage)
 
 -- ---- when it can be put back
 
--- the view that is put back has as many mounts
-pub record IsStepped (workers : List WorkerStatus) (w : ℕ) (mark : Mark) : Type 0 where
+-- the view that is put back has as many mounts, and there is a tree for each instance of the worker
+pub record IsStepped (workers : List WorkerStatus) (w : ℕ) (mark : Mark) (trees : List TreeMap) : Type 0 where
   pub x : Execution
   pub runs : slice_get workers w ≡ Some (Runs x)
   pub mounts : mounts_in (put_back mark x.own) ≡ mounts_in x.own
+  pub count : length trees ≡ length x.places
+  pub few : length trees < 2 ^ 32
+
+-- the worker is idle, what it left has instances of different keys, and a lease of them is ready
+pub record IsLeft (workers : List WorkerStatus) (w : ℕ) (left : Left) (lent : Option LentValue) : Type 0 where
+  pub idle : slice_get workers w ≡ Some Idle
+  pub keys : Distinct (map (λ (p : Instance). p.key) left.execution.places)
+  pub ready : lent ≡ lent_of left.execution.places (length workers + 1)
 
 -- the worker is as the event left it
 abbrev pub IsBehind : Back → List WorkerStatus → Type 0
-IsBehind (Unclaim w v) workers = w < length workers
-IsBehind (Unstep w mark) workers = IsStepped workers w mark
-IsBehind (Resume e w left) workers = slice_get workers w ≡ Some Idle
+IsBehind (Unclaim w v growths) workers = w < length workers
+IsBehind (Unstep w mark trees) workers = IsStepped workers w mark trees
+IsBehind (Resume e w left lent) workers = IsLeft workers w left lent
 
--- if a worker left its vertex, what it left has no instances
-abbrev pub HasNoPlaces : Back → Type 0
-HasNoPlaces (Unclaim w v) = Unit {0}
-HasNoPlaces (Unstep w mark) = Unit {0}
-HasNoPlaces (Resume e w left) = left.execution.places ≡ []
+-- the instances that workers hold are there
+abbrev pub AreHeldThere : List WorkerStatus → List Row → Type 0
+AreHeldThere workers rows = (w : ℕ) (x : Execution) (p : Instance) → slice_get workers w ≡ Some (Runs x) → Has x.places p
+    → p.number < length (trees_of rows p.key)
 
--- in the caches that are put back, the workers' instances are leased, by these leases
-abbrev pub FitsLeases : Back → List WorkerStatus → Option Before → Type 0
-FitsLeases k workers (Some c) = AreLeased c.caches.out (workers_before k workers) c.leases
-FitsLeases k workers None = HasNoPlaces k
+-- two workers that hold one instance of a locked or a private key are one worker
+abbrev pub AreHeldOnce : List WorkerStatus → Type 0
+AreHeldOnce workers = (w u : ℕ) (x y : Execution) (p : Instance) → slice_get workers w ≡ Some (Runs x) → slice_get workers u ≡ Some (Runs y)
+    → Has x.places p → Has y.places p → IsExclusive p.key.mode → w ≡ u
 
--- what was displaced fits what the workers do and the instances that they hold
+-- the worker is as the event left it, and the workers before the event hold instances that are there, exclusively where their keys say so
 pub record CanPutBack (u : Displaced) (ws : WorkersValue) : Type 0 where
   pub behind : IsBehind u.back ws.workers
-  pub leased : FitsLeases u.back ws.workers u.caches
+  pub there : AreHeldThere (workers_before u.back ws.workers) (rows_before u.back ws.workers ws.rows)
+  pub once : AreHeldOnce (workers_before u.back ws.workers)
 
 -- ---- what is kept of workers before an event
 
--- the caches, and the leases of the workers
-pub record KeepsCaches (ws : WorkersValue) (c : Before) : Type 0 where
-  pub rows : c.caches.rows ≡ ws.rows
-  pub leased : AreLeased c.caches.out ws.workers c.leases
-
--- they are kept if they are asked for
-abbrev pub KeepsIf : Bool → WorkersValue → Option Before → Type 0
-KeepsIf needed ws (Some c) = KeepsCaches ws c
-KeepsIf true ws None = ⊥
-KeepsIf false ws None = Unit {0}
-
--- they are kept, or nothing is shown or held
-abbrev pub KeepsWhere : {A : Type 0} → List A → WorkersValue → Option Before → Type 0
-KeepsWhere shown ws (Some c) = KeepsCaches ws c
-KeepsWhere shown ws None = shown ≡ []
+-- the instances that the claim of a vertex takes
+abbrev pub taken_at : VerticesValue → WorkersValue → ℕ → List Instance
+taken_at vs ws v = places_for (held ws.workers) (needs_at (slice_get vs.build.graph.vertices v))
 
 -- this undoes a claim of vertex v by worker w
 pub record MarksClaim (vs : VerticesValue) (ws : WorkersValue) (w v : ℕ) (u : Displaced) : Type 0 where
-  pub back : u.back ≡ Unclaim w v
-  pub caches : KeepsWhere (needs_at (slice_get vs.build.graph.vertices v)) ws u.caches
+  pub back : u.back ≡ Unclaim w v (map (growth_at ws.rows) (taken_at vs ws v))
 
 -- this undoes a micro-step of worker w
 pub record MarksStep (vs : VerticesValue) (ws : WorkersValue) (w : ℕ) (u : Displaced) : Type 0 where
   pub x : Execution
   pub runs : slice_get ws.workers w ≡ Some (Runs x)
-  pub back : u.back ≡ Unstep w (mark_of x.own)
+  pub back : u.back ≡ Unstep w (mark_of x.own) (trees_at (store_of ws.rows) x.places)
   pub mounts : mounts_in x.own ≡ length (mounts_at (slice_get vs.build.graph.vertices x.vertex))
-  pub caches : KeepsWhere x.places ws u.caches
+  pub keys : map (λ (p : Instance). p.key) x.places ≡ map key_of (needs_at (slice_get vs.build.graph.vertices x.vertex))
 
 -- this undoes the end of what worker w runs
 pub record MarksEnd (vs : VerticesValue) (ws : WorkersValue) (e : End) (w : ℕ) (u : Displaced) : Type 0 where
   pub left : Left
   pub runs : slice_get ws.workers w ≡ Some (Runs left.execution)
-  pub back : u.back ≡ Resume e w left
+  pub back : u.back ≡ Resume e w left (lent_of left.execution.places (length ws.workers + 1))
   pub supplies : left.supplies ≡ supplies_for (slice_get vs.build.graph.vertices left.execution.vertex)
-  pub caches : KeepsWhere left.execution.places ws u.caches
+  pub keys : map (λ (p : Instance). p.key) left.execution.places ≡ left.supplies.keys
 
 -- what is kept before an event has what the event can displace
 abbrev pub MarksIn : VerticesValue → WorkersValue → table.Event → Displaced → Type 0

@@ -73,17 +73,6 @@ fn copied_places(alloc: Global, places: &[Instance]) -> Result<Vec<Instance>, Me
     Ok(copies)
 }
 
-/// Returns the lease of each worker, `None` for one without a lease. Fails with 141 `Memory` alone.
-pub fn copied_leases(alloc: Global, desks: &[Desk]) -> Result<Vec<Option<Lease>>, Memory>
-    ensures { IfOk result (λ l. l.items ≡ map leased_by desks.now) }
-{
-    let mut leases = Vec::new(alloc);
-    for desk in desks {
-        leases.push(lease_of(desk))?;
-    }
-    Ok(leases)
-}
-
 /// Returns the lease of a worker, if it has one.
 pub fn lease_of(desk: &Desk) -> Option<Lease>
     ensures { result ≡ leased_by desk.now }

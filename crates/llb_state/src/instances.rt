@@ -2,18 +2,20 @@
 //! back. A worker whose vertex shows no cache has no lease.
 
 ghost use Rattle.std.specs.Prelude.{◌≡◌, ◌≢◌, ◌<◌, ◌^◌, map, length, AllPairs, IfOk, IfErr, OnErr, Ok, true};
-ghost use Rattle.llb_cache.specs.Caches.{places_of, leases};
+ghost use Rattle.std.specs.Option.{ForSome};
+ghost use Rattle.llb_cache.specs.Caches.{places_of, leases, AreThere};
+ghost use Rattle.llb_cache.specs.Growth.{CanLend};
 ghost use Rattle.llb_cache.specs.Faults.{Gives};
 ghost use Rattle.llb_model.specs.Caches.{trees_at};
 ghost use Rattle.llb_model.specs.Kept.{store_of};
 ghost use Rattle.llb_model.specs.Leases.{AreLeased, put_each};
-ghost use Rattle.llb_state.specs.Caches.{tree_of, leased_places, IsOutIf, given_back, lease_if};
+ghost use Rattle.llb_state.specs.Caches.{tree_of, leased_places, IsOutIf, given_back, taken_back, lease_if, lent_of, lent_if};
 ghost use Rattle.llb_state.specs.Views.{at_of, leased_by};
 ghost use Rattle.llb_events.specs.Causes.{step_memory};
 
 use crate::stand::Desk;
-use llb_cache::{Caches, Instance, Lease, LeaseFault, Need};
-use llb_events::StepFault;
+use llb_cache::{Caches, Growth, Instance, Lease, LeaseFault, Lent, Need};
+use llb_events::{Memory, StepFault};
 use llb_tree::Tree;
 use llb_wire::Many;
 use std::alloc::Global;
@@ -40,9 +42,13 @@ fn content(alloc: Global, caches: &Caches, place: &Instance) -> Result<Tree, Ste
     }
 }
 
-/// Leases instances for these needs, whose keys differ; `None` if there are no needs. Fails with 111 and the first locked key that is
-/// held, or with 112 `Memory`; then the caches are as they were.
-pub fn lease_for(caches: &mut Caches, needs: Vec<Need>) -> Result<Option<Lease>, LeaseFault>
+/// Leases instances for these needs, whose keys differ and are looked for in these rows first; `None` if there are no needs. Fails with 111
+/// and the first locked key that is held, or with 112 `Memory`; then the caches are as they were.
+pub fn lease_for(
+    caches: &mut Caches,
+    needs: Vec<Need>,
+    rows: &[Option<usize>],
+) -> Result<Option<Lease>, LeaseFault>
     requires differ { AllPairs (λ n m. n.key ≢ m.key) needs.items }
     requires few { leases caches.old.out < 65536 }
     ensures gives { Gives (λ l. (l, caches.new)) result (lease_if caches.old needs.items) }
@@ -51,7 +57,7 @@ pub fn lease_for(caches: &mut Caches, needs: Vec<Need>) -> Result<Option<Lease>,
     if needs.is_empty() {
         return Ok(None);
     }
-    Ok(Some(caches.lease(Many::new(needs))?))
+    Ok(Some(caches.lease_near(Many::new(needs), rows)?))
 }
 
 /// Gives back a lease that is out, if there is one.
@@ -61,6 +67,38 @@ pub fn give_back(caches: &mut Caches, lease: Option<Lease>)
 {
     if let Some(lease) = lease {
         caches.give_back(lease);
+    }
+}
+
+/// Takes a lease back, if there is one, with what it added, given for each of its instances.
+pub fn take_back(caches: &mut Caches, lease: Option<Lease>, growths: &[Growth])
+    requires out { IsOutIf caches.old.out lease }
+    requires there { AreThere (taken_back caches.old lease growths.now).rows (taken_back caches.old lease growths.now).out }
+    ensures { caches.new ≡ taken_back caches.old lease growths.now }
+{
+    if let Some(lease) = lease {
+        caches.take_back(lease, growths);
+    }
+}
+
+/// Returns what a lease of these instances is made of, with room for this many leases; `None` if there are none. Fails with 141 `Memory` alone.
+pub fn lent_for(alloc: Global, places: &[Instance], room: usize) -> Result<Option<Lent>, Memory>
+    ensures { IfOk result (λ l. l ≡ lent_of places.now room) }
+{
+    if places.is_empty() {
+        return Ok(None);
+    }
+    Ok(Some(Lent::new(alloc, places, room)?))
+}
+
+/// Puts out a lease that was made ready, if there is one.
+pub fn lend_again(caches: &mut Caches, lent: Option<Lent>) -> Option<Lease>
+    requires { ForSome lent (CanLend caches.old) }
+    ensures { (result, caches.new) ≡ lent_if caches.old lent }
+{
+    match lent {
+        Some(lent) => Some(caches.lend_again(lent)),
+        None => None,
     }
 }
 

@@ -1,32 +1,33 @@
 //! The caches that a vertex shows, and what its claim takes of them: the instances, the trees that they begin with, and the needs
 //! of a lease. Stands on the mounts of a vertex and on caches, which it only reads.
 
-ghost use Rattle.std.specs.Prelude.{◌≡◌, ◌==◌, ◌<◌, ◌^◌, Ok, IfErr, true, false, not, map, length, option_map, unwrap_or};
+ghost use Rattle.std.specs.Prelude.{◌≡◌, ◌<◌, ◌^◌, Ok, IfErr, IfOk, MatchResult, Some, None, true, map, length, option_map};
+ghost use Rattle.std.specs.List.{All};
 ghost use Rattle.llb_loader.specs.Mounts.{key_of, seed_of};
 ghost use Rattle.llb_loader.specs.Rules.{kind_mounts};
-ghost use Rattle.llb_model.specs.Caches.{content};
-ghost use Rattle.llb_model.specs.Kept.{store_of};
 ghost use Rattle.llb_model.specs.Leases.{asked};
 ghost use Rattle.llb_model.specs.Program.{needs_of, mount_of, base_in, mode_of, key_as, seed_as};
-ghost use Rattle.llb_model.specs.State.{first_trees};
-ghost use Rattle.llb_state.specs.Needs.{need_of, first_held_key, unless_held, places_taken, number_of, taken_with, HasEdges};
+ghost use Rattle.llb_state.specs.Needs.{need_of, first_held_key, unless_held, if_locked, number_of, HasEdges};
+ghost use Rattle.llb_state.specs.Needs.{IsFound, place_found, row_found, first_tree, taken_by, growth_for};
 ghost use Rattle.llb_cache.specs.Key.{seed_by};
 ghost use Rattle.llb_events.specs.Faults.{GivesClaim, claim_memory, claim_may_want};
 
-use llb_cache::{Caches, Instance, Key, KeyRef, Mode, Need};
-use llb_events::ClaimFault;
+use llb_cache::{Caches, Found, Growth, Instance, KeyRef, Mode, Need};
+use llb_events::{ClaimFault, Memory};
 use llb_execution::input_tree;
 use llb_loader::{Vertex, cache_in, mounts_of};
 use llb_ops::Mount;
 use llb_tree::Tree;
 use std::alloc::Global;
 
-/// A cache that an exec shows: at which mount, its key, and the number of the input that a new instance begins with, -1 for none.
+/// A cache that an exec shows: at which mount, its key, the number of the input that a new instance begins with, -1 for none, and what the
+/// caches have of the key.
 #[derive(Drop)]
-pub(crate) struct Wanted {
+pub(crate) struct Wanted<'a> {
     pub mount: u32,
-    pub key: Key,
+    pub key: KeyRef<'a>,
     pub input: i64,
+    pub found: Found<'a>,
 }
 
 /// What a claim takes, made before anything changes.
@@ -38,72 +39,106 @@ pub(crate) struct Taking {
     /// The trees that they begin with.
     pub trees: Vec<Tree>,
     pub needs: Vec<Need>,
+    /// The rows in which the keys of the needs were found.
+    pub rows: Vec<Option<usize>>,
 }
 
 /// Returns the caches that a vertex shows, in the order of the mounts, or fails with 135 with the first locked key that a lease has: then
 /// memory is taken for that key alone. Fails with 141 where memory is refused.
-pub(crate) fn wanted_by(
+pub(crate) fn wanted_by<'a>(
     alloc: Global,
-    caches: &Caches,
-    vertex: &Vertex,
-) -> Result<Vec<Wanted>, ClaimFault>
+    caches: &'a Caches,
+    vertex: &'a Vertex,
+) -> Result<Vec<Wanted<'a>>, ClaimFault>
     requires seeds { HasEdges vertex.now }
     requires few { length (kind_mounts vertex.now.op.kind) < 2 ^ 32 }
     ensures gives { GivesClaim (λ ws. map need_of ws.items) result (unless_held (needs_of vertex.now) (first_held_key caches.now.out (needs_of vertex.now))) }
     ensures last { IfErr result (λ e. claim_memory e ≡ true
         → claim_may_want (unless_held (needs_of vertex.now) (first_held_key caches.now.out (needs_of vertex.now))) ≡ true) }
+    ensures found { IfOk result (λ ws. All (IsFound caches.now) ws.items) }
 {
-    match first_held_key(caches, vertex) {
-        Some(key) => Err(ClaimFault::Held(key.to_key(alloc)?)),
-        None => wants(alloc, vertex),
+    match last_locked(caches, vertex) {
+        Err(key) => Err(ClaimFault::Held(key.to_key(alloc)?)),
+        Ok(row) => wants(alloc, caches, vertex, row),
     }
 }
 
-/// Returns whether a vertex shows a cache. Does not allocate.
-pub(crate) fn shows_cache(vertex: &Vertex) -> bool
+/// Returns what a claim of a vertex would add to the caches, for each cache that it shows. Fails with 141 `Memory` alone.
+pub(crate) fn growths_of(
+    alloc: Global,
+    caches: &Caches,
+    vertex: &Vertex,
+) -> Result<Vec<Growth>, Memory>
     requires { HasEdges vertex.now }
-    ensures { result ≡ not (length (needs_of vertex.now) == 0) }
+    ensures { IfOk result (λ gs. gs.items ≡ map (growth_for caches.now) (needs_of vertex.now)) }
 {
-    for mount in mounts_of(&vertex.op.kind) {
-        if key_shown(vertex, mount).is_some() {
-            return true;
-        }
-    }
-    false
-}
-
-// The first locked key that a vertex shows and a lease has. Does not allocate.
-fn first_held_key<'a>(caches: &Caches, vertex: &'a Vertex) -> Option<KeyRef<'a>>
-    requires { HasEdges vertex.now }
-    ensures { result ≡ first_held_key caches.now.out (needs_of vertex.now) }
-{
+    let mut growths = Vec::new(alloc);
     for mount in mounts_of(&vertex.op.kind) {
         if let Some(key) = key_shown(vertex, mount) {
-            if caches.is_locked_and_held(&key) {
-                return Some(key);
-            }
+            growths.push(caches.growth(&key))?;
         }
     }
-    None
+    Ok(growths)
 }
 
-// The caches that a vertex shows.
-fn wants(alloc: Global, vertex: &Vertex) -> Result<Vec<Wanted>, ClaimFault>
+// The row of the last locked key that a vertex shows; or the first of these keys that a lease has. Does not allocate.
+fn last_locked<'a>(caches: &Caches, vertex: &'a Vertex) -> Result<Option<usize>, KeyRef<'a>>
+    requires { HasEdges vertex.now }
+    ensures { MatchResult result (λ _. first_held_key caches.now.out (needs_of vertex.now) ≡ None)
+        (λ k. first_held_key caches.now.out (needs_of vertex.now) ≡ Some k) }
+{
+    let mut row = None;
+    for mount in mounts_of(&vertex.op.kind) {
+        let Some(key) = locked_key_shown(vertex, mount) else {
+            continue;
+        };
+        let found = caches.look_up(&key, None);
+        if found.is_held {
+            return Err(key);
+        }
+        row = found.row;
+    }
+    Ok(row)
+}
+
+// The caches that a vertex shows, as they are found. The row of this number is tried first for each of the keys.
+fn wants<'a>(
+    alloc: Global,
+    caches: &'a Caches,
+    vertex: &'a Vertex,
+    near: Option<usize>,
+) -> Result<Vec<Wanted<'a>>, ClaimFault>
     requires seeds { HasEdges vertex.now }
     requires few { length (kind_mounts vertex.now.op.kind) < 2 ^ 32 }
-    ensures { GivesClaim (λ ws. map need_of ws.items) result (Ok (needs_of vertex.now)) }
+    ensures gives { GivesClaim (λ ws. map need_of ws.items) result (Ok (needs_of vertex.now)) }
+    ensures found { IfOk result (λ ws. All (IsFound caches.now) ws.items) }
 {
     let mut wanted = Vec::new(alloc);
     for (i, mount) in mounts_of(&vertex.op.kind).iter().enumerate() {
-        if let Some(key) = key_shown(vertex, mount) {
-            wanted.push(Wanted {
-                mount: i as u32,
-                key: key.to_key(alloc)?,
-                input: mount.input,
-            })?;
-        }
+        let Some(key) = key_shown(vertex, mount) else {
+            continue;
+        };
+        let found = caches.look_up(&key, near);
+        wanted.push(Wanted {
+            mount: i as u32,
+            key,
+            input: mount.input,
+            found,
+        })?;
     }
     Ok(wanted)
+}
+
+// The key of the cache that a mount of a vertex shows, if it shows a locked one. Does not allocate.
+fn locked_key_shown<'a>(vertex: &'a Vertex, mount: &'a Mount) -> Option<KeyRef<'a>>
+    requires { HasEdges vertex.now }
+    ensures { result ≡ if_locked (option_map key_as (key_of vertex.now.op.inputs mount.now)) }
+{
+    let key = key_shown(vertex, mount)?;
+    if key.is_locked() {
+        return Some(key);
+    }
+    None
 }
 
 // The key of the cache that a mount of a vertex shows, if it shows one. Does not allocate.
@@ -141,7 +176,7 @@ fn mode_of(sharing: i32) -> Mode
 }
 
 /// Returns the numbers of the mounts that show caches. Fails with 141 alone, where memory is refused.
-pub(crate) fn mount_numbers(alloc: Global, wanted: &[Wanted]) -> Result<Vec<u32>, ClaimFault>
+pub(crate) fn mount_numbers(alloc: Global, wanted: &[Wanted<'_>]) -> Result<Vec<u32>, ClaimFault>
     ensures { GivesClaim (λ ns. ns.items) result (Ok (map mount_of (map need_of wanted.now))) }
 {
     let mut numbers = Vec::new(alloc);
@@ -154,37 +189,33 @@ pub(crate) fn mount_numbers(alloc: Global, wanted: &[Wanted]) -> Result<Vec<u32>
 /// Returns what a claim of these caches takes, with the trees of the inputs. Fails with 141 alone, where memory is refused.
 pub(crate) fn taking_for(
     alloc: Global,
-    caches: &Caches,
     inputs: &[Tree],
-    wanted: Vec<Wanted>,
+    wanted: &[Wanted<'_>],
 ) -> Result<Taking, ClaimFault>
-    ensures { GivesClaim (λ t. (t.places.items, t.instances.items, t.trees.items, t.needs.items)) result
-        (Ok (taken_with caches.now inputs.now (map need_of wanted.items))) }
+    ensures { GivesClaim (λ t. (t.places.items, t.instances.items, t.trees.items, t.needs.items)) result (Ok (taken_by inputs.now wanted.now)) }
 {
-    let places = places_taken(alloc, caches, &wanted)?;
+    let places = places_found(alloc, wanted)?;
     let instances = instance_numbers(alloc, &places)?;
-    let trees = first_trees(alloc, caches, inputs, &places, &wanted)?;
+    let trees = first_trees(alloc, inputs, wanted)?;
     let needs = asked(alloc, inputs, wanted)?;
+    let rows = rows_found(alloc, wanted)?;
     Ok(Taking {
         places,
         instances,
         trees,
         needs,
+        rows,
     })
 }
 
-// The instances that a lease of these caches would have now.
-fn places_taken(
-    alloc: Global,
-    caches: &Caches,
-    wanted: &[Wanted],
-) -> Result<Vec<Instance>, ClaimFault>
-    ensures { GivesClaim (λ ps. ps.items) result (Ok (places_taken caches.now.out (map need_of wanted.now))) }
+// The instances that a lease of these caches would have.
+fn places_found(alloc: Global, wanted: &[Wanted<'_>]) -> Result<Vec<Instance>, ClaimFault>
+    ensures { GivesClaim (λ ps. ps.items) result (Ok (map place_found wanted.now)) }
 {
     let mut places = Vec::new(alloc);
     for want in wanted {
-        let key = want.key.copy()?;
-        let number = caches.next_instance(&key);
+        let key = want.key.to_key(alloc)?;
+        let number = want.found.number;
         places.push(Instance { key, number })?;
     }
     Ok(places)
@@ -200,38 +231,29 @@ fn instance_numbers(alloc: Global, places: &[Instance]) -> Result<Vec<u32>, Clai
     Ok(numbers)
 }
 
-// The trees that instances begin with, those of one cache each.
+// The trees that the instances begin with.
 fn first_trees(
     alloc: Global,
-    caches: &Caches,
     inputs: &[Tree],
-    places: &[Instance],
-    wanted: &[Wanted],
+    wanted: &[Wanted<'_>],
 ) -> Result<Vec<Tree>, ClaimFault>
-    requires { length places.now ≡ length wanted.now }
-    ensures { GivesClaim (λ ts. ts.items) result (Ok (first_trees (store_of caches.now.rows) inputs.now places.now (map need_of wanted.now))) }
+    ensures { GivesClaim (λ ts. ts.items) result (Ok (map (first_tree inputs.now) wanted.now)) }
 {
     let mut trees = Vec::new(alloc);
-    for i in 0..places.len() {
-        let tree = first_tree(alloc, caches, inputs, &places[i], wanted[i].input)?;
+    for want in wanted {
+        let tree = first_tree(alloc, inputs, want)?;
         trees.push(tree)?;
     }
     Ok(trees)
 }
 
 // The tree of an instance as it is, or where it is not there that of its seed.
-fn first_tree(
-    alloc: Global,
-    caches: &Caches,
-    inputs: &[Tree],
-    place: &Instance,
-    input: i64,
-) -> Result<Tree, ClaimFault>
-    ensures { GivesClaim (λ t. t) result (Ok (unwrap_or (content (store_of caches.now.rows) place.now) (base_in input inputs.now))) }
+fn first_tree(alloc: Global, inputs: &[Tree], want: &Wanted<'_>) -> Result<Tree, ClaimFault>
+    ensures { GivesClaim (λ t. t) result (Ok (first_tree inputs.now want.now)) }
 {
-    match caches.instance(&place.key, place.number) {
+    match want.found.tree {
         Some(tree) => Ok(tree.copy()?),
-        None => seed_tree(alloc, inputs, input),
+        None => seed_tree(alloc, inputs, want.input),
     }
 }
 
@@ -246,16 +268,25 @@ fn seed_tree(alloc: Global, inputs: &[Tree], input: i64) -> Result<Tree, ClaimFa
 }
 
 // What a lease of these caches is asked for.
-fn asked(alloc: Global, inputs: &[Tree], wanted: Vec<Wanted>) -> Result<Vec<Need>, ClaimFault>
-    ensures { GivesClaim (λ ns. ns.items) result (Ok (asked inputs.now (map need_of wanted.items))) }
+fn asked(alloc: Global, inputs: &[Tree], wanted: &[Wanted<'_>]) -> Result<Vec<Need>, ClaimFault>
+    ensures { GivesClaim (λ ns. ns.items) result (Ok (asked inputs.now (map need_of wanted.now))) }
 {
     let mut needs = Vec::new(alloc);
     for want in wanted {
+        let key = want.key.to_key(alloc)?;
         let tree = seed_tree(alloc, inputs, want.input)?;
-        needs.push(Need {
-            key: want.key,
-            tree,
-        })?;
+        needs.push(Need { key, tree })?;
     }
     Ok(needs)
+}
+
+// The rows in which the keys of these caches were found.
+fn rows_found(alloc: Global, wanted: &[Wanted<'_>]) -> Result<Vec<Option<usize>>, ClaimFault>
+    ensures { GivesClaim (λ rs. rs.items) result (Ok (map row_found wanted.now)) }
+{
+    let mut rows = Vec::new(alloc);
+    for want in wanted {
+        rows.push(want.found.row)?;
+    }
+    Ok(rows)
 }

@@ -4,7 +4,7 @@
 ghost use Rattle.std.specs.Prelude.{◌≡◌, ◌↔◌, ◌<◌, ◌≤◌, [], IsTrue, length, option_map, replicate, slice_get, IfOk, IfErr};
 ghost use Rattle.llb_cache.specs.Caches.{leases};
 ghost use Rattle.llb_model.specs.Leases.{HoldsAs};
-ghost use Rattle.llb_model.specs.State.{Idle};
+ghost use Rattle.llb_model.specs.State.{Execution, Idle, runs};
 ghost use Rattle.llb_state.specs.Caches.{places_at};
 ghost use Rattle.llb_state.specs.Room.{supplies_for};
 ghost use Rattle.llb_events.specs.Views.{look_of};
@@ -25,6 +25,7 @@ use crate::vertices::Vertices;
 pub use claiming::Begun;
 use llb_cache::{Caches, Instance};
 use llb_events::{Memory, WorkerStatus};
+use llb_execution::Workspace;
 use std::alloc::Global;
 use std::marker::Model;
 pub use undoing::{Change, End, Undo};
@@ -122,6 +123,16 @@ impl Workers {
         match desk_at(&self.seats, w) {
             Some(Desk::Runs(_, execution)) => &execution.places,
             _ => &[],
+        }
+    }
+
+    /// Returns the workspace of what a worker runs; `None` where it is idle, or past the last worker. Does not allocate.
+    pub fn workspace(&self, w: u32) -> Option<&Workspace>
+        ensures { option_map (λ v. v.now) result ≡ option_map (λ (x : Execution). x.own) (runs (slice_get self.now.workers w)) }
+    {
+        match desk_at(&self.seats, w) {
+            Some(Desk::Runs(_, execution)) => Some(&execution.view),
+            _ => None,
         }
     }
 

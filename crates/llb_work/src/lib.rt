@@ -10,6 +10,7 @@ mod hand_out;
 mod held;
 mod idle;
 mod noted;
+mod owners;
 mod plain;
 mod rest;
 mod run;

@@ -16,6 +16,7 @@ ghost use Rattle.llb_work.specs.Turns.{IsBrought, IsClaimed, IsHere};
 use crate::granted;
 use crate::held::Held;
 use crate::noted::{Gated, Noted, Tally, count};
+use crate::owners::Owners;
 use crate::plain::is_marked;
 use llb_board::{
     Board, ClaimFault, Job, LandFault, Outcome, SettleFault, Settled, Status, StepFault, Stepped,
@@ -163,26 +164,27 @@ impl<S: Gated> SharedBoard<S> {
         self.note(noted);
     }
 
-    /// Does what a worker has to do in one hold of the lock, by what it brings, and returns what it is to do next. Adds to `news` the
-    /// numbers that the worker then has to put into the queue: those of the vertices that became ready when it left a vertex, the greatest
-    /// first, and those of the vertices that waited for its keys.
+    /// Does what a worker has to do in one hold of the lock, by what it brings. Returns what it is to do next, and second owners of the trees
+    /// that the hold has dropped. Adds to `news` the numbers that the worker then has to put into the queue: those of the vertices that
+    /// became ready when it left a vertex, the greatest first, and those of the vertices that waited for its keys.
     pub(crate) fn turn(
         &mut self,
         w: u32,
         brought: Brought,
         mine: &mut Tally<S>,
         news: &mut Vec<u32>,
-    ) -> Turn
+    ) -> (Turn, Option<Owners>)
         requires { IsBrought S.start w brought }
-        ensures { IsHere S.start w result }
+        ensures { IsHere S.start w result.0 }
     {
+        let owners = Owners::of(*news.allocator(), &self.board, w, &brought);
         match brought {
-            Brought::Nothing => self.go_on(w, mine, news),
-            Brought::Number(v) => self.take(w, v, mine, news),
+            Brought::Nothing => (self.go_on(w, mine, news), owners),
+            Brought::Number(v) => (self.take(w, v, mine, news), owners),
             Brought::Outcome(outcome) => {
                 self.release(w, news);
                 let landed = self.land(w, outcome, mine);
-                self.left(landed.ok(), news)
+                (self.left(landed.ok(), news), owners)
             }
         }
     }

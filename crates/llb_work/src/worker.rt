@@ -13,8 +13,6 @@ use crate::shared_board::{Brought, Turn};
 use crossbeam_utils::Backoff;
 use llb_board::{Gate, Job, WorkFault, work};
 use llb_ready::ReadyPass;
-use llb_tree::Tree;
-use std::alloc::Global;
 use std::sync::Wait;
 use std::sync::ledger::Ledger;
 
@@ -38,15 +36,14 @@ impl<'x, S: Gated, G: Gate, R: Wait> Crew<'x, S, G, R> {
         let mut kit = kit;
         let mut brought = Brought::Nothing;
         for _i in self.rt.forever() {
-            let replaced = replaced_by(self.alloc, &brought);
-            let turn = self
+            let (turn, owners) = self
                 .board
                 .lock(self.rt)
                 .turn(w, brought, &mut kit.tally, &mut kit.news);
             let put = self.put_all(w, &mut kit);
             let own = usize::from(matches!(turn, Turn::Next));
             self.idle.wake(put.saturating_sub(own));
-            drop(replaced);
+            drop(owners);
             match self.away(w, turn, &mut kit) {
                 Some(more) => brought = more,
                 None => break,
@@ -147,21 +144,4 @@ impl<'x, S: Gated, G: Gate, R: Wait> Crew<'x, S, G, R> {
         self.board.lock(self.rt).give_up(w, noted, tally);
         None
     }
-}
-
-// Returns second owners of the trees that a landing replaces in the caches, so that none of these trees loses its last owner, and is freed,
-// while the lock is held; `None` if there is nothing to land or memory is refused.
-fn replaced_by(alloc: Global, brought: &Brought) -> Option<Vec<Tree>> {
-    match brought {
-        Brought::Outcome(outcome) => second_owners(alloc, outcome.job().trees()),
-        _ => None,
-    }
-}
-
-fn second_owners(alloc: Global, trees: &[Tree]) -> Option<Vec<Tree>> {
-    let mut owners = Vec::with_capacity(alloc, trees.len()).ok()?;
-    for tree in trees {
-        owners.push(tree.copy().ok()?).ok()?;
-    }
-    Some(owners)
 }

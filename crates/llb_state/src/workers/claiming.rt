@@ -1,6 +1,7 @@
 //! A claim: all tests that can refuse it, and what the worker will run; then the lease, which memory alone can refuse.
 
 ghost use Rattle.std.specs.Prelude.{◌≡◌, ◌<◌, ◌^◌, length, map, true, Ok, Some, OnErr, OnOk, IfErr, IfOk};
+ghost use Rattle.std.specs.List.{All};
 ghost use Rattle.llb_events.specs.Faults.{GivesClaim, claim_memory, claim_may_want};
 ghost use Rattle.llb_events.specs.declared.fault.ClaimFault.TheVariants as claim;
 ghost use Rattle.llb_loader.specs.Graph.{IsVertexOf};
@@ -8,7 +9,8 @@ ghost use Rattle.llb_model.specs.Outcome.{inputs_from};
 ghost use Rattle.llb_model.specs.Program.{needs_of, program_of};
 ghost use Rattle.llb_model.specs.State.{ending_at, Running};
 ghost use Rattle.llb_model.specs.Table.{claim_grant};
-ghost use Rattle.llb_state.specs.Needs.{need_of};
+ghost use Rattle.llb_cache.specs.Caches.{CachesValue};
+ghost use Rattle.llb_state.specs.Needs.{IsFound, need_of};
 ghost use Rattle.llb_state.specs.Caches.{rows_after};
 ghost use Rattle.llb_state.specs.Room.{supplies_for, supplies_of};
 ghost use Rattle.llb_state.specs.Rules as rules;
@@ -23,7 +25,7 @@ use crate::stand::{Desk, Execution};
 use crate::step::{desk_at, outfit_for};
 use crate::vertices::Vertices;
 use crate::workers::Workers;
-use llb_cache::{Caches, Need};
+use llb_cache::Need;
 use llb_events::ClaimFault;
 use llb_execution::{Job, Workspace};
 use llb_loader::Vertex;
@@ -31,11 +33,12 @@ use llb_wire::Many;
 use std::alloc::Global;
 use std::marker::Model;
 
-/// What a claim begins with: the job, what the worker will run, and what is to be leased.
+/// What a claim begins with: the job, what the worker will run, what is to be leased, and in which rows its keys were found.
 pub struct Begun {
     job: Job,
     execution: Execution,
     needs: Vec<Need>,
+    rows: Vec<Option<usize>>,
 }
 
 // It is written out so that a board drops one by this one function.
@@ -45,6 +48,7 @@ impl Drop for Begun {
             job: _,
             execution: _,
             needs: _,
+            rows: _,
         } = self;
     }
 }
@@ -70,7 +74,7 @@ impl Model for Begun {
 
 impl Begun {
     // Returns the parts.
-    fn into_parts(self) -> (Job, Execution, Vec<Need>)
+    fn into_parts(self) -> (Job, Execution, Vec<Need>, Vec<Option<usize>>)
         ensures job { result.0 ≡ self.job }
         ensures execution { execution_of result.1 ≡ self.execution }
         ensures supplies { supplies_of result.1 ≡ self.supplies }
@@ -80,8 +84,9 @@ impl Begun {
             job,
             execution,
             needs,
+            rows,
         } = self;
-        (job, execution, needs)
+        (job, execution, needs, rows)
     }
 }
 
@@ -108,7 +113,7 @@ impl Workers {
         let vertex = vertices.ready(v)?;
         self.caches.is_exclusive();
         let wanted = wanted_by(alloc, &self.caches, vertex)?;
-        begun_with(alloc, vertices, &self.caches, (w, v), vertex, wanted)
+        begun_with(alloc, vertices, (w, v), vertex, &wanted)
     }
 
     /// Makes a worker run what was begun on this state, with a lease of its instances. Fails with 141 `Memory` alone; then nothing has changed.
@@ -124,11 +129,11 @@ impl Workers {
         ensures memory { IfErr result (λ e. e ≡ claim.Memory) }
         ensures err { OnErr result (self.new ≡ self.old) }
     {
-        let (job, execution, needs) = begun.into_parts();
+        let (job, execution, needs, rows) = begun.into_parts();
         let w = job.worker();
         let _ = vertices.vertex(0);
         self.caches.is_exclusive();
-        match lease_for(&mut self.caches, needs) {
+        match lease_for(&mut self.caches, needs, &rows) {
             Ok(lease) => {
                 self.seats[w as usize] = Desk::Runs(lease, execution);
                 Ok(job)
@@ -138,28 +143,27 @@ impl Workers {
     }
 }
 
-// Makes the job and the execution of a vertex, before its first micro-step, with the caches that it wants: both have the trees of the
-// inputs and the cache instances that a lease will give; the execution also has an empty tree for each output, and where its commands
-// run. Fails with 134 `NotReady` where an input is not there, with 141 `Memory`.
+// Makes the job and the execution of a vertex, before its first micro-step, with the caches that it wants, as they were found: both have
+// the trees of the inputs and the cache instances that a lease will give; the execution also has an empty tree for each output, and where
+// its commands run. Fails with 134 `NotReady` where an input is not there, with 141 `Memory`.
 fn begun_with(
     alloc: Global,
     vertices: &Vertices,
-    caches: &Caches,
     at: (u32, u32),
     vertex: &Vertex,
-    wanted: Vec<Wanted>,
+    wanted: &[Wanted<'_>],
 ) -> Result<Begun, ClaimFault>
     requires kind { IsVertexOf vertex.now vertex.now.op.kind }
     requires few { length (program_of vertex.now).steps < 2 ^ 32 }
-    requires wanted { map need_of wanted.items ≡ needs_of vertex.now }
-    ensures gives { GivesClaim rule_of result
-        (rules.begun vertices.now.build caches.now at.0 at.1 vertex.now (inputs_from (ending_at vertices.now.statuses) vertex.now.inputs)) }
+    requires wanted { map need_of wanted.now ≡ needs_of vertex.now }
+    ensures gives { (caches : CachesValue) → All (IsFound caches) wanted.now → GivesClaim rule_of result
+        (rules.begun vertices.now.build caches at.0 at.1 vertex.now (inputs_from (ending_at vertices.now.statuses) vertex.now.inputs)) }
     ensures supplies { IfOk result (λ b. b.supplies ≡ supplies_for (Some vertex.now)) }
 {
     let (w, v) = at;
     let inputs = vertices.inputs(alloc, vertex)?;
-    let numbers = mount_numbers(alloc, &wanted)?;
-    let taking = taking_for(alloc, caches, &inputs, wanted)?;
+    let numbers = mount_numbers(alloc, wanted)?;
+    let taking = taking_for(alloc, &inputs, wanted)?;
     let outfit = outfit_for(alloc, vertex)?;
     let view = Workspace::on(alloc, vertices.locals(), vertex, inputs, numbers)?;
     let own = view.copy()?;
@@ -179,5 +183,6 @@ fn begun_with(
         job,
         execution,
         needs: taking.needs,
+        rows: taking.rows,
     })
 }

@@ -1,53 +1,52 @@
-//! What an event displaces of the workers and of the caches, taken before the event and put back after it.
+//! What an event displaces of the workers and of the caches, taken before the event and put back after it. It has a part for each cache that
+//! the vertex of the event shows, and none for other caches.
 
-ghost use Rattle.std.specs.Prelude.{◌≡◌, ◌==◌, ◌<◌, false, not, length, map, option_map, slice_get, IfOk, IfErr, Err};
+ghost use Rattle.std.specs.Prelude.{◌≡◌, ◌<◌, false, length, map, option_map, slice_get, IfOk, IfErr, Err};
 ghost use Rattle.llb_model.specs.Table.{Step};
-ghost use Rattle.llb_model.specs.Leases.{AreLeased};
+ghost use Rattle.llb_state.specs.Needs.{growth_for};
 ghost use Rattle.llb_state.specs.Room.{needs_at, ready_made};
-ghost use Rattle.llb_state.specs.Undo.{MarksIn, MarksClaim, MarksStep, MarksEnd, KeepsIf, CanPutBack, IsBehind, HasNoPlaces};
+ghost use Rattle.llb_state.specs.Undo.{MarksIn, MarksClaim, MarksStep, MarksEnd, CanPutBack};
 ghost use Rattle.llb_state.specs.Undo.{walk_in, walk_memory, end_of, no_worker, not_running};
 ghost use Rattle.llb_state.specs.Undo.{back_in, workers_before, rows_before, supplies_before, change_in, change_of};
-ghost use Rattle.llb_state.specs.Undoing.{caches_in};
 ghost use Rattle.llb_state.specs.Views.{at_of, leased_by};
 ghost use Rattle.llb_events.specs.Views.{event_of};
-ghost use Rattle.llb_state.specs.Workers.{Fits};
+ghost use Rattle.llb_state.specs.Workers.{Fits, IsCrew};
 
-use crate::copying::{copied, copied_leases};
-use crate::instances::give_back;
-use crate::needs::shows_cache;
+use crate::copying::copied;
+use crate::instances::{contents, lend_again, lent_for, take_back, write_back};
+use crate::needs::growths_of;
 use crate::stand::{Desk, Execution};
-use crate::undoing::{Before, make_idle, put_caches, step_back};
+use crate::undoing::{make_idle, step_back};
 use crate::vertices::{Stage, Vertices};
 use crate::workers::Workers;
-use llb_cache::Caches;
+use llb_cache::{Caches, Growth, Lent};
 use llb_events::{CancelFault, Event, Memory, SettleFault, StepFault, WalkFault};
 use llb_execution::Mark;
+use llb_tree::Tree;
 use std::alloc::Global;
 use std::marker::Model;
 
-/// What is needed to put an event back: what the event displaced and, if its vertex shows caches, the caches as they were, with the
-/// leases of all workers. Contracts see it as `Displaced`.
+/// What is needed to put an event back: what the event displaced. Contracts see it as `Displaced`.
 pub struct Undo {
     back: Back,
-    caches: Option<Before>,
 }
 
 // It is written out so that a board drops one by this one function.
 impl Drop for Undo {
     fn drop(self) {
-        let Undo { back: _, caches: _ } = self;
+        let Undo { back: _ } = self;
     }
 }
 
 /// What an event displaced, by the kind of the event.
 #[derive(Drop)]
 pub enum Back {
-    /// For a claim: the worker, and the vertex that waited.
-    Unclaim(u32, u32),
-    /// For a step: the worker, and what the micro-step could change of its view.
-    Unstep(u32, Mark),
-    /// For a settle or a cancel: which of the two it was, the worker, and what it ran.
-    Resume(End, u32, Execution),
+    /// For a claim: the worker, the vertex that waited, and what its lease added to the caches.
+    Unclaim(u32, u32, Vec<Growth>),
+    /// For a step: the worker, what the micro-step could change of its view, and the trees of its cache instances.
+    Unstep(u32, Mark, Vec<Tree>),
+    /// For a settle or a cancel: which of the two it was, the worker, what it ran, and a lease of its cache instances, if it had some.
+    Resume(End, u32, Execution, Option<Lent>),
 }
 
 /// The event by which a worker leaves what it runs.
@@ -68,23 +67,21 @@ impl Model for Undo {
     ghost use Rattle.std.specs.Coded.{codes};
     ghost use Rattle.llb_tree.specs.Coded.{coded_tree};
     ghost use Rattle.llb_state.specs.Undo.{Displaced, back_in};
-    ghost use Rattle.llb_state.specs.Undoing.{caches_in};
 
     ghost Value = { Displaced };
 
     ghost coded = { Prim.hlevel (codes, coded_tree) };
 
-    ghost view = { λ u. record { back = back_in u.back; caches = caches_in u.caches } };
+    ghost view = { λ u. record { back = back_in u.back } };
 }
 
 impl Undo {
-    // Returns the parts.
-    fn into_parts(self) -> (Back, Option<Before>)
-        ensures back { back_in result.0 ≡ self.back }
-        ensures caches { caches_in result.1 ≡ self.caches }
+    // Returns what the event displaced.
+    fn into_back(self) -> Back
+        ensures { back_in result ≡ self.back }
     {
-        let Undo { back, caches } = self;
-        (back, caches)
+        let Undo { back } = self;
+        back
     }
 }
 
@@ -118,10 +115,10 @@ impl Workers {
     ) -> Result<Undo, Memory>
         ensures { IfOk result (λ u. MarksClaim vertices.now self.now w v u) }
     {
-        let caches = self.caches_if(alloc, shows_cache_at(vertices, v))?;
+        self.caches.is_exclusive();
+        let growths = growths_at(alloc, vertices, &self.caches, v)?;
         Ok(Undo {
-            back: Back::Unclaim(w, v),
-            caches,
+            back: Back::Unclaim(w, v, growths),
         })
     }
 
@@ -135,10 +132,9 @@ impl Workers {
             Some(Desk::Idle) => Err(WalkFault::Step(StepFault::NotRunning)),
             Some(Desk::Runs(_, execution)) => {
                 let mark = execution.view.mark()?;
-                let caches = self.caches_if(alloc, !execution.places.is_empty())?;
+                let trees = contents(alloc, &self.caches, &execution.places)?;
                 Ok(Undo {
-                    back: Back::Unstep(w, mark),
-                    caches,
+                    back: Back::Unstep(w, mark, trees),
                 })
             }
         }
@@ -160,26 +156,12 @@ impl Workers {
             Some(Desk::Idle) => Err(not_running(end)),
             Some(Desk::Runs(_, execution)) => {
                 let left = copied(alloc, execution)?;
-                let caches = self.caches_if(alloc, !execution.places.is_empty())?;
+                let lent = lent_for(alloc, &execution.places, self.seats.len() + 1)?;
                 Ok(Undo {
-                    back: Back::Resume(end, w, left),
-                    caches,
+                    back: Back::Resume(end, w, left, lent),
                 })
             }
         }
-    }
-
-    // Returns a copy of the caches and of the leases of all workers, if it is needed.
-    fn caches_if(&self, alloc: Global, needed: bool) -> Result<Option<Before>, Memory>
-        ensures { IfOk result (λ o. KeepsIf needed self.now (caches_in o)) }
-    {
-        if !needed {
-            return Ok(None);
-        }
-        Ok(Some(Before {
-            caches: self.caches.copy()?,
-            leases: copied_leases(alloc, &self.seats)?,
-        }))
     }
 
     /// Puts back what an event displaced of the workers and the caches. Returns the vertex that goes back to another status with that status;
@@ -187,41 +169,41 @@ impl Workers {
     pub fn put_back(&mut self, undo: Undo) -> Option<Change>
         requires { CanPutBack undo self.old }
         ensures workers { self.new.workers ≡ workers_before undo.back self.old.workers }
-        ensures rows { self.new.rows ≡ rows_before undo.caches self.old.rows }
+        ensures rows { self.new.rows ≡ rows_before undo.back self.old.workers self.old.rows }
         ensures supplies { self.new.supplies ≡ supplies_before undo.back self.old.supplies }
         ensures change { option_map change_of result ≡ change_in undo.back }
     {
-        let (back, caches) = undo.into_parts();
-        let change = displace(&mut self.seats, &mut self.caches, back);
-        put_caches(&mut self.seats, &mut self.caches, caches);
-        change
+        displace(&mut self.seats, &mut self.caches, undo.into_back())
     }
 }
 
-// Puts back what an event displaced, without the caches; a worker that runs again has no lease.
+// Puts back what an event displaced.
 fn displace(seats: &mut Vec<Desk>, caches: &mut Caches, back: Back) -> Option<Change>
-    requires behind { IsBehind (back_in back) (map at_of seats.old.items) }
-    requires leased { AreLeased caches.old.out (map at_of seats.old.items) (map leased_by seats.old.items) }
+    requires can { CanPutBack (record { back = back_in back })
+        (record { workers = map at_of seats.old.items; rows = caches.old.rows; supplies = map ready_made seats.old.items }) }
+    requires crew { IsCrew (map at_of seats.old.items) caches.old.out (map leased_by seats.old.items) }
     ensures workers { map at_of seats.new.items ≡ workers_before (back_in back) (map at_of seats.old.items) }
     ensures made { map ready_made seats.new.items ≡ supplies_before (back_in back) (map ready_made seats.old.items) }
-    ensures rows { caches.new.rows ≡ caches.old.rows }
-    ensures leased { HasNoPlaces (back_in back) → AreLeased caches.new.out (map at_of seats.new.items) (map leased_by seats.new.items) }
+    ensures rows { caches.new.rows ≡ rows_before (back_in back) (map at_of seats.old.items) caches.old.rows }
+    ensures crew { IsCrew (map at_of seats.new.items) caches.new.out (map leased_by seats.new.items) }
     ensures change { option_map change_of result ≡ change_in (back_in back) }
 {
     match back {
-        Back::Unclaim(w, vertex) => {
+        Back::Unclaim(w, vertex, growths) => {
             let lease = make_idle(seats, w);
-            give_back(caches, lease);
+            take_back(caches, lease, &growths);
             let stage = Stage::Waiting;
             Some(Change { vertex, stage })
         }
-        Back::Unstep(w, mark) => {
-            step_back(seats, w, mark);
+        Back::Unstep(w, mark, trees) => {
+            let lease = step_back(seats, w, mark);
+            write_back(caches, lease, trees);
             None
         }
-        Back::Resume(_, w, execution) => {
+        Back::Resume(_, w, execution, lent) => {
             let vertex = execution.vertex;
-            seats[w as usize] = Desk::Runs(None, execution);
+            let lease = lend_again(caches, lent);
+            seats[w as usize] = Desk::Runs(lease, execution);
             let stage = Stage::Running(w);
             Some(Change { vertex, stage })
         }
@@ -255,12 +237,17 @@ fn seat_of(seats: &[Desk], w: u32) -> Option<&Desk>
     seats.get(w as usize)
 }
 
-// Returns whether the vertex of a number shows a cache; false past the last vertex.
-fn shows_cache_at(vertices: &Vertices, v: u32) -> bool
-    ensures { result ≡ not (length (needs_at (slice_get vertices.now.build.graph.vertices v)) == 0) }
+// Returns what a claim of the vertex of a number would add to the caches; nothing past the last vertex.
+fn growths_at(
+    alloc: Global,
+    vertices: &Vertices,
+    caches: &Caches,
+    v: u32,
+) -> Result<Vec<Growth>, Memory>
+    ensures { IfOk result (λ gs. gs.items ≡ map (growth_for caches.now) (needs_at (slice_get vertices.now.build.graph.vertices v))) }
 {
     match vertices.vertex(v) {
-        Some(vertex) => shows_cache(vertex),
-        None => false,
+        Some(vertex) => growths_of(alloc, caches, vertex),
+        None => Ok(Vec::new(alloc)),
     }
 }

@@ -27,7 +27,7 @@ marks c = c.args.marks.now.items
 
 -- the row of the key
 at : (c : After-len) → position (same_key c.args.ready.place.key) (keys_of (rows c)) ≡ Some c.in-Some.i
-at c = ap (λ (k : Key). position (same_key k) (keys_of (rows c))) (sym c.by_ref.ensures) ∙ sym c.row_of.ensures.at ∙ c.in-Some.is
+at c = ap (λ (k : Key). position (same_key k) (keys_of (rows c))) (sym c.by_ref.ensures) ∙ sym c.row_near.ensures.at ∙ c.in-Some.is
 
 below : (c : After-len) → c.in-Some.i < length (marks c)
 below c = let within = c.in-Some.ensures.within in let count = c.requires.each in omega (arith, within, count)

@@ -1,5 +1,6 @@
 use Rattle.std.proofs.Common.{◌≡◌, ◌∙◌, Some, None, sym, ap, subst}
 use Rattle.std.specs.Prelude.{slice_set, option_map}
+use Rattle.llb_loader.specs.Graph.{IsGraph}
 use Rattle.llb_state.specs.Undo.{change_in, change_of}
 use Rattle.llb_state.specs.Vertices.{status_of}
 use Rattle.llb_board.specs.Seen.{BoardValue, seen}
@@ -13,7 +14,8 @@ put_back-requires c =
     let b = c.self.inside in
     let can : CanUndo c.args.undo (seen b.vertices b.start.rows b.workers b.history.list)
     = subst (λ (m : BoardValue). CanUndo c.args.undo m) (sym c.self.view_is) c.requires in
-    can_put_back b.vertices b.start.rows b.workers b.history.list c.args.undo c.self.invariant.replays can
+    can_put_back b.vertices b.start.rows b.workers b.history.list c.args.undo
+    (subst (λ (m : BoardValue). IsGraph m.build.graph) (sym c.self.view_is) c.is_graph.ensures) c.self.invariant.replays can
 
 pub set-requires-clause-low : goal.set-requires-clause-low
 set-requires-clause-low c =
@@ -22,7 +24,7 @@ set-requires-clause-low c =
     = subst (λ (m : BoardValue). CanUndo c.args.undo m) (sym c.self.view_is) c.requires in
     let is : Some (c.in-Some.change.vertex, status_of c.in-Some.change.stage) ≡ change_in c.args.undo.back
     = ap (option_map change_of) (sym c.in-Some.is) ∙ c.put_back.ensures.change in
-    change_low (seen b.vertices b.start.rows b.workers b.history.list) c.args.undo.back c.args.undo.caches c.in-Some.change.vertex
+    change_low (seen b.vertices b.start.rows b.workers b.history.list) c.args.undo.back c.in-Some.change.vertex
     (status_of c.in-Some.change.stage) can is
 
 pub set-requires-clause-whole : goal.set-requires-clause-whole
@@ -45,7 +47,7 @@ invariant_of-self c =
     let is : Some (v, s) ≡ change_in u.back = ap (option_map change_of) (sym c.in-Some.is) ∙ e.change in
     let leaves : Leaves b.vertices b.workers new (slice_set b.vertices.statuses v s) u
     = record { statuses = sym (changed u.back b.vertices.statuses v s is); workers = e.workers; rows = e.rows; supplies = e.supplies } in
-    let before = space_changed n b.history.space u.back u.caches v c.steps.result s c.self.invariant.replays ends can is
+    let before = space_changed n b.history.space u.back v c.steps.result s c.self.invariant.replays ends can is
     (rw c.set.ensures at c.steps.ensures.all) in
     rw (c.take_back.ensures.list, c.take_back.ensures.space, c.set.ensures)
     (undo_keeps b.vertices b.start.rows b.workers new b.history.list b.history.space _ (slice_set b.vertices.statuses v s) u c.self.invariant can ends before
@@ -63,6 +65,6 @@ invariant_of-self-in-None c =
     let is : None ≡ change_in u.back = ap (option_map change_of) (sym c.in-None.is) ∙ e.change in
     let leaves : Leaves b.vertices b.workers new b.vertices.statuses u
     = record { statuses = sym (unchanged u.back b.vertices.statuses is); workers = e.workers; rows = e.rows; supplies = e.supplies } in
-    let before = space_unchanged n b.history.space u.back u.caches 0 0 ends can is in
+    let before = space_unchanged n b.history.space u.back 0 0 ends can is in
     rw (c.take_back-in-None.ensures.list, c.take_back-in-None.ensures.space)
     (undo_keeps b.vertices b.start.rows b.workers new b.history.list b.history.space _ b.vertices.statuses u c.self.invariant can ends before leaves)

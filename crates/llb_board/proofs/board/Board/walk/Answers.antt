@@ -1,5 +1,6 @@
-use Rattle.std.proofs.Common.{◌≡◌, ◌∙◌, false, sym, ap, rules}
+use Rattle.std.proofs.Common.{◌≡◌, ◌∙◌, false, sym, ap, subst, rules}
 use Rattle.std.specs.Prelude.{Err}
+use Rattle.llb_loader.specs.Graph.{IsGraph}
 use Rattle.llb_events.specs.Views.{event_of}
 use Rattle.llb_state.specs.Undo.{walk_memory}
 use Rattle.llb_board.specs.Seen.{BoardValue}
@@ -19,7 +20,9 @@ returns-in_err-undo-clause-gives c =
 pub returns-clause-undo : goal.returns-clause-undo
 returns-clause-undo c =
     let b = c.self.inside in
-    walk_back b.vertices b.start.rows b.workers b.history.list _ (event_of c.args.event) c.in_ok-reply.reply c.in_ok-undo.undo c.self.invariant.replays
+    walk_back b.vertices b.start.rows b.workers b.history.list
+    (subst (λ (m : BoardValue). IsGraph m.build.graph) (sym c.self.view_is) c.is_graph.ensures) _
+    (event_of c.args.event) c.in_ok-reply.reply c.in_ok-undo.undo c.self.invariant.replays
     (ap (λ (m : BoardValue). walk_of m (event_of c.args.event)) c.self.view_is ∙ c.in_ok-reply.ensures.gives)
     c.in_ok-undo.ensures.marks
     ∙ c.self.view_is
@@ -27,6 +30,8 @@ returns-clause-undo c =
 pub returns-clause-can : goal.returns-clause-can
 returns-clause-can c =
     let b = c.self.inside in
-    walk_can b.vertices b.start.rows b.workers b.history.list _ (event_of c.args.event) c.in_ok-reply.reply c.in_ok-undo.undo c.self.invariant.replays
+    walk_can b.vertices b.start.rows b.workers b.history.list
+    (subst (λ (m : BoardValue). IsGraph m.build.graph) (sym c.self.view_is) c.is_graph.ensures) _
+    (event_of c.args.event) c.in_ok-reply.reply c.in_ok-undo.undo c.self.invariant.replays
     (ap (λ (m : BoardValue). walk_of m (event_of c.args.event)) c.self.view_is ∙ c.in_ok-reply.ensures.gives)
     c.in_ok-undo.ensures.marks

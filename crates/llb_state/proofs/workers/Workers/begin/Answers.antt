@@ -1,5 +1,7 @@
 use Rattle.std.proofs.Common.{◌≡◌, ◌∙◌, List, map, sym, ap, subst, rules}
 use Rattle.std.specs.Prelude.{Option, Some, Err, IfOk, IfErr, false, true, is_ok, slice_get}
+use Rattle.std.specs.List.{All}
+use Rattle.llb_cache.specs.Caches.{CachesValue}
 use Rattle.llb_model.specs.State.{WorkerStatus, Idle}
 use Rattle.llb_model.specs.Table.{claim_start, claimed}
 use Rattle.llb_model.proofs.Leasing.{leased_holds_as}
@@ -8,6 +10,8 @@ use Rattle.llb_events.specs.Causes.{faulted, claim_fault}
 use Rattle.llb_state.specs.Views.{at_of, leased_by}
 use Rattle.llb_events.specs.Views.{claim_reply}
 use Rattle.llb_state.specs.Workers.{WorkersValue, IsBegunOn, state_in, claim_in, reply_of}
+use Rattle.llb_state.specs.Needs.{IsFound}
+use Rattle.llb_state.specs.declared.needs.Wanted.{Wanted}
 use Rattle.llb_state.specs.declared.stand.Desk.{Desk}
 use Rattle.llb_state.proofs.Calls.{CanClaim, Leased, can_claim}
 use Rattle.llb_state.proofs.Claims.{refused_start, refused_held, wants_as, begin_gives, begin_last, begin_on, begin_at_them}
@@ -40,6 +44,10 @@ leased c =
       apart = c.is_exclusive.ensures.apart;
       there = c.is_exclusive.ensures.there;
     }
+
+-- what was found when the caches were looked at is still what they have
+still : (c : CachesValue) (ws items : List Wanted) → ws ≡ items → All (IsFound c) items → All (IsFound c) ws
+still c ws items same found = subst (λ (us : List Wanted). All (IsFound c) us) (sym same) found
 
 pub returns-in-None-clause-gives : goal.returns-in-None-clause-gives
 returns-in-None-clause-gives c =
@@ -108,7 +116,8 @@ returns-clause-gives c =
     let s = c.self.inside in
     subst (λ (n : WorkersValue). GivesClaim (λ g. claim_reply g.job) c.begun_with.result (reply_of (claim_in vs n c.args.w c.args.v))) c.self.view_is
     (begin_gives vs (seen p) s.caches.out c.args.w c.args.v c.in_ok-vertex.vertex.now (can p) (leased path.After-is_exclusive) _
-    c.in_ok-wanted.ensures.gives c.begun_with.result c.begun_with.ensures.gives)
+    c.in_ok-wanted.ensures.gives c.begun_with.result
+    (c.begun_with.ensures.gives s.caches (still s.caches _ _ c.deref-2.ensures.value c.in_ok-wanted.ensures.found)))
 
 pub returns-clause-last : goal.returns-clause-last
 returns-clause-last c =
@@ -129,7 +138,8 @@ returns-clause-begun c =
     let s = c.self.inside in
     subst (λ (n : WorkersValue). IfOk c.begun_with.result (λ g. IsBegunOn vs n g)) c.self.view_is
     (begin_on vs (seen p) s.caches.out c.args.w c.args.v c.in_ok-vertex.vertex.now (can p) (leased path.After-is_exclusive) _
-    c.in_ok-wanted.ensures.gives c.begun_with.result c.begun_with.ensures.gives c.begun_with.ensures.supplies)
+    c.in_ok-wanted.ensures.gives c.begun_with.result
+    (c.begun_with.ensures.gives s.caches (still s.caches _ _ c.deref-2.ensures.value c.in_ok-wanted.ensures.found)) c.begun_with.ensures.supplies)
 
 pub returns-clause-at : goal.returns-clause-at
 returns-clause-at c =
@@ -137,4 +147,5 @@ returns-clause-at c =
     let p = path.In_ok-vertex in
     let s = c.self.inside in
     begin_at_them c.args.vertices.now (seen p) s.caches.out c.args.w c.args.v c.in_ok-vertex.vertex.now (can p) (leased path.After-is_exclusive) _
-    c.in_ok-wanted.ensures.gives c.begun_with.result c.begun_with.ensures.gives
+    c.in_ok-wanted.ensures.gives c.begun_with.result
+    (c.begun_with.ensures.gives s.caches (still s.caches _ _ c.deref-2.ensures.value c.in_ok-wanted.ensures.found))

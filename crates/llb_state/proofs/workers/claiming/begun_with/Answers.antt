@@ -1,10 +1,11 @@
-use Rattle.std.proofs.Common.{◌≡◌, sym, ap, ◌∙◌}
+use Rattle.std.proofs.Common.{◌≡◌, List, sym, ap, ◌∙◌}
 use Rattle.std.specs.Prelude.{Result, Ok}
+use Rattle.llb_tree.specs.Tree.{TreeMap}
 use Rattle.llb_model.specs.Outcome.{inputs_from}
 use Rattle.llb_model.specs.Program.{workspace_on}
 use Rattle.llb_model.specs.State.{ending_at}
 use Rattle.llb_model.specs.Table.{Job, Claimed}
-use Rattle.llb_state.specs.Needs.{taken_with}
+use Rattle.llb_state.specs.Needs.{taken_by}
 use Rattle.llb_state.specs.Begun.{outfit_as}
 use Rattle.llb_events.specs.declared.fault.ClaimFault.{ClaimFault}
 use Rattle.llb_state.proofs.Begins.{Parts, AreParts, put_together, begun_of, supplied, workable}
@@ -27,7 +28,7 @@ parts c =
       outfit = outfit_as c.in_ok-outfit.outfit;
     }
 
-are_parts : (c : goal.After-new-instances) → AreParts c.args.vertices.now.build c.args.caches.now c.args.vertex.now c.in_ok-inputs.inputs.items (parts c)
+are_parts : (c : goal.After-new-instances) → AreParts c.args.vertices.now.build c.args.vertex.now c.args.wanted.now c.in_ok-inputs.inputs.items (parts c)
 unfolding parts
 are_parts c =
     let x = c.args.vertex.now in
@@ -36,26 +37,28 @@ are_parts c =
     record {
       view = view;
       own = view ∙ sym c.in_ok-own.ensures;
-      taking = (λ i. taken_with c.args.caches.now (sym c.deref-2.ensures.value i) (sym c.requires.wanted i)) ∙ inside_ok c.in_ok-taking.ensures
+      taking = ap (λ (ts : List TreeMap). taken_by ts c.args.wanted.now) (sym c.deref.ensures.value) ∙ inside_ok c.in_ok-taking.ensures
           ∙ (λ i. (c.in_ok-taking.taking.places.items, sym c.new-instances.ensures i, sym c.new-trees.ensures i, c.in_ok-taking.taking.needs.items));
       outfit = inside_ok c.in_ok-outfit.ensures;
     }
 
 pub returns-clause-gives : goal.returns-clause-gives
 unfolding parts
-returns-clause-gives c =
+returns-clause-gives c caches found =
     let p = (goal.at.returns-clause-gives c).After-new-instances in
-    begun_of c.args.vertices.now.build c.args.caches.now c.args.at.0 c.args.at.1 c.args.vertex.now
-    (inputs_from (ending_at c.args.vertices.now.statuses) c.args.vertex.now.inputs) c.in_ok-inputs.inputs.items (parts p) c.in_ok-inputs.ensures (are_parts p)
+    begun_of c.args.vertices.now.build caches c.args.at.0 c.args.at.1 c.args.vertex.now
+    (inputs_from (ending_at c.args.vertices.now.statuses) c.args.vertex.now.inputs) c.in_ok-inputs.inputs.items c.args.wanted.now (parts p) found
+    c.requires.wanted c.in_ok-inputs.ensures (are_parts p)
     ∙ ap (λ (j : Job). Ok (record (put_together c.args.at.0 c.args.at.1 (parts p)) { reply = Claimed j })) (sym c.new-job.ensures)
 
 pub returns-clause-supplies : goal.returns-clause-supplies
 unfolding parts
 returns-clause-supplies c =
     let p = (goal.at.returns-clause-supplies c).After-new-instances in
-    supplied c.args.vertices.now.build c.args.caches.now c.args.vertex.now c.in_ok-inputs.inputs.items (parts p) (are_parts p)
+    supplied c.args.vertices.now.build c.args.vertex.now c.args.wanted.now c.in_ok-inputs.inputs.items (parts p) c.requires.wanted (are_parts p)
 
 pub new-job-requires : goal.new-job-requires
 unfolding parts
 new-job-requires c =
-    workable c.args.vertices.now.build c.args.caches.now c.args.vertex.now c.in_ok-inputs.inputs.items (parts c) (are_parts c) c.requires.few
+    workable c.args.vertices.now.build c.args.vertex.now c.args.wanted.now c.in_ok-inputs.inputs.items (parts c) c.requires.wanted (are_parts c)
+    c.requires.few
