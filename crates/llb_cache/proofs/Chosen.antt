@@ -1,5 +1,5 @@
 -- The number of the instance that is chosen for a key, and whether a locked key is held, by the marks of its row.
-use Rattle.std.proofs.Common.{◌≡◌, ℕ, ◌<◌, Bool, true, false, ◌&&◌, List, [], Option, Some, None, is_some, unwrap_or, position, slice_get, refl, sym, ap}
+use Rattle.std.proofs.Common.{◌≡◌, ℕ, ◌<◌, Bool, true, false, ◌&&◌, List, [], Option, Some, None, is_some, unwrap_or, position, slice_get, refl, sym}
 use Rattle.std.proofs.Common.{◌∙◌, subst, arith, true≢false}
 use Rattle.std.specs.Map.{keys_of, lookup}
 use Rattle.llb_tree.specs.Tree.{TreeMap}

@@ -1,5 +1,5 @@
 -- The numbers of the rows in the order of their keys, and where a key stands among them.
-use Rattle.std.specs.Prelude.{◌≡◌, ℕ, ◌+◌, ◌<◌, ◌≤◌, Bool, true, false, List, [], length, slice_index_or, None, vec_len, vec_capacity}
+use Rattle.std.specs.Prelude.{◌≡◌, ℕ, ◌+◌, ◌<◌, ◌≤◌, ◌&&◌, nat_lt, Bool, true, false, List, [], length, slice_index_or, None, vec_len, vec_capacity}
 use Rattle.std.specs.List.{IsDistinct}
 use Rattle.std.specs.Map.{keys_of}
 use Rattle.std.specs.Ordering.{is_lt}
@@ -17,6 +17,10 @@ no_key = record { id = []; seed = None; mode = Shared }
 -- the key of row i
 abbrev pub key_at : List Row → ℕ → Key
 key_at rows i = slice_index_or (keys_of rows) i no_key
+
+-- whether a row is there and has a key
+abbrev pub has_key : List Row → ℕ → Key → Bool
+has_key rows i key = nat_lt i (length rows) && same_key key (key_at rows i)
 
 -- whether the key of a row comes before a key
 abbrev pub is_before : List Row → ℕ → Key → Bool

@@ -1,13 +1,13 @@
 //! The keys with the trees of their instances, and the row of each key. A look searches the rows in the order of their keys, so that
 //! it costs the logarithm of their number, whatever the keys are.
 
-ghost use Rattle.std.specs.Prelude.{◌≡◌, ◌<◌, ◌+◌, ℕ, true, false, [], length, IfSome, OnOk, IsSome, Some};
+ghost use Rattle.std.specs.Prelude.{◌≡◌, ◌<◌, ◌+◌, ℕ, false, [], length, IfSome, OnOk, IsSome, Some};
 ghost use Rattle.std.specs.Prelude.{is_some, option_map, position, slice_get};
 ghost use Rattle.std.specs.Map.{keys_of, values_of, lookup};
 ghost use Rattle.llb_cache.specs.Caches.{with_trees};
 ghost use Rattle.llb_cache.specs.Growth.{front, shorter};
 ghost use Rattle.llb_cache.specs.Key.{same_key};
-ghost use Rattle.llb_cache.specs.RowOrder.{key_at, is_before, IsPlace, AreOrdered, HasRoom};
+ghost use Rattle.llb_cache.specs.RowOrder.{has_key, is_before, IsPlace, AreOrdered, HasRoom};
 
 use crate::fault::Memory;
 use crate::key::Key;
@@ -91,8 +91,7 @@ pub(crate) fn row_of(rows: &Rows, key: &KeyRef<'_>) -> Option<usize>
 
 // Whether a row is there and has a key.
 fn has_key(rows: &Rows, row: usize, key: &KeyRef<'_>) -> bool
-    ensures within { result ≡ true → row < length rows.now.entries.items }
-    ensures same { result ≡ true → same_key key.now (key_at rows.now.entries.items row) ≡ true }
+    ensures { result ≡ has_key rows.now.entries.items row key.now }
 {
     match rows.entries.get(row) {
         Some(entry) => key.is(&entry.0.by_ref()),
