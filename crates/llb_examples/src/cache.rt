@@ -147,6 +147,65 @@ fn leases_exclude_one_another(rt: HostRuntime) {
     is_told_as(&rt, transcript(&rt, rt.alloc(), STORIES).as_str(), STORIES);
 }
 
+const FOUND: &str = "
+    # A key that has no row.
+    > new
+    > look - a locked -
+    - free 0
+    > look 3 p private 0 f
+    - free 0
+    > grow a locked -
+    a row
+
+    # The row that is tried first changes nothing.
+    > lease b locked -, a locked - g, p private 0 f
+    0:000
+    > look - b locked -
+    0 held 0 -
+    > look 0 b locked -
+    0 held 0 -
+    > look 0 a locked -
+    1 held 0 g
+    > look 1 a locked -
+    1 held 0 g
+    > look 7 p private 0 f
+    2 free 1
+    > look 2 s shared -
+    - free 0
+    > grow a locked -
+    nothing
+    > grow p private 0 f
+    an instance
+    > grow s shared -
+    a row
+
+    # A lease that tries a row first is the lease.
+    > near 0 a locked -
+    111 a
+    > near 2 p private 0 f, s shared - h
+    1:10
+    > look 3 s shared -
+    3 free 0 h
+    > look 2 p private 0 f
+    2 free 2
+    > near 0 s shared -, s shared -
+    twice
+    > back 0
+    > look 1 a locked -
+    1 free 0 g
+    > look 2 p private 0 f
+    2 free 0 f
+    > near 9 b locked -, a locked -
+    0:00
+    > count a locked -
+    1/2 g
+    ";
+
+#[test]
+fn a_key_is_found_whichever_row_is_tried_first(rt: HostRuntime) {
+    is_told_as(&rt, transcript(&rt, rt.alloc(), FOUND).as_str(), FOUND);
+}
+
 const LEASED: &str = "lease a locked -, p private 0 f\nlease s shared -";
 
 const SET: &str = "lease a locked -, p private 0 f\nlease s shared -\nset 0 1 g";

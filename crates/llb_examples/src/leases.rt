@@ -3,11 +3,13 @@
 //! has one. `lease NEED, ..` prints the number of the lease and of the instance of each need, or the fault; `see LEASE NEED` the name of the
 //! file in what a lease has there, which `set LEASE NEED NAME` changes, and `back LEASE` releases a lease; leases are named by their place
 //! among those granted. `count NEED` prints how many instances a key has, how many leases are out, and each instance's file; `next NEED` the
-//! instance that a lease would have now, or `shut`. There are no caches after `new`.
+//! instance that a lease would have now, or `shut`; `look ROW NEED` what a look-up finds of a key that tries row ROW first (`-` for none): its
+//! row, `held` or `free`, the number of the instance that a lease would have, and that instance's file, where it is there; `near ROW NEED, ..`
+//! leases as `lease` does, and tries that row first for each key; `grow NEED` what a lease would add. There are no caches after `new`.
 
 use super::told::{file, made, row_holds, say, say_fault, say_number};
 use super::trees::word_and_rest;
-use llb_cache::{Caches, Key, Lease, LeaseFault, Many, Mode, Need, Seed};
+use llb_cache::{Caches, Found, Growth, Key, Lease, LeaseFault, Many, Mode, Need, Seed};
 use llb_tree::{Path, Text, Tree};
 use std::alloc::Global;
 use std::process::Abort;
@@ -145,6 +147,26 @@ fn next_instance(caches: &Caches, key: &Key) -> Option<u32> {
     Some(caches.next_instance(key))
 }
 
+fn look_up<'a>(caches: &'a Caches, key: &Key, row: Option<usize>) -> Found<'a> {
+    caches.look_up(&key.by_ref(), row)
+}
+
+fn growth(caches: &Caches, key: &Key) -> Growth {
+    caches.growth(&key.by_ref())
+}
+
+// None where two needs have one key.
+fn leased_near(
+    caches: &mut Caches,
+    needs: Vec<Need>,
+    rows: &[Option<usize>],
+) -> Option<Result<Lease, LeaseFault>> {
+    if !caches.can_lease(&needs) {
+        return None;
+    }
+    Some(caches.lease_near(Many::new(needs), rows))
+}
+
 // ---- their results
 
 // The number of a lease, and of the instance of each of its needs.
@@ -160,7 +182,29 @@ fn say_lease(rt: &impl Abort, text: &mut String, caches: &Caches, lease: Lease) 
 }
 
 fn ask(rt: &impl Abort, alloc: Global, text: &mut String, stage: &mut Stage, words: &str) {
-    match leased(&mut stage.caches, needs_of(rt, alloc, words)) {
+    let asked = leased(&mut stage.caches, needs_of(rt, alloc, words));
+    say_asked(rt, text, stage, asked);
+}
+
+// The same, where the row of this number is tried first for each key.
+fn ask_near(rt: &impl Abort, alloc: Global, text: &mut String, stage: &mut Stage, words: &str) {
+    let (row, needs) = word_and_rest(words);
+    let row = row.parse::<usize>().ok();
+    let asked = leased_near(
+        &mut stage.caches,
+        needs_of(rt, alloc, needs),
+        &[row, row, row],
+    );
+    say_asked(rt, text, stage, asked);
+}
+
+fn say_asked(
+    rt: &impl Abort,
+    text: &mut String,
+    stage: &mut Stage,
+    asked: Option<Result<Lease, LeaseFault>>,
+) {
+    match asked {
         None => say(rt, text, "twice\n"),
         Some(Ok(lease)) => {
             stage.leases.push(lease).expect(rt, "memory");
@@ -198,6 +242,35 @@ fn say_next(rt: &impl Abort, alloc: Global, text: &mut String, caches: &Caches, 
     say(rt, text, "\n");
 }
 
+// The row of a key, whether it is held, the instance that a lease would have, and its file.
+fn say_found(rt: &impl Abort, alloc: Global, text: &mut String, caches: &Caches, words: &str) {
+    let (row, need) = word_and_rest(words);
+    let key = key_of(rt, alloc, &row_of(need));
+    let found = look_up(caches, &key, row.parse::<usize>().ok());
+    match found.row {
+        Some(row) => say_number(rt, text, u32::try_from(row).expect(rt, "few rows")),
+        None => say(rt, text, "-"),
+    }
+    say(rt, text, if found.is_held { " held " } else { " free " });
+    say_number(rt, text, found.number);
+    if let Some(tree) = found.tree {
+        say(rt, text, " ");
+        say_files(rt, alloc, text, tree);
+    }
+    say(rt, text, "\n");
+}
+
+// What a lease of the key would add.
+fn say_growth(rt: &impl Abort, alloc: Global, text: &mut String, caches: &Caches, need: &str) {
+    let key = key_of(rt, alloc, &row_of(need));
+    let word = match growth(caches, &key) {
+        Growth::Nothing => "nothing\n",
+        Growth::NewInstance => "an instance\n",
+        Growth::NewRow => "a row\n",
+    };
+    say(rt, text, word);
+}
+
 // The lease at a place, the number of a need, and what comes after both.
 fn lease_at<'a>(rt: &impl Abort, stage: &Stage, words: &'a str) -> (Lease, u32, &'a str) {
     let (place, rest) = word_and_rest(words);
@@ -230,6 +303,9 @@ fn say_call(rt: &impl Abort, alloc: Global, text: &mut String, stage: &mut Stage
     match name {
         "new" => *stage = empty_stage(alloc),
         "lease" => ask(rt, alloc, text, stage, words),
+        "near" => ask_near(rt, alloc, text, stage, words),
+        "look" => say_found(rt, alloc, text, &stage.caches, words),
+        "grow" => say_growth(rt, alloc, text, &stage.caches, words),
         "see" => see(rt, alloc, text, stage, words),
         "set" => set(rt, alloc, stage, words),
         "back" => give_back(rt, stage, words),
