@@ -79,6 +79,19 @@ const TURNED: &[Row] = &[
     ("/", "/", false, "c"),
 ];
 
+// More mounts than a view looks through one by one.
+const WIDE: &[Row] = &[
+    ("/a/b/c/d/e", "/", false, "a"),
+    ("/a", "/", false, "b"),
+    ("/a-b", "/", false, "c"),
+    ("/a/b/c", "/", false, "d"),
+    ("/", "/", false, "e"),
+    ("/a/x", "/", false, "f"),
+    ("/aa", "/", false, "g"),
+    ("/a/b", "/", false, "h"),
+    ("/b", "/", false, "i"),
+];
+
 // Mounts, a path, and where it is routed: the mount, and how many names are dropped.
 const ROUTES: &[(&[Row], &str, u32, u32)] = &[
     (THREE, "/t/in/f", 2, 2),
@@ -91,6 +104,15 @@ const ROUTES: &[(&[Row], &str, u32, u32)] = &[
     (TURNED, "/t/in/f", 0, 2),
     (TURNED, "/t/f", 1, 1),
     (TURNED, "/f", 2, 0),
+    (WIDE, "/a/b/c/d/f", 3, 3),
+    (WIDE, "/a/b/c/d/e/f", 0, 5),
+    (WIDE, "/a/x", 5, 2),
+    (WIDE, "/a/y", 1, 1),
+    (WIDE, "/a/b/cc", 7, 2),
+    (WIDE, "/a-b/x", 2, 1),
+    (WIDE, "/aaa", 4, 0),
+    (WIDE, "/", 4, 0),
+    (WIDE, "/z/z", 4, 0),
 ];
 
 #[test]

@@ -20,3 +20,9 @@ exchanged_view mounts number m old read same view =
       differ = subst Differ (sym stay) view.differ;
       few = subst Few (sym (length-set mounts number m)) view.few;
     }
+
+-- what holds of the dests holds after it too
+pub exchanged_dests : (P : List (List (List ℕ)) → Type 0) (mounts : List Shown) (number : ℕ) (m old : Shown) → old ≡ get_or mounts number old
+    → m.dest ≡ old.dest → P (dests mounts) → P (dests (set mounts number m))
+exchanged_dests P mounts number m old read same =
+    subst P (sym (map-set_same (λ (m : Shown). m.dest) mounts number m old (same ∙ ap (λ (m : Shown). m.dest) read)))

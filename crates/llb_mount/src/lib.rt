@@ -3,6 +3,7 @@
 #![tactic(auto)]
 
 mod fault;
+mod order;
 mod shown;
 mod view;
 

@@ -1,35 +1,46 @@
 //! The view. Contracts see the list of its mounts, in the order in which they were given; a mount's number is its place in
 //! the list. The dests never change: from `make` on one of them is the root and no two are the same.
 
-ghost use Rattle.std.specs.Prelude.{◌≡◌, ◌≢◌, ◌↔◌, IsTrue, ℕ, ◌<◌, ◌≤◌, List, length, IfOk, IfErr, IsOk, OnOk, OnErr, is_err, Contains, AllPairs};
+ghost use Rattle.std.specs.Prelude.{◌≡◌, ◌≢◌, ◌↔◌, IsTrue, ℕ, ◌<◌, ◌≤◌, List, length, IfOk, IfErr, IfSome, IsOk, OnOk, OnErr, is_err, Contains, AllPairs};
 ghost use Rattle.llb_mount.specs.View.{IsView, dests, mount_at, with_tree_of};
+ghost use Rattle.std.specs.Arc.{arc_value};
 ghost use Rattle.llb_mount.specs.Route.{IsRoute, route};
+ghost use Rattle.llb_mount.specs.Order.{IsOrder};
 
 use crate::fault::{Memory, ReadOnly};
+use crate::order::{Row, ordered, route_by};
 use crate::shown::Shown;
 use llb_tree::{Name, Path, Tree};
 use llb_wire::{Many, Same, all_same};
 use std::marker::Model;
 use std::mem;
+use std::sync::Arc;
+
+// A path is looked for among so many dests one after another, which costs less than an order of them.
+const FEW: usize = 8;
 
 /// Mounts under dests of which one is the root and no two are the same. Contracts see the list of the mounts.
 pub struct View {
     mounts: Vec<Shown>,
+    // The order of the dests, which copies share; none where there are few mounts, or memory was refused for it.
+    order: Option<Arc<Vec<Row>>>,
 }
 
 // It is written out so that the crates above drop one by this one function.
 impl Drop for View {
     fn drop(self) {
-        let View { mounts: _ } = self;
+        let View { mounts: _, order: _ } = self;
     }
 }
 
 impl Model for View {
     ghost use Rattle.std.specs.Coded.{codes};
-    ghost use Rattle.std.specs.Prelude.{List};
+    ghost use Rattle.std.specs.Prelude.{List, IfSome};
+    ghost use Rattle.std.specs.Arc.{arc_value};
     ghost use Rattle.llb_tree.specs.Coded.{coded_tree};
     ghost use Rattle.llb_mount.specs.declared.shown.Shown.{Shown};
-    ghost use Rattle.llb_mount.specs.View.{IsView};
+    ghost use Rattle.llb_mount.specs.View.{IsView, dests};
+    ghost use Rattle.llb_mount.specs.Order.{IsOrder};
 
     ghost Value = { List Shown };
 
@@ -37,7 +48,7 @@ impl Model for View {
 
     ghost view = { λ v. v.mounts.items };
 
-    ghost invariant = { λ v. IsView v.mounts.items };
+    ghost invariant = { λ v. IsView v.mounts.items × IfSome v.order (λ o. IsOrder (dests v.mounts.items) (arc_value o).items) };
 }
 
 // Returns whether a mount has the dest of these names.
@@ -65,6 +76,39 @@ fn all_differ(mounts: &[Shown]) -> bool
     true
 }
 
+// The mount with the longest dest that is a prefix of the path, among all.
+fn route_among(mounts: &[Shown], path: &Path) -> (u32, u32)
+    requires { IsView mounts.now }
+    ensures { IsRoute mounts.now path.now result }
+{
+    let names = path.names();
+    let mut number = 0;
+    let mut dropped = 0;
+    for (i, shown) in mounts.iter().enumerate() {
+        let dest = shown.dest.names();
+        if dest.len() >= dropped && names.starts_with(dest) {
+            number = i;
+            dropped = dest.len();
+        }
+    }
+    (number as u32, dropped as u32)
+}
+
+// The order of the dests; none where there are few mounts, or memory is refused.
+fn order_of(mounts: &Vec<Shown>) -> Option<Arc<Vec<Row>>>
+    requires { IsView mounts.now.items }
+    ensures { IfSome result (λ o. IsOrder (dests mounts.now.items) (arc_value o).items) }
+{
+    if mounts.len() <= FEW {
+        return None;
+    }
+    let alloc = *mounts.allocator();
+    match ordered(alloc, mounts) {
+        Ok(rows) => Arc::new(alloc, rows).ok(),
+        Err(Memory) => None,
+    }
+}
+
 impl View {
     /// Returns whether a view can be made of these mounts: one dest is the root, no two are the same, and there are fewer than 2^32.
     /// Does not allocate; takes time in the square of their number.
@@ -80,15 +124,16 @@ impl View {
         all_differ(mounts)
     }
 
-    /// Makes the view of mounts that `can_make` accepts, numbered from 0 in their order. It takes the mounts over and does not
-    /// allocate, so it never fails with 62 `Memory`.
+    /// Makes the view of mounts that `can_make` accepts, numbered from 0 in their order. It takes the mounts over. It never fails with
+    /// 62 `Memory`: of more than eight mounts it makes an order of their dests, and does without one where memory is refused for it.
     pub fn make(mounts: Many<Shown>) -> Result<View, Memory>
         requires { IsView mounts }
         ensures view { IfOk result (λ v. v ≡ mounts) }
         ensures made { IsOk result }
     {
         let mounts = mounts.into_vec();
-        Ok(View { mounts })
+        let order = order_of(&mounts);
+        Ok(View { mounts, order })
     }
 
     /// Returns the mounts, by number. Does not allocate.
@@ -100,7 +145,8 @@ impl View {
     }
 
     /// Returns the number of the mount with the longest dest that is a prefix of the path, by names, and how many names that
-    /// dest has: they are dropped from the path. Does not allocate; takes time in the number of mounts.
+    /// dest has: they are dropped from the path. Does not allocate; takes time in the logarithm of the number of mounts, and in the
+    /// number of dests above one.
     pub fn route(&self, path: &Path) -> (u32, u32)
         ensures route { result ≡ route self.now path.now }
         ensures longest { IsRoute self.now path.now result }
@@ -108,17 +154,10 @@ impl View {
         ensures mount { result.0 < length self.now }
         ensures dropped { result.1 ≤ length path.now }
     {
-        let names = path.names();
-        let mut number = 0;
-        let mut dropped = 0;
-        for (i, shown) in self.mounts.iter().enumerate() {
-            let dest = shown.dest.names();
-            if dest.len() >= dropped && names.starts_with(dest) {
-                number = i;
-                dropped = dest.len();
-            }
+        match &self.order {
+            Some(rows) => route_by(&self.mounts, rows, path),
+            None => route_among(&self.mounts, path),
         }
-        (number as u32, dropped as u32)
     }
 
     /// Returns a mount's dest. Does not allocate.
@@ -184,7 +223,7 @@ impl View {
         ensures all { result ≡ self }
         ensures view { IsView result }
     {
-        let View { mounts } = self;
+        let View { mounts, order: _ } = self;
         Many::new(mounts)
     }
 
@@ -196,7 +235,11 @@ impl View {
         for shown in &self.mounts {
             mounts.push(shown.copy()?)?;
         }
-        Ok(View { mounts })
+        let order = match &self.order {
+            Some(rows) => Some(Arc::try_clone(rows)?),
+            None => None,
+        };
+        Ok(View { mounts, order })
     }
 }
 

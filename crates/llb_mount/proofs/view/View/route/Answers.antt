@@ -1,41 +1,34 @@
-use Rattle.std.proofs.Common.{◌≡◌, length, subst, sym, ap, ◌∙◌, arith}
-use Rattle.std.proofs.Math.Facts.{Fits-of_lt}
+use Rattle.std.proofs.Common.{subst, sym, ◌∙◌}
 use Rattle.llb_mount.specs.View.{IsView}
 use Rattle.llb_mount.specs.Route.{IsRoute}
-use Rattle.llb_mount.proofs.Routing.{SoFar, found, route_is}
+use Rattle.llb_mount.proofs.Routing.{route_is}
 use Rattle.llb_mount.proofs.view.View.route.Goals as goal
-use Rattle.llb_mount.proofs.view.View.route.Goals.{After-loop-i}
+use Rattle.llb_mount.proofs.view.View.route.Goals.{After-route_by, After-route_among}
 
-is_view : (c : After-loop-i) → IsView c.args.self.now
-is_view c = subst IsView c.self.view_is c.self.invariant
+by_order : (c : After-route_by) → IsRoute c.args.self.now c.args.path.now c.route_by.result
+by_order c = subst (λ ms. IsRoute ms c.args.path.now c.route_by.result) (c.deref.ensures.value ∙ c.self.view_is) c.route_by.ensures
 
--- what the loop has found after all mounts
-is_route : (c : After-loop-i) → IsRoute c.args.self.now c.args.path.now (c.loop-i.number, c.loop-i.dropped)
-is_route c =
-    let mounts : c.deref-shown-items.result.now ≡ c.args.self.now = c.deref-shown-items.ensures.value ∙ c.self.view_is in
-    let ended : c.loop-i.i ≡ length c.args.self.now = omega (arith, ap length mounts, c.loop-i-test.false, c.loop-i.auto.i-end) in
-    found c.args.self.now c.args.path.now c.loop-i.number c.loop-i.dropped (is_view c)
-    (subst (λ ms. SoFar ms c.args.path.now (length c.args.self.now) c.loop-i.number c.loop-i.dropped) mounts
-    (subst (λ n. SoFar c.deref-shown-items.result.now c.args.path.now n c.loop-i.number c.loop-i.dropped) ended c.loop-i.invariant))
+among : (c : After-route_among) → IsRoute c.args.self.now c.args.path.now c.route_among.result
+among c = subst (λ ms. IsRoute ms c.args.path.now c.route_among.result) (c.deref-in-None.ensures.value ∙ c.self.view_is) c.route_among.ensures
 
-pub overflow_cast-result : goal.overflow_cast-result
-overflow_cast-result c =
-    let before = (goal.at.overflow_cast-result c).After-loop-i in
-    Fits-of_lt (omega (arith, (is_route before).there, (is_view before).few))
+pub returns-in-Some-clause-route : goal.returns-in-Some-clause-route
+returns-in-Some-clause-route c =
+    let view = subst IsView c.self.view_is c.self.invariant.0 in
+    route_is c.args.self.now c.args.path.now view c.route_by.result (by_order (goal.at.returns-in-Some-clause-route c).After-route_by)
 
-pub returns-clause-route : goal.returns-clause-route
-returns-clause-route c =
-    let before = (goal.at.returns-clause-route c).After-loop-i in
-    route_is c.args.self.now c.args.path.now (is_view before) (c.loop-i.number, c.loop-i.dropped) (is_route before)
+pub returns-in-Some-clause-only : goal.returns-in-Some-clause-only
+returns-in-Some-clause-only c =
+    let view = subst IsView c.self.view_is c.self.invariant.0 in
+    λ to is. route_is c.args.self.now c.args.path.now view to is
+    ∙ sym (route_is c.args.self.now c.args.path.now view c.route_by.result (by_order (goal.at.returns-in-Some-clause-only c).After-route_by))
 
-pub returns-clause-longest : goal.returns-clause-longest
-returns-clause-longest c = is_route (goal.at.returns-clause-longest c).After-loop-i
+pub returns-in-None-clause-route : goal.returns-in-None-clause-route
+returns-in-None-clause-route c =
+    let view = subst IsView c.self.view_is c.self.invariant.0 in
+    route_is c.args.self.now c.args.path.now view c.route_among.result (among (goal.at.returns-in-None-clause-route c).After-route_among)
 
-pub returns-clause-only : goal.returns-clause-only
-returns-clause-only c =
-    let before = (goal.at.returns-clause-only c).After-loop-i in
-    λ to is. route_is c.args.self.now c.args.path.now (is_view before) to is
-    ∙ sym (route_is c.args.self.now c.args.path.now (is_view before) (c.loop-i.number, c.loop-i.dropped) (is_route before))
-
-pub returns-clause-mount : goal.returns-clause-mount
-returns-clause-mount c = (is_route (goal.at.returns-clause-mount c).After-loop-i).there
+pub returns-in-None-clause-only : goal.returns-in-None-clause-only
+returns-in-None-clause-only c =
+    let view = subst IsView c.self.view_is c.self.invariant.0 in
+    λ to is. route_is c.args.self.now c.args.path.now view to is
+    ∙ sym (route_is c.args.self.now c.args.path.now view c.route_among.result (among (goal.at.returns-in-None-clause-only c).After-route_among))

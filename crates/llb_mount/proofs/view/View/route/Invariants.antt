@@ -1,5 +1,0 @@
-use Rattle.llb_mount.proofs.Routing.{SoFar}
-use Rattle.llb_mount.proofs.view.View.route.Given as goal
-
-abbrev pub invariant-loop-i : goal.invariant-loop-i
-invariant-loop-i l = SoFar l.shown-items l.path l.i l.number l.dropped

@@ -1,0 +1,108 @@
+//! The mounts of a view in the order of their dests, by which a path is routed where there are many. The dests that are prefixes of a
+//! path are at or above the last dest that does not come after the path: a search finds that one, and from it one goes up.
+
+ghost use Rattle.std.specs.Prelude.{◌≡◌, ◌<◌, ◌+◌, true, length, IfOk};
+ghost use Rattle.llb_tree.specs.Path.{is_within};
+ghost use Rattle.llb_mount.specs.View.{IsView, dests};
+ghost use Rattle.llb_mount.specs.Route.{IsRoute};
+ghost use Rattle.llb_mount.specs.Order.{dest_of, Rises, HasFirst, IsPlace, Climbs, IsNear, IsOrder, AtRoot};
+
+use crate::fault::Memory;
+use crate::shown::Shown;
+use llb_tree::Path;
+use std::alloc::Global;
+
+/// A place in the order of the dests: the number of a mount, and the place of the longest other dest that is a prefix of its own. The
+/// root, which has no such dest, is at the first place.
+#[derive(Clone, Copy)]
+pub(crate) struct Row {
+    mount: usize,
+    above: usize,
+}
+
+// How many dests do not come after a path.
+fn place_of(mounts: &[Shown], rows: &[Row], path: &Path) -> usize
+    requires { Rises (dests mounts.now) rows.now }
+    ensures { IsPlace (dests mounts.now) rows.now path.now result }
+{
+    let mut low = 0;
+    let mut high = rows.len();
+    while low < high {
+        let middle = low + (high - low) / 2;
+        if path.cmp(&mounts[rows[middle].mount].dest).is_lt() {
+            high = middle;
+        } else {
+            low = middle + 1;
+        }
+    }
+    low
+}
+
+// The place of the longest dest that is a prefix of a path. It is at or above the place `from`.
+fn nearest(mounts: &[Shown], rows: &[Row], from: usize, path: &Path) -> usize
+    requires rises { Rises (dests mounts.now) rows.now }
+    requires root { AtRoot (dests mounts.now) rows.now }
+    requires there { from < length rows.now }
+    requires climbs { Climbs (dests mounts.now) rows.now (from + 1) }
+    requires near { IsNear (dests mounts.now) rows.now (from + 1) path.now from }
+    ensures near { IsNear (dests mounts.now) rows.now (from + 1) path.now result }
+    ensures prefix { is_within (dest_of (dests mounts.now) rows.now result) path.now ≡ true }
+{
+    let names = path.names();
+    let mut at = from;
+    while !names.starts_with(mounts[rows[at].mount].dest.names()) {
+        at = rows[at].above;
+    }
+    at
+}
+
+// The mounts in the order of their dests; what is above each is still to be found.
+fn sorted(alloc: Global, mounts: &[Shown]) -> Result<Vec<Row>, Memory>
+    requires { IsView mounts.now }
+    ensures rises { IfOk result (λ rows. Rises (dests mounts.now) rows.items) }
+    ensures all { IfOk result (λ rows. HasFirst (length mounts.now) rows.items) }
+{
+    let mut rows = Vec::with_capacity(alloc, mounts.len())?;
+    for mount in 0..mounts.len() {
+        let place = place_of(mounts, &rows, &mounts[mount].dest);
+        rows.insert(place, Row { mount, above: 0 })?;
+    }
+    Ok(rows)
+}
+
+// Finds what is above each place.
+fn link(mounts: &[Shown], rows: &mut [Row])
+    requires view { IsView mounts.now }
+    requires rises { Rises (dests mounts.now) rows.old }
+    requires all { HasFirst (length mounts.now) rows.old }
+    ensures { IsOrder (dests mounts.now) rows.new }
+{
+    for at in 1..rows.len() {
+        let mount = rows[at].mount;
+        let above = nearest(mounts, rows, at - 1, &mounts[mount].dest);
+        rows[at] = Row { mount, above };
+    }
+}
+
+/// Returns the mounts of a view in the order of their dests. Fails with 62 `Memory` alone.
+pub(crate) fn ordered(alloc: Global, mounts: &[Shown]) -> Result<Vec<Row>, Memory>
+    requires { IsView mounts.now }
+    ensures { IfOk result (λ rows. IsOrder (dests mounts.now) rows.items) }
+{
+    let mut rows = sorted(alloc, mounts)?;
+    link(mounts, &mut rows);
+    Ok(rows)
+}
+
+/// Returns the number of the mount with the longest dest that is a prefix of the path, and how many names that dest has. Does not
+/// allocate; takes time in the logarithm of the number of mounts, and in the number of dests above one.
+pub(crate) fn route_by(mounts: &[Shown], rows: &[Row], path: &Path) -> (u32, u32)
+    requires view { IsView mounts.now }
+    requires order { IsOrder (dests mounts.now) rows.now }
+    ensures { IsRoute mounts.now path.now result }
+{
+    let place = place_of(mounts, rows, path);
+    let at = nearest(mounts, rows, place - 1, path);
+    let mount = rows[at].mount;
+    (mount as u32, mounts[mount].dest.names().len() as u32)
+}
