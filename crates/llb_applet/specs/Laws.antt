@@ -53,11 +53,13 @@ texts_of text = map (λ w. w.bytes) (words_of text)
 abbrev pub only_ands : List (List ℕ) → Bool
 only_ands words = list_all (λ w. not (is_separator w) || is_and w) words
 
+-- whether a call with this join runs whatever the last status is: the first call, or one after `;`
 abbrev pub follows_all : Join → Bool
 follows_all Then = true
 follows_all And = false
 follows_all Or = false
 
+-- whether a call with this join runs only if the last status is 0: one after `&&`
 abbrev pub follows_success : Join → Bool
 follows_success And = true
 follows_success Then = false

@@ -1,4 +1,4 @@
--- What a fault of a text of entries prints: its number, and its line and rule.
+-- What a fault of a text of entries prints: its number, and its line and rule where it has them.
 use Rattle.std.specs.Prelude.{ℕ, List, ◌++◌, codes}
 use Rattle.std.specs.Fmt.{decimal}
 use Rattle.llb_asm.specs.declared.fault.Rule.{Rule}
@@ -6,6 +6,7 @@ use Rattle.llb_asm.specs.declared.fault.Rule.TheVariants as rule
 use Rattle.llb_asm.specs.declared.fault.AsmFault.{AsmFault}
 use Rattle.llb_asm.specs.declared.fault.AsmFault.TheVariants as fault
 
+-- the name of a rule, as a fault prints it (docs/FORMATS.md, "The text of entries")
 abbrev pub rule_text : Rule → List ℕ
 rule_text rule.Syntax = codes "Syntax"
 rule_text rule.UnknownField = codes "UnknownField"
@@ -14,6 +15,8 @@ rule_text rule.BadValue = codes "BadValue"
 rule_text rule.OverLimit = codes "OverLimit"
 rule_text rule.Unclosed = codes "Unclosed"
 
+-- what a fault prints (docs/FAULTS.md): 161 with the line and the rule that it breaks, 162 with the line whose label names no earlier entry,
+-- 163 for refused memory, and 164 for a writer that failed
 abbrev pub asm_text : AsmFault → List ℕ
 asm_text (fault.Line line r) = codes "161 " ++ (decimal line ++ (codes " " ++ rule_text r))
 asm_text (fault.UnknownLabel line) = codes "162 " ++ decimal line

@@ -21,14 +21,16 @@ use Rattle.llb_wire.specs.Texts.{is_text}
 abbrev pub label_for : List (List ℕ) → List ℕ → Option ℕ
 label_for labels digest = position (is_text digest) labels
 
+-- the value that is written for a string: the label of entry k if one is given, else the string between quotes
 abbrev pub labelled_text : List ℕ → Option ℕ → List ℕ
 labelled_text string None = string_text string
 labelled_text string (Some k) = label_text k
 
--- a label where a digest is that of an earlier entry, else a string between quotes
+-- in a field `digest`, the label of the entry that has this digest text, if one has; else the string between quotes
 abbrev pub string_for : List (List ℕ) → List ℕ → List ℕ → List ℕ
 string_for labels name string = labelled_text string (if is_text name (codes "digest") then label_for labels string else None)
 
+-- the value that is written for the bytes of a String or Bytes field of this name; empty for the other kinds, whose values are no bytes
 abbrev pub held_text : FieldKind → List (List ℕ) → List ℕ → List ℕ → List ℕ
 held_text kind.String labels name held = string_for labels name held
 held_text kind.Bytes labels name held = hex_text held
@@ -41,15 +43,19 @@ held_text (kind.Message m) labels name held = []
 
 -- ---- lines, each with its depth
 
+-- a line that is written: how many messages and ops are open around it, and its text, without the spaces before and the end after it
 abbrev pub PlainLine : Type 0
 PlainLine = ℕ × List ℕ
 
+-- the line of an item: its name, one space and its value
 abbrev pub item_line : ℕ → List ℕ → List ℕ → PlainLine
 item_line depth name value = (depth, name ++ 32 ∷ value)
 
+-- the value that opens a message or an op
 abbrev pub opening : List ℕ
 opening = codes "{"
 
+-- the line that closes a message or an op, at the depth of the line that opened it
 abbrev pub closing_line : ℕ → PlainLine
 closing_line depth = (depth, codes "}")
 
@@ -77,10 +83,12 @@ pub data Form : Type 0 where
   structured : (op : Op) → HasFields op → Form
   raw : Form
 
+-- this is the form of an entry: `structured` by an op that the entry is read as and whose canonical bytes it is, or `raw` where there is no such op
 abbrev pub HasForm : List ℕ → Form → Type 0
 HasForm entry (structured op has) = (op_of entry ≡ Ok op) × (op_bytes op ≡ entry)
 HasForm entry raw = ¬ IsStructured entry
 
+-- the lines of an entry in its form: `op {`, the fields without the empty keys and values of map entries, and `}`; or `raw` and the bytes
 abbrev pub entry_lines : List (List ℕ) → List ℕ → Form → List PlainLine
 entry_lines labels entry (structured op has) = item_line 0 (codes "op") opening ∷ (field_lines labels 1 (without_empty has.fields) ++ (closing_line 0 ∷ []))
 entry_lines labels entry raw = item_line 0 (codes "raw") (hex_text entry) ∷ []
@@ -89,6 +97,7 @@ entry_lines labels entry raw = item_line 0 (codes "raw") (hex_text entry) ∷ []
 abbrev pub Formed : Type 0
 Formed = List ℕ × Form
 
+-- each of these entries has the form that is given with it
 abbrev pub HaveForms : List Formed → Type 0
 HaveForms [] = Unit {0}
 HaveForms (x ∷ xs) = HasForm x.0 x.1 × HaveForms xs
@@ -105,12 +114,15 @@ plain_lines labels (x ∷ xs) = entry_lines labels x.0 x.1 ++ plain_lines (label
 
 -- ---- the text: two spaces a level, and an end after each line
 
+-- a line as it is written: two spaces for each level of its depth, its text, and a line feed
 abbrev pub line_text : PlainLine → List ℕ
 line_text l = replicate (2 * l.0) 32 ++ (l.1 ++ 10 ∷ [])
 
+-- lines as they are written, one after another
 abbrev pub text_of_lines : List PlainLine → List ℕ
 text_of_lines lines = flat_map line_text lines
 
+-- the text that is written of entries in their forms, with labels counted from the first of them (docs/FORMATS.md, "The text of entries")
 abbrev pub plain_text : List Formed → List ℕ
 plain_text xs = text_of_lines (plain_lines [] xs)
 

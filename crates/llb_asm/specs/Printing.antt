@@ -21,6 +21,7 @@ Prints taken taken' failed' text (Err (fault.UnknownLabel n)) = ⊥
 
 -- ---- one record at a time
 
+-- the result of a reading of the next record where it reads this one
 abbrev pub found : Field → Result (Option Field) WireFault
 found f = Ok (Some f)
 

@@ -31,9 +31,11 @@ pub record OpenOp : Type 0 where
   pub bytes : List ℕ
   pub below : List Frame
 
+-- an open op as the code holds it, where the innermost of the messages around the one at hand is the last
 abbrev pub open_op_of : Open → OpenOp
 open_op_of s = record { here = s.here; bytes = s.bytes; below = reverse s.below }
 
+-- an op at its start: the message `Op` is at hand, has no bytes yet, and is in no other message
 abbrev pub at_front : OpenOp
 at_front = record { here = inside named.Op; bytes = []; below = [] }
 
@@ -42,6 +44,7 @@ abbrev pub room_in : (ℕ → Bool) → List Frame → ℕ → Bool
 room_in room [] size = room size
 room_in room (f ∷ below) size = room_in room below (length f.bytes + record_length f.number size)
 
+-- the message at hand of an open op, with its room worked out of the argument, which says whether an entry of so many bytes is within the limits
 abbrev pub hand_of : (ℕ → Bool) → OpenOp → Hand
 hand_of room s = record { here = s.here; bytes = s.bytes; room = room_in room s.below }
 
@@ -50,6 +53,7 @@ abbrev pub with_held : OpenOp → Here → Held → OpenOp
 with_held s next (Record bytes) = record { here = next; bytes = s.bytes ++ bytes; below = s.below }
 with_held s next (Opens number sub) = record { here = inside sub; bytes = []; below = record { here = next; number = number; bytes = s.bytes } ∷ s.below }
 
+-- the open op after this item: its record is added to the message at hand, or the message that it opens is at hand
 abbrev pub with_item : OpenOp → Item → OpenOp
 with_item s i = with_held s i.next i.held
 
@@ -58,13 +62,16 @@ pub data Ending : Type 0 where
   whole : List ℕ → Ending
   still : OpenOp → Ending
 
+-- what is there after a message of these bytes ends: the records of the op if it is in no other, else the next message outwards, with its record added
 abbrev pub closing_on : List ℕ → List Frame → Ending
 closing_on bytes [] = whole bytes
 closing_on bytes (f ∷ below) = still (record { here = f.here; bytes = f.bytes ++ set_bytes f.number bytes; below = below })
 
+-- what is there after the message at hand of an open op ends
 abbrev pub closing_of : OpenOp → Ending
 closing_of s = closing_on s.bytes s.below
 
+-- what is there after a closing line, as the code holds it
 abbrev pub ended : Closed → Ending
 ended (Whole bytes) = whole bytes
 ended (Still s) = still (open_op_of s)
@@ -76,19 +83,24 @@ pub record Progress : Type 0 where
   pub earlier : List (List ℕ)
   pub current : Option OpenOp
 
+-- the progress between two entries: these are whole, and no op is open
 abbrev pub between : List (List ℕ) → Progress
 between earlier = record { earlier = earlier; current = None }
 
+-- the progress in an entry: those before it are whole, and this op is open
 abbrev pub amid : List (List ℕ) → OpenOp → Progress
 amid earlier s = record { earlier = earlier; current = Some s }
 
+-- the progress after the line that begins an entry: a raw entry is then whole, and an op is open at its start
 abbrev pub with_begun : List (List ℕ) → Begun → Progress
 with_begun earlier (Raw bytes) = between (earlier ++ bytes ∷ [])
 with_begun earlier Structured = amid earlier at_front
 
+-- the progress where these entries are whole and the code holds this open op, or none
 abbrev pub progress_of : List (List ℕ) → Option Open → Progress
 progress_of earlier current = record { earlier = earlier; current = option_map open_op_of current }
 
+-- the progress after a line that the code has read, by the entries that are whole then and the open op that it returns; or its refusal
 abbrev pub progresses : List (List ℕ) → Result (Option Open) Refusal → Result Progress Refusal
 progresses earlier (Ok current) = Ok (progress_of earlier current)
 progresses earlier (Err e) = Err e
@@ -98,15 +110,18 @@ abbrev pub closed_on : List (List ℕ) → List ℕ → List Frame → Result Pr
 closed_on earlier bytes [] = entry_in earlier bytes >>= λ entry. Ok (between (earlier ++ entry ∷ []))
 closed_on earlier bytes (f ∷ below) = Ok (amid earlier (record { here = f.here; bytes = f.bytes ++ set_bytes f.number bytes; below = below }))
 
+-- the progress after a line in an open op, or why it is refused: `}` ends the message at hand, and any other line adds its item there
 abbrev pub step_in : List (List ℕ) → OpenOp → List ℕ → Result Progress Refusal
 step_in earlier s line =
     if is_text line closing then closed_on earlier s.bytes s.below
     else (item_at (labels_of earlier) (hand_of (is_within earlier) s) line >>= λ i. Ok (amid earlier (with_item s i)))
 
+-- the progress after a line, or why it is refused: it begins an entry if no op is open, and else is a line in the open op
 abbrev pub step_on : List (List ℕ) → Option OpenOp → List ℕ → Result Progress Refusal
 step_on earlier None line = begun_in earlier line >>= λ b. Ok (with_begun earlier b)
 step_on earlier (Some s) line = step_in earlier s line
 
+-- the progress after one more line, or why that line is refused
 abbrev pub step_of : Progress → List ℕ → Result Progress Refusal
 step_of p line = step_on p.earlier p.current line
 
@@ -115,10 +130,13 @@ abbrev pub finish : ℕ → List (List ℕ) → Option OpenOp → Result (List (
 finish n earlier None = Ok earlier
 finish n earlier (Some s) = Err (n, Breaks Unclosed)
 
+-- the final result after line n: that of the lines after it from its progress on, or its refusal under its number
 abbrev pub next : ℕ → (Progress → Result (List (List ℕ)) (ℕ × Refusal)) → Result Progress Refusal → Result (List (List ℕ)) (ℕ × Refusal)
 next n go (Ok p) = go p
 next n go (Err e) = Err (n, e)
 
+-- the entries of numbered lines from a progress on, or the first refusal under the number of its line; `last` is the number of the line before these,
+-- or 0 for none, and an op that is open after all lines is refused under the number of the last one
 unfoldable pub run_from : ℕ → Progress → List Line → Result (List (List ℕ)) (ℕ × Refusal)
 run_from last p [] = finish last p.earlier p.current
 run_from last p (l ∷ lines) = next l.0 (λ q. run_from l.0 q lines) (step_of p l.1)

@@ -40,12 +40,15 @@ number_in String text = None
 number_in Bytes text = None
 number_in (Message m) text = None
 
+-- the number that v, below 2^64, is in two's complement of 64 bits: decimal digits, with a minus before them where v is 2^63 or more
 abbrev pub signed_text : ℕ → List ℕ
 signed_text v = if nat_lt v (2 ^ 63) then decimal v else 45 ∷ decimal (2 ^ 64 - v)
 
+-- the text of a flag: `false` for 0, `true` for any other number
 abbrev pub flag_text : ℕ → List ℕ
 flag_text v = if v == 0 then codes "false" else codes "true"
 
+-- the text that is written for a number of a field of this kind, given as a varint has it; empty for the kinds that hold no number
 abbrev pub number_text : FieldKind → ℕ → List ℕ
 number_text Int64 v = signed_text v
 number_text Int32 v = signed_text v
@@ -87,10 +90,11 @@ string_from backslash (b ∷ text) =
 string_from first (b ∷ text) = if is_lower b && nat_lt (digit_of b) 8 then string_from (second (digit_of b)) text else None
 string_from (second d) (b ∷ text) = if is_lower b then after_it (16 * d + digit_of b) (string_from closed text) else None
 
--- the value of a digit, and of two digits
+-- the value of a lower-case hexadecimal digit, if the byte is one
 abbrev pub lower_digit : ℕ → Option ℕ
 lower_digit b = where_so (is_lower b) (digit_of b)
 
+-- the byte that two lower-case hexadecimal digits after `\x` spell; none for other bytes, and none above 7f
 abbrev pub escape_of : ℕ → ℕ → Option ℕ
 escape_of a b = where_so (is_lower a && is_lower b && nat_lt (digit_of a) 8) (16 * digit_of a + digit_of b)
 
@@ -116,6 +120,7 @@ escaped b =
     else if nat_lt b 32 || (b == 127) then 92 ∷ 120 ∷ encode_lower (b ∷ [])
     else b ∷ []
 
+-- the text that is written for a string: its bytes as they are written, between quotes
 unfoldable pub string_text : List ℕ → List ℕ
 string_text s = 34 ∷ (flat_map escaped s ++ 34 ∷ [])
 
@@ -132,6 +137,7 @@ unfoldable pub label_in : List ℕ → Option ℕ
 label_in [] = None
 label_in (b ∷ text) = if b == 37 then magnitude text else None
 
+-- the label of entry k: `%` and k in decimal without leading zeros
 abbrev pub label_text : ℕ → List ℕ
 label_text k = 37 ∷ decimal k
 

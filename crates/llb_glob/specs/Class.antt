@@ -8,15 +8,17 @@ use Rattle.llb_glob.specs.ClassValue.{ClassValue}
 abbrev pub IsInSpan : Span → ℕ → Type 0
 IsInSpan span c = (span.low ≤ c) × (c ≤ span.high)
 
+-- a character is in at least one of the items, so in none where there are no items
 abbrev pub IsInSome : List Span → ℕ → Type 0
 IsInSome [] c = ⊥
 IsInSome (span ∷ spans) c = IsInSpan span c ⊎ IsInSome spans c
 
--- a class matches what is in one of its items or, if it excludes, what is in none
+-- a statement, or that it does not hold if a class excludes
 abbrev pub Excluding : Bool → Type 0 → Type 0
 Excluding false P = P
 Excluding true P = ¬ P
 
+-- a class matches a character: at least one of its items has it or, if the class excludes, none has
 abbrev pub ClassTakes : ClassValue → ℕ → Type 0
 ClassTakes class c = Excluding class.excludes (IsInSome class.spans c)
 

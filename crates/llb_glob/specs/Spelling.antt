@@ -13,6 +13,7 @@ use Rattle.llb_glob.specs.ClassValue.{ClassValue}
 abbrev pub Then : (List ℕ → Type 0) → (List ℕ → Type 0) → List ℕ → Type 0
 Then First Rest text = (front : List ℕ) × (rest : List ℕ) × (text ≡ front ++ rest) × First front × Rest rest
 
+-- the first character of a text is c; an empty text has none
 abbrev pub BeginsWith : ℕ → List ℕ → Type 0
 BeginsWith c [] = ⊥
 BeginsWith c (d ∷ ds) = d ≡ c
@@ -28,6 +29,7 @@ abbrev pub SpellsSpan : Span → List ℕ → Type 0
 SpellsSpan span text = (SpellsLetter span.low text × (span.high ≡ span.low))
     ⊎ ((low : List ℕ) × (high : List ℕ) × (text ≡ low ++ 45 ∷ high) × SpellsLetter span.low low × SpellsLetter span.high high)
 
+-- the items of a class, one after the other; the empty text where there are no items
 abbrev pub SpellsSpans : List Span → List ℕ → Type 0
 SpellsSpans [] text = text ≡ []
 SpellsSpans (span ∷ spans) text = Then (SpellsSpan span) (λ rest. SpellsSpans spans rest) text
@@ -47,12 +49,14 @@ SpellsClass class text = (body : List ℕ) × (text ≡ 91 ∷ (body ++ 93 ∷ [
 abbrev pub IsPlain : ℕ → Type 0
 IsPlain c = (c ≢ 91) × (c ≢ 42) × (c ≢ 63) × (c ≢ 92)
 
+-- an item of a part: a `*`, a `?`, a character that means itself or any one after a `\`, or a class
 abbrev pub SpellsItem : Item → List ℕ → Type 0
 SpellsItem Run text = text ≡ 42 ∷ []
 SpellsItem (One Any) text = text ≡ 63 ∷ []
 SpellsItem (One (Only c)) text = ((text ≡ c ∷ []) × IsPlain c) ⊎ (text ≡ 92 ∷ c ∷ [])
 SpellsItem (One (In class)) text = SpellsClass class text
 
+-- the items of a part, one after the other; the empty text where there are no items
 abbrev pub Spells : List Item → List ℕ → Type 0
 Spells [] text = text ≡ []
 Spells (item ∷ items) text = Then (SpellsItem item) (λ rest. Spells items rest) text

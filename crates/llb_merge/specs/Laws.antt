@@ -14,6 +14,7 @@ use Rattle.llb_tree.specs.Overlay.{WayValue, way_of, laid_over, over_at}
 use Rattle.llb_tree.specs.Inside.{map-map, walk-cons}
 use Rattle.llb_merge.specs.Laying.{is_file, below_file, or_else, lay_at, lay}
 
+-- a path, and the entry at it
 abbrev Pair : Type 0
 Pair = List (List ℕ) × Entry
 

@@ -2,10 +2,10 @@
 use Rattle.std.proofs.Common.{refl}
 use Rattle.llb_ops.specs.declared.table.MessageName.{MessageName}
 use Rattle.llb_ops.specs.declared.table.MessageName.TheVariants as name
-use Rattle.llb_ops.specs.Table.{row_numbered, row_named, IsTable}
+use Rattle.llb_ops.specs.Table.{row_numbered, row_named, AreRowsApart}
 
 -- each row of a message is found by its number and by its name
-pub rows_found : (m : MessageName) → IsTable m
+pub rows_found : (m : MessageName) → AreRowsApart m
 unfolding row_numbered row_named
 rows_found name.Definition = (record { number = refl; name = refl }, (record { number = refl; name = refl }, (record { number = refl; name = refl }, tt)))
 rows_found name.Op = (

@@ -46,7 +46,7 @@ abbrev pub counted : Result (List (List ℕ)) OpFault → Result (ℕ × Bool) O
 counted (Ok entries) = Ok (length entries, are_short entries)
 counted (Err f) = Err f
 
--- the same with one record more in front
+-- how many entries there are, and whether all are short, with one record more in front
 abbrev pub one_more : ℕ × Bool → Record → ℕ × Bool
 one_more t r = if r.number == 1 then (t.0 + 1, t.1 && nat_le (length r.payload) entry_limit) else t
 

@@ -17,7 +17,7 @@ is_memory OverLimit = false
 abbrev pub Gives : {X Y : Type 0} → (X → Y) → Result X OpFault → Result Y OpFault → Type 0
 Gives = answer.Gives is_memory
 
--- the number
+-- what a fault prints: its number, and for one of the wire the number of that
 abbrev pub op_text : OpFault → List ℕ
 op_text (Wire fault) = wire_text fault
 op_text WrongWireType = codes "11"

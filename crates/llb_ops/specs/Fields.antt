@@ -40,6 +40,7 @@ bytes_of (message row inner rest) = set_bytes row.1.number (bytes_of inner) ++ b
 abbrev pub may_follow : ℕ → Bool → NamedField → Bool
 may_follow last set f = (nat_lt last f.number || (f.repeated && (last == f.number))) && not (f.member && set)
 
+-- the row is the table's for its number in message m, and its field may follow the field `last`, with or without a member of the oneof before
 pub record IsNext (m : MessageName) (last : ℕ) (set : Bool) (row : Row) : Type 0 where
   pub known : by_number row.1.number (rows_of m) ≡ Some row
   pub follows : may_follow last set row.1 ≡ true
@@ -59,6 +60,7 @@ IsNumberOf String v = ⊥
 IsNumberOf Bytes v = ⊥
 IsNumberOf (Message m) v = ⊥
 
+-- bytes as a field of the kind holds them: UTF-8 in a string, any in a bytes field; no number and no message is held like this
 abbrev pub IsBytesOf : FieldKind → List ℕ → Type 0
 IsBytesOf Int64 held = ⊥
 IsBytesOf Int32 held = ⊥
@@ -98,7 +100,7 @@ AreFields m last set (message row inner rest) =
 
 -- ---- entries of a map
 
--- the same without the empty keys and values of entries, whose bytes have both
+-- the fields without the empty keys and values of entries, whose bytes have both
 abbrev pub without_empty : Fields → Fields
 without_empty (extra more) = extra more
 without_empty (number row v rest) = number row v (without_empty rest)

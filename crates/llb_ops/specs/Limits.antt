@@ -13,6 +13,6 @@ entries_limit = 65_536
 abbrev pub entry_limit : ℕ
 entry_limit = 16_777_216
 
--- the most records that a repeated field may have in one message
+-- the most records that a repeated field of an op, or of a message in it, may have
 abbrev pub field_limit : ℕ
 field_limit = 1_024

@@ -37,6 +37,7 @@ use Rattle.llb_ops.specs.Attributes.{settled}
 use Rattle.llb_ops.specs.Records.{Shape, message_of, all, payload, payloads, number, flag, uint32, int32, int64, joined, one, each, one_of}
 use Rattle.llb_ops.specs.Records.{within_limits, unnamed}
 
+-- the shape of an `Input` message: `digest` (1) and `index` (2)
 abbrev pub input_shape : Shape
 input_shape = shape_of message.Input
 
@@ -44,10 +45,11 @@ input_shape = shape_of message.Input
 unfoldable pub input_in : List Record → Result Input OpFault
 input_in rs = Ok (record { digest = payload (all 1 rs); index = int64 (number (all 2 rs)); extra = unnamed input_shape rs })
 
--- the input of an op that bytes are read as; likewise `X_of` for each message X
+-- the `Input` that bytes are read as, or the first fault of their records
 abbrev pub input_of : List ℕ → Result Input OpFault
 input_of = message_of input_shape input_in
 
+-- the shape of a `UserOpt` message: `byName` (1) and `byID` (2), the members of its oneof
 abbrev pub user_opt_shape : Shape
 user_opt_shape = shape_of message.UserOpt
 
@@ -59,29 +61,36 @@ users = members_of message.UserOpt
 abbrev pub user_of : ℕ → List Record → Result User OpFault
 user_of n rs = if n == 1 then Ok (ByName (joined rs)) else Ok (ById (uint32 (number rs)))
 
+-- a `UserOpt` from its records: the member of its oneof that is set, if any
 unfoldable pub user_opt_in : List Record → Result UserOpt OpFault
 user_opt_in rs = do
   user ← one_of users user_of rs
   Ok (record { user = user; extra = unnamed user_opt_shape rs })
 
+-- the `UserOpt` that bytes are read as, or the first fault of its records
 abbrev pub user_opt_of : List ℕ → Result UserOpt OpFault
 user_opt_of = message_of user_opt_shape user_opt_in
 
+-- the shape of a `ChownOpt` message: `user` (1) and `group` (2)
 abbrev pub chown_opt_shape : Shape
 chown_opt_shape = shape_of message.ChownOpt
 
+-- a `ChownOpt` from its records: the user and the group, each absent if no record of its field is there
 unfoldable pub chown_opt_in : List Record → Result ChownOpt OpFault
 chown_opt_in rs = do
   user ← one user_opt_of (all 1 rs)
   group ← one user_opt_of (all 2 rs)
   Ok (record { user = user; group = group; extra = unnamed chown_opt_shape rs })
 
+-- the `ChownOpt` that bytes are read as, or the first fault: of its records, then of the user, then of the group
 abbrev pub chown_opt_of : List ℕ → Result ChownOpt OpFault
 chown_opt_of = message_of chown_opt_shape chown_opt_in
 
+-- the shape of a `FileActionMkFile` message: `path`, `mode`, `data`, `owner` and `timestamp` (1 to 5)
 abbrev pub mk_file_shape : Shape
 mk_file_shape = shape_of message.FileActionMkFile
 
+-- a `FileActionMkFile` from its records; `body` is its field `data`, and the owner is absent if no record of it is there
 unfoldable pub mk_file_in : List Record → Result MkFile OpFault
 mk_file_in rs = do
   owner ← one chown_opt_of (all 4 rs)
@@ -94,12 +103,15 @@ mk_file_in rs = do
     extra = unnamed mk_file_shape rs;
   })
 
+-- the `FileActionMkFile` that bytes are read as, or the first fault: of its records, then of the owner
 abbrev pub mk_file_of : List ℕ → Result MkFile OpFault
 mk_file_of = message_of mk_file_shape mk_file_in
 
+-- the shape of a `FileActionMkDir` message: `path`, `mode`, `makeParents`, `owner` and `timestamp` (1 to 5)
 abbrev pub mk_dir_shape : Shape
 mk_dir_shape = shape_of message.FileActionMkDir
 
+-- a `FileActionMkDir` from its records; the owner is absent if no record of it is there
 unfoldable pub mk_dir_in : List Record → Result MkDir OpFault
 mk_dir_in rs = do
   owner ← one chown_opt_of (all 4 rs)
@@ -112,9 +124,11 @@ mk_dir_in rs = do
     extra = unnamed mk_dir_shape rs;
   })
 
+-- the `FileActionMkDir` that bytes are read as, or the first fault: of its records, then of the owner
 abbrev pub mk_dir_of : List ℕ → Result MkDir OpFault
 mk_dir_of = message_of mk_dir_shape mk_dir_in
 
+-- the shape of a `FileActionCopy` message: thirteen fields, `src` (1) to `exclude_patterns` (13)
 abbrev pub copy_file_shape : Shape
 copy_file_shape = shape_of message.FileActionCopy
 
@@ -137,17 +151,21 @@ copy_file_with rs owner = record {
   extra = unnamed copy_file_shape rs;
 }
 
+-- a `FileActionCopy` from its records, if neither the include nor the exclude patterns are too many
 unfoldable pub copy_file_in : List Record → Result CopyFile OpFault
 copy_file_in rs = do
   owner ← one chown_opt_of (all 3 rs)
   if within_limits (repeated_of message.FileActionCopy) rs then Ok (copy_file_with rs owner) else Err OverLimit
 
+-- the `FileActionCopy` that bytes are read as, or the first fault: of its records, then of the owner, then too many patterns
 abbrev pub copy_file_of : List ℕ → Result CopyFile OpFault
 copy_file_of = message_of copy_file_shape copy_file_in
 
+-- the shape of a `FileActionRm` message: `path`, `allowNotFound` and `allowWildcard` (1 to 3)
 abbrev pub rm_shape : Shape
 rm_shape = shape_of message.FileActionRm
 
+-- a `FileActionRm` from its records: the path, empty if absent, and two flags, false if absent
 unfoldable pub rm_in : List Record → Result Rm OpFault
 rm_in rs = Ok (record {
   path = payload (all 1 rs);
@@ -156,9 +174,11 @@ rm_in rs = Ok (record {
   extra = unnamed rm_shape rs;
 })
 
+-- the `FileActionRm` that bytes are read as, or the first fault of its records
 abbrev pub rm_of : List ℕ → Result Rm OpFault
 rm_of = message_of rm_shape rm_in
 
+-- the shape of a `FileAction` message: `input`, `secondaryInput` and `output` (1 to 3), and the members of its oneof (4 to 7)
 abbrev pub action_shape : Shape
 action_shape = shape_of message.FileAction
 
@@ -174,6 +194,7 @@ action_kind_of n rs =
     else if n == 6 then (mk_dir_of (joined rs) >>= λ m. Ok (action.MkDir m))
     else (rm_of (joined rs) >>= λ m. Ok (action.Rm m))
 
+-- a `FileAction` from its records: its inputs and its output, each 0 if absent, and what it does, if a member of its oneof is set
 unfoldable pub action_in : List Record → Result Action OpFault
 action_in rs = do
   kind ← one_of action_kinds action_kind_of rs
@@ -185,23 +206,29 @@ action_in rs = do
     extra = unnamed action_shape rs;
   })
 
+-- the `FileAction` that bytes are read as, or the first fault: of its records, then of what it does
 abbrev pub action_of : List ℕ → Result Action OpFault
 action_of = message_of action_shape action_in
 
+-- the shape of a `FileOp` message: `actions` (2)
 abbrev pub file_op_shape : Shape
 file_op_shape = shape_of message.FileOp
 
+-- a `FileOp` from its records: its actions in order, if they are not too many
 unfoldable pub file_op_in : List Record → Result FileOp OpFault
 file_op_in rs = do
   actions ← each action_of (all 2 rs)
   if within_limits (repeated_of message.FileOp) rs then Ok (record { actions = actions; extra = unnamed file_op_shape rs }) else Err OverLimit
 
+-- the `FileOp` that bytes are read as, or the first fault: of its records, then of its actions in order, then too many of them
 abbrev pub file_op_of : List ℕ → Result FileOp OpFault
 file_op_of = message_of file_op_shape file_op_in
 
+-- the shape of a `Meta` message: `args`, `env`, `cwd` and `user` (1 to 4)
 abbrev pub meta_shape : Shape
 meta_shape = shape_of message.Meta
 
+-- a `Meta` from its records, if neither the arguments nor the variables of the environment are too many
 unfoldable pub meta_in : List Record → Result Meta OpFault
 meta_in rs = if within_limits (repeated_of message.Meta) rs then Ok (record {
   args = payloads (all 1 rs);
@@ -211,24 +238,30 @@ meta_in rs = if within_limits (repeated_of message.Meta) rs then Ok (record {
   extra = unnamed meta_shape rs;
 }) else Err OverLimit
 
+-- the `Meta` that bytes are read as, or the first fault: of its records, then too many arguments or variables
 abbrev pub meta_of : List ℕ → Result Meta OpFault
 meta_of = message_of meta_shape meta_in
 
+-- the shape of a `TmpfsOpt` message: `size` (1)
 abbrev pub tmpfs_opt_shape : Shape
 tmpfs_opt_shape = shape_of message.TmpfsOpt
 
+-- a `TmpfsOpt` from its records: the size, 0 if absent
 unfoldable pub tmpfs_opt_in : List Record → Result TmpfsOpt OpFault
 tmpfs_opt_in rs = Ok (record {
   size = int64 (number (all 1 rs));
   extra = unnamed tmpfs_opt_shape rs;
 })
 
+-- the `TmpfsOpt` that bytes are read as, or the first fault of its records
 abbrev pub tmpfs_opt_of : List ℕ → Result TmpfsOpt OpFault
 tmpfs_opt_of = message_of tmpfs_opt_shape tmpfs_opt_in
 
+-- the shape of a `CacheOpt` message: `ID` (1) and `sharing` (2)
 abbrev pub cache_opt_shape : Shape
 cache_opt_shape = shape_of message.CacheOpt
 
+-- a `CacheOpt` from its records: the ID, empty if absent, and the sharing as the enum's number, 0 if absent
 unfoldable pub cache_opt_in : List Record → Result CacheOpt OpFault
 cache_opt_in rs = Ok (record {
   id = payload (all 1 rs);
@@ -236,12 +269,15 @@ cache_opt_in rs = Ok (record {
   extra = unnamed cache_opt_shape rs;
 })
 
+-- the `CacheOpt` that bytes are read as, or the first fault of its records
 abbrev pub cache_opt_of : List ℕ → Result CacheOpt OpFault
 cache_opt_of = message_of cache_opt_shape cache_opt_in
 
+-- the shape of a `Mount` message: `input` (1) to `mountType` (6), `TmpfsOpt` (19) and `cacheOpt` (20)
 abbrev pub mount_shape : Shape
 mount_shape = shape_of message.Mount
 
+-- a `Mount` from its records; its `TmpfsOpt` and its `CacheOpt` are each absent if no record of the field is there
 unfoldable pub mount_in : List Record → Result Mount OpFault
 mount_in rs = do
   tmpfs_opt ← one tmpfs_opt_of (all 19 rs)
@@ -258,12 +294,15 @@ mount_in rs = do
     extra = unnamed mount_shape rs;
   })
 
+-- the `Mount` that bytes are read as, or the first fault: of its records, then of the `TmpfsOpt`, then of the `CacheOpt`
 abbrev pub mount_of : List ℕ → Result Mount OpFault
 mount_of = message_of mount_shape mount_in
 
+-- the shape of an `ExecOp` message: `meta`, `mounts`, `network`, `security` and `secretenv` (1 to 5)
 abbrev pub exec_op_shape : Shape
 exec_op_shape = shape_of message.ExecOp
 
+-- an `ExecOp` from its records, if neither its mounts nor its secrets are too many; a secret is bytes that are not looked into
 unfoldable pub exec_op_in : List Record → Result ExecOp OpFault
 exec_op_in rs = do
   meta ← one meta_of (all 1 rs)
@@ -277,24 +316,30 @@ exec_op_in rs = do
     extra = unnamed exec_op_shape rs;
   }) else Err OverLimit
 
+-- the `ExecOp` that bytes are read as, or the first fault: of its records, of its `Meta`, of its mounts in order, then too many mounts or secrets
 abbrev pub exec_op_of : List ℕ → Result ExecOp OpFault
 exec_op_of = message_of exec_op_shape exec_op_in
 
+-- the shape of a `MergeInput` message: `input` (1)
 abbrev pub merge_input_shape : Shape
 merge_input_shape = shape_of message.MergeInput
 
+-- a `MergeInput` from its records: which input, as a signed number, 0 if absent
 unfoldable pub merge_input_in : List Record → Result MergeInput OpFault
 merge_input_in rs = Ok (record {
   input = int64 (number (all 1 rs));
   extra = unnamed merge_input_shape rs;
 })
 
+-- the `MergeInput` that bytes are read as, or the first fault of its records
 abbrev pub merge_input_of : List ℕ → Result MergeInput OpFault
 merge_input_of = message_of merge_input_shape merge_input_in
 
+-- the shape of a `MergeOp` message: `inputs` (1)
 abbrev pub merge_op_shape : Shape
 merge_op_shape = shape_of message.MergeOp
 
+-- a `MergeOp` from its records: its inputs in order, if they are not too many
 unfoldable pub merge_op_in : List Record → Result MergeOp OpFault
 merge_op_in rs = do
   inputs ← each merge_input_of (all 1 rs)
@@ -303,21 +348,27 @@ merge_op_in rs = do
     extra = unnamed merge_op_shape rs;
   }) else Err OverLimit
 
+-- the `MergeOp` that bytes are read as, or the first fault: of its records, then of its inputs in order, then too many of them
 abbrev pub merge_op_of : List ℕ → Result MergeOp OpFault
 merge_op_of = message_of merge_op_shape merge_op_in
 
+-- the shape of an entry of the map `attrs`: `key` (1) and `value` (2) (the encoding guide, "Maps")
 abbrev pub attribute_entry_shape : Shape
 attribute_entry_shape = shape_of message.AttributeEntry
 
+-- an entry of the map `attrs` from its records: its key and its value, each empty if absent
 unfoldable pub attribute_entry_in : List Record → Result AttributeEntry OpFault
 attribute_entry_in rs = Ok (record { key = payload (all 1 rs); value = payload (all 2 rs); extra = unnamed attribute_entry_shape rs })
 
+-- the entry of the map `attrs` that bytes are read as, or the first fault of its records
 abbrev pub attribute_entry_of : List ℕ → Result AttributeEntry OpFault
 attribute_entry_of = message_of attribute_entry_shape attribute_entry_in
 
+-- the shape of a `SourceOp` message: `identifier` (1) and `attrs` (2)
 abbrev pub source_op_shape : Shape
 source_op_shape = shape_of message.SourceOp
 
+-- a `SourceOp` from its records, if the entries of its map are not too many, those that a later one replaces included
 unfoldable pub source_op_in : List Record → Result SourceOp OpFault
 source_op_in rs = do
   entries ← each attribute_entry_of (all 2 rs)
@@ -327,6 +378,7 @@ source_op_in rs = do
     extra = unnamed source_op_shape rs;
   }) else Err OverLimit
 
+-- the `SourceOp` that bytes are read as, or the first fault: of its records, then of the entries of its map in order, then too many of them
 abbrev pub source_op_of : List ℕ → Result SourceOp OpFault
 source_op_of = message_of source_op_shape source_op_in
 

@@ -30,6 +30,7 @@ Shape = List (ℕ × Form)
 abbrev pub view : Held → Record
 view r = record { number = r.number; wire = r.wire; value = r.value; payload = r.payload.now; text = r.text.now }
 
+-- records in their order, each without where its bytes lie
 abbrev pub views : List Held → List Record
 views rs = map view rs
 

@@ -16,6 +16,7 @@ use Rattle.llb_ops.specs.declared.table.FieldRow.{FieldRow}
 abbrev pub Row : Type 0
 Row = List ℕ × NamedField
 
+-- a row of the code's table, with its name as the bytes of the text
 abbrev pub row_seen : FieldRow → Row
 row_seen r = (r.name.now, r.field)
 
@@ -35,7 +36,7 @@ member name n kind = (name, record { number = n; kind = kind; repeated = false; 
 abbrev pub of_entry : List ℕ → ℕ → FieldKind → Row
 of_entry name n kind = (name, record { number = n; kind = kind; repeated = false; member = false; of_entry = true })
 
--- the fields of each message, in ascending order of their numbers
+-- the fields of a message that have names here, in ascending order of their numbers; records of other numbers are kept as extra bytes
 abbrev pub rows_of : MessageName → List Row
 rows_of message.Definition =
     each (codes "def") 1 Bytes ∷
@@ -175,8 +176,9 @@ pub record IsApart (m : MessageName) (row : Row) : Type 0 where
   pub number : row_numbered m row.1.number ≡ Some row
   pub name : row_named m row.0 ≡ Some row
 
-abbrev pub IsTable : MessageName → Type 0
-IsTable m = AllByRecursion (IsApart m) (rows_of m)
+-- every row of a message is found by its number and by its name, so no two of them have one in common
+abbrev pub AreRowsApart : MessageName → Type 0
+AreRowsApart m = AllByRecursion (IsApart m) (rows_of m)
 
 -- the form in which a field of this kind is read
 abbrev pub form_of_kind : FieldKind → Form

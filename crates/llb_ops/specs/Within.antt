@@ -12,7 +12,7 @@ use Rattle.llb_ops.specs.declared.exec.ExecOp.{ExecOp}
 use Rattle.llb_ops.specs.declared.exec.Meta.{Meta}
 use Rattle.llb_ops.specs.Limits.{field_limit, entries_limit, entry_limit}
 
--- the values of a repeated field
+-- a repeated field has no more values than the limit
 abbrev pub IsFew : {A : Type 0} → List A → Type 0
 IsFew xs = length xs ≤ field_limit
 
@@ -22,19 +22,23 @@ pub record IsMetaWithin (m : Meta) : Type 0 where
   pub env : IsFew m.env
   pub short : All (λ a. length a ≤ entry_limit) m.args
 
+-- the `Meta` of a run, if there is one; where it is absent nothing is asked
 abbrev pub IsMetaOptWithin : Option Meta → Type 0
 IsMetaOptWithin None = Unit {0}
 IsMetaOptWithin (Some m) = IsMetaWithin m
 
+-- an `ExecOp`: its `Meta`, its mounts and its secrets for the environment
 pub record IsExecWithin (m : ExecOp) : Type 0 where
   pub meta : IsMetaOptWithin m.meta
   pub mounts : IsFew m.mounts
   pub secretenv : IsFew m.secretenv
 
+-- the include and the exclude patterns of a copy
 pub record IsCopyWithin (m : CopyFile) : Type 0 where
   pub include_patterns : IsFew m.include_patterns
   pub exclude_patterns : IsFew m.exclude_patterns
 
+-- what a file action does, if anything: only a copy has repeated fields
 abbrev pub IsActionWithin : Option ActionKind → Type 0
 IsActionWithin None = Unit {0}
 IsActionWithin (Some (action.Copy m)) = IsCopyWithin m
@@ -42,10 +46,12 @@ IsActionWithin (Some (action.MkFile m)) = Unit {0}
 IsActionWithin (Some (action.MkDir m)) = Unit {0}
 IsActionWithin (Some (action.Rm m)) = Unit {0}
 
+-- a `FileOp`: its actions, and what each of them does
 pub record IsFileWithin (m : FileOp) : Type 0 where
   pub actions : IsFew m.actions
   pub each : All (λ a. IsActionWithin a.kind) m.actions
 
+-- the kind of an op, if it has one; `build` and `diff` are bytes that are not looked into, so nothing is asked of them
 abbrev pub IsKindWithin : Option Kind → Type 0
 IsKindWithin None = Unit {0}
 IsKindWithin (Some (Exec m)) = IsExecWithin m

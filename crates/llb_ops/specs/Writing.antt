@@ -1,5 +1,6 @@
--- The canonical bytes of each message: named fields in ascending order of their numbers in their shortest spelling, without
--- those that are 0 or empty, messages and the set member of a oneof always; then the extra bytes.
+-- The canonical bytes of each message: named fields in ascending order of their numbers in their shortest spelling, without those that are
+-- 0 or empty; then the extra bytes. Messages, the set member of a oneof, each item of a repeated field, and the key and the value of a map's
+-- entry are written always.
 use Rattle.std.specs.Prelude.{ℕ, ℤ, List, [], ◌++◌, length, map, Option, Some, None, Bool, true, false, ◌==◌, if◌then◌else◌}
 use Rattle.std.specs.List.{flat_map}
 use Rattle.std.specs.Int.{w64, cast_unsigned}
@@ -79,6 +80,7 @@ abbrev pub one_of_field : {A : Type 0} → (A → List ℕ) → Option A → Lis
 one_of_field write None = []
 one_of_field write (Some m) = write m
 
+-- the canonical bytes of an `Input`: the digest unless it is empty, the index unless it is 0
 unfoldable pub input_bytes : Input → List ℕ
 input_bytes m = bytes_field 1 m.digest ++ signed_field 2 m.index ++ m.extra
 
@@ -87,20 +89,25 @@ unfoldable pub user_bytes : User → List ℕ
 user_bytes (ByName name) = set_bytes 1 name
 user_bytes (ById id) = set_number 2 id
 
+-- the canonical bytes of a `UserOpt`: the member of its oneof that is set, also if it is empty or 0
 unfoldable pub user_opt_bytes : UserOpt → List ℕ
 user_opt_bytes m = one_of_field user_bytes m.user ++ m.extra
 
+-- the canonical bytes of a `ChownOpt`: the user and the group, each whenever it is there
 unfoldable pub chown_opt_bytes : ChownOpt → List ℕ
 chown_opt_bytes m = message_field user_opt_bytes 1 m.user ++ message_field user_opt_bytes 2 m.group ++ m.extra
 
+-- the canonical bytes of a `FileActionMkFile`: `body` is field 3, `data`; the owner whenever it is there
 unfoldable pub mk_file_bytes : MkFile → List ℕ
 mk_file_bytes m = bytes_field 1 m.path ++ signed_field 2 m.mode ++ bytes_field 3 m.body
     ++ message_field chown_opt_bytes 4 m.owner ++ signed_field 5 m.timestamp ++ m.extra
 
+-- the canonical bytes of a `FileActionMkDir`: `make_parents` only if it is true; the owner whenever it is there
 unfoldable pub mk_dir_bytes : MkDir → List ℕ
 mk_dir_bytes m = bytes_field 1 m.path ++ signed_field 2 m.mode ++ flag_field 3 m.make_parents
     ++ message_field chown_opt_bytes 4 m.owner ++ signed_field 5 m.timestamp ++ m.extra
 
+-- the canonical bytes of a `FileActionCopy`: flags only if they are true, the owner whenever it is there, and every pattern, also an empty one
 unfoldable pub copy_file_bytes : CopyFile → List ℕ
 copy_file_bytes m = bytes_field 1 m.src ++ bytes_field 2 m.dest ++ message_field chown_opt_bytes 3 m.owner ++ signed_field 4 m.mode
     ++ flag_field 5 m.follow_symlink ++ flag_field 6 m.dir_copy_contents ++ flag_field 7 m.attempt_unpack_docker_compatibility
@@ -108,6 +115,7 @@ copy_file_bytes m = bytes_field 1 m.src ++ bytes_field 2 m.dest ++ message_field
     ++ flag_field 9 m.allow_wildcard ++ flag_field 10 m.allow_empty_wildcard ++ signed_field 11 m.timestamp ++ each_field 12 m.include_patterns
     ++ each_field 13 m.exclude_patterns ++ m.extra
 
+-- the canonical bytes of a `FileActionRm`: the path unless it is empty, flags only if they are true
 unfoldable pub rm_bytes : Rm → List ℕ
 rm_bytes m = bytes_field 1 m.path ++ flag_field 2 m.allow_not_found ++ flag_field 3 m.allow_wildcard ++ m.extra
 
@@ -118,35 +126,44 @@ action_kind_bytes (action.MkFile m) = set_bytes 5 (mk_file_bytes m)
 action_kind_bytes (action.MkDir m) = set_bytes 6 (mk_dir_bytes m)
 action_kind_bytes (action.Rm m) = set_bytes 7 (rm_bytes m)
 
+-- the canonical bytes of a `FileAction`: inputs and output unless they are 0, and what it does, if anything
 unfoldable pub action_bytes : Action → List ℕ
 action_bytes m = signed_field 1 m.input ++ signed_field 2 m.secondary_input ++ signed_field 3 m.output
     ++ one_of_field action_kind_bytes m.kind ++ m.extra
 
+-- the canonical bytes of a `FileOp`: its actions in order as field 2
 unfoldable pub file_op_bytes : FileOp → List ℕ
 file_op_bytes m = messages_field action_bytes 2 m.actions ++ m.extra
 
+-- the canonical bytes of a `Meta`: every argument and variable, also an empty one; directory and user unless they are empty
 unfoldable pub meta_bytes : Meta → List ℕ
 meta_bytes m = each_field 1 m.args ++ each_field 2 m.env ++ bytes_field 3 m.cwd ++ bytes_field 4 m.user
     ++ m.extra
 
+-- the canonical bytes of a `TmpfsOpt`: the size unless it is 0
 unfoldable pub tmpfs_opt_bytes : TmpfsOpt → List ℕ
 tmpfs_opt_bytes m = signed_field 1 m.size ++ m.extra
 
+-- the canonical bytes of a `CacheOpt`: the ID unless it is empty, the sharing unless it is 0
 unfoldable pub cache_opt_bytes : CacheOpt → List ℕ
 cache_opt_bytes m = bytes_field 1 m.id ++ signed_field 2 m.sharing ++ m.extra
 
+-- the canonical bytes of a `Mount`: fields 1 to 6 unless they are 0, empty or false; the `TmpfsOpt` and the `CacheOpt` whenever they are there
 unfoldable pub mount_bytes : Mount → List ℕ
 mount_bytes m = signed_field 1 m.input ++ bytes_field 2 m.selector ++ bytes_field 3 m.dest ++ signed_field 4 m.output
     ++ flag_field 5 m.readonly ++ signed_field 6 m.mount_type ++ message_field tmpfs_opt_bytes 19 m.tmpfs_opt ++ message_field cache_opt_bytes 20 m.cache_opt
     ++ m.extra
 
+-- the canonical bytes of an `ExecOp`: its `Meta` whenever it is there, every mount, network and security unless they are 0, every secret
 unfoldable pub exec_op_bytes : ExecOp → List ℕ
 exec_op_bytes m = message_field meta_bytes 1 m.meta ++ messages_field mount_bytes 2 m.mounts ++ signed_field 3 m.network ++ signed_field 4 m.security
     ++ each_field 5 m.secretenv ++ m.extra
 
+-- the canonical bytes of a `MergeInput`: the number of the input unless it is 0
 unfoldable pub merge_input_bytes : MergeInput → List ℕ
 merge_input_bytes m = signed_field 1 m.input ++ m.extra
 
+-- the canonical bytes of a `MergeOp`: its inputs in order, also one that is 0
 unfoldable pub merge_op_bytes : MergeOp → List ℕ
 merge_op_bytes m = messages_field merge_input_bytes 1 m.inputs ++ m.extra
 
@@ -154,6 +171,7 @@ merge_op_bytes m = messages_field merge_input_bytes 1 m.inputs ++ m.extra
 unfoldable pub attribute_entry_bytes : AttributeEntry → List ℕ
 attribute_entry_bytes m = set_bytes 1 m.key ++ set_bytes 2 m.value ++ m.extra
 
+-- the canonical bytes of a `SourceOp`: the identifier unless it is empty, and an entry of the map for each attribute in order
 unfoldable pub source_op_bytes : SourceOp → List ℕ
 source_op_bytes m = bytes_field 1 m.identifier ++ messages_field attribute_entry_bytes 2 (map entry_of m.attrs) ++ m.extra
 

@@ -2,7 +2,7 @@
 //! take a field, and in which order canonical bytes have it, is of this table.
 
 ghost use Rattle.std.specs.Prelude.{◌≡◌, map, option_map};
-ghost use Rattle.llb_ops.specs.Table.{form_of_kind, rows_of, row_seen, row_numbered, row_named, IsTable};
+ghost use Rattle.llb_ops.specs.Table.{form_of_kind, rows_of, row_seen, row_numbered, row_named, AreRowsApart};
 
 use crate::shape::Form;
 
@@ -308,7 +308,7 @@ pub fn field_named(message: MessageName, name: &[u8]) -> Option<FieldRow>
 
 /// A law: each row is found by its number and by its name: no two of a message have one of them.
 pub fn rows_are_apart(message: MessageName)
-    ensures { IsTable message }
+    ensures { AreRowsApart message }
 {
     let _ = message;
 }

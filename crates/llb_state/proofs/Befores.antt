@@ -17,9 +17,9 @@ use Rattle.llb_state.specs.Undoing.{left_in}
 use Rattle.llb_state.specs.Vertices.{VerticesValue}
 use Rattle.llb_state.specs.Views.{at_of, leased_by, execution_of}
 use Rattle.llb_state.specs.Workers.{Fits}
-use Rattle.llb_state.specs.declared.stand.Desk.{Desk}
-use Rattle.llb_state.specs.declared.stand.Desk.TheVariants as desk
-use Rattle.llb_state.specs.declared.stand.Execution as own
+use Rattle.llb_state.specs.declared.desk.Desk.{Desk}
+use Rattle.llb_state.specs.declared.desk.Desk.TheVariants as desk
+use Rattle.llb_state.specs.declared.desk.Execution as own
 use Rattle.llb_state.specs.declared.workers.undoing.End.{End}
 use Rattle.llb_state.proofs.Crews.{Crew}
 use Rattle.llb_state.proofs.Kept.{made_enough}

@@ -25,7 +25,7 @@ use Rattle.llb_state.specs.Caches.{some_lease, lease_if}
 use Rattle.llb_state.specs.Needs.{first_held_key, unless_held, places_taken}
 use Rattle.llb_state.specs.Rules.{Begun, begun_at, begun, Written}
 use Rattle.llb_state.specs.Views.{at_of}
-use Rattle.llb_state.specs.declared.stand.Desk.{Desk}
+use Rattle.llb_state.specs.declared.desk.Desk.{Desk}
 use Rattle.llb_events.specs.declared.fault.ClaimFault.{ClaimFault}
 use Rattle.llb_events.specs.declared.fault.ClaimFault.TheVariants as claim
 use Rattle.llb_events.specs.declared.fault.StepFault.{StepFault}

@@ -31,9 +31,9 @@ use Rattle.llb_state.specs.Vertices.{VerticesValue, with_status}
 use Rattle.llb_state.specs.Views.{at_of, leased_by, execution_of}
 use Rattle.llb_events.specs.Views.{claim_reply}
 use Rattle.llb_state.specs.Workers.{WorkersValue, BegunValue, IsBegunAt, IsBegunOn, Fits, state_in, claim_in, reply_of, rule_of}
-use Rattle.llb_state.specs.declared.stand.Desk.{Desk}
-use Rattle.llb_state.specs.declared.stand.Desk.TheVariants as desk
-use Rattle.llb_state.specs.declared.stand.Execution as own
+use Rattle.llb_state.specs.declared.desk.Desk.{Desk}
+use Rattle.llb_state.specs.declared.desk.Desk.TheVariants as desk
+use Rattle.llb_state.specs.declared.desk.Execution as own
 use Rattle.llb_state.proofs.Calls.{CanClaim, Leased, Granted, granted_of, leased_as_held, held_is_fault, open_is, places_alike, begun_is, needs_asked}
 use Rattle.llb_state.proofs.Crews.{Crew, crew_set}
 use Rattle.llb_state.proofs.Kept.{leased_claimed, made_for, supplies_claimed}

@@ -15,9 +15,9 @@ use Rattle.llb_state.specs.Caches.{given_back, IsOutIf}
 use Rattle.llb_state.specs.Vertices.{IsWhole}
 use Rattle.llb_state.specs.Views.{at_of, leased_by}
 use Rattle.llb_state.specs.Workers.{IsCrew}
-use Rattle.llb_state.specs.declared.stand.Desk.{Desk}
-use Rattle.llb_state.specs.declared.stand.Desk.TheVariants as desk
-use Rattle.llb_state.specs.declared.stand.Execution as own
+use Rattle.llb_state.specs.declared.desk.Desk.{Desk}
+use Rattle.llb_state.specs.declared.desk.Desk.TheVariants as desk
+use Rattle.llb_state.specs.declared.desk.Execution as own
 use Rattle.llb_state.proofs.Lists.{length_map, get_map}
 use Rattle.llb_state.proofs.Lent.{leased_settled, lease_out}
 use Rattle.llb_state.proofs.Returned.{none_leased}

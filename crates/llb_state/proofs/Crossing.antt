@@ -24,8 +24,8 @@ use Rattle.llb_loader.specs.contracts.locals.Locals as locals
 use Rattle.llb_model.proofs.fault.VertexFault.TheSendSync as fault_crosses
 use Rattle.llb_state.specs.contracts.build.Build as build
 use Rattle.llb_state.specs.contracts.build.Build.TheInside as build_inside
-use Rattle.llb_state.specs.contracts.stand.Desk as desk
-use Rattle.llb_state.specs.contracts.stand.Execution as execution
+use Rattle.llb_state.specs.contracts.desk.Desk as desk
+use Rattle.llb_state.specs.contracts.desk.Execution as execution
 use Rattle.llb_state.specs.contracts.vertices.stage.Stage as stage
 use Rattle.llb_state.specs.contracts.vertices.Vertices as vertices
 use Rattle.llb_state.specs.contracts.vertices.Vertices.TheInside as vertices_inside

@@ -14,9 +14,9 @@ use Rattle.llb_model.specs.Caches.{Instance}
 use Rattle.llb_state.specs.Views.{at_of, leased_by, execution_of}
 use Rattle.llb_state.specs.Rules.{left_at}
 use Rattle.llb_state.specs.Room.{Supplies, supplies_of, supplies_for, ready_made, needed}
-use Rattle.llb_state.specs.declared.stand.Desk.{Desk}
-use Rattle.llb_state.specs.declared.stand.Desk.TheVariants as desk
-use Rattle.llb_state.specs.declared.stand.Execution as own
+use Rattle.llb_state.specs.declared.desk.Desk.{Desk}
+use Rattle.llb_state.specs.declared.desk.Desk.TheVariants as desk
+use Rattle.llb_state.specs.declared.desk.Execution as own
 use Rattle.llb_state.proofs.Lists.{map_set, get_map}
 use Rattle.llb_state.proofs.Calls.{LeasedNew, left_if}
 

@@ -20,9 +20,9 @@ use Rattle.llb_state.specs.Room.{Supplies, supplies_of, needs_at}
 use Rattle.llb_state.specs.Vertices.{VerticesValue}
 use Rattle.llb_state.specs.Views.{at_of, leased_by, execution_of}
 use Rattle.llb_state.specs.Workers.{WorkersValue, Fits, RunsJob, steps_left}
-use Rattle.llb_state.specs.declared.stand.Desk.{Desk}
-use Rattle.llb_state.specs.declared.stand.Desk.TheVariants as desk
-use Rattle.llb_state.specs.declared.stand.Execution as own
+use Rattle.llb_state.specs.declared.desk.Desk.{Desk}
+use Rattle.llb_state.specs.declared.desk.Desk.TheVariants as desk
+use Rattle.llb_state.specs.declared.desk.Execution as own
 use Rattle.llb_state.proofs.Crews.{Crew, crew_set}
 use Rattle.llb_state.proofs.Kept.{made_enough, supplies_claimed}
 use Rattle.llb_state.proofs.Lists.{length_map, map_set, get_map}

@@ -14,9 +14,9 @@ use Rattle.llb_model.proofs.Kept.{shows_instances}
 use Rattle.llb_model.proofs.Leasing.{end_gives_back, end_without}
 use Rattle.llb_state.specs.Caches.{tree_of, IsOutIf, given_back}
 use Rattle.llb_state.specs.Views.{at_of, leased_by}
-use Rattle.llb_state.specs.declared.stand.Desk.{Desk}
-use Rattle.llb_state.specs.declared.stand.Desk.TheVariants as desk
-use Rattle.llb_state.specs.declared.stand.Execution as own
+use Rattle.llb_state.specs.declared.desk.Desk.{Desk}
+use Rattle.llb_state.specs.declared.desk.Desk.TheVariants as desk
+use Rattle.llb_state.specs.declared.desk.Execution as own
 use Rattle.llb_state.proofs.Lists.{map_set, get_map}
 use Rattle.llb_state.proofs.Returned.{none_out}
 

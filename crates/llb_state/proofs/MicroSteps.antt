@@ -20,7 +20,7 @@ use Rattle.llb_events.specs.declared.fault.StepFault.{StepFault}
 use Rattle.llb_events.specs.Causes.{step_memory}
 use Rattle.llb_state.specs.Room.{Supplies, supplies_of, supplies_for, setting_at, needs_at}
 use Rattle.llb_state.specs.Rules.{worked, worked_to, written_by, worked_in}
-use Rattle.llb_state.specs.declared.stand.Execution as own
+use Rattle.llb_state.specs.declared.desk.Execution as own
 use Rattle.llb_state.proofs.Lists.{length_map}
 use Rattle.llb_state.proofs.Needed.{few_needs}
 use Rattle.llb_state.proofs.Skipping.{put_each_same, skip_to}

@@ -25,9 +25,9 @@ use Rattle.llb_state.specs.Rules.{Written, worked_by, written_by, worked_in}
 use Rattle.llb_state.specs.Views.{at_of, leased_by, execution_of}
 use Rattle.llb_events.specs.declared.event.Stepped.{Stepped}
 use Rattle.llb_events.specs.declared.fault.StepFault.{StepFault}
-use Rattle.llb_state.specs.declared.stand.Desk.{Desk}
-use Rattle.llb_state.specs.declared.stand.Desk.TheVariants as desk
-use Rattle.llb_state.specs.declared.stand.Execution as own
+use Rattle.llb_state.specs.declared.desk.Desk.{Desk}
+use Rattle.llb_state.specs.declared.desk.Desk.TheVariants as desk
+use Rattle.llb_state.specs.declared.desk.Execution as own
 use Rattle.llb_state.proofs.Lists.{length_map, get_map, map_set, set_same}
 use Rattle.llb_state.proofs.Calls.{granted_by}
 use Rattle.llb_state.proofs.Written.{written_each}

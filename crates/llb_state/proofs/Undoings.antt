@@ -20,9 +20,9 @@ use Rattle.llb_state.specs.Room.{ready_made, supplies_of}
 use Rattle.llb_state.specs.Undo.{Back, Unclaim, Unstep, Resume, back_in, workers_before, supplies_before, rows_before, step_before, IsStepped, CanPutBack}
 use Rattle.llb_state.specs.Undoing.{desk_before, left_in}
 use Rattle.llb_state.specs.Views.{at_of, leased_by, execution_of}
-use Rattle.llb_state.specs.declared.stand.Desk.{Desk}
-use Rattle.llb_state.specs.declared.stand.Desk.TheVariants as desk
-use Rattle.llb_state.specs.declared.stand.Execution as own
+use Rattle.llb_state.specs.declared.desk.Desk.{Desk}
+use Rattle.llb_state.specs.declared.desk.Desk.TheVariants as desk
+use Rattle.llb_state.specs.declared.desk.Execution as own
 use Rattle.llb_state.specs.declared.workers.undoing.Back as undo
 use Rattle.llb_state.specs.declared.workers.undoing.End.{End}
 use Rattle.llb_state.proofs.Calls.{LeasedNew}

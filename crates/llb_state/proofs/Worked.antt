@@ -21,9 +21,9 @@ use Rattle.llb_state.specs.Vertices.{VerticesValue}
 use Rattle.llb_events.specs.Views as views
 use Rattle.llb_state.specs.Views.{at_of, execution_of}
 use Rattle.llb_state.specs.Workers.{WorkersValue, Fits, state_in, step_in}
-use Rattle.llb_state.specs.declared.stand.Desk.{Desk}
-use Rattle.llb_state.specs.declared.stand.Desk.TheVariants as desk
-use Rattle.llb_state.specs.declared.stand.Execution as own
+use Rattle.llb_state.specs.declared.desk.Desk.{Desk}
+use Rattle.llb_state.specs.declared.desk.Desk.TheVariants as desk
+use Rattle.llb_state.specs.declared.desk.Execution as own
 use Rattle.llb_state.proofs.Crews.{Crew, crew_set}
 use Rattle.llb_state.proofs.Kept.{made_enough, supplies_claimed}
 use Rattle.llb_state.proofs.Lists.{get_map, map_set}

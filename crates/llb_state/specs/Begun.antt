@@ -5,7 +5,7 @@ use Rattle.llb_loader.specs.declared.graph.Vertex.{Vertex}
 use Rattle.llb_tree.specs.Tree.{TreeMap, empty_tree}
 use Rattle.llb_model.specs.Program as model
 use Rattle.llb_execution.specs.Parts.{kind_setting}
-use Rattle.llb_state.specs.declared.step.Outfit.{Outfit}
+use Rattle.llb_state.specs.declared.outfit.Outfit.{Outfit}
 
 -- what an execution has beside its view
 pub record Outfitted : Type 0 where

@@ -60,13 +60,15 @@ pub record IsFound (c : cache.CachesValue) (w : Wanted) : Type 0 where
   pub number : w.found.number ≡ cache.number_for c.out w.key w.key.mode
   pub tree : option_map (λ t. t.now) w.found.tree ≡ slice_get (cache.trees_of c.rows w.key) w.found.number
 
--- the instance that was found, its tree, which is that of an input where it is not there, and the row of its key
+-- the instance that a lease would have, as it was found
 abbrev pub place_found : Wanted → Instance
 place_found w = place w.key w.found.number
 
+-- the tree that the instance begins with: its own if it is there, else that of the input that the mount names, or the empty tree if there is none
 abbrev pub first_tree : List TreeMap → Wanted → TreeMap
 first_tree inputs w = unwrap_or (option_map (λ t. t.now) w.found.tree) (base_in w.input inputs)
 
+-- the row of the caches in which the key was found, if it was found in one
 abbrev pub row_found : Wanted → Option ℕ
 row_found w = w.found.row
 

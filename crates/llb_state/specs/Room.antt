@@ -10,9 +10,9 @@ use Rattle.llb_model.specs.Caches.{Instance}
 use Rattle.llb_model.specs.Program.{Build, Need, key_of, mount_of, needs_of, program_at, setting_of}
 use Rattle.llb_model.specs.State.{WorkerStatus, Idle, Runs}
 use Rattle.llb_execution.specs.Parts.{kind_setting, mounts_in, shown_in}
-use Rattle.llb_state.specs.declared.stand.Desk.{Desk}
-use Rattle.llb_state.specs.declared.stand.Execution as own
-use Rattle.llb_state.specs.declared.stand.Desk.TheVariants as desk
+use Rattle.llb_state.specs.declared.desk.Desk.{Desk}
+use Rattle.llb_state.specs.declared.desk.Execution as own
+use Rattle.llb_state.specs.declared.desk.Desk.TheVariants as desk
 
 -- what a worker has from its claim on: an empty tree for each output of its vertex, where its commands run, how many mounts they see, which
 -- of these show caches, and the keys of those

@@ -4,9 +4,9 @@ use Rattle.llb_execution.specs.Marks.{Mark, put_back}
 use Rattle.llb_model.specs.State.{Execution}
 use Rattle.llb_state.specs.Room.{Supplies, supplies_of}
 use Rattle.llb_state.specs.Views.{execution_of}
-use Rattle.llb_state.specs.declared.stand.Desk.{Desk}
-use Rattle.llb_state.specs.declared.stand.Desk.TheVariants as desk
-use Rattle.llb_state.specs.declared.stand.Execution as own
+use Rattle.llb_state.specs.declared.desk.Desk.{Desk}
+use Rattle.llb_state.specs.declared.desk.Desk.TheVariants as desk
+use Rattle.llb_state.specs.declared.desk.Execution as own
 
 -- what a worker holds that settles
 pub record Left : Type 0 where

@@ -1,9 +1,9 @@
 -- What a worker's data represents, in the words of the machine's definitions.
 use Rattle.std.specs.Prelude.{ℕ, Option, None}
 use Rattle.llb_model.specs.State as model
-use Rattle.llb_state.specs.declared.stand.Desk.{Desk}
-use Rattle.llb_state.specs.declared.stand.Desk.TheVariants as desk
-use Rattle.llb_state.specs.declared.stand.Execution.{Execution}
+use Rattle.llb_state.specs.declared.desk.Desk.{Desk}
+use Rattle.llb_state.specs.declared.desk.Desk.TheVariants as desk
+use Rattle.llb_state.specs.declared.desk.Execution.{Execution}
 
 -- an execution as the model's
 abbrev pub execution_of : Execution → model.Execution

@@ -5,7 +5,7 @@ ghost use Rattle.llb_state.specs.Room.{ready_made};
 ghost use Rattle.llb_state.specs.Undoing.{left_in};
 ghost use Rattle.llb_state.specs.Views.{at_of, leased_by};
 
-use crate::stand::{Desk, Execution};
+use crate::desk::{Desk, Execution};
 use llb_cache::{Instance, Lease};
 use llb_events::Memory;
 use llb_tree::Tree;

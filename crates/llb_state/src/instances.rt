@@ -13,7 +13,7 @@ ghost use Rattle.llb_state.specs.Caches.{tree_of, leased_places, IsOutIf, given_
 ghost use Rattle.llb_state.specs.Views.{at_of, leased_by};
 ghost use Rattle.llb_events.specs.Causes.{step_memory};
 
-use crate::stand::Desk;
+use crate::desk::Desk;
 use llb_cache::{Caches, Growth, Instance, Lease, LeaseFault, Lent, Need};
 use llb_events::{Memory, StepFault};
 use llb_tree::Tree;

@@ -3,8 +3,8 @@
 ghost use Rattle.std.specs.Prelude.{◌≡◌, ◌↔◌, ◌<◌, ◌+◌, ◌^◌, ℕ, Option, length, map, true, Some, slice_get, slice_set, IsTrue};
 ghost use Rattle.llb_model.specs.Caches as model;
 ghost use Rattle.llb_model.specs.Caches.{trees_at, Has};
-ghost use Rattle.llb_state.specs.declared.stand.Desk.TheVariants as desk;
-ghost use Rattle.llb_state.specs.declared.stand.Execution as own;
+ghost use Rattle.llb_state.specs.declared.desk.Desk.TheVariants as desk;
+ghost use Rattle.llb_state.specs.declared.desk.Execution as own;
 ghost use Rattle.llb_model.specs.Kept.{store_of};
 ghost use Rattle.llb_cache.specs.Caches.{trees_of};
 ghost use Rattle.llb_state.specs.Caches.{tree_of};
@@ -13,7 +13,7 @@ ghost use Rattle.llb_state.specs.Jobs.{IsBegun, desk_left};
 ghost use Rattle.llb_state.specs.Views.{leased_by, execution_of};
 
 use crate::copying::lease_of;
-use crate::stand::{Desk, Execution};
+use crate::desk::{Desk, Execution};
 use llb_cache::{Caches, Instance, Lease};
 use llb_execution::{Job, Workspace};
 use llb_model::VertexFault;

@@ -4,15 +4,12 @@
 
 mod build;
 mod copying;
+mod desk;
 mod ending;
-mod fresh;
 mod instances;
 mod landing;
 mod needs;
-mod same;
-mod stand;
-mod step;
-mod undoing;
+mod outfit;
 mod vertices;
 mod workers;
 

@@ -9,6 +9,7 @@ abbrev pub packed : Entry → (ℕ × (ℕ × ℕ)) × Option (List ℕ)
 packed (Dir m) = ((m.mode, (m.uid, m.gid)), None)
 packed (File m bytes) = ((m.mode, (m.uid, m.gid)), Some bytes)
 
+-- what is stored as an entry again: a directory where there is no content, and a file where there is
 abbrev pub unpacked : (ℕ × (ℕ × ℕ)) × Option (List ℕ) → Entry
 unpacked (m, None) = Dir (record { mode = m.0; uid = m.1.0; gid = m.1.1 })
 unpacked (m, Some bytes) = File (record { mode = m.0; uid = m.1.0; gid = m.1.1 }) bytes
@@ -17,6 +18,7 @@ pub unpacked-packed : (e : Entry) → unpacked (packed e) ≡ e
 unpacked-packed (Dir m) = refl
 unpacked-packed (File m bytes) = refl
 
+-- an entry by its mode, its owner and, of a file, its content
 abbrev pub coded_entry : Coded Entry
 coded_entry = code_by ((ℕ × (ℕ × ℕ)) × Option (List ℕ))
     (coded× (coded× coded_ℕ (coded× coded_ℕ coded_ℕ)) (coded_option (coded_list coded_ℕ))) packed unpacked unpacked-packed

@@ -24,9 +24,11 @@ map-map g f (x ∷ xs) = ap (λ ys. g (f x) ∷ ys) (map-map g f xs)
 pub walk-cons : (look : Look) (n : List ℕ) (p : List (List ℕ)) → walk look (n ∷ p) ≡ all_dirs (look [] ∷ map (λ q. look (n ∷ q)) (parents p))
 walk-cons look n p = ap (λ ys. all_dirs (look [] ∷ ys)) (map-map look (λ q. n ∷ q) (parents p))
 
+-- a path, and the entry at it
 abbrev pub Pair : Type 0
 Pair = List (List ℕ) × Entry
 
+-- those of the entries that are at or below a path, in their order, each without that path at the front of its own
 abbrev pub inside : List (List ℕ) → List Pair → List Pair
 inside p es = map (moved (length p) []) (where_key path_cmp (is_within p) es)
 

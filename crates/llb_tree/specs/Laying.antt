@@ -14,6 +14,7 @@ use Rattle.llb_tree.specs.declared.node.Piece.{Piece}
 abbrev pub dress : WayValue → TreeMap → TreeMap
 dress w t = finite.from_entries (map (λ (e : List (List ℕ) × Entry). (e.0, over w None e.1)) (finite.entries t))
 
+-- the same for the tree of a child, which keeps its name
 abbrev pub dress_pair : WayValue → List ℕ × TreeMap → List ℕ × TreeMap
 dress_pair w k = (k.0, dress w k.1)
 
@@ -31,6 +32,7 @@ pub record IsLaid (w : WayValue) (old : List Child) (upper made : Child) : Type 
   pub named : name_of made ≡ name_of upper
   pub laid : (q : List (List ℕ)) → finite.get made.node q ≡ over_at w (look_in (child (name_of upper) old)) (finite.get upper.node) q
 
+-- the upper children, laid, child by child: one is made of each, in the same order, and no more
 abbrev pub AreLaid : WayValue → List Child → List Child → List Child → Type 0
 AreLaid w old [] [] = Unit {0}
 AreLaid w old [] (k ∷ made) = ⊥

@@ -2,6 +2,7 @@
 -- the type of the code keeps both.
 use Rattle.std.specs.Prelude.{ℕ, ◌≤◌, ◌<◌, ◌^◌, Option, Some, None, nat_lt, if◌then◌else◌}
 
+-- the mode of an entry, and the user and the group that own it; the numbers are not bounded here
 pub record MetaValue : Type 0 where
   pub mode : ℕ
   pub uid : ℕ

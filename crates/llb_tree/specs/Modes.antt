@@ -2,6 +2,7 @@
 use Rattle.std.specs.Prelude.{ℕ, ◌+◌, ◌-◌, ◌*◌, nat_le, Bool, ◌&&◌, if◌then◌else◌, List, length, fold, Option, Some, None}
 use Rattle.std.specs.List.{list_all}
 
+-- whether a byte is one of the digits `0` to `7`
 abbrev pub is_octal_digit : ℕ → Bool
 is_octal_digit b = nat_le 48 b && nat_le b 55
 
@@ -9,5 +10,6 @@ is_octal_digit b = nat_le 48 b && nat_le b 55
 abbrev pub octal : List ℕ → ℕ
 octal digits = fold (λ n b. 8 * n + (b - 48)) 0 digits
 
+-- the mode that a word of one to four octal digits spells, at most 4095; any other word spells none
 abbrev pub mode_of : List ℕ → Option ℕ
 mode_of word = if nat_le 1 (length word) && nat_le (length word) 4 && list_all is_octal_digit word then Some (octal word) else None

@@ -17,6 +17,7 @@ use Rattle.llb_tree.specs.declared.node.Child.{Child}
 use Rattle.llb_tree.specs.declared.node.Piece.{Piece}
 use Rattle.llb_tree.specs.declared.children.Children.{Children}
 
+-- a path, and the entry at it as contracts see it
 abbrev pub Pair : Type 0
 Pair = List (List ℕ) × base.Entry
 
@@ -25,9 +26,11 @@ abbrev pub seen : Entry → base.Entry
 seen (entry.Dir m) = base.Dir m
 seen (entry.File m b) = base.File m b.now
 
+-- a borrowed path with its entry, without where the path and the content lie
 abbrev pub pair_seen : Bor (List (List ℕ)) × Entry → Pair
 pair_seen (p, e) = (p.now, seen e)
 
+-- the bytes of a child's name
 abbrev pub name_of : Child → List ℕ
 name_of k = arc_value k.name
 
@@ -35,22 +38,26 @@ name_of k = arc_value k.name
 abbrev pub below : Child → List Pair
 below k = map (λ (e : Pair). (name_of k ∷ e.0, e.1)) (finite.entries k.node)
 
+-- the entries of children, one child after another, from their parent's place
 abbrev pub flat : List Child → List Pair
 flat [] = []
 flat (k ∷ ks) = below k ++ flat ks
 
--- the children in a piece, and those in pieces one after another
+-- the children in a piece
 abbrev pub rows_in : Piece → List Child
 rows_in p = (arc_value p.rows).items
 
+-- the children in pieces, one piece after another
 abbrev pub kids_in : List Piece → List Child
 kids_in [] = []
 kids_in (p ∷ ps) = rows_in p ++ kids_in ps
 
+-- the pieces that the children of a directory are in; a file has none
 abbrev pub pieces_of : Kind → List Piece
 pieces_of (kind.File m c) = []
 pieces_of (kind.Dir m pieces) = (arc_value pieces).items
 
+-- the children of a directory, one piece after another; a file has none
 abbrev pub kids_of : Kind → List Child
 kids_of k = kids_in (pieces_of k)
 
@@ -59,12 +66,15 @@ abbrev pub own_entry : Kind → base.Entry
 own_entry (kind.File m c) = base.File m (arc_value c)
 own_entry (kind.Dir m kids) = base.Dir m
 
+-- the entries of a node, from its own place: its own entry at the root, and then those of its children
 abbrev pub entries_of : Kind → List Pair
 entries_of k = ([], own_entry k) ∷ flat (kids_of k)
 
+-- the tree that a node represents: the entries at and below it, by their paths from it
 abbrev pub map_of : Kind → TreeMap
 map_of k = finite.from_entries (entries_of k)
 
+-- a child as its name and the tree that its node represents
 abbrev pub pair_of : Child → List ℕ × TreeMap
 pair_of k = (name_of k, k.node)
 
@@ -97,11 +107,12 @@ set_look [] t old q = look_in t q
 set_look (n ∷ p) t old [] = old []
 set_look (n ∷ p) t old (m ∷ q) = cond (is_eq (name_cmp m n)) (set_look p t (λ r. old (n ∷ r)) q) (old (m ∷ q))
 
--- a directory with what another has below it, and a file alone
+-- a directory at the root, with what is below another root
 abbrev pub dir_look : base.MetaValue → Look → Look
 dir_look m old [] = Some (base.Dir m)
 dir_look m old (n ∷ q) = old (n ∷ q)
 
+-- a file with its mode, owner and content at the root, and nothing below it
 abbrev pub file_look : base.MetaValue → List ℕ → Look
 file_look m b [] = Some (base.File m b)
 file_look m b (n ∷ q) = None

@@ -1,10 +1,11 @@
--- One tree over another, path by path. The upper tree's entries are kept, in the mode and the owner that are given for them; of the
--- lower tree's entries those are kept that are below no file of the upper one.
+-- One tree over another, path by path. The upper tree's entries are kept, in the mode and the owner that are given for them, but that a
+-- directory which both have can stay as the lower tree has it; of the lower tree's entries those are kept that are below no file of the upper.
 use Rattle.std.specs.Prelude.{ℕ, Bool, true, false, List, map, Option, Some, None, unwrap_or, nat_lt, if◌then◌else◌}
 use Rattle.std.specs.List.{list_any}
 use Rattle.llb_tree.specs.Meta.{MetaValue}
 use Rattle.llb_tree.specs.Tree.{Entry, Dir, File, Look, parents}
 
+-- whether a file is there: false for a directory, and where there is nothing
 abbrev pub is_file : Option Entry → Bool
 is_file None = false
 is_file (Some (Dir m)) = false
@@ -21,10 +22,12 @@ pub record WayValue : Type 0 where
   pub gid : Option ℕ
   pub keeps : Bool
 
+-- whether a mode, if one is given, is at most 4095; true where none is given
 abbrev pub is_mode : Option ℕ → Bool
 is_mode None = true
 is_mode (Some mode) = if nat_lt 4095 mode then false else true
 
+-- the way of a mode, a user, a group, each given or not, and of whether directories that both have stay; none exactly where a mode above 4095 is given
 abbrev pub way_of : Option ℕ → Option ℕ → Option ℕ → Bool → Option WayValue
 way_of mode uid gid keeps = if is_mode mode then Some (record { mode = mode; uid = uid; gid = gid; keeps = keeps }) else None
 
@@ -44,5 +47,6 @@ abbrev pub laid_over : WayValue → Option Entry → Option Entry → Bool → O
 laid_over w there (Some e) hidden = Some (over w there e)
 laid_over w there None hidden = if hidden then None else there
 
+-- the entry at a path where the upper tree, given last, is laid over the lower one
 abbrev pub over_at : WayValue → Look → Look → Look
 over_at w lower upper p = laid_over w (lower p) (upper p) (below_file upper p)

@@ -10,25 +10,30 @@ use Rattle.llb_tree.specs.Tree.{TreeMap}
 use Rattle.llb_tree.specs.Nodes.{Pairs, pair_of, look_in, set_look, rows_in}
 use Rattle.llb_tree.specs.declared.node.Piece.{Piece}
 
--- the pairs of a piece, and those of pieces one after another
+-- the pairs of a piece
 abbrev pub row_pairs : Piece → Pairs
 row_pairs p = map pair_of (rows_in p)
 
+-- the pairs of all pieces, one piece after another, where each piece is given by its pairs
 abbrev pub joined : List Pairs → Pairs
 joined [] = []
 joined (p ∷ ps) = p ++ joined ps
 
+-- the same where the pieces are given as they are kept
 abbrev pub pairs_of : List Piece → Pairs
 pairs_of ps = joined (map row_pairs ps)
 
+-- no piece is empty
 abbrev pub AllFull : List Pairs → Type 0
 AllFull [] = Unit {0}
 AllFull (p ∷ ps) = (0 < length p) × AllFull ps
 
+-- the pairs of the pieces one after another are sorted by name, each name once, and no piece but the first is empty
 pub record IsPieced (ps : List Pairs) : Type 0 where
   pub sorted : T (finite.is_sorted name_cmp (joined ps))
   pub full : AllFull (drop 1 ps)
 
+-- the same of pieces as they are kept
 abbrev pub ArePieced : List Piece → Type 0
 ArePieced ps = IsPieced (map row_pairs ps)
 
@@ -48,6 +53,7 @@ abbrev pub tidied_by : Pairs → ℕ → List Pairs → List Pairs
 tidied_by [] j ps = remove ps j
 tidied_by (e ∷ es) j ps = ps
 
+-- the pieces without the one at place j where that is empty; else, also where there is no such place, all of them
 abbrev pub tidied : ℕ → List Pairs → List Pairs
 tidied j ps = tidied_by (get_or ps j []) j ps
 

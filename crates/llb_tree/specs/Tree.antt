@@ -49,6 +49,7 @@ all_dirs (None ∷ es) = Err NotFound
 all_dirs (Some (File m b) ∷ es) = Err NotDir
 all_dirs (Some (Dir m) ∷ es) = all_dirs es
 
+-- the parents of a path are directories; else the first one, from the root down, that is missing or a file decides. The root has no parents
 abbrev pub walk : Look → List (List ℕ) → Result (Unit {0}) TreeFault
 walk look p = all_dirs (map look (parents p))
 
@@ -64,6 +65,7 @@ dir_fits (Some (File m b)) = Err Conflict
 dir_fits (Some (Dir m)) = Ok tt
 dir_fits None = Ok tt
 
+-- any path but the root, which is refused
 abbrev pub not_root : List (List ℕ) → Result (Unit {0}) TreeFault
 not_root [] = Err Root
 not_root (n ∷ p) = Ok tt
@@ -72,6 +74,7 @@ not_root (n ∷ p) = Ok tt
 abbrev pub put_file : TreeMap → List (List ℕ) → MetaValue → List ℕ → Result TreeMap TreeFault
 put_file t p m bytes = not_root p >>= λ _. walk (finite.get t) p >>= λ _. file_fits (finite.get t p) >>= λ _. Ok (finite.insert t p (File m bytes))
 
+-- the tree after a directory is put, also at the root, or why it is not; a directory that is there takes the new mode and owner
 abbrev pub put_dir : TreeMap → List (List ℕ) → MetaValue → Result TreeMap TreeFault
 put_dir t p m = walk (finite.get t) p >>= λ _. dir_fits (finite.get t p) >>= λ _. Ok (finite.insert t p (Dir m))
 
@@ -100,6 +103,7 @@ moved n front e = (front ++ drop n e.0, e.1)
 abbrev pub tree_at : TreeMap → List (List ℕ) → TreeMap
 tree_at t p = finite.from_entries (map (moved (length p) []) (where_key path_cmp (is_within p) (finite.entries t)))
 
+-- the tree of what is at or below a directory, or why it is not taken out: nothing is there, or a file
 abbrev pub subtree : TreeMap → List (List ℕ) → Result TreeMap TreeFault
 subtree t p = dir_there t p >>= λ _. Ok (tree_at t p)
 
@@ -120,6 +124,7 @@ places_fit p (q ∷ qs) = if nat_lt 128 (length p + length q) then Err BadName e
 abbrev pub with_tree : TreeMap → List (List ℕ) → TreeMap → TreeMap
 with_tree t p other = finite.from_entries (map (moved 0 p) (finite.entries other) ++ finite.entries (without t p))
 
+-- the tree after another one is put at a path, in place of what is at or below it, or why it is not; at the root it becomes the other
 abbrev pub graft : TreeMap → List (List ℕ) → TreeMap → Result TreeMap TreeFault
 graft t p other = walk (finite.get t) p >>= λ _. places_fit p (finite.keys other) >>= λ _. Ok (with_tree t p other)
 

@@ -38,6 +38,7 @@ abbrev pub left : Option (Bor Node) → List (List ℕ) → List Children → Li
 left None p ls = []
 left (Some node) p ls = map (moved 0 p) (finite.entries node.now) ++ behind p (levels_of ls)
 
+-- the path of each entry has at most 128 names
 abbrev pub AreShort : List (List (List ℕ) × Entry) → Type 0
 AreShort = All (λ e. length e.0 ≤ 128)
 

@@ -24,6 +24,7 @@ Gives = answer.Gives is_memory
 abbrev pub MemoryLast : {X Y : Type 0} → Result X TextFault → Result Y TextFault → Type 0
 MemoryLast = answer.MemoryLast is_memory
 
+-- the fault for refused memory, among those of writing a text
 abbrev pub is_refused_memory : PrintFault → Bool
 is_refused_memory print.Memory = true
 is_refused_memory print.Write = false
@@ -32,13 +33,14 @@ is_refused_memory print.Write = false
 abbrev pub Prints : Option (List ℕ) → Option (List ℕ) → Bool → List ℕ → Result (Unit {0}) PrintFault → Type 0
 Prints = output.Writes is_refused_memory
 
--- what a fault prints: its number, and its line
+-- what a fault prints: its number, and the number of its line where it has one
 abbrev pub reading_text : TextFault → List ℕ
 reading_text (text.BadLine line) = codes "31 " ++ decimal line
 reading_text (text.Order line) = codes "32 " ++ decimal line
 reading_text (text.NoParent line) = codes "33 " ++ decimal line
 reading_text text.Memory = codes "34"
 
+-- what a fault of writing a text prints: its number alone, for refused memory the same as in reading (docs/FAULTS.md)
 abbrev pub printing_text : PrintFault → List ℕ
 printing_text print.Memory = codes "34"
 printing_text print.Write = codes "35"

@@ -20,7 +20,7 @@ abbrev pub on : {A B : Type 0} → Option A → (A → Option B) → Option B
 on None f = None
 on (Some x) f = f x
 
--- the bytes up to the first one of a kind, and those after it
+-- the bytes before the first c of a text, and those after it; none if it has no c
 abbrev pub cut_at : ℕ → List ℕ → Option (List ℕ × List ℕ)
 cut_at c text = if nat_lt (position_or_len (λ b. nat_eq b c) text) (length text) then
     Some (before_first (λ b. nat_eq b c) text, after_first (λ b. nat_eq b c) text) else None
@@ -29,7 +29,7 @@ cut_at c text = if nat_lt (position_or_len (λ b. nat_eq b c) text) (length text
 abbrev pub mode_in : List ℕ → Option ℕ
 mode_in text = if length text == 4 then mode_of text else None
 
--- the number of decimal digits that follow the digits of a number
+-- the number that n and the decimal digits of a text after it spell; none from 2^32 on
 unfoldable pub number_from : ℕ → List ℕ → Option ℕ
 number_from n [] = Some n
 number_from n (b ∷ text) = if nat_lt (n * 10 + (b - 48)) (2 ^ 32) then number_from (n * 10 + (b - 48)) text else None
@@ -56,13 +56,15 @@ is_path (b ∷ names) = (b == 47) && ((length names == 0) || are_names names)
 abbrev pub Fields : Type 0
 Fields = MetaValue × Option (List ℕ) × List ℕ
 
+-- the fields in the parts that the code has of a line
 abbrev pub parts_seen : Parts → Fields
 parts_seen x = (x.meta, option_map (λ digits. digits.now) x.digits, x.path.now)
 
+-- the fields of a directory's line; none if the text is no path as it is written
 abbrev pub dir_parts : MetaValue → List ℕ → Option Fields
 dir_parts m path = if is_path path then Some (m, None, path) else None
 
--- the root is no file
+-- the fields of a file's line; none if the content or the path is not spelled as it is written, or the path is the root
 abbrev pub file_parts : MetaValue → List ℕ → List ℕ → Option Fields
 file_parts m digits path = if is_hex digits && is_path path && not (nat_lt (length path) 2) then Some (m, Some digits, path) else None
 
@@ -87,12 +89,15 @@ abbrev pub entry_of : MetaValue → Option (List ℕ) → Entry
 entry_of m None = Dir m
 entry_of m (Some content) = File m content
 
+-- the path and the entry that the code has of a line
 abbrev pub pair_of : Row → List (List ℕ) × Entry
 pair_of r = (r.path, entry_of r.meta r.content)
 
+-- a directory at the path that the text reads as; none if it reads as no path
 abbrev pub dir_in : MetaValue → List ℕ → Option (List (List ℕ) × Entry)
 dir_in m path = on (result_ok (path_of path)) (λ p. Some (p, Dir m))
 
+-- a file with the bytes that the digits spell, at the path that the text reads as; none if the digits spell no bytes or the text reads as no path
 abbrev pub file_in : MetaValue → List ℕ → List ℕ → Option (List (List ℕ) × Entry)
 file_in m digits path = on (bytes_in digits) (λ content. on (result_ok (path_of path)) (λ p. Some (p, File m content)))
 

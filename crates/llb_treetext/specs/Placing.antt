@@ -37,6 +37,7 @@ pub record IsFront (bytes : List ℕ) (t : TreeMap) (rest : List ℕ) : Type 0 w
 
 -- ---- without memory: of the tree so far the last line's path and kind are enough
 
+-- whether an entry is a directory
 abbrev pub is_dir : Entry → Bool
 is_dir (Dir m) = true
 is_dir (File m content) = false
@@ -45,11 +46,12 @@ is_dir (File m content) = false
 abbrev pub rank : ℕ → ℕ
 rank b = if b == 47 then 0 else b
 
--- names with a slash before each, in path order
+-- how two texts of names, with a slash before each name, stand in the order of paths
 abbrev pub trail_cmp : List ℕ → List ℕ → Ordering
 trail_cmp p q = slice_cmp nat_cmp (map rank p) (map rank q)
 
--- what is after the names of a directory, where that is the last path or above it
+-- whether what is left of the last path after the names of a path shows that a directory is there: nothing is left and the last path
+-- has a directory, or another name follows
 abbrev pub opens : List ℕ → Bool → Bool
 opens [] dir = dir
 opens (b ∷ later) dir = b == 47

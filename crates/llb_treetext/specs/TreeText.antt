@@ -10,13 +10,15 @@ use Rattle.llb_tree.specs.Tree.{Entry, Dir, File, MetaValue, TreeMap}
 abbrev pub mode_text : ℕ → List ℕ
 mode_text mode = decimal (mode / 512) ++ (decimal (mode / 64 % 8) ++ (decimal (mode / 8 % 8) ++ decimal (mode % 8)))
 
+-- the text of the mode, the user and the group of an entry, in four octal digits and twice in decimal, each with a space after it
 abbrev pub meta_text : MetaValue → List ℕ
 meta_text m = mode_text m.mode ++ (codes " " ++ (decimal m.uid ++ (codes " " ++ (decimal m.gid ++ codes " "))))
 
--- the text of a path: a slash before each name, one alone for the root
+-- the names of a path, with a slash before each; empty for the root
 abbrev pub names_text : List (List ℕ) → List ℕ
 names_text p = flat_map (λ name. codes "/" ++ name) p
 
+-- the text of a path: the text of its names, and one slash for the root, which has no names
 abbrev pub path_text : List (List ℕ) → List ℕ
 path_text [] = codes "/"
 path_text (n ∷ p) = names_text (n ∷ p)
@@ -26,6 +28,7 @@ abbrev pub row_text : List (List ℕ) × Entry → List ℕ
 row_text (p, Dir m) = codes "d " ++ (meta_text m ++ path_text p)
 row_text (p, File m content) = codes "f " ++ (meta_text m ++ (hex_text content ++ (codes " " ++ path_text p)))
 
+-- the line of an entry, with the line feed at its end (docs/FORMATS.md, "The texts of a tree and of a graph")
 abbrev pub line_of : List (List ℕ) × Entry → List ℕ
 line_of e = row_text e ++ codes "\n"
 

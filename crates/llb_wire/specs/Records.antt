@@ -49,7 +49,8 @@ IsPayload I64 bytes value payload = (payload ≡ bytes) × IsFixed w64 bytes val
 IsPayload Len bytes value payload = (count : List ℕ) × (bytes ≡ count ++ payload) × IsVarint count value × (length payload ≡ value)
 IsPayload I32 bytes value payload = (payload ≡ bytes) × IsFixed w32 bytes value
 
--- The record's own bytes: its tag, which is a varint of eight times the field's number plus the code of the wire type, and then its payload.
+-- The record's own bytes: its tag, which is a varint of eight times the field's number plus the code of the wire type, and then its payload,
+-- before which a LEN has its length.
 pub record IsRecord (r : Record) : Type 0 where
   pub tag : List ℕ
   pub behind : List ℕ
@@ -77,6 +78,7 @@ own_text I64 value payload = to_le_bytes w64 value
 own_text Len value payload = payload
 own_text I32 value payload = to_le_bytes w32 value
 
+-- the record that is written, with shortest varints: a LEN of its payload, and any other wire type of a value that fits it
 abbrev pub written_record : ℕ → Wire → ℕ → List ℕ → Record
 written_record number wire value payload = record {
   number = number;

@@ -21,8 +21,8 @@ ghost use Rattle.llb_state.specs.Workers.{IsBegunOn, Fits, claim_in, reply_of, s
 
 use crate::instances::lease_for;
 use crate::needs::{Wanted, mount_numbers, taking_for, wanted_by};
-use crate::stand::{Desk, Execution};
-use crate::step::{desk_at, outfit_for};
+use crate::desk::{Desk, Execution, desk_at};
+use crate::outfit::outfit_for;
 use crate::vertices::Vertices;
 use crate::workers::Workers;
 use llb_cache::Need;

@@ -17,8 +17,7 @@ ghost use Rattle.llb_state.specs.Workers.{Fits, RunsJob, steps_left};
 
 use crate::instances::write_back;
 use crate::landing::{has_numbers, has_trees, is_begun, put_left};
-use crate::stand::{Desk, Execution};
-use crate::step::desk_at;
+use crate::desk::{Desk, Execution, desk_at};
 use crate::vertices::Vertices;
 use crate::workers::Workers;
 use llb_cache::Caches;

@@ -12,8 +12,7 @@ ghost use Rattle.llb_state.specs.Workers.{Fits};
 
 use crate::ending::outputs;
 use crate::instances::give_back;
-use crate::stand::{Desk, Execution};
-use crate::step::is_finished;
+use crate::desk::{Desk, Execution, is_finished};
 use crate::vertices::{Stage, Vertices};
 use crate::workers::Workers;
 use llb_events::{CancelFault, Cancelled, SettleFault};

@@ -17,7 +17,7 @@ ghost use Rattle.llb_state.specs.Workers.{Fits, state_in, step_in};
 ghost use Rattle.llb_wire.specs.Answer.{MemoryLast};
 
 use crate::instances::{contents, write_back};
-use crate::stand::{Desk, Execution};
+use crate::desk::{Desk, Execution};
 use crate::vertices::Vertices;
 use crate::workers::Workers;
 use llb_cache::{Caches, Lease};

@@ -14,6 +14,7 @@ use Rattle.llb_wire.specs.Laws.Answers.{bind_ok, guard_ok}
 use Rattle.llb_wire.specs.Reading.{varint_from, varint_at, number_of, wire_of, fixed_at, as_field, payload_at, field_at}
 use Rattle.llb_wire.specs.Laws.Varints.{short_or, varint_len}
 
+-- any value as a result without a fault
 abbrev is_ok_of : {A : Type 0} → A → Result A WireFault
 is_ok_of x = Ok x
 
@@ -96,6 +97,7 @@ fixed_local w bytes at x le e =
 
 -- ---- records
 
+-- a field that is read, its payload not before a place, with no need of the bytes from its end on
 pub record LocalField (read : List ℕ → Result Field WireFault) (bytes : List ℕ) (at : ℕ) (f : Field) : Type 0 where
   pub begins : at ≤ f.start
   pub ordered : f.start ≤ f.«end»

@@ -203,6 +203,7 @@ between_split bytes at mid last low high =
     sym (take-append-drop (mid - at) (drop at (take last bytes))) ∙ ap (λ xs. xs ++ drop (mid - at) (drop at (take last bytes))) front
     ∙ ap (λ xs. drop at (take mid bytes) ++ xs) back
 
+-- a field as a result without a fault
 abbrev ok_field : Field → Result Field WireFault
 ok_field f = Ok f
 
@@ -324,6 +325,7 @@ record_found bytes f are e = record_found_at bytes 0 f are (omega arith) e
 
 -- ---- lists of records
 
+-- all bytes of the records, one record after another
 abbrev texts : List Record → List ℕ
 texts rs = flat_map (λ r. r.text) rs
 

@@ -15,6 +15,7 @@ use Rattle.llb_wire.specs.Spelling.{shortest, varint_text, Spells, IsVarint, Var
 abbrev pair : ℕ → ℕ → ℕ × ℕ
 pair a b = (a, b)
 
+-- a pair of numbers as a result without a fault
 abbrev ok_of : ℕ × ℕ → Result (ℕ × ℕ) WireFault
 ok_of x = Ok x
 

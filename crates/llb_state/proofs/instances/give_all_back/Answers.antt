@@ -2,7 +2,7 @@ use Rattle.std.proofs.Common.{◌≡◌, ◌+◌, length, refl, sym, ap, subst, 
 use Rattle.std.specs.Prelude.{slice_get, Some}
 use Rattle.std.proofs.lemmas.Option.{slice_get_read}
 use Rattle.llb_cache.specs.Caches.{CachesValue, Leases}
-use Rattle.llb_state.specs.declared.stand.Desk.TheVariants as desk
+use Rattle.llb_state.specs.declared.desk.Desk.TheVariants as desk
 use Rattle.llb_state.proofs.Lent.{LeasedFrom, leased_next, leased_idle, out_next, none_left}
 use Rattle.llb_state.proofs.instances.give_all_back.Goals as goal
 use Rattle.llb_state.proofs.instances.give_all_back.Goals.{in-Runs, in_default}

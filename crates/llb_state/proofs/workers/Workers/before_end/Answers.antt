@@ -4,7 +4,7 @@ use Rattle.llb_state.specs.Caches.{lent_of}
 use Rattle.llb_state.specs.Undo.{Resume, MarksEnd}
 use Rattle.llb_state.specs.Undoing.{left_in}
 use Rattle.llb_state.specs.Workers.{WorkersValue, Fits}
-use Rattle.llb_state.specs.declared.stand.Desk.TheVariants as desk
+use Rattle.llb_state.specs.declared.desk.Desk.TheVariants as desk
 use Rattle.llb_state.proofs.Befores.{marks_end}
 use Rattle.llb_state.proofs.workers.Workers.before_end.Goals as goal
 

@@ -4,7 +4,7 @@ use Rattle.llb_model.specs.Caches.{Instance, trees_at}
 use Rattle.llb_model.specs.Kept.{store_of}
 use Rattle.llb_state.specs.Undo.{Unstep, MarksStep}
 use Rattle.llb_state.specs.Workers.{WorkersValue, Fits}
-use Rattle.llb_state.specs.declared.stand.Desk.TheVariants as desk
+use Rattle.llb_state.specs.declared.desk.Desk.TheVariants as desk
 use Rattle.llb_state.proofs.Befores.{marks_step}
 use Rattle.llb_state.proofs.workers.Workers.before_step.Goals as goal
 

@@ -12,7 +12,7 @@ use Rattle.llb_events.specs.Views.{claim_reply}
 use Rattle.llb_state.specs.Workers.{WorkersValue, IsBegunOn, state_in, claim_in, reply_of}
 use Rattle.llb_state.specs.Needs.{IsFound}
 use Rattle.llb_state.specs.declared.needs.Wanted.{Wanted}
-use Rattle.llb_state.specs.declared.stand.Desk.{Desk}
+use Rattle.llb_state.specs.declared.desk.Desk.{Desk}
 use Rattle.llb_state.proofs.Calls.{CanClaim, Leased, can_claim}
 use Rattle.llb_state.proofs.Claims.{refused_start, refused_held, wants_as, begin_gives, begin_last, begin_on, begin_at_them}
 use Rattle.llb_state.proofs.Wanting.{graph_edges}

@@ -7,8 +7,8 @@ use Rattle.llb_state.specs.Room.{ready_made, needed}
 use Rattle.llb_state.specs.Rules.{given_up_at}
 use Rattle.llb_state.specs.Views.{at_of}
 use Rattle.llb_state.specs.Workers.{WorkersValue, Fits}
-use Rattle.llb_state.specs.declared.stand.Desk.{Desk}
-use Rattle.llb_state.specs.declared.stand.Desk.TheVariants as desk
+use Rattle.llb_state.specs.declared.desk.Desk.{Desk}
+use Rattle.llb_state.specs.declared.desk.Desk.TheVariants as desk
 use Rattle.llb_state.proofs.Crews.{Crew, crew_idle, crew_out}
 use Rattle.llb_state.proofs.Kept.{supplies_settled}
 use Rattle.llb_state.proofs.Lists.{get_map, map_set}

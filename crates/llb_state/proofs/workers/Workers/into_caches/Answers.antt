@@ -3,7 +3,7 @@ use Rattle.llb_cache.specs.Leased.{none_out}
 use Rattle.llb_model.specs.Leases.{AreLeased}
 use Rattle.llb_state.specs.Views.{at_of, leased_by}
 use Rattle.llb_state.specs.Workers.{WorkersValue}
-use Rattle.llb_state.specs.declared.stand.Desk.{Desk}
+use Rattle.llb_state.specs.declared.desk.Desk.{Desk}
 use Rattle.llb_state.proofs.workers.Workers.into_caches.Goals as goal
 
 pub give_all_back-requires : goal.give_all_back-requires

@@ -4,7 +4,7 @@ use Rattle.std.specs.Bool.{OnTrue, OnFalse}
 use Rattle.llb_model.specs.State.{Runs}
 use Rattle.llb_state.specs.Views.{at_of, leased_by, execution_of}
 use Rattle.llb_state.specs.Workers.{WorkersValue, RunsJob}
-use Rattle.llb_state.specs.declared.stand.Desk.{Desk}
+use Rattle.llb_state.specs.declared.desk.Desk.{Desk}
 use Rattle.llb_state.proofs.Landings.{run_yes, run_no}
 use Rattle.llb_state.proofs.Stepping.{held_within}
 use Rattle.llb_state.proofs.Worked.{seen_of}

@@ -10,8 +10,8 @@ use Rattle.llb_state.specs.Rules.{left_at}
 use Rattle.llb_state.specs.Vertices.{status_of, IsWhole}
 use Rattle.llb_state.specs.Views.{at_of, execution_of}
 use Rattle.llb_state.specs.Workers.{WorkersValue, Fits}
-use Rattle.llb_state.specs.declared.stand.Desk.{Desk}
-use Rattle.llb_state.specs.declared.stand.Desk.TheVariants as desk
+use Rattle.llb_state.specs.declared.desk.Desk.{Desk}
+use Rattle.llb_state.specs.declared.desk.Desk.TheVariants as desk
 use Rattle.llb_state.proofs.Crews.{Crew, crew_idle, crew_out, whole_end}
 use Rattle.llb_state.proofs.Kept.{all_empty, leaves, supplies_settled}
 use Rattle.llb_state.proofs.Lists.{map_set}

@@ -1,7 +1,7 @@
 use Rattle.std.proofs.Common.{map, ap, ◌∙◌}
 use Rattle.llb_state.specs.Room.{ready_made}
 use Rattle.llb_state.specs.Views.{at_of}
-use Rattle.llb_state.specs.declared.stand.Desk.TheVariants as desk
+use Rattle.llb_state.specs.declared.desk.Desk.TheVariants as desk
 use Rattle.llb_state.proofs.Crews.{crew_open, map_replicate}
 use Rattle.llb_state.proofs.workers.Workers.open.Goals as goal
 

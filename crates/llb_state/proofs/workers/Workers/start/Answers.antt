@@ -7,7 +7,7 @@ use Rattle.llb_state.specs.Caches.{lease_if, rows_after}
 use Rattle.llb_state.specs.Vertices.{with_status}
 use Rattle.llb_events.specs.Views.{claim_reply}
 use Rattle.llb_state.specs.Workers.{WorkersValue, IsBegunAt, Fits, state_in}
-use Rattle.llb_state.specs.declared.stand.Desk.TheVariants as desk
+use Rattle.llb_state.specs.declared.desk.Desk.TheVariants as desk
 use Rattle.llb_state.proofs.Claims.{differ, few, start_grants, start_rows, start_crew, start_fits}
 use Rattle.llb_state.proofs.Worked.{seen_of}
 use Rattle.llb_state.proofs.workers.Workers.start.Goals as goal

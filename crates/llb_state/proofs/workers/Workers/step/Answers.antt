@@ -9,7 +9,7 @@ use Rattle.llb_events.specs.Causes.{faulted, step_fault, step_memory, GivesStep}
 use Rattle.llb_state.specs.Views.{at_of}
 use Rattle.llb_events.specs.Views.{step_reply}
 use Rattle.llb_state.specs.Workers.{WorkersValue, Fits, state_in, step_in}
-use Rattle.llb_state.specs.declared.stand.Desk.TheVariants as desk
+use Rattle.llb_state.specs.declared.desk.Desk.TheVariants as desk
 use Rattle.llb_state.proofs.Kept.{made_enough}
 use Rattle.llb_state.proofs.Lists.{get_map}
 use Rattle.llb_state.proofs.Stepping.{holding}

@@ -9,7 +9,7 @@ use Rattle.llb_state.specs.Room.{ready_made}
 use Rattle.llb_state.specs.Undo.{Unclaim, Unstep, Resume, back_in, workers_before, supplies_before, rows_before}
 use Rattle.llb_state.specs.Undoing.{left_in}
 use Rattle.llb_state.specs.Views.{at_of}
-use Rattle.llb_state.specs.declared.stand.Desk.TheVariants as desk
+use Rattle.llb_state.specs.declared.desk.Desk.TheVariants as desk
 use Rattle.llb_state.specs.declared.workers.undoing.Back as undo
 use Rattle.llb_state.proofs.Lists.{length_map}
 use Rattle.llb_state.proofs.Undoings.{PutsBack, can_by, is_out, still_there, unclaims, as_many, unsteps, lends, resumes}

@@ -1,8 +1,8 @@
 use Rattle.std.proofs.Common.{◌≡◌, length, rules, arith, ap, ◌∙◌, ◌++◌, ◌∷◌, [], vec_len}
 use Rattle.std.proofs.lemmas.List.{length-replicate}
-use Rattle.llb_state.specs.declared.stand.Desk.TheVariants.{Idle}
+use Rattle.llb_state.specs.declared.desk.Desk.TheVariants.{Idle}
 use Rattle.llb_state.proofs.Lists.{replicate_more}
-use Rattle.llb_state.proofs.fresh.idle.Goals as goal
+use Rattle.llb_state.proofs.desk.idle.Goals as goal
 
 pub push_reserved-requires : goal.push_reserved-requires
 push_reserved-requires c =

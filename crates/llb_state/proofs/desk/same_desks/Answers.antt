@@ -1,7 +1,7 @@
 use Rattle.std.proofs.Common.{true≢false, sym, ◌∙◌}
 use Rattle.llb_state.specs.Views.{at_of}
 use Rattle.llb_state.proofs.Alike.{alike_at, differ}
-use Rattle.llb_state.proofs.same.same_desks.Goals as goal
+use Rattle.llb_state.proofs.desk.same_desks.Goals as goal
 
 pub returns-then-not-same_desk : goal.returns-then-not-same_desk
 returns-then-not-same_desk c =
