@@ -113,7 +113,8 @@ climbs_more ds rows at row within same near prefix climbs j k low below is = eli
       let here : j ≡ at = omega (arith, below, end) in
       let keeps : above_of new j ≡ row.above = ap (above_of new) here ∙ ap (λ (r : Row). r.above) (get_or-set_same rows at row no_row within) in
       let first : k < at = omega (arith, low, here) in
-      let mine : is_within (dest_of ds rows k) (dest_of ds rows at) ≡ true = ap (λ n. is_within (dest_of ds rows k) (dest_of ds rows n)) (sym here) ∙ before j is in
+      let mine : is_within (dest_of ds rows k) (dest_of ds rows at) ≡ true =
+      ap (λ n. is_within (dest_of ds rows k) (dest_of ds rows n)) (sym here) ∙ before j is in
       found j row.above keeps (let t = near.there in omega (arith, here, t)) (near.kept k first mine) (near.within k first mine)
 ]
   where
@@ -160,7 +161,8 @@ routed mounts rows path place at order is near prefix = record {
   there = omega (arith, low at (let t = near.there in let w = is.within in omega (arith, t, w)), count);
   prefix = ap (λ d. is_within d path) (sym (shown (mount_of rows at))) ∙ prefix;
   dropped = refl;
-  longest = λ i d below within. bound i (get_or mounts i d).dest (omega (arith, below, count)) (ap (λ (m : Shown). m.dest) (get_or_default mounts i d no_mount below) ∙ sym (shown i)) within;
+  longest = λ i d below within. bound i (get_or mounts i d).dest (omega (arith, below, count))
+      (ap (λ (m : Shown). m.dest) (get_or_default mounts i d no_mount below) ∙ sym (shown i)) within;
 }
   where
     ds : List (List (List ℕ))

@@ -81,7 +81,8 @@ has_more rows i place row named low is = record {
     count : length (insert rows place row) ≡ length rows + 1
     count = length-insert rows place row low
 
-    moved : (n : ℕ) → (j : ℕ) × (j < length rows) × (mount_of rows j ≡ n) → (j : ℕ) × (j < length (insert rows place row)) × (mount_of (insert rows place row) j ≡ n)
+    moved : (n : ℕ) → (j : ℕ) × (j < length rows) × (mount_of rows j ≡ n)
+        → (j : ℕ) × (j < length (insert rows place row)) × (mount_of (insert rows place row) j ≡ n)
     moved n (j, below, at) = elim (cases_lt j place) [
       | inl before ↦ (j, omega (arith, below, count), ap (λ (r : Row). r.mount) (get_or-insert_below rows place row no_row j before low) ∙ at)
       | inr behind ↦ (j + 1, omega (arith, below, count), ap (λ (r : Row). r.mount) (get_or-insert_above rows place row no_row j behind low) ∙ at)

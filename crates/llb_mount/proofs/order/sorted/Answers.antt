@@ -22,6 +22,7 @@ loop-mount-preserved c =
     (subst (λ rs. IsPlace ds rs (get_or mounts n c.index-mounts-mount.result).dest place) c.deref.ensures.value c.place_of-place.ensures) in
     let items : insert rows place row ≡ c.insert.new.self.items = sym {A = List Row} c.in_ok-insert.ensures.items in
     record {
-      rises = subst (λ (rs : List Row). Rises ds rs) items (rises_more ds rows n place row refl low c.requires.differ c.loop-mount.invariant.has c.loop-mount.invariant.rises at);
+      rises = subst (λ (rs : List Row). Rises ds rs) items
+          (rises_more ds rows n place row refl low c.requires.differ c.loop-mount.invariant.has c.loop-mount.invariant.rises at);
       has = subst (λ (rs : List Row). HasFirst (n + 1) rs) items (has_more rows n place row refl at.within c.loop-mount.invariant.has);
     }
