@@ -67,9 +67,9 @@ class Definitions(Folder):
     def test_each_kind_has_its_numbers_of_vertices_and_edges(self):
         for kind, count, vertices, edges in [
             ("chain", 9, 9, 8), ("pairs", 9, 9, 16), ("fan", 1500, 1503, 1502), ("files", 600, 2, 1),
-            ("execs", 5, 5, 4), ("glob", 5, 2, 1), ("mounts", 5, 1, 0), ("lay", 1, 3, 2), ("graft", 1, 3, 2),
-            ("layers", 4, 5, 4), ("builds", 4, 5, 4), ("reads", 4, 6, 8), ("hashes", 4, 6, 8), ("caches", 4, 5, 8),
-            ("source", 9, 1, 0), ("rm", 9, 2, 1), ("copy", 9, 2, 1),
+            ("execs", 5, 5, 4), ("glob", 5, 2, 1), ("mounts", 5, 1, 0), ("routes", 5, 1, 0), ("lay", 1, 3, 2),
+            ("graft", 1, 3, 2), ("layers", 4, 5, 4), ("builds", 4, 5, 4), ("reads", 4, 6, 8), ("hashes", 4, 6, 8),
+            ("caches", 4, 5, 8), ("source", 9, 1, 0), ("rm", 9, 2, 1), ("copy", 9, 2, 1),
         ]:
             _, graph = self.graph(kind, count)
             self.assertEqual((len(graph.rows), sum(map(len, graph.inputs))), (vertices, edges), kind)
@@ -98,6 +98,9 @@ class Definitions(Folder):
     def test_mounts_and_caches_have_their_commands(self):
         ops, _ = self.graph("mounts", 3)
         self.assertEqual(definition.commands_of(ops[0]), ["write /m1/f 1", "write /m2/f 2"])
+        ops, _ = self.graph("routes", 2)
+        self.assertEqual(definition.commands_of(ops[0]), ["write /m1023/f k"] * 2)
+        self.assertEqual(len(ops[0]["exec"]["mounts"]), 1024)
         ops, _ = self.graph("caches", 2)
         self.assertEqual(len(definition.commands_of(ops[2])), 8)
 
@@ -106,7 +109,7 @@ class Definitions(Folder):
             self.skipTest("the program llbm is needed (--llbm PROGRAM)")
         tree = os.fsdecode(self.file(b"tree", run("bigtree", "4", "2").stdout))
         kinds = run("bigdef", "nosuch", "1").stderr.decode().rsplit("choose from ", 1)[1].strip(")\n").split(", ")
-        self.assertEqual(len(kinds), 25)
+        self.assertEqual(len(kinds), 26)
         for kind in [kind.strip("'") for kind in kinds]:
             given = run("bigdef", kind, "3").stdout
             words = [base.llbm, "run", f"p={tree}", f"q={tree}"]
