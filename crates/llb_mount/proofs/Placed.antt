@@ -60,8 +60,12 @@ stands rows place row x within below = elim (cases_lt x place) [
     behind (suc y) past below =
         let high : place ≤ y = omega (arith, past) in
         let next : suc y ≡ y + 1 = omega arith in
-        inl (y, omega (arith, below), ap (λ n. get_or (insert rows place row) n no_row) next ∙ get_or-insert_above rows place row no_row y high within,
-        inr (high, next))
+        inl (
+          y,
+          omega (arith, below),
+          ap (λ n. get_or (insert rows place row) n no_row) next ∙ get_or-insert_above rows place row no_row y high within,
+          inr (high, next),
+        )
 
 pub has_more : (rows : List Row) (i place : ℕ) (row : Row) → row.mount ≡ i → place ≤ length rows → HasFirst i rows
     → HasFirst (i + 1) (insert rows place row)

@@ -29,7 +29,10 @@ pub struct View {
 // It is written out so that the crates above drop one by this one function.
 impl Drop for View {
     fn drop(self) {
-        let View { mounts: _, order: _ } = self;
+        let View {
+            mounts: _,
+            order: _,
+        } = self;
     }
 }
 

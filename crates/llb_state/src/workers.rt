@@ -16,8 +16,8 @@ mod stepping;
 mod undoing;
 
 use crate::copying::copied_desks;
-use crate::instances::give_all_back;
 use crate::desk::{Desk, desk_at, idle, is_finished, same_desks};
+use crate::instances::give_all_back;
 use crate::vertices::Vertices;
 pub use claiming::Begun;
 use llb_cache::{Caches, Instance};

@@ -19,9 +19,9 @@ ghost use Rattle.llb_events.specs.Views.{claim_reply};
 ghost use Rattle.llb_state.specs.Views.{execution_of};
 ghost use Rattle.llb_state.specs.Workers.{IsBegunOn, Fits, claim_in, reply_of, state_in, rule_of};
 
+use crate::desk::{Desk, Execution, desk_at};
 use crate::instances::lease_for;
 use crate::needs::{Wanted, mount_numbers, taking_for, wanted_by};
-use crate::desk::{Desk, Execution, desk_at};
 use crate::outfit::outfit_for;
 use crate::vertices::Vertices;
 use crate::workers::Workers;

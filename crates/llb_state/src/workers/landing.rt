@@ -15,9 +15,9 @@ ghost use Rattle.llb_state.specs.Jobs.{IsRunOf};
 ghost use Rattle.llb_state.specs.Views.{execution_of};
 ghost use Rattle.llb_state.specs.Workers.{Fits, RunsJob, steps_left};
 
+use crate::desk::{Desk, Execution, desk_at};
 use crate::instances::write_back;
 use crate::landing::{has_numbers, has_trees, is_begun, put_left};
-use crate::desk::{Desk, Execution, desk_at};
 use crate::vertices::Vertices;
 use crate::workers::Workers;
 use llb_cache::Caches;

@@ -10,9 +10,9 @@ ghost use Rattle.llb_state.specs.Rules.{left_at, given_up_at};
 ghost use Rattle.llb_state.specs.Vertices.{status_of, IsWhole};
 ghost use Rattle.llb_state.specs.Workers.{Fits};
 
+use crate::desk::{Desk, Execution, is_finished};
 use crate::ending::outputs;
 use crate::instances::give_back;
-use crate::desk::{Desk, Execution, is_finished};
 use crate::vertices::{Stage, Vertices};
 use crate::workers::Workers;
 use llb_events::{CancelFault, Cancelled, SettleFault};

@@ -16,8 +16,8 @@ ghost use Rattle.llb_events.specs.Views.{fault_or, step_reply};
 ghost use Rattle.llb_state.specs.Workers.{Fits, state_in, step_in};
 ghost use Rattle.llb_wire.specs.Answer.{MemoryLast};
 
-use crate::instances::{contents, write_back};
 use crate::desk::{Desk, Execution};
+use crate::instances::{contents, write_back};
 use crate::vertices::Vertices;
 use crate::workers::Workers;
 use llb_cache::{Caches, Lease};

@@ -13,9 +13,9 @@ ghost use Rattle.llb_events.specs.Views.{event_of};
 ghost use Rattle.llb_state.specs.Workers.{Fits, IsCrew};
 
 use crate::copying::copied;
+use crate::desk::{Desk, Execution, make_idle, step_back};
 use crate::instances::{contents, lend_again, lent_for, take_back, write_back};
 use crate::needs::growths_of;
-use crate::desk::{Desk, Execution, make_idle, step_back};
 use crate::vertices::{Stage, Vertices};
 use crate::workers::Workers;
 use llb_cache::{Caches, Growth, Lent};
