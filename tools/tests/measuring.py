@@ -100,7 +100,6 @@ class Definitions(Folder):
         self.assertEqual(definition.commands_of(ops[0]), ["write /m1/f 1", "write /m2/f 2"])
         ops, _ = self.graph("routes", 2)
         self.assertEqual(definition.commands_of(ops[0]), ["write /m1023/f k"] * 2)
-        self.assertEqual(len(ops[0]["exec"]["mounts"]), 1024)
         ops, _ = self.graph("caches", 2)
         self.assertEqual(len(definition.commands_of(ops[2])), 8)
 
