@@ -1,6 +1,7 @@
-//! The events that change a board and their replies, and how a vertex and a worker look from outside.
+//! What changes a board.
 
-use llb_model::VertexFault;
+use crate::fault::VertexFault;
+use llb_wire::Same;
 
 /// What a worker does on the board.
 #[derive(Clone, Copy, Debug, PartialEq, Eq)]
@@ -46,25 +47,14 @@ pub struct Cancelled {
     pub done: u32,
 }
 
-/// How a vertex looks.
-#[derive(Clone, Copy, Debug, PartialEq, Eq)]
-pub enum Status {
-    /// An input is not done yet.
-    Waiting,
-    /// All inputs are done.
-    Ready,
-    /// It waits after a vertex that has failed.
-    Blocked,
-    /// By the worker of that number.
-    Running(u32),
-    Done,
-    Failed(VertexFault),
-}
-
-/// How a worker looks.
-#[derive(Clone, Copy, Debug, PartialEq, Eq)]
-pub enum WorkerStatus {
-    Idle,
-    /// The vertex, the micro-steps done, and whether it is finished.
-    Runs(u32, u32, bool),
+impl Same for Event {
+    fn same(&self, other: &Event) -> bool {
+        match (self, other) {
+            (Event::Claim(w, v), Event::Claim(u, o)) => w == u && v == o,
+            (Event::Step(w), Event::Step(u)) => w == u,
+            (Event::Settle(w), Event::Settle(u)) => w == u,
+            (Event::Cancel(w), Event::Cancel(u)) => w == u,
+            _ => false,
+        }
+    }
 }

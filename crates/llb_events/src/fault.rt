@@ -1,392 +1,41 @@
-//! Why an event is refused. A fault prints its number, and after it the ID of a held key.
+//! Why a vertex fails. A failure prints what comes after the vertex in its line.
 
 ghost use Rattle.std.specs.Prelude.{Some};
-ghost use Rattle.llb_events.specs.Faults.{claim_text, step_text, settle_text, cancel_text, walk_text};
+ghost use Rattle.llb_events.specs.Failure.{failure_text};
 
-use llb_cache::Key;
-use llb_tree::TreeFault;
-use std::alloc::{AllocError, AllocFailed};
-use std::{error, fmt};
-use thiserror::Error;
+use llb_wire::Same;
+use std::error::Error;
+use std::fmt;
 
-/// 141: memory was refused.
-#[derive(Clone, Copy, Debug, Error)]
-#[error("141")]
-pub struct Memory;
-
-/// Why a vertex is not claimed: the first cause that applies.
-#[derive(Debug, Drop)]
-pub enum ClaimFault {
-    /// 131: there is no worker of that number.
-    NoWorker,
-    /// 132: the worker runs a vertex.
-    Busy,
-    /// 133: there is no vertex of that number.
-    NoVertex,
-    /// 134: the vertex does not wait, or an input of it is not done.
-    NotReady,
-    /// 135: a running worker has the locked cache of this key, the first such key in the order of the mounts.
-    Held(Key),
-    /// 141: memory was refused.
-    Memory,
-}
-
-impl fmt::Display for ClaimFault {
-    ghost output = { λ e. Some (claim_text e) };
-
-    fn fmt<W: fmt::Write>(&self, f: &mut fmt::Formatter<W>) -> fmt::Result {
-        match self {
-            ClaimFault::NoWorker => write!(f, "131"),
-            ClaimFault::Busy => write!(f, "132"),
-            ClaimFault::NoVertex => write!(f, "133"),
-            ClaimFault::NotReady => write!(f, "134"),
-            ClaimFault::Held(key) => write!(f, "135 {key}"),
-            ClaimFault::Memory => write!(f, "141"),
-        }
-    }
-}
-
-impl error::Error for ClaimFault {}
-
-/// Why a micro-step is not done: the first cause that applies.
+/// Why a vertex fails: an action that could not be done, or the status with which its commands ended.
 #[derive(Clone, Copy, Debug, PartialEq, Eq)]
-pub enum StepFault {
-    /// 131: there is no worker of that number.
-    NoWorker,
-    /// 136: the worker is idle.
-    NotRunning,
-    /// 137: what the worker runs is finished.
-    NothingLeft,
-    /// 141: memory was refused.
-    Memory,
+pub enum VertexFault {
+    /// An action was refused: its number, and that of its fault, 21 to 26, or 52 for a text that is no pattern.
+    Action(u32, u32),
+    /// The last command that ran ended with another status than 0: its number, and that status.
+    Exit(u32, u32),
 }
 
-impl fmt::Display for StepFault {
-    ghost output = { λ e. Some (step_text e) };
+impl fmt::Display for VertexFault {
+    ghost output = { λ f. Some (failure_text f) };
 
     fn fmt<W: fmt::Write>(&self, f: &mut fmt::Formatter<W>) -> fmt::Result {
         match self {
-            StepFault::NoWorker => write!(f, "131"),
-            StepFault::NotRunning => write!(f, "136"),
-            StepFault::NothingLeft => write!(f, "137"),
-            StepFault::Memory => write!(f, "141"),
+            VertexFault::Action(a, n) => write!(f, "action {a} fault {n}"),
+            VertexFault::Exit(c, status) => write!(f, "command {c} status {status}"),
         }
     }
 }
 
-impl error::Error for StepFault {}
+impl Error for VertexFault {}
 
-/// Why a vertex is not settled: the first cause that applies.
-#[derive(Clone, Copy, Debug, PartialEq, Eq)]
-pub enum SettleFault {
-    /// 131: there is no worker of that number.
-    NoWorker,
-    /// 136: the worker is idle.
-    NotRunning,
-    /// 138: what the worker runs is not finished.
-    NotFinished,
-}
-
-impl fmt::Display for SettleFault {
-    ghost output = { λ e. Some (settle_text e) };
-
-    fn fmt<W: fmt::Write>(&self, f: &mut fmt::Formatter<W>) -> fmt::Result {
-        match self {
-            SettleFault::NoWorker => write!(f, "131"),
-            SettleFault::NotRunning => write!(f, "136"),
-            SettleFault::NotFinished => write!(f, "138"),
+impl Same for VertexFault {
+    fn same(&self, other: &VertexFault) -> bool {
+        match (self, other) {
+            (VertexFault::Action(a, n), VertexFault::Action(b, m)) => a == b && n == m,
+            (VertexFault::Exit(c, status), VertexFault::Exit(d, other)) => c == d
+                && status == other,
+            _ => false,
         }
-    }
-}
-
-impl error::Error for SettleFault {}
-
-/// Why what a worker runs is not given up: the first cause that applies.
-#[derive(Clone, Copy, Debug, PartialEq, Eq)]
-pub enum CancelFault {
-    /// 131: there is no worker of that number.
-    NoWorker,
-    /// 136: the worker is idle.
-    NotRunning,
-}
-
-impl fmt::Display for CancelFault {
-    ghost output = { λ e. Some (cancel_text e) };
-
-    fn fmt<W: fmt::Write>(&self, f: &mut fmt::Formatter<W>) -> fmt::Result {
-        match self {
-            CancelFault::NoWorker => write!(f, "131"),
-            CancelFault::NotRunning => write!(f, "136"),
-        }
-    }
-}
-
-impl error::Error for CancelFault {}
-
-/// Why an event of a walk is refused: the fault of the claim, the step, the settle or the cancel, or `Memory`, whichever call ran out.
-#[derive(Debug, Drop)]
-pub enum WalkFault {
-    /// 131 to 135.
-    Claim(ClaimFault),
-    /// 131, 136, 137.
-    Step(StepFault),
-    /// 131, 136, 138.
-    Settle(SettleFault),
-    /// 131, 136.
-    Cancel(CancelFault),
-    /// 141: memory was refused.
-    Memory,
-}
-
-impl fmt::Display for WalkFault {
-    ghost output = { λ e. Some (walk_text e) };
-
-    fn fmt<W: fmt::Write>(&self, f: &mut fmt::Formatter<W>) -> fmt::Result {
-        match self {
-            WalkFault::Claim(fault) => write!(f, "{fault}"),
-            WalkFault::Step(fault) => write!(f, "{fault}"),
-            WalkFault::Settle(fault) => write!(f, "{fault}"),
-            WalkFault::Cancel(fault) => write!(f, "{fault}"),
-            WalkFault::Memory => write!(f, "141"),
-        }
-    }
-}
-
-impl error::Error for WalkFault {}
-
-impl From<AllocError> for Memory {
-    fn from(_: AllocError) -> Memory {
-        Memory
-    }
-}
-
-impl<T: Drop> From<AllocFailed<T>> for Memory {
-    fn from(_: AllocFailed<T>) -> Memory {
-        Memory
-    }
-}
-
-/// Converts the fault of a copy of caches.
-impl From<llb_cache::Memory> for Memory {
-    fn from(_: llb_cache::Memory) -> Memory {
-        Memory
-    }
-}
-
-/// Converts the fault of a copy of a tree, which can only lack memory.
-impl From<TreeFault> for Memory {
-    fn from(_: TreeFault) -> Memory {
-        Memory
-    }
-}
-
-/// Converts the fault of a copy of a view.
-impl From<llb_wire::Memory> for Memory {
-    fn from(_: llb_wire::Memory) -> Memory {
-        Memory
-    }
-}
-
-/// Converts the fault of a copy of a graph and of local trees.
-impl From<llb_loader::Memory> for Memory {
-    fn from(_: llb_loader::Memory) -> Memory {
-        Memory
-    }
-}
-
-/// Converts the fault of a copy of where commands run.
-impl From<llb_applet::Memory> for Memory {
-    fn from(_: llb_applet::Memory) -> Memory {
-        Memory
-    }
-}
-
-impl From<AllocError> for ClaimFault {
-    ghost use Rattle.std.specs.Prelude.{◌≡◌};
-    ghost use Rattle.llb_events.specs.declared.fault.ClaimFault.TheVariants.{Memory};
-
-    ghost from_gives = { λ _ e. e ≡ Memory };
-
-    fn from(_: AllocError) -> ClaimFault {
-        ClaimFault::Memory
-    }
-}
-
-impl<T: Drop> From<AllocFailed<T>> for ClaimFault {
-    ghost use Rattle.std.specs.Prelude.{◌≡◌};
-    ghost use Rattle.llb_events.specs.declared.fault.ClaimFault.TheVariants.{Memory};
-
-    ghost from_gives = { λ _ e. e ≡ Memory };
-
-    fn from(_: AllocFailed<T>) -> ClaimFault {
-        ClaimFault::Memory
-    }
-}
-
-/// Converts the fault of a call on a tree that can only lack memory.
-impl From<TreeFault> for ClaimFault {
-    ghost use Rattle.std.specs.Prelude.{◌≡◌};
-    ghost use Rattle.llb_events.specs.declared.fault.ClaimFault.TheVariants.{Memory};
-
-    ghost from_gives = { λ _ e. e ≡ Memory };
-
-    fn from(_: TreeFault) -> ClaimFault {
-        ClaimFault::Memory
-    }
-}
-
-/// Converts the fault of a copy of a text, and of the parts of an execution.
-impl From<llb_wire::Memory> for ClaimFault {
-    ghost use Rattle.std.specs.Prelude.{◌≡◌};
-    ghost use Rattle.llb_events.specs.declared.fault.ClaimFault.TheVariants.{Memory};
-
-    ghost from_gives = { λ _ e. e ≡ Memory };
-
-    fn from(_: llb_wire::Memory) -> ClaimFault {
-        ClaimFault::Memory
-    }
-}
-
-/// Converts the fault of making room for events.
-impl From<Memory> for ClaimFault {
-    ghost use Rattle.std.specs.Prelude.{◌≡◌};
-    ghost use Rattle.llb_events.specs.declared.fault.ClaimFault.TheVariants as claim;
-
-    ghost from_gives = { λ _ e. e ≡ claim.Memory };
-
-    fn from(_: Memory) -> ClaimFault {
-        ClaimFault::Memory
-    }
-}
-
-/// Converts the fault of a copy of a key.
-impl From<llb_cache::Memory> for ClaimFault {
-    ghost use Rattle.std.specs.Prelude.{◌≡◌};
-    ghost use Rattle.llb_events.specs.declared.fault.ClaimFault.TheVariants.{Memory};
-
-    ghost from_gives = { λ _ e. e ≡ Memory };
-
-    fn from(_: llb_cache::Memory) -> ClaimFault {
-        ClaimFault::Memory
-    }
-}
-
-/// Converts the fault of a lease that can only lack memory.
-impl From<llb_cache::LeaseFault> for ClaimFault {
-    ghost use Rattle.std.specs.Prelude.{◌≡◌};
-    ghost use Rattle.llb_events.specs.declared.fault.ClaimFault.TheVariants.{Memory};
-
-    ghost from_gives = { λ _ e. e ≡ Memory };
-
-    fn from(_: llb_cache::LeaseFault) -> ClaimFault {
-        ClaimFault::Memory
-    }
-}
-
-/// Converts the fault of a call on a tree that can only lack memory.
-impl From<TreeFault> for StepFault {
-    ghost use Rattle.std.specs.Prelude.{◌≡◌};
-    ghost use Rattle.llb_events.specs.declared.fault.StepFault.TheVariants.{Memory};
-
-    ghost from_gives = { λ _ e. e ≡ Memory };
-
-    fn from(_: TreeFault) -> StepFault {
-        StepFault::Memory
-    }
-}
-
-/// Converts the fault of a micro-step on a view, which can only lack memory.
-impl From<llb_wire::Memory> for StepFault {
-    ghost use Rattle.std.specs.Prelude.{◌≡◌};
-    ghost use Rattle.llb_events.specs.declared.fault.StepFault.TheVariants.{Memory};
-
-    ghost from_gives = { λ _ e. e ≡ Memory };
-
-    fn from(_: llb_wire::Memory) -> StepFault {
-        StepFault::Memory
-    }
-}
-
-impl From<AllocError> for StepFault {
-    ghost use Rattle.std.specs.Prelude.{◌≡◌};
-    ghost use Rattle.llb_events.specs.declared.fault.StepFault.TheVariants.{Memory};
-
-    ghost from_gives = { λ _ e. e ≡ Memory };
-
-    fn from(_: AllocError) -> StepFault {
-        StepFault::Memory
-    }
-}
-
-impl From<Memory> for WalkFault {
-    ghost use Rattle.std.specs.Prelude.{◌≡◌};
-    ghost use Rattle.llb_events.specs.declared.fault.WalkFault.TheVariants as walk;
-
-    ghost from_gives = { λ _ e. e ≡ walk.Memory };
-
-    fn from(_: Memory) -> WalkFault {
-        WalkFault::Memory
-    }
-}
-
-/// Converts the fault of a mark of a view.
-impl From<llb_wire::Memory> for WalkFault {
-    ghost use Rattle.std.specs.Prelude.{◌≡◌};
-    ghost use Rattle.llb_events.specs.declared.fault.WalkFault.TheVariants as walk;
-
-    ghost from_gives = { λ _ e. e ≡ walk.Memory };
-
-    fn from(_: llb_wire::Memory) -> WalkFault {
-        WalkFault::Memory
-    }
-}
-
-impl From<ClaimFault> for WalkFault {
-    ghost use Rattle.std.specs.Prelude.{◌≡◌};
-    ghost use Rattle.llb_events.specs.Faults.{claim_refused};
-
-    ghost from_gives = { λ f e. e ≡ claim_refused f };
-
-    fn from(fault: ClaimFault) -> WalkFault {
-        match fault {
-            ClaimFault::Memory => WalkFault::Memory,
-            other => WalkFault::Claim(other),
-        }
-    }
-}
-
-impl From<StepFault> for WalkFault {
-    ghost use Rattle.std.specs.Prelude.{◌≡◌};
-    ghost use Rattle.llb_events.specs.Faults.{step_refused};
-
-    ghost from_gives = { λ f e. e ≡ step_refused f };
-
-    fn from(fault: StepFault) -> WalkFault {
-        match fault {
-            StepFault::Memory => WalkFault::Memory,
-            other => WalkFault::Step(other),
-        }
-    }
-}
-
-impl From<SettleFault> for WalkFault {
-    ghost use Rattle.std.specs.Prelude.{◌≡◌};
-    ghost use Rattle.llb_events.specs.declared.fault.WalkFault.TheVariants as walk;
-
-    ghost from_gives = { λ f e. e ≡ walk.Settle f };
-
-    fn from(fault: SettleFault) -> WalkFault {
-        WalkFault::Settle(fault)
-    }
-}
-
-impl From<CancelFault> for WalkFault {
-    ghost use Rattle.std.specs.Prelude.{◌≡◌};
-    ghost use Rattle.llb_events.specs.declared.fault.WalkFault.TheVariants as walk;
-
-    ghost from_gives = { λ f e. e ≡ walk.Cancel f };
-
-    fn from(fault: CancelFault) -> WalkFault {
-        WalkFault::Cancel(fault)
     }
 }

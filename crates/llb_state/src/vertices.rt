@@ -11,9 +11,8 @@ ghost use Rattle.llb_model.specs.Program.{program_at, program_of};
 ghost use Rattle.llb_model.specs.Run.{least, each, is_settled};
 ghost use Rattle.llb_model.specs.State.{Idle, ending_at, is_blocked, is_ready};
 ghost use Rattle.llb_model.specs.Table.{claim_start};
-ghost use Rattle.llb_events.specs.Causes.{faulted, claim_fault};
 ghost use Rattle.llb_state.specs.Rules.{or_not_ready};
-ghost use Rattle.llb_events.specs.Views.{look, look_in};
+ghost use Rattle.llb_state.specs.Statuses.{look, look_in};
 ghost use Rattle.llb_state.specs.Vertices.{all_waiting, with_status, status_of, AreCounted, IsWhole};
 ghost use Rattle.llb_state.specs.declared.vertices.stage.Stage.TheVariants as stage;
 
@@ -22,7 +21,9 @@ mod over;
 mod stage;
 
 use crate::build::Build;
-use llb_events::{ClaimFault, Memory, Status};
+use crate::fault::Memory;
+use crate::status::Status;
+use llb_events::ClaimFault;
 use llb_links::Links;
 use llb_loader::{Edge, Graph, Locals, Vertex};
 use llb_tree::Tree;
@@ -233,7 +234,7 @@ impl Vertices {
         ensures graph { IfOk result (λ _. IsGraph self.now.build.graph) }
         ensures first { MatchResult result
             (λ _. is_ok (claim_start self.now.statuses v (Some Idle) (slice_get self.now.build.graph.vertices v)) ≡ true)
-            (λ e. faulted claim_fault (claim_start self.now.statuses v (Some Idle) (slice_get self.now.build.graph.vertices v)) ≡ Err e) }
+            (λ e. claim_start self.now.statuses v (Some Idle) (slice_get self.now.build.graph.vertices v) ≡ Err e) }
     {
         let Some(vertex) = self.build.vertex(v) else {
             return Err(ClaimFault::NoVertex);

@@ -37,6 +37,8 @@ mod landings;
 #[cfg(test)]
 mod local_trees;
 #[cfg(test)]
+mod looks;
+#[cfg(test)]
 mod midway;
 #[cfg(test)]
 mod openings;
@@ -50,6 +52,8 @@ mod records;
 mod runs;
 #[cfg(test)]
 mod sessions;
+#[cfg(test)]
+mod sharing;
 #[cfg(test)]
 mod told;
 #[cfg(test)]
