@@ -5,17 +5,13 @@ behavior with fake programs, which crash or print what no session prints.
 import json
 import os
 import pathlib
-import sys
 
+from llbm_tools.debugging import launching, places, trees
 from tests import base, protocol
 from tests.base import TOOLS, Folder, command
 
-sys.path.insert(0, str(TOOLS))
-
-from debugging import launching, places, trees  # noqa: E402
-
-FAKE = f"""#!{sys.executable}
-import os, signal, sys
+FAKE = f"""{base.FAKE_PYTHON}
+import os, signal
 words = sys.argv[1:]
 given = sys.stdin.buffer.read() if words[0] != "step" else b""
 if words[0] == "show":
@@ -208,7 +204,7 @@ class WithFake(WithAdapter):
     def launched(self, **more):
         """Returns a client that has launched a run."""
         client = self.opened()
-        client.ask("launch", **{**self.given, **more})
+        client.ask("launch", **{**self.given, "stopAtEnd": False, **more})
         client.until("initialized")
         return client
 
@@ -297,13 +293,13 @@ class Crashes(WithFake):
     def test_a_program_that_cannot_be_started_is_refused(self):
         self.program.write_text("#!/nowhere\n")
         message = self.opened().refused("launch", **self.given)
-        self.assertEqual(message, f"{self.program}: No such file or directory")
+        self.assertEqual(message, f"{self.program}: the program does not start: No such file or directory")
 
     def test_the_program_on_the_path_is_used(self):
         self.set_behavior(DONE)
         self.environment["PATH"] = f"{self.at}:{os.environ['PATH']}"
         client = self.opened()
-        client.ask("launch", definition=self.definition, sources={"src": self.tree})
+        client.ask("launch", definition=self.definition, sources={"src": self.tree}, stopAtEnd=False)
         client.ask("configurationDone")
         self.assertEqual(client.ended(), 0)
 

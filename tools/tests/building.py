@@ -3,17 +3,17 @@
 import gzip
 import os
 import pathlib
+import shutil
 import signal
 import stat
 import subprocess
-import sys
 
 from tests import base
 from tests.archives import entry, tar
 from tests.base import Folder, command, run
 
-FAKE = f"""#!{sys.executable}
-import os, signal, sys, time
+FAKE = f"""{base.FAKE_PYTHON}
+import os, signal, time
 given = [word.partition("=") for word in sys.argv[1:] if "=" in word]
 with open("given", "wb") as file:
     file.write(" ".join(name + equals for name, equals, _ in given).encode() + b"\\n")
@@ -62,9 +62,9 @@ class Builds(Folder):
         """Sets what the program does."""
         (self.at / "does").write_text(text)
 
-    def build(self, *words, llbm=None):
-        """Runs a build with these words, in the test's folder."""
-        return run("build", "--llbm", llbm or self.llbm, *words, **self.settings)
+    def build(self, *words, llbm=None, text=b""):
+        """Runs a build with these words and this text on standard input, in the test's folder."""
+        return run("build", "--llbm", llbm or self.llbm, *words, text=text, **self.settings)
 
     def check_nothing_is_left(self, also=()):
         """Checks that there is no result and no temporary file."""
@@ -93,8 +93,9 @@ class Build(Builds):
         lines = ["reading src from in/a", "left out: nothing", "reading b from in/b", "left out: nothing"]
         lines += ["reading src from in/a", "left out: nothing", "running definition", "writing out", "out is written"]
         self.assertEqual(done.stderr.decode().splitlines(), lines)
-        one, two = "d 0755 0 0 /\nf 0600 0 0 78 /x\n", "d 0755 0 0 /\n"
-        given = f"src= b= src=\nrun --workers 3\n{one}{two}{one}{len(self.given)}"
+        one, two = "d 0755 0 0 /\nf 0600 0 0 ff00000000 /x\n", "d 0755 0 0 /\n"
+        three = one.replace("ff00000000", "ff00000001")
+        given = f"src= b= src=\nrun --workers 3\n{one}{two}{three}{len(self.given)}"
         self.assertEqual((self.at / "given").read_text(), given)
         self.check_nothing_is_left({"out"})
         self.assertEqual((self.at / "out/b/a").read_text(), "hi")
@@ -156,12 +157,13 @@ class Build(Builds):
         self.check_end(self.build("definition", "none/out"), 2, "none: there is no such directory")
         self.assertFalse((self.at / "given").exists())
 
-    def test_a_program_that_does_not_start_is_reported(self):
+    def test_a_program_that_does_not_start_or_is_not_llbm_is_refused(self):
         self.llbm.write_text("#!/nowhere\n")
-        done = self.build("definition", "out")
-        self.assertEqual(done.returncode, 3)
-        self.assertEqual(done.stderr.splitlines()[0], b"running definition")
-        self.check_nothing_is_left()
+        others = "--llbm PROGRAM names another one"
+        line = f"{self.llbm}: the program does not start: No such file or directory; {others}"
+        self.check_end(self.build("definition", "out"), 2, line)
+        line = f"/bin/true: this is not the program llbm; {others}"
+        self.check_end(self.build("definition", "out", llbm="/bin/true"), 2, line)
 
     def test_command_lines_are_refused(self):
         for words in [[], ["definition"], ["definition", "out", "src"], ["definition", "out", "src="]]:
@@ -170,7 +172,7 @@ class Build(Builds):
 
     def test_sources_can_be_archives(self):
         given = tar(entry("x", b"x", mode=0o600, owner=(7, 8)))
-        tree = b"d 0755 0 0 /\nf 0600 0 0 78 /x\n"
+        tree = b"d 0755 0 0 /\nf 0600 0 0 ff00000000 /x\n"
         self.set_behavior(PRINTS)
         for name, packed in [("a.tar", given), ("b.tar.gz", gzip.compress(given)), ("c.tgz", gzip.compress(given))]:
             self.file(name.encode(), packed)
@@ -217,10 +219,19 @@ class Build(Builds):
         self.assertEqual((self.at / "out.tar").read_bytes(), b"")
         self.check_nothing_is_left({"out.tar"})
 
-    def test_a_packed_result_is_refused(self):
+    def test_a_result_is_packed_by_its_name(self):
         self.set_behavior(PRINTS)
-        for name in ["out.tar.gz", "out.tgz", "out.tar.xz"]:
-            self.check_end(self.build("definition", name), 2, f"{name}: a result is a directory or a .tar")
+        text = b"d 0755 0 0 /\nd 0555 0 0 /b\nf 0640 0 0 6869 /b/a\n"
+        names = ["out.tar.gz", "out.tgz", "out.tar.bz2", "out.tar.xz"]
+        for name in names:
+            self.assertEqual(self.build("--mtime", "7", "definition", name).returncode, 0)
+            self.check_success(run("tree-of-tar", self.at / name), text, b"left out: nothing\n")
+            packed = run("tar-of-tree", "--mtime", "7", self.at / f"wanted-{name}", text=text)
+            self.assertEqual(packed.returncode, 0)
+            self.assertEqual((self.at / name).read_bytes(), (self.at / f"wanted-{name}").read_bytes())
+        self.check_nothing_is_left({*names, *(f"wanted-{name}" for name in names)})
+
+    def test_a_text_that_is_no_tree_is_refused(self):
         self.set_behavior('sys.stdout.write("x\\n")')
         line = "line 1: neither d MODE UID GID PATH nor f MODE UID GID CONTENT PATH"
         lines = ["running definition", "writing out.tar", line, "nothing is written"]
@@ -266,3 +277,87 @@ class Build(Builds):
         child.send_signal(signal.SIGHUP)
         self.assertEqual(child.wait(60), 0)
         self.check_nothing_is_left({"out"})
+
+
+class Pipes(Builds):
+    """Definitions, sources and results that are pipes."""
+
+    TEXT = b"d 0755 0 0 /\nd 0555 0 0 /b\nf 0640 0 0 6869 /b/a\n"
+
+    def test_the_definition_can_be_standard_input(self):
+        self.make(b"x", b"x", mode=0o600)
+        self.set_behavior(PRINTS)
+        lines = ["reading src from in", "left out: nothing", "running standard input", "writing out", "out is written"]
+        for place in ["-", "/dev/stdin"]:
+            done = self.build(place, "out", "src=in", text=self.given)
+            self.assertEqual((done.returncode, done.stdout, done.stderr.decode().splitlines()), (0, b"", lines))
+            tree = b"d 0755 0 0 /\nf 0600 0 0 ff00000000 /x\n"
+            self.assertEqual((self.at / "given").read_bytes(), b"src=\nrun\n%b%d" % (tree, len(self.given)))
+            self.check_nothing_is_left({"out"})
+            shutil.rmtree(self.at / "out")
+
+    def test_a_definition_can_be_a_named_pipe(self):
+        os.mkfifo(self.at / "pipe")
+        self.set_behavior(PRINTS)
+        child = subprocess.Popen(["cp", "definition", "pipe"], cwd=self.at)
+        done = self.build("pipe", "out")
+        self.assertEqual((child.wait(60), done.returncode), (0, 0), done.stderr)
+        self.assertEqual((self.at / "given").read_text(), f"\nrun\n{len(self.given)}")
+        self.check_nothing_is_left({"out", "pipe"})
+
+    def test_a_failure_is_explained_by_the_definition_from_standard_input(self):
+        self.set_behavior(FAILS)
+        done = self.build("-", "out", text=self.given)
+        self.assertEqual(done.returncode, 1)
+        self.assertIn(b"  action 0: copy /none -> /b\n", done.stderr)
+        self.check_nothing_is_left()
+
+    def test_one_source_can_be_an_archive_on_standard_input(self):
+        given = tar(entry("x", b"x", mode=0o600, owner=(7, 8)))
+        self.set_behavior(PRINTS)
+        for options, packed, content in [
+            ((), given, b"ff00000000"), ((), gzip.compress(given), b"ff00000000"), (("--by-value",), given, b"78"),
+        ]:
+            done = self.build(*options, "definition", "-", "src=-", text=packed)
+            self.assertEqual(done.returncode, 0, done.stderr)
+            lines = [b"reading src from standard input", b"left out: nothing", b"running definition"]
+            self.assertEqual(done.stderr.splitlines()[:3], lines)
+            tree = b"d 0755 0 0 /\nf 0600 0 0 %b /x\n" % content
+            self.assertEqual((self.at / "given").read_bytes(), b"src=\nrun\n%b%d" % (tree, len(self.given)))
+            self.check_nothing_is_left()
+        lines = ["reading src from standard input", "the archive is empty", "nothing is written"]
+        self.check_end(self.build("definition", "out", "src=-"), 2, *lines)
+
+    def test_only_one_input_can_be_standard_input(self):
+        for words in [("-", "out", "src=-"), ("definition", "out", "a=-", "b=/dev/stdin")]:
+            line = "only one input can come from standard input"
+            self.check_end(self.build(*words, text=self.given), 2, line)
+
+    def test_the_result_can_be_an_archive_on_standard_output(self):
+        self.set_behavior(PRINTS)
+        wanted = run("tar-of-tree", "--mtime", "7", text=self.TEXT).stdout
+        lines = ["running definition", "writing to standard output", "the archive is written"]
+        for options in [(), ("--by-value",)]:
+            for result in ["-", "/dev/stdout"]:
+                done = self.build("--mtime", "7", *options, "definition", result)
+                self.assertEqual((done.returncode, done.stderr.decode().splitlines()), (0, lines))
+                self.assertEqual(done.stdout, wanted)
+                self.check_nothing_is_left()
+
+    def test_nothing_is_on_standard_output_if_the_build_fails(self):
+        self.set_behavior(FAILS)
+        done = self.build("definition", "-")
+        self.assertEqual((done.returncode, done.stdout), (1, b""))
+        self.assertEqual(done.stderr.splitlines()[-1], b"nothing is written")
+
+    def test_standard_output_that_fails_is_status_3(self):
+        self.set_behavior(PRINTS)
+        words = command("build", "--llbm", self.llbm, "definition", "-")
+        with open("/dev/full", "wb") as full:
+            done = subprocess.run(words, stdout=full, stderr=subprocess.PIPE, **self.settings)
+        lines = ["the archive could not be written: No space left on device", "the archive is cut off"]
+        self.assertEqual((done.returncode, done.stderr.decode().splitlines()[-2:]), (3, lines))
+        done = subprocess.run(words, capture_output=True, preexec_fn=lambda: os.close(1), **self.settings)
+        self.assertEqual((done.returncode, done.stdout), (3, b""))
+        self.assertIn(b"standard output is closed", done.stderr)
+        self.check_nothing_is_left()

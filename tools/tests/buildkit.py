@@ -1,13 +1,15 @@
 """Tests of `examples/check`, and of the definitions in examples/from-buildkit, which BuildKit's own client made."""
 
+import dataclasses
 import os
 import pathlib
 import subprocess
 import unittest
 
-import definition
+from llbm_tools import definition, wire
+from llbm_tools.ops import Input
 from tests import base
-from tests.base import ROOT, Folder
+from tests.base import ROOT, Folder, run
 
 CHECK = ROOT / "examples" / "check"
 STORED = ROOT / "examples" / "from-buildkit"
@@ -25,7 +27,7 @@ def stored(name):
 
 def held(field, message):
     """Returns the values of the records of a field of a message."""
-    return [value for number, _, value in definition.records(message) if number == field]
+    return [record.held for record in wire.records(message) if record.field == field]
 
 
 class StoredDefinitions(unittest.TestCase):
@@ -56,8 +58,8 @@ class StoredDefinitions(unittest.TestCase):
     def test_the_last_entry_only_names_the_result(self):
         for name in NAMES:
             *entries, last = definition.entries_of(stored(name))
-            self.assertEqual([number for number, _, _ in definition.records(last)], [1], name)
-            self.assertEqual(definition.op_of(0, last)["inputs"], [{"digest": base.digest(entries[-1])}], name)
+            self.assertEqual([record.field for record in wire.records(last)], [1], name)
+            self.assertEqual(definition.op_of(0, last).inputs, (Input(digest=base.digest(entries[-1])),), name)
 
     def test_the_newer_client_makes_the_same_graph_with_other_bytes(self):
         one, two = (definition.entries_of(stored(name)) for name in ("copy", "newer"))
@@ -65,7 +67,8 @@ class StoredDefinitions(unittest.TestCase):
         for row, (older, newer) in enumerate(zip(one[:-1], two[:-1], strict=True)):
             self.assertNotEqual(older, newer)
             ops = [definition.op_of(row, entry) for entry in (older, newer)]
-            self.assertEqual(*[{**op, "inputs": len(op.get("inputs", []))} for op in ops])
+            self.assertEqual(len(ops[0].inputs), len(ops[1].inputs))
+            self.assertEqual(*[dataclasses.replace(op, inputs=()) for op in ops])
 
 
 class Check(Folder):
@@ -170,3 +173,73 @@ class StoredRuns(unittest.TestCase):
         for place in places:
             printed = self.llbm("run", f"x={place}", given=base.ending(base.source("local://x")))
             self.assertEqual(printed, place.read_bytes(), place)
+
+
+class Corpus(Folder):
+    """The stored definitions through `lint`, `adopt` and `build`."""
+
+    def adopted(self, name):
+        """Adopts a definition, and returns its path and the names of its local sources."""
+        place, listed = self.place(name.encode()), self.place(b"sources")
+        done = run("adopt", STORED / name / "definition", "-o", place, "--sources", listed)
+        self.assertEqual((done.returncode, done.stdout), (0, b""), name)
+        lines = pathlib.Path(os.fsdecode(listed)).read_text().splitlines()
+        return place, [line.split("\t")[0] for line in lines]
+
+    def test_lint_finds_what_adopt_changes(self):
+        for name in NAMES:
+            status, found = (1, b"fault 88 0 Source\t(Dockerfile:1)\n") if name == "image" else (0, b"")
+            self.check_run(run("lint", STORED / name / "definition"), status, found)
+            place, _ = self.adopted(name)
+            self.check_success(run("lint", place))
+            is_same = pathlib.Path(os.fsdecode(place)).read_bytes() == stored(name)
+            self.assertEqual(is_same, name != "image", name)
+
+    def test_all_options_change_no_script_that_runs(self):
+        for name in NAMES:
+            place, _ = self.adopted(name)
+            done = run("adopt", "--all", STORED / name / "definition")
+            self.assertEqual(done.stdout, pathlib.Path(os.fsdecode(place)).read_bytes(), name)
+
+    def test_each_is_built_from_directories(self):
+        if base.llbm is None:
+            raise unittest.SkipTest("the program llbm is needed (--llbm PROGRAM)")
+        for name in TREES_OF:
+            place, names = self.adopted(name)
+            result = self.place(name.encode() + b".tar")
+            words = [f"{source}={self.directory(name, source)}" for source in names]
+            done = run("build", "--llbm", base.llbm, place, result, *words)
+            self.assertEqual(done.returncode, 0, done.stderr)
+            # A build gives the entries of sources the owner 0:0; the trees of two examples have entries of 5:5.
+            printed = (STORED / name / "printed").read_bytes().replace(b" 5 5 ", b" 0 0 ")
+            lines = [line for line in printed.splitlines(keepends=True) if line.startswith((b"d ", b"f "))]
+            self.assertEqual(run("tree-of-tar", result).stdout, b"".join(lines), name)
+
+    def test_both_ways_and_pipes_build_the_same(self):
+        if base.llbm is None:
+            raise unittest.SkipTest("the program llbm is needed (--llbm PROGRAM)")
+        for name in NAMES:
+            place, names = self.adopted(name)
+            words = [f"{source}={self.source(name, source)}" for source in names]
+            build = ["build", "--llbm", base.llbm]
+            done = run(*build, place, "-", *words)
+            self.assertEqual((done.returncode, bool(done.stdout)), (1 if name == "image" else 0, name != "image"), name)
+            given = pathlib.Path(os.fsdecode(place)).read_bytes()
+            for options in [("--by-value",), ("--progress",)]:
+                other = run(*build, *options, "-", "-", *words, text=given)
+                self.assertEqual((other.returncode, other.stdout), (done.returncode, done.stdout), (name, options))
+
+    def source(self, name, source):
+        """Returns the directory of a local source: of an example, or one without entries for what `adopt` names."""
+        if name in TREES_OF:
+            return self.directory(name, source)
+        place = self.place(f"{name}-{source}".encode())
+        os.mkdir(place)
+        return os.fsdecode(place)
+
+    def directory(self, name, source):
+        """Makes the directory of a local source of an example, and returns its path."""
+        place = self.place(f"{name}-{source}".encode())
+        text = (STORED / TREES_OF[name] / f"{source}.tree").read_bytes()
+        self.check_success(run("directory-of-tree", place, text=text))
+        return os.fsdecode(place)

@@ -3,8 +3,8 @@
 import os
 import subprocess
 
-import definition
-from fuzz_checks import tree_fault
+from llbm_tools import definition
+from llbm_tools.fuzz_checks import tree_fault
 from tests import base
 from tests.base import Folder, digest, number, part, run, run_closed, source
 
@@ -76,7 +76,7 @@ class Definitions(Folder):
 
     def test_each_op_of_files_is_on_the_one_before(self):
         ops, graph = self.graph("files", 1100)
-        self.assertEqual([len(op["file"]["actions"]) for op in ops], [512, 512, 76])
+        self.assertEqual([len(op.file.actions) for op in ops], [512, 512, 76])
         self.assertEqual(graph.inputs, [[], [(0, 0)], [(1, 0)]])
         if base.llbm:
             given = run("bigdef", "files", "600").stdout
@@ -128,7 +128,7 @@ class Measure(Folder):
 
     def program(self, line):
         """Writes a shell program with this line."""
-        place = self.file(b"program", f"#!/bin/sh\ncat > /dev/null\n{line}\n".encode())
+        place = self.file(b"program", f"{base.FAKE_SHELL}cat > /dev/null\n{line}\n".encode())
         os.chmod(place, 0o755)
         return os.fsdecode(place)
 

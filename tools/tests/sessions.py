@@ -2,16 +2,15 @@
 
 import signal
 import subprocess
-import sys
 import unittest
 
-import progress
+from llbm_tools import progress
 from tests import base
 from tests.base import command, part, run
 from tests.building import Builds
 
-FAKE = f"""#!{sys.executable}
-import os, signal, sys, time
+FAKE = f"""{base.FAKE_PYTHON}
+import os, signal, time
 words = [word.partition("=")[0] if "=" in word else word for word in sys.argv[1:]]
 with open("given", "a") as file:
     file.write(" ".join(words[:1] + words[2:] if words[0] == "step" else words) + "\\n")

@@ -1,0 +1,246 @@
+"""A stepping session of the program, as in docs/FORMATS.md: sends commands, and reads each answer to its end.
+
+The command determines where its answer ends: an event and `back` have an answer of one line, `status` one line for each
+vertex. Trees, the trees of a worker and caches have no known length: an empty line is sent after them, which is not a
+command, and the fault that answers it marks the end. The commands `break`, `clear` and `go` are not used: without them
+a run can be paused between any two events, and breakpoints work backwards too.
+"""
+
+import contextlib
+import re
+import subprocess
+import tempfile
+from collections.abc import Iterator
+from typing import NamedTuple
+
+
+LINE = re.compile(r"([0-9]+) (claim|step|settle|cancel) ([0-9]+)(?: ([0-9]+))? -> (.+)")
+
+
+class SessionFailed(Exception):
+    """The program has ended, or it printed a line that no session prints; the message says which."""
+
+    def __init__(self, cause: str, status: int, words: list[str]) -> None:
+        super().__init__(cause)
+        self.status = status
+        self.words = words
+
+
+class Refusal(Exception):
+    """The program refuses a command; the message is its line, `fault ..`."""
+
+
+class TooLarge(Exception):
+    """An answer has more bytes than were asked for; the message says so."""
+
+    def __init__(self, most: int) -> None:
+        super().__init__(f"its text has more than {most:,} bytes")
+
+
+class Run(NamedTuple):
+    """What a worker runs: a vertex, and how many of its micro-steps are done."""
+
+    vertex: int
+    steps: int
+
+
+class Event(NamedTuple):
+    """An event of the record: its line, kind, worker, vertex and reply, and what the worker ran before it."""
+
+    line: str
+    kind: str
+    worker: int
+    vertex: int
+    reply: str
+    before: Run | None
+
+    @property
+    def command(self) -> str:
+        """The command that does the event."""
+        return f"{self.kind} {self.worker}" + (f" {self.vertex}" if self.kind == "claim" else "")
+
+    def fails(self) -> bool:
+        """Returns whether the event settles a vertex that failed."""
+        return self.kind == "settle" and self.reply == f"{self.vertex} failed"
+
+
+def after(event: Event) -> Run | None:
+    """Returns what the worker of an event runs after it."""
+    if event.kind == "claim":
+        return Run(event.vertex, 0)
+    if event.kind == "step":
+        return Run(event.vertex, event.before.steps + 1)
+    return None
+
+
+class Session:
+    """The running program, its record so far, and what each worker runs."""
+
+    def __init__(self, command: list[str], workers: int, vertices: int) -> None:
+        self.vertices = vertices
+        self.record: list[Event] = []
+        self.runs: list[Run | None] = [None] * workers
+        self.lines = 0
+        self.words = tempfile.TemporaryFile()
+        self.child = subprocess.Popen(command, stdin=subprocess.PIPE, stdout=subprocess.PIPE, stderr=self.words)
+
+    def send(self, *lines: str) -> None:
+        """Sends lines to the program."""
+        self.lines += len(lines)
+        try:
+            self.child.stdin.write("".join(f"{line}\n" for line in lines).encode("ascii"))
+            self.child.stdin.flush()
+        except OSError as fault:
+            raise self.ended() from fault
+
+    def raw(self) -> bytes:
+        """Returns the program's next line, without its line end."""
+        line = self.child.stdout.readline()
+        if not line.endswith(b"\n"):
+            raise self.ended()
+        return line[:-1]
+
+    def line(self) -> str:
+        """Returns the program's next line as a text."""
+        return self.raw().decode("utf-8", "backslashreplace")
+
+    def ask(self, command: str) -> str:
+        """Sends a command, and returns its answer of one line."""
+        self.send(command)
+        answer = self.line()
+        if answer.startswith("fault "):
+            raise Refusal(answer)
+        return answer
+
+    def event(self, command: str) -> Event | None:
+        """Does a command that adds an event, and returns it; None if `next` finds the run complete."""
+        answer = self.ask(command)
+        return None if answer == "end" else self.added(answer)
+
+    def added(self, line: str) -> Event:
+        """Adds the event on a line to the record, and returns it."""
+        match = LINE.fullmatch(line)
+        if not match or int(match[1]) != len(self.record) + 1 or int(match[3]) >= len(self.runs):
+            raise self.broken(line)
+        worker, before = int(match[3]), self.runs[int(match[3])]
+        claims = match[2] == "claim"
+        if claims != bool(match[4]) or claims != (before is None):
+            raise self.broken(line)
+        vertex = int(match[4]) if claims else before.vertex
+        event = Event(line, match[2], worker, vertex, match[5], before)
+        self.record.append(event)
+        self.runs[worker] = after(event)
+        return event
+
+    def back(self) -> Event:
+        """Undoes the last event of the record, and returns it."""
+        answer = self.ask("back")
+        if not self.record or answer != f"back {len(self.record) - 1}":
+            raise self.broken(answer)
+        event = self.record.pop()
+        self.runs[event.worker] = event.before
+        return event
+
+    def status(self) -> list[str]:
+        """Returns the status of each vertex, by number."""
+        self.send("status")
+        statuses = []
+        for vertex in range(self.vertices):
+            line = self.line()
+            if line.startswith("fault "):
+                raise Refusal(line)
+            number, _, status = line.partition(" ")
+            if number != str(vertex):
+                raise self.broken(line)
+            statuses.append(status)
+        return statuses
+
+    @contextlib.contextmanager
+    def earlier(self, count: int) -> Iterator[None]:
+        """Goes back to the state after the first `count` events, and at the end of the block forward again.
+
+        Both ways are exact: the states, the record and what the workers run are the same as before.
+        """
+        undone: list[Event] = []
+        try:
+            while len(self.record) > count:
+                undone.append(self.back())
+            yield
+        finally:
+            if self.child.poll() is None:
+                self.redo_all(undone)
+
+    def redo_all(self, undone: list[Event]) -> None:
+        """Does events again, the last that was undone first."""
+        for event in reversed(undone):
+            self.redo(event)
+
+    def redo(self, event: Event) -> None:
+        """Does an event that was undone, and checks that its line is the same."""
+        try:
+            line = self.ask(event.command)
+        except Refusal as refusal:
+            raise self.broken(str(refusal)) from refusal
+        if self.added(line) != event:
+            raise self.broken(line)
+
+    def tree(self, vertex: int, output: int) -> list[bytes] | None:
+        """Returns the lines of the tree of an output, or None if there is no such output."""
+        return self.tree_by(f"tree {vertex} {output}")
+
+    def tree_by(self, command: str, most: int | None = None) -> list[bytes] | None:
+        """Returns the lines of the tree that a command prints, or None if it prints that there is none."""
+        lines = self.lines_by(command, most)
+        return None if lines == [b"none"] else lines
+
+    def lines_by(self, command: str, most: int | None = None) -> list[bytes]:
+        """Returns the lines that a command prints, whatever their number; raises TooLarge above `most` bytes."""
+        self.send(command, "")
+        lines, size = [], 0
+        while not self.is_end(line := self.raw()):
+            if not lines and line.startswith(b"fault "):
+                self.check_end(self.raw())
+                raise Refusal(line.decode("utf-8", "backslashreplace"))
+            if line == b"fault 174":
+                break
+            size += len(line) + 1
+            if most is None or size <= most:
+                lines.append(line)
+        if most is not None and size > most:
+            raise TooLarge(most)
+        return lines
+
+    def is_end(self, line: bytes) -> bool:
+        """Returns whether a line is the answer to the empty line after a command."""
+        return line == b"fault 173 %d" % self.lines
+
+    def check_end(self, line: bytes) -> None:
+        """Checks that a line is the answer to the empty line after a command."""
+        if not self.is_end(line) and line != b"fault 174":
+            raise self.broken(line.decode("utf-8", "backslashreplace"))
+
+    def error_lines(self) -> list[str]:
+        """Returns the program's lines on standard error."""
+        self.words.seek(0)
+        return self.words.read().decode("utf-8", "backslashreplace").splitlines()
+
+    def ended(self) -> SessionFailed:
+        """Returns the error for a program that has ended; one that only closed its output is stopped."""
+        status = self.end()
+        cause = f"by signal {-status}" if status < 0 else f"with status {status}"
+        status = status if status >= 0 else 128 - status
+        return SessionFailed(f"the program has ended {cause}", status, self.error_lines())
+
+    def broken(self, line: str) -> SessionFailed:
+        """Returns the error for a line that no session prints, and stops the program."""
+        self.end()
+        return SessionFailed(f"the program printed an unexpected line: {line[:200]}", 1, self.error_lines())
+
+    def end(self) -> int:
+        """Stops the program. It writes no files, so nothing is left half done. It may be called twice."""
+        if self.child.poll() is None:
+            self.child.kill()
+        with contextlib.suppress(OSError):
+            self.child.stdin.close()
+        self.child.stdout.close()
+        return self.child.wait()
