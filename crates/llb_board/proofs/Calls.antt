@@ -5,14 +5,13 @@ use Rattle.std.specs.Result.{result_ok}
 use Rattle.llb_model.specs.Program.{Build}
 use Rattle.llb_model.specs.Outcome.{Ending}
 use Rattle.llb_model.specs.State.{Status, Settled, Execution, WorkerStatus, Idle, Runs, State, program_in, is_finished, ending_from}
-use Rattle.llb_model.specs.SettleCause as no_settle
-use Rattle.llb_model.specs.SettleCause.{SettleCause}
-use Rattle.llb_model.specs.Table.{Claim, Step, Settle, Cancel, claim_grant, step_grant, settle_with, settle_grant, settled, cancel_with, cancel_grant}
+use Rattle.llb_model.specs.declared.refusal.SettleFault.TheVariants as no_settle
+use Rattle.llb_model.specs.declared.event.Event.TheVariants.{Claim, Step, Settle, Cancel}
+use Rattle.llb_model.specs.Table.{claim_grant, step_grant, settle_with, settle_grant, settled, cancel_with, cancel_grant}
 use Rattle.llb_model.specs.Table.{cancelled, table}
 use Rattle.llb_model.proofs.Events.{Answer}
-use Rattle.llb_events.specs.Causes.{faulted}
-use Rattle.llb_events.specs.declared.fault.SettleFault.{SettleFault}
-use Rattle.llb_events.specs.declared.fault.SettleFault.TheVariants.{NotFinished}
+use Rattle.llb_model.specs.declared.refusal.SettleFault.{SettleFault}
+use Rattle.llb_model.specs.declared.refusal.SettleFault.TheVariants.{NotFinished}
 use Rattle.llb_state.specs.Rules.{left_at, given_up_at}
 
 abbrev ok_of : {A E : Type 0} → A → Result A E
@@ -20,12 +19,6 @@ ok_of x = Ok x
 
 inside_ok : {A E : Type 0} {x y : A} → ok_of {E = E} x ≡ ok_of y → x ≡ y
 inside_ok e = cc
-
--- ---- a cause as a fault
-
-pub granted : {A C F : Type 0} (fault : C → F) (r : Result A C) (a : A) → faulted fault r ≡ Ok a → r ≡ Ok a
-granted fault (Ok x) a e = cc
-granted fault (Err cause) a e = absurd cc
 
 -- ---- the table, by the grants
 
@@ -54,7 +47,7 @@ cancel_done b s w a is = ap result_ok is
 abbrev pub left_if : Build → Execution → Bool → Result (ℕ × Status) SettleFault
 left_if b x f = if f then Ok (x.vertex, Settled (ending_from (program_in b x) x)) else Err NotFinished
 
-abbrev settled_if : Build → State → ℕ → Execution → Bool → Result Answer SettleCause
+abbrev settled_if : Build → State → ℕ → Execution → Bool → Result Answer SettleFault
 settled_if b s w x f = if f then Ok (settle_with s w x.vertex (ending_from (program_in b x) x)) else Err no_settle.NotFinished
 
 pub record CanSettle (b : Build) (s : State) (w v : ℕ) (stands : Status) : Type 0 where

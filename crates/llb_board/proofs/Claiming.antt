@@ -4,15 +4,15 @@ use Rattle.std.specs.Prelude.{Result, Ok, Err, slice_get, slice_set}
 use Rattle.std.proofs.lemmas.Option.{slice_get_within}
 use Rattle.llb_cache.specs.Caches.{Row}
 use Rattle.llb_loader.specs.declared.graph.Vertex.{Vertex}
-use Rattle.llb_model.specs.ClaimCause.{ClaimCause}
 use Rattle.llb_model.specs.Program.{program_at}
 use Rattle.llb_model.specs.Room.{events_of}
 use Rattle.llb_model.specs.State.{Waiting, Running}
-use Rattle.llb_model.specs.Table.{Event, Claim, Reply, claim_grant}
+use Rattle.llb_model.specs.declared.event.Event.{Event}
+use Rattle.llb_model.specs.declared.event.Event.TheVariants.{Claim}
+use Rattle.llb_model.specs.Table.{Reply, claim_grant}
 use Rattle.llb_model.proofs.Events.{Answer, claim_is}
-use Rattle.llb_events.specs.Causes.{faulted, claim_fault}
-use Rattle.llb_events.specs.Faults.{claim_may_want}
-use Rattle.llb_events.specs.declared.fault.ClaimFault.{ClaimFault}
+use Rattle.llb_model.specs.Faults.{claim_may_want}
+use Rattle.llb_model.specs.declared.refusal.ClaimFault.{ClaimFault}
 use Rattle.llb_state.specs.Caches.{rows_after}
 use Rattle.llb_state.specs.Vertices.{VerticesValue, with_status}
 use Rattle.llb_state.specs.Workers.{WorkersValue, Fits, state_in, reply_of}
@@ -26,8 +26,8 @@ use Rattle.llb_board.proofs.Spaces.{claim_takes, space_claimed}
 -- ---- a claim that is refused
 
 -- a claim that does not begin is not granted
-pub refused_as : (n : BoardValue) (e : Event) (r : Result Answer ClaimCause) (f : ClaimFault) → reply_of (faulted claim_fault r) ≡ Err f
-    → recorded n e claim_fault r ≡ Err f
+pub refused_as : (n : BoardValue) (e : Event) (r : Result Answer ClaimFault) (f : ClaimFault) → reply_of r ≡ Err f
+    → recorded n e r ≡ Err f
 refused_as n e (Ok a) f is = absurd cc
 refused_as n e (Err cause) f is = ap (λ x. Err x) (inside is)
   where
@@ -35,14 +35,14 @@ refused_as n e (Err cause) f is = ap (λ x. Err x) (inside is)
     inside e = cc
 
 -- memory may be wanted of it where it may be of the table's answer
-pub wants_as : (n : BoardValue) (e : Event) (r : Result Answer ClaimCause) → claim_may_want (faulted claim_fault r) ≡ true
-    → claim_may_want (recorded n e claim_fault r) ≡ true
+pub wants_as : (n : BoardValue) (e : Event) (r : Result Answer ClaimFault) → claim_may_want r ≡ true
+    → claim_may_want (recorded n e r) ≡ true
 wants_as n e (Ok a) is = refl
 wants_as n e (Err cause) is = is
 
 -- and where the table grants it
-pub granted_wants : (n : BoardValue) (e : Event) (r : Result Answer ClaimCause) (q : Reply) → reply_of (faulted claim_fault r) ≡ Ok q
-    → claim_may_want (recorded n e claim_fault r) ≡ true
+pub granted_wants : (n : BoardValue) (e : Event) (r : Result Answer ClaimFault) (q : Reply) → reply_of r ≡ Ok q
+    → claim_may_want (recorded n e r) ≡ true
 granted_wants n e (Ok a) q is = refl
 granted_wants n e (Err cause) q is = absurd cc
 

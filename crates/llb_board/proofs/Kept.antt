@@ -8,7 +8,8 @@ use Rattle.llb_loader.specs.declared.graph.Vertex.{Vertex}
 use Rattle.llb_model.specs.Program.{Build}
 use Rattle.llb_model.specs.Kept.{store_of}
 use Rattle.llb_model.specs.State.{Status, Waiting, Running, WorkerStatus, Idle, State, opening}
-use Rattle.llb_model.specs.Table.{Event, Reply, worker_of, after_end, table}
+use Rattle.llb_model.specs.declared.event.Event.{Event}
+use Rattle.llb_model.specs.Table.{Reply, worker_of, after_end, table}
 use Rattle.llb_model.specs.Run.{run}
 use Rattle.llb_model.specs.Room.{room_taken}
 use Rattle.llb_model.proofs.Lists.{get_set_same, get_within, length_set}
@@ -75,13 +76,13 @@ kept_after vs new first ws us es space e r kept granted stays more after =
     }
 
 -- what is recorded of an event that is granted
-pub recorded_as : {C F : Type 0} (vs : VerticesValue) (new : List Status) (first : List Row) (ws us : WorkersValue) (es : List Event) (e : Event)
-    (fault : C → F) (answer : Result Answer C) (r : Reply)
+pub recorded_as : {F : Type 0} (vs : VerticesValue) (new : List Status) (first : List Row) (ws us : WorkersValue) (es : List Event) (e : Event)
+    (answer : Result Answer F) (r : Reply)
     → answer ≡ Ok (state_in (record vs { statuses = new }) us, r) → length us.workers ≡ length ws.workers
     → us.rows ≡ rows_after ws.rows (state_in (record vs { statuses = new }) us) (worker_of e)
-    → recorded (seen vs first ws es) e fault answer ≡ Ok (seen (record vs { statuses = new }) first us (es ++ e ∷ []), r)
-recorded_as vs new first ws us es e fault answer r is count rows =
-    ap (recorded (seen vs first ws es) e fault) is
+    → recorded (seen vs first ws es) e answer ≡ Ok (seen (record vs { statuses = new }) first us (es ++ e ∷ []), r)
+recorded_as vs new first ws us es e answer r is count rows =
+    ap (recorded (seen vs first ws es) e) is
     ∙ (λ i. Ok (
       record {
         build = vs.build;

@@ -11,6 +11,7 @@ use Rattle.std.proofs.lemmas.Option.{slice_get_within}
 use Rattle.llb_cache.specs.Caches.{Row, trees_of}
 use Rattle.llb_loader.specs.Graph.{IsGraph}
 use Rattle.llb_tree.specs.Tree.{TreeMap}
+use Rattle.llb_model.specs.Table.{HasSettled}
 use Rattle.llb_model.specs.Caches.{Instance, Store, Has, Hold, Distinct, put_all, trees_at}
 use Rattle.llb_model.specs.Laws.{HasDistinctNeeds}
 use Rattle.llb_model.specs.Program.{Build, Left, Need, key_of, needs_of, step_on}
@@ -19,8 +20,10 @@ use Rattle.llb_model.specs.State.{work_of, begin_at}
 use Rattle.llb_model.specs.Kept.{store_of}
 use Rattle.llb_model.specs.Leases.{put_each}
 use Rattle.llb_model.specs.Landing.{steps_by, further, AreThere, AreLeft, left_so_far, with_steps, after_steps}
-use Rattle.llb_model.specs.SettleCause.{SettleCause, NotFinished}
-use Rattle.llb_model.specs.Table.{Event, Claim, Step, Settle, Cancel, Reply, Job, settle_with, settled, settle_grant, table, execution_on, with_step}
+use Rattle.llb_model.specs.declared.refusal.SettleFault.TheVariants.{NotFinished}
+use Rattle.llb_model.specs.declared.event.Event.{Event}
+use Rattle.llb_model.specs.declared.event.Event.TheVariants.{Claim, Step, Settle, Cancel}
+use Rattle.llb_model.specs.Table.{Reply, Job, settle_with, settled, settle_grant, table, execution_on, with_step}
 use Rattle.llb_model.specs.Run.{run}
 use Rattle.llb_model.specs.Room.{cancels_in}
 use Rattle.llb_model.proofs.Lists.{get_set_same, get_within, got_within, got_set, got_replicate, length_set}
@@ -34,10 +37,9 @@ use Rattle.llb_model.proofs.Events.{Answer, claim_places, claim_is, step_is, set
 use Rattle.llb_model.proofs.Cancels.{steps_no_cancel, steps_counts, steps_roomy, record_fits}
 use Rattle.llb_model.proofs.Runs.{run_none, run_one, run_on, run_keeps}
 use Rattle.llb_model.proofs.Landing.{first_step, steps_as_block, after_again, further_keeps}
-use Rattle.llb_events.specs.Causes.{settle_fault, GivesSettle}
-use Rattle.llb_events.specs.Views.{settle_reply}
-use Rattle.llb_events.specs.declared.event.Settled.{Settled}
-use Rattle.llb_events.specs.declared.fault.SettleFault.{SettleFault}
+use Rattle.llb_events.specs.Causes.{GivesSettle}
+use Rattle.llb_model.specs.declared.event.Settled.{Settled}
+use Rattle.llb_model.specs.declared.refusal.SettleFault.{SettleFault}
 use Rattle.llb_execution.specs.Jobs.{OutcomeValue, IsOutcome, begun_on}
 use Rattle.llb_state.specs.Caches.{written, places_at, rows_after}
 use Rattle.llb_state.specs.Jobs.{job_now, IsRunOf}
@@ -93,7 +95,7 @@ rows_steps b s rows w x trees (suc n) store runs apart keys within hold steps =
     ∙ ap (λ (l : Left). Some (after_steps s w x (suc n) l, put_each rows ps l.work.trees))
     (ap (λ (l : Left). further (program_in b x).steps (x.done + 1) l n) one.is)
 
-settled_if : Build → State → ℕ → Execution → Bool → Result (State × Reply) SettleCause
+settled_if : Build → State → ℕ → Execution → Bool → Result (State × Reply) SettleFault
 settled_if b s w x f = if f then Ok (settle_with s w x.vertex (ending_from (program_in b x) x)) else Err NotFinished
 
 settles_if : (b : Build) (s : State) (w : ℕ) (x : Execution) → slice_get s.workers w ≡ Some (Runs x) → is_finished (program_in b x).steps x ≡ true
@@ -320,7 +322,7 @@ pub settles : (b n m : BoardValue) (w : ℕ) (o : OutcomeValue) (reply : Reply) 
     → Lands b w o m reply
 settles b n m w o reply can through is = by_grant (settle_grant n.build n.state w) refl is
   where
-    by_grant : (r : Result (State × Reply) SettleCause) → settle_grant n.build n.state w ≡ r → recorded n (Settle w) settle_fault r ≡ Ok (m, reply)
+    by_grant : (r : Result (State × Reply) SettleFault) → settle_grant n.build n.state w ≡ r → recorded n (Settle w) r ≡ Ok (m, reply)
         → Lands b w o m reply
     by_grant (Err cause) grants is = absurd cc
     by_grant (Ok (t, q)) grants is =
@@ -353,14 +355,14 @@ settles b n m w o reply can through is = by_grant (settle_grant n.build n.state 
 pub not_refused : (b n : BoardValue) (w count : ℕ) (e : SettleFault) → IsThrough b w count n → settle_of n w ≡ Err e → ⊥
 not_refused b n w count e through is = by_grant (settle_grant n.build n.state w) through.finished is
   where
-    by_grant : (r : Result (State × Reply) SettleCause) → is_ok r ≡ true → recorded n (Settle w) settle_fault r ≡ Err e → ⊥
+    by_grant : (r : Result (State × Reply) SettleFault) → is_ok r ≡ true → recorded n (Settle w) r ≡ Err e → ⊥
     by_grant (Ok a) ok is = cc
     by_grant (Err cause) ok is = cc
 
 -- the steps and what the settle returns are the landing of the outcome
 pub lands : (b n m : BoardValue) (w : ℕ) (o : OutcomeValue) (r : Result Settled SettleFault) (other : Settled) → CanLand b w o.job → IsThrough b w o.count n
-    → GivesSettle (λ s. (m, settle_reply s)) r (settle_of n w) → Lands b w o m (settle_reply (result_unwrap_or r other))
-lands b n m w o (Ok s) other can through gives = settles b n m w o (settle_reply s) can through gives
+    → GivesSettle (λ s. (m, HasSettled s)) r (settle_of n w) → Lands b w o m (HasSettled (result_unwrap_or r other))
+lands b n m w o (Ok s) other can through gives = settles b n m w o (HasSettled s) can through gives
 lands b n m w o (Err e) other can through gives = absurd (not_refused b n w o.count e through (gives refl))
 
 -- a fact that holds if a test fails, for a test that has failed

@@ -3,9 +3,14 @@ use Rattle.std.proofs.Common.{◌≡◌, ℕ, ◌+◌, ◌<◌, ◌≤◌, List,
 use Rattle.std.specs.Prelude.{Ok, slice_get, slice_set, if◌then◌else◌}
 use Rattle.std.proofs.lemmas.Option.{slice_get_within}
 use Rattle.llb_cache.specs.Caches.{Row}
+use Rattle.llb_model.specs.declared.event.Settled.TheVariants as ended
+use Rattle.llb_model.specs.Table as table
+use Rattle.llb_model.specs.Table.{cancel_reply}
 use Rattle.llb_model.specs.Outcome.{Ending, Done, Failed}
 use Rattle.llb_model.specs.State.{Status, Waiting, Running, Idle, Runs, is_failed}
-use Rattle.llb_model.specs.Table.{Event, Settle, Cancel, Cancelled, SettledDone, SettledFailed, settle_reply, settle_grant, cancel_grant, after_end}
+use Rattle.llb_model.specs.declared.event.Event.{Event}
+use Rattle.llb_model.specs.declared.event.Event.TheVariants.{Settle, Cancel}
+use Rattle.llb_model.specs.Table.{settle_reply, settle_grant, cancel_grant, after_end}
 use Rattle.llb_state.specs.Rules.{left_at, given_up_at}
 use Rattle.llb_state.specs.Caches.{rows_after}
 use Rattle.llb_state.specs.Vertices.{VerticesValue}
@@ -19,7 +24,7 @@ use Rattle.llb_board.proofs.Sound.{consistent}
 use Rattle.llb_board.proofs.Spaces.{space_stays, space_cancelled}
 
 -- the reply to a settle says whether the vertex failed
-pub reply_is : (v : ℕ) (e : Ending) → settle_reply v e ≡ (if is_failed (Some e) then SettledFailed v else SettledDone v)
+pub reply_is : (v : ℕ) (e : Ending) → table.settle_done v e ≡ (if is_failed (Some e) then ended.Failed v else ended.Done v)
 reply_is v (Done trees) = refl
 reply_is v (Failed f) = refl
 
@@ -76,8 +81,8 @@ module _ (vs : VerticesValue) (first : List Row) (ws us : WorkersValue) (es : Li
   can = can_cancel (state_in vs ws) w v n given
 
   -- the cancel is granted
-  pub gives : cancel_grant (state_in vs ws) w ≡ Ok (state_in (record vs { statuses = slice_set vs.statuses v Waiting }) us, Cancelled v n)
-  gives = can.grants ∙ (λ i. Ok (sym (left_state vs ws us w v Waiting workers rows) i, Cancelled v n))
+  pub gives : cancel_grant (state_in vs ws) w ≡ Ok (state_in (record vs { statuses = slice_set vs.statuses v Waiting }) us, cancel_reply v n)
+  gives = can.grants ∙ (λ i. Ok (sym (left_state vs ws us w v Waiting workers rows) i, cancel_reply v n))
 
   was_running : slice_get vs.statuses v ≡ Some (Running w)
   was_running = ap (slice_get vs.statuses) (sym can.vertex) ∙ (consistent (seen vs first ws es) kept.replays).working w can.x can.there
@@ -104,7 +109,7 @@ module _ (vs : VerticesValue) (first : List Row) (ws us : WorkersValue) (es : Li
       → IsBoard (seen (record vs { statuses = slice_set vs.statuses v Waiting }) first us (es ++ Cancel w ∷ [])) us (cancelled v space)
   cancel_keeps fits =
       let x = has_vertex (seen vs first ws es) kept.replays v (Running w) was_running in
-      kept_after vs (slice_set vs.statuses v Waiting) first ws us es space (Cancel w) (Cancelled v n) kept
+      kept_after vs (slice_set vs.statuses v Waiting) first ws us es space (Cancel w) (cancel_reply v n) kept
       (cancel_done vs.build (state_in vs ws) w _ gives) (record {
         count = left_count ws us w workers;
         rows = rows_kept;

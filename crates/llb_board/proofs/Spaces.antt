@@ -3,9 +3,12 @@ use Rattle.std.proofs.Common.{◌≡◌, ◌≢◌, ℕ, zero, suc, ◌+◌, ◌
 use Rattle.std.specs.Prelude.{slice_get, slice_set}
 use Rattle.std.proofs.lemmas.Option.{slice_get_within}
 use Rattle.llb_loader.specs.declared.graph.Vertex.{Vertex}
+use Rattle.llb_model.specs.Table.{cancel_reply}
 use Rattle.llb_model.specs.Program.{Build}
 use Rattle.llb_model.specs.State.{Waiting, State}
-use Rattle.llb_model.specs.Table.{Event, Claim, Cancel, Reply, Cancelled, table}
+use Rattle.llb_model.specs.declared.event.Event.{Event}
+use Rattle.llb_model.specs.declared.event.Event.TheVariants.{Claim, Cancel}
+use Rattle.llb_model.specs.Table.{Reply, table}
 use Rattle.llb_model.specs.Room.{events_of, cancels_in, cancel_counts, owed_by, owed_at, room_taken}
 use Rattle.llb_model.proofs.Events.{Answer}
 use Rattle.llb_model.proofs.Cancels.{counts_length, counts_at, counts_stay, counts_grow}
@@ -48,7 +51,7 @@ space_claimed b s w v events x a rs space there is given counted = record {
 
 -- a cancel is counted
 pub space_cancelled : (b : Build) (w v n : ℕ) (x : Vertex) (rs : List Reply) (space : Space) → slice_get b.graph.vertices v ≡ Some x
-    → space.cancels ≡ cancel_counts b rs → SpaceAfter b rs (Cancel w) (Cancelled v n) space (cancelled v space)
+    → space.cancels ≡ cancel_counts b rs → SpaceAfter b rs (Cancel w) (cancel_reply v n) space (cancelled v space)
 space_cancelled b w v n x rs space there counted = record {
   room = omega arith;
   counted = ap (λ cs. slice_set cs v (get_or cs v 0 + 1)) counted ∙ sym (counts_grow b v n rs x there);
@@ -87,7 +90,7 @@ one_back (c ∷ cs) zero low = ap (λ n. n ∷ cs) (same c)
 one_back (c ∷ cs) (suc v) low = ap (λ l. c ∷ l) (one_back cs v (omega (arith, low)))
 
 pub space_uncancelled : (b : Build) (w v n : ℕ) (x : Vertex) (rs : List Reply) (space : Space) → slice_get b.graph.vertices v ≡ Some x
-    → space.cancels ≡ cancel_counts b (rs ++ Cancelled v n ∷ []) → SpaceBefore b rs (Cancel w) space (uncancelled v space)
+    → space.cancels ≡ cancel_counts b (rs ++ cancel_reply v n ∷ []) → SpaceBefore b rs (Cancel w) space (uncancelled v space)
 space_uncancelled b w v n x rs space there counted =
     let low = slice_get_within b.graph.vertices v x there in
     let count = counts_length b.graph.vertices 0 rs in

@@ -10,6 +10,7 @@ use Rattle.llb_execution.specs.Parts.{mounts_in}
 use Rattle.llb_execution.proofs.Stepping.{seen_so}
 use Rattle.llb_loader.specs.Graph.{IsGraph}
 use Rattle.llb_loader.specs.declared.graph.Vertex.{Vertex}
+use Rattle.llb_model.specs.Table.{cancel_reply}
 use Rattle.llb_model.specs.Caches.{Instance, Distinct, trees_at}
 use Rattle.llb_model.specs.Kept.{store_of}
 use Rattle.llb_model.specs.Laws.{HasDistinctNeeds}
@@ -17,7 +18,9 @@ use Rattle.llb_model.specs.Program.{Build, key_of, program_at, step_on}
 use Rattle.llb_model.specs.Room.{events_of, cancel_counts}
 use Rattle.llb_model.specs.Run.{run}
 use Rattle.llb_model.specs.State.{State, opening, Status, Running, Execution, WorkerStatus, Idle, Runs, work_of}
-use Rattle.llb_model.specs.Table.{Event, Claim, Step, Settle, Cancel, Reply, Cancelled, with_step, table}
+use Rattle.llb_model.specs.declared.event.Event.{Event}
+use Rattle.llb_model.specs.declared.event.Event.TheVariants.{Claim, Step, Settle, Cancel}
+use Rattle.llb_model.specs.Table.{Reply, with_step, table}
 use Rattle.llb_model.proofs.Cancels.{event_returns}
 use Rattle.llb_model.proofs.Events.{Answer, step_is, cancel_is}
 use Rattle.llb_model.proofs.Lists.{inside, get_set_same, length_set}
@@ -250,7 +253,7 @@ space_changed b space (Resume end.Cancel w left lent) v n s here ends can is cou
     let y = has_vertex m can.replays x.vertex (Running w) ((consistent m can.replays).working w x runs) in
     let c = cancel_is b.build m.state w _ ends.gives in
     let ran : c.x ≡ x = runs_inside (sym c.there ∙ runs) in
-    let reply : ends.reply ≡ Cancelled x.vertex x.done = ap (λ (t : Answer). t.1) c.gives ∙ (λ i. Cancelled (ran i).vertex (ran i).done) in
+    let reply : ends.reply ≡ cancel_reply x.vertex x.done = ap (λ (t : Answer). t.1) c.gives ∙ (λ i. cancel_reply (ran i).vertex (ran i).done) in
     subst (λ e. SpaceBefore b.build ends.replies (Cancel w) space (space_back e v (n + 2) space))
     (sym (last_is b.events _ (Cancel w) can.last.events))
     (subst (λ m. SpaceBefore b.build ends.replies (Cancel w) space (space_back (Some (Cancel w)) m (n + 2) space)) same

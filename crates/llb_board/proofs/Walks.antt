@@ -16,7 +16,9 @@ use Rattle.llb_model.specs.Program.{Build, MicroStep, needs_of, step_on}
 use Rattle.llb_model.specs.State.{Status, Waiting, Running, Settled, Execution, WorkerStatus, Idle, Runs, State, program_in, work_of, next_step, ending_from}
 use Rattle.llb_model.specs.State.{held}
 use Rattle.llb_model.specs.State.{places_for, begin_at, first_trees}
-use Rattle.llb_model.specs.Table.{Event, Claim, Step, Settle, Cancel, worker_of, with_step, step_by, after_end, table}
+use Rattle.llb_model.specs.declared.event.Event.{Event}
+use Rattle.llb_model.specs.declared.event.Event.TheVariants.{Claim, Step, Settle, Cancel}
+use Rattle.llb_model.specs.Table.{worker_of, with_step, step_by, after_end, table}
 use Rattle.llb_model.specs.Kept.{store_of}
 use Rattle.llb_model.specs.Leases.{put_each}
 use Rattle.llb_model.proofs.Claims.{places_distinct, places_length, first_length}
@@ -26,9 +28,9 @@ use Rattle.llb_model.proofs.Needs.{graph_distinct}
 use Rattle.llb_model.proofs.Parts.{step_keeps}
 use Rattle.llb_model.proofs.Stores.{hold_all}
 use Rattle.llb_model.proofs.There.{held_are_there}
-use Rattle.llb_events.specs.Causes.{faulted, claim_fault, step_fault, settle_fault, cancel_fault}
-use Rattle.llb_events.specs.declared.fault.WalkFault.{WalkFault}
-use Rattle.llb_events.specs.declared.fault.WalkFault.TheVariants as walk
+use Rattle.llb_events.specs.Causes.{faulted}
+use Rattle.llb_model.specs.declared.refusal.WalkFault.{WalkFault}
+use Rattle.llb_model.specs.declared.refusal.WalkFault.TheVariants as walk
 use Rattle.llb_state.specs.Caches.{written, places_at, rows_after, lent_of}
 use Rattle.llb_state.specs.Room.{needs_at}
 use Rattle.llb_state.specs.Undo.{Back, Unclaim, Unstep, Resume, Displaced, walk_in, end_of, workers_before, with_view_back, step_before, rows_before}
@@ -58,17 +60,17 @@ pub record Granted (b n : BoardValue) (e : Event) : Type 0 where
   pub grants : table b.build b.state e ≡ Some answer
   pub is : n ≡ after_event b e answer.0
 
-told_of : {C F : Type 0} (b n : BoardValue) (e : Event) (fault : C → F) (wrap : F → WalkFault) (answer : Result Answer C) (r : replied.Reply)
+told_of : {F : Type 0} (b n : BoardValue) (e : Event) (wrap : F → WalkFault) (answer : Result Answer F) (r : replied.Reply)
     → ((a : Answer) → answer ≡ Ok a → table b.build b.state e ≡ Some a)
-    → told_as wrap (recorded b e fault answer) ≡ Ok (n, r) → Granted b n e
-told_of b n e fault wrap (Ok (s, reply)) r done is = record { answer = (s, reply); grants = done (s, reply) refl; is = ap (λ p. p.0) (sym (told_inside is)) }
-told_of b n e fault wrap (Err cause) r done is = absurd cc
+    → told_as wrap (recorded b e answer) ≡ Ok (n, r) → Granted b n e
+told_of b n e wrap (Ok (s, reply)) r done is = record { answer = (s, reply); grants = done (s, reply) refl; is = ap (λ p. p.0) (sym (told_inside is)) }
+told_of b n e wrap (Err cause) r done is = absurd cc
 
 pub granted : (b n : BoardValue) (e : Event) (r : replied.Reply) → walk_of b e ≡ Ok (n, r) → Granted b n e
-granted b n (Claim w v) r is = told_of b n (Claim w v) claim_fault walk.Claim _ r (claim_done b.build b.state w v) is
-granted b n (Step w) r is = told_of b n (Step w) step_fault walk.Step _ r (step_done b.build b.state w) is
-granted b n (Settle w) r is = told_of b n (Settle w) settle_fault walk.Settle _ r (settle_done b.build b.state w) is
-granted b n (Cancel w) r is = told_of b n (Cancel w) cancel_fault walk.Cancel _ r (cancel_done b.build b.state w) is
+granted b n (Claim w v) r is = told_of b n (Claim w v) walk.Claim _ r (claim_done b.build b.state w v) is
+granted b n (Step w) r is = told_of b n (Step w) walk.Step _ r (step_done b.build b.state w) is
+granted b n (Settle w) r is = told_of b n (Settle w) walk.Settle _ r (settle_done b.build b.state w) is
+granted b n (Cancel w) r is = told_of b n (Cancel w) walk.Cancel _ r (cancel_done b.build b.state w) is
 
 -- ---- back to the board before
 
@@ -320,13 +322,13 @@ pub walk_refused : (vs : VerticesValue) (first : List Row) (ws : WorkersValue) (
     → walk_of (seen vs first ws es) e ≡ Err f
 walk_refused vs first ws es e f is = go e is
   where
-    told_err : {C F : Type 0} (e : Event) (fault : C → F) (wrap : F → WalkFault) (r : Result Answer C) → faulted wrap (faulted fault r) ≡ Err f
-        → told_as wrap (recorded (seen vs first ws es) e fault r) ≡ Err f
-    told_err e fault wrap (Ok a) is = absurd cc
-    told_err e fault wrap (Err cause) is = let same : ◌≡◌ {A = WalkFault} (wrap (fault cause)) f = cc in ap (λ x. Err x) same
+    told_err : {F : Type 0} (e : Event) (wrap : F → WalkFault) (r : Result Answer F) → faulted wrap r ≡ Err f
+        → told_as wrap (recorded (seen vs first ws es) e r) ≡ Err f
+    told_err e wrap (Ok a) is = absurd cc
+    told_err e wrap (Err cause) is = let same : ◌≡◌ {A = WalkFault} (wrap cause) f = cc in ap (λ x. Err x) same
 
     go : (e : Event) → walk_in vs ws e ≡ Err f → walk_of (seen vs first ws es) e ≡ Err f
-    go (Claim w v) is = told_err (Claim w v) claim_fault walk.Claim _ is
-    go (Step w) is = told_err (Step w) step_fault walk.Step _ is
-    go (Settle w) is = told_err (Settle w) settle_fault walk.Settle _ is
-    go (Cancel w) is = told_err (Cancel w) cancel_fault walk.Cancel _ is
+    go (Claim w v) is = told_err (Claim w v) walk.Claim _ is
+    go (Step w) is = told_err (Step w) walk.Step _ is
+    go (Settle w) is = told_err (Settle w) walk.Settle _ is
+    go (Cancel w) is = told_err (Cancel w) walk.Cancel _ is

@@ -4,7 +4,8 @@ use Rattle.llb_model.specs.Program.{Build}
 use Rattle.llb_cache.specs.Caches.{Row}
 use Rattle.llb_model.specs.Kept.{store_of}
 use Rattle.llb_model.specs.State.{State, Opening, opening}
-use Rattle.llb_model.specs.Table.{Event, Reply, worker_of, table}
+use Rattle.llb_model.specs.declared.event.Event.{Event}
+use Rattle.llb_model.specs.Table.{Reply, worker_of, table}
 use Rattle.llb_model.specs.Run.{run}
 use Rattle.llb_state.specs.Caches.{rows_after}
 use Rattle.llb_state.specs.Vertices.{VerticesValue}
@@ -61,9 +62,9 @@ abbrev pub after_event : BoardValue → Event → State → BoardValue
 after_event b e s = record b { state = s; rows = rows_after b.rows s (worker_of e); events = b.events ++ e ∷ [] }
 
 -- the board and the reply after an event, with the event at the end of the record; where it is not granted, the cause as a fault
-abbrev pub recorded : {C F : Type 0} → BoardValue → Event → (C → F) → Result (State × Reply) C → Result (BoardValue × Reply) F
-recorded b e fault (Ok (s, r)) = Ok (after_event b e s, r)
-recorded b e fault (Err cause) = Err (fault cause)
+abbrev pub recorded : {F : Type 0} → BoardValue → Event → Result (State × Reply) F → Result (BoardValue × Reply) F
+recorded b e (Ok (s, r)) = Ok (after_event b e s, r)
+recorded b e (Err cause) = Err cause
 
 -- the replies of the record
 abbrev pub replies_in : BoardValue → List Reply

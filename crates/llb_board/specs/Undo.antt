@@ -10,14 +10,16 @@ use Rattle.llb_model.specs.Kept.{store_of}
 use Rattle.llb_model.specs.Program.{key_of}
 use Rattle.llb_model.specs.State.{Status, Waiting, Running, Execution, Idle, Runs}
 use Rattle.llb_model.specs.Table as table
+use Rattle.llb_model.specs.declared.event.Event as own_event
+use Rattle.llb_model.specs.declared.event.Event.TheVariants as event
 use Rattle.llb_state.specs.Caches.{lent_of}
 use Rattle.llb_state.specs.Room.{supplies_for, mounts_at, needs_at}
 use Rattle.llb_state.specs.Undo.{Back, Unclaim, Unstep, Resume, Displaced, walk_memory, end_of, workers_before, rows_before}
 use Rattle.llb_state.specs.Undoing.{Left}
-use Rattle.llb_events.specs.declared.event.Stepped.TheVariants as stepped
-use Rattle.llb_events.specs.declared.event.Settled.TheVariants as settled
-use Rattle.llb_events.specs.declared.fault.WalkFault.{WalkFault}
-use Rattle.llb_events.specs.declared.fault.WalkFault.TheVariants as walk
+use Rattle.llb_model.specs.declared.event.Stepped.TheVariants as stepped
+use Rattle.llb_model.specs.declared.event.Settled.TheVariants as settled
+use Rattle.llb_model.specs.declared.refusal.WalkFault.{WalkFault}
+use Rattle.llb_model.specs.declared.refusal.WalkFault.TheVariants as walk
 use Rattle.llb_board.specs.Seen.{BoardValue, Replays}
 use Rattle.llb_board.specs.History.{front}
 use Rattle.llb_board.specs.Rules.{claim_of, step_of, settle_of, cancel_of}
@@ -29,15 +31,9 @@ use Rattle.llb_board.specs.declared.walk.Reply.TheVariants as reply
 -- the reply of the table, without a claim's job
 abbrev pub told : table.Reply → Reply
 told (table.Claimed job) = reply.Claimed
-told table.HasRead = reply.Stepped stepped.Read
-told (table.Acted a) = reply.Stepped (stepped.Acted a)
-told (table.HasMerged i) = reply.Stepped (stepped.Merged i)
-told (table.HasRun c status) = reply.Stepped (stepped.Ran c status)
-told (table.Skipped c) = reply.Stepped (stepped.Skipped c)
-told (table.Faulted f) = reply.Stepped (stepped.Fault f)
-told (table.SettledDone v) = reply.Settled (settled.Done v)
-told (table.SettledFailed v) = reply.Settled (settled.Failed v)
-told (table.Cancelled v k) = reply.Cancelled (record { vertex = v; done = k })
+told (table.HasStepped s) = reply.Stepped s
+told (table.HasSettled s) = reply.Settled s
+told (table.HasCancelled c) = reply.Cancelled c
 
 -- an event's result, its refusal as that of a walk
 abbrev pub told_as : {F : Type 0} → (F → WalkFault) → Result (BoardValue × table.Reply) F → Result (BoardValue × Reply) WalkFault
@@ -45,11 +41,11 @@ told_as fault (Ok (b, r)) = Ok (b, told r)
 told_as fault (Err e) = Err (fault e)
 
 -- the result of a claim, a step, a settle or a cancel
-abbrev pub walk_of : BoardValue → table.Event → Result (BoardValue × Reply) WalkFault
-walk_of b (table.Claim w v) = told_as walk.Claim (claim_of b w v)
-walk_of b (table.Step w) = told_as walk.Step (step_of b w)
-walk_of b (table.Settle w) = told_as walk.Settle (settle_of b w)
-walk_of b (table.Cancel w) = told_as walk.Cancel (cancel_of b w)
+abbrev pub walk_of : BoardValue → own_event.Event → Result (BoardValue × Reply) WalkFault
+walk_of b (event.Claim w v) = told_as walk.Claim (claim_of b w v)
+walk_of b (event.Step w) = told_as walk.Step (step_of b w)
+walk_of b (event.Settle w) = told_as walk.Settle (settle_of b w)
+walk_of b (event.Cancel w) = told_as walk.Cancel (cancel_of b w)
 
 -- a result of a walk is what the rule returns, but for want of memory
 abbrev pub GivesWalk : {X Y : Type 0} → (X → Y) → Result X WalkFault → Result Y WalkFault → Type 0
@@ -78,9 +74,9 @@ undone u b = record b {
 -- ---- when it can be taken back
 
 -- the event that is taken back
-abbrev pub event_before : Back → table.Event
-event_before (Unclaim w v growths) = table.Claim w v
-event_before (Unstep w mark trees) = table.Step w
+abbrev pub event_before : Back → own_event.Event
+event_before (Unclaim w v growths) = event.Claim w v
+event_before (Unstep w mark trees) = event.Step w
 event_before (Resume e w left lent) = end_of e w
 
 -- the event that is taken back is the last of the record

@@ -3,13 +3,14 @@
 //! and each worker has the supplies of its vertex. What its vertices and its workers keep is theirs.
 
 ghost use Rattle.std.specs.Prelude.{◌≡◌, ◌<◌, ◌≤◌, ◌+◌, [], length, replicate, true, is_some, option_map, Some, OnErr, IfErr, IfOk, if◌then◌else◌};
+ghost use Rattle.llb_model.specs.declared.event.Settled.TheVariants as ended;
+ghost use Rattle.llb_model.specs.Table.{Claimed, HasStepped, HasSettled, HasCancelled};
 ghost use Rattle.llb_model.specs.Outcome.{output_in};
 ghost use Rattle.llb_model.specs.State.{ending_at, is_failed, ending_of};
 ghost use Rattle.llb_loader.specs.Missing.{missing_local};
 ghost use Rattle.llb_model.specs.Room.{most_events, owed, still_to_come};
 ghost use Rattle.llb_model.specs.Run.{chosen, is_complete};
 ghost use Rattle.llb_model.specs.Laws.{IsReached};
-ghost use Rattle.llb_model.specs.Table.{SettledDone, SettledFailed};
 ghost use Rattle.llb_loader.specs.Graph.{IsGraph};
 ghost use Rattle.llb_links.specs.Links.{users_of};
 ghost use Rattle.llb_wire.specs.Answer.{MemoryLast};
@@ -17,8 +18,8 @@ ghost use Rattle.llb_cache.specs.Caches.{leases};
 ghost use Rattle.llb_model.specs.Kept.{store_of};
 ghost use Rattle.llb_model.specs.Leases.{HoldsAs};
 ghost use Rattle.llb_events.specs.Causes.{step_memory, GivesStep, GivesSettle, GivesCancel};
-ghost use Rattle.llb_events.specs.Faults.{GivesClaim, claim_memory, claim_may_want};
-ghost use Rattle.llb_events.specs.Views.{event_of, claim_reply, step_reply, settle_reply, cancel_reply, look_at, worker_look};
+ghost use Rattle.llb_model.specs.Faults.{GivesClaim, claim_memory, claim_may_want};
+ghost use Rattle.llb_events.specs.Views.{look_at, worker_look};
 ghost use Rattle.llb_state.specs.Vertices.{all_waiting, status_of};
 ghost use Rattle.llb_board.specs.Seen.{BoardValue, Replays, opened, replies_in};
 ghost use Rattle.llb_board.specs.declared.fault.OpenFault.TheVariants as opening;
@@ -160,7 +161,7 @@ impl Board {
     /// If memory for that key's own text is refused, it fails with 141 in place of 135; want of any other memory is reported after 135. The
     /// claim of a vertex that was cancelled before reserves room for its events once more.
     pub fn claim(&mut self, w: u32, v: u32) -> Result<Job, ClaimFault>
-        ensures gives { GivesClaim (λ job. (self.new, claim_reply job)) result (claim_of self.old w v) }
+        ensures gives { GivesClaim (λ job. (self.new, Claimed job)) result (claim_of self.old w v) }
         ensures last { IfErr result (λ e. claim_memory e ≡ true → claim_may_want (claim_of self.old w v) ≡ true) }
         ensures err { OnErr result (self.new ≡ self.old) }
     {
@@ -180,7 +181,7 @@ impl Board {
     /// caches as they are now and writes them at once. Fails with 131 `NoWorker`, 136 `NotRunning`, 137 `NothingLeft` or 141 `Memory`; a skipped
     /// command does not allocate.
     pub fn step(&mut self, w: u32) -> Result<Stepped, StepFault>
-        ensures gives { GivesStep (λ r. (self.new, step_reply r)) result (step_of self.old w) }
+        ensures gives { GivesStep (λ r. (self.new, HasStepped r)) result (step_of self.old w) }
         ensures last { MemoryLast step_memory result (step_of self.old w) }
         ensures err { OnErr result (self.new ≡ self.old) }
     {
@@ -192,7 +193,7 @@ impl Board {
     /// Makes a worker leave what it runs, which is finished; its cache instances are free again. Fails with 131 `NoWorker`, 136 `NotRunning` or
     /// 138 `NotFinished`. Does not allocate.
     pub fn settle(&mut self, w: u32) -> Result<Settled, SettleFault>
-        ensures gives { GivesSettle (λ r. (self.new, settle_reply r)) result (settle_of self.old w) }
+        ensures gives { GivesSettle (λ r. (self.new, HasSettled r)) result (settle_of self.old w) }
         ensures err { OnErr result (self.new ≡ self.old) }
     {
         let (v, stage) = self.workers.leave(&self.vertices, w)?;
@@ -205,7 +206,7 @@ impl Board {
     /// Makes a worker give up what it runs, finished or not. Its vertex waits again, its cache instances are free, and they keep what
     /// its micro-steps have written. Fails with 131 `NoWorker` or 136 `NotRunning`. Does not allocate.
     pub fn cancel(&mut self, w: u32) -> Result<Cancelled, CancelFault>
-        ensures gives { GivesCancel (λ r. (self.new, cancel_reply r)) result (cancel_of self.old w) }
+        ensures gives { GivesCancel (λ r. (self.new, HasCancelled r)) result (cancel_of self.old w) }
         ensures err { OnErr result (self.new ≡ self.old) }
     {
         let cancelled = self.workers.give_up(w)?;
@@ -262,7 +263,7 @@ impl Board {
 
     /// Returns the event that a driver chooses; `None` where the board is complete. Does not allocate.
     pub fn chosen(&self) -> Option<Event>
-        ensures { option_map event_of result ≡ chosen self.now.build self.now.state }
+        ensures { result ≡ chosen self.now.build self.now.state }
     {
         match next_event(&self.vertices, &self.workers) {
             Some(event) => Some(event),
@@ -398,7 +399,7 @@ fn has_failed(stage: &Stage) -> bool
 
 // Returns the reply to the settle of a vertex.
 fn settled(v: u32, failed: bool) -> Settled
-    ensures { settle_reply result ≡ if failed then SettledFailed v else SettledDone v }
+    ensures { result ≡ if failed then ended.Failed v else ended.Done v }
 {
     if failed {
         Settled::Failed(v)

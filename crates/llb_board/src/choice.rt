@@ -1,15 +1,14 @@
 //! The next event of the workers that run.
 
-ghost use Rattle.std.specs.Prelude.{◌≡◌, option_map};
+ghost use Rattle.std.specs.Prelude.{◌≡◌};
 ghost use Rattle.llb_model.specs.Run.{next_of};
-ghost use Rattle.llb_events.specs.Views.{event_of};
 
 use llb_events::{Event, WorkerStatus};
 use llb_state::{Vertices, Workers};
 
 /// Returns the next event of the lowest running worker: a settle if what it runs is finished, else a step. `None` where no worker runs.
 pub(crate) fn next_event(vertices: &Vertices, workers: &Workers) -> Option<Event>
-    ensures { option_map event_of result ≡ next_of vertices.now.build 0 workers.now.workers }
+    ensures { result ≡ next_of vertices.now.build 0 workers.now.workers }
 {
     let _ = workers.look(vertices, 0);
     for w in 0..64 {

@@ -1,8 +1,7 @@
 //! The record of events: a list that grows by one event at a time, in room that was reserved before.
 
-ghost use Rattle.std.specs.Prelude.{◌≡◌, ◌==◌, ◌≤◌, ◌<◌, ◌∷◌, ◌++◌, [], length, map, IfOk, OnOk, OnErr, ◌+◌, ◌-◌, option_map};
+ghost use Rattle.std.specs.Prelude.{◌≡◌, ◌==◌, ◌≤◌, ◌<◌, ◌∷◌, ◌++◌, [], length, IfOk, OnOk, OnErr, ◌+◌, ◌-◌};
 ghost use Rattle.llb_board.specs.History.{front, last_of};
-ghost use Rattle.llb_events.specs.Views.{event_of};
 
 use llb_events::{Event, Memory};
 use std::alloc::{AllocError, Global};
@@ -23,13 +22,12 @@ impl Drop for Events {
 }
 
 impl Model for Events {
-    ghost use Rattle.std.specs.Prelude.{◌≤◌, map, vec_capacity};
+    ghost use Rattle.std.specs.Prelude.{◌≤◌, vec_capacity};
     ghost use Rattle.llb_board.specs.History.{Recorded};
-    ghost use Rattle.llb_events.specs.Views.{event_of};
 
     ghost Value = { Recorded };
 
-    ghost view = { λ e. record { list = map event_of e.items.items; room = e.room } };
+    ghost view = { λ e. record { list = e.items.items; room = e.room } };
 
     ghost invariant = { λ e. e.room ≤ vec_capacity e.items };
 }
@@ -49,7 +47,7 @@ impl Events {
     /// Appends an event, for which there is room.
     pub(crate) fn push_reserved(&mut self, event: Event)
         requires { length self.old.list < self.old.room }
-        ensures list { self.new.list ≡ self.old.list ++ event_of event ∷ [] }
+        ensures list { self.new.list ≡ self.old.list ++ event ∷ [] }
         ensures room { self.new.room ≡ self.old.room }
     {
         self.items.push_reserved(event);
@@ -57,7 +55,7 @@ impl Events {
 
     /// Removes and returns the last event; `None` where there is none. The room stays.
     pub(crate) fn take_back(&mut self) -> Option<Event>
-        ensures last { option_map event_of result ≡ last_of self.old.list }
+        ensures last { result ≡ last_of self.old.list }
         ensures list { self.new.list ≡ front self.old.list }
         ensures room { self.new.room ≡ self.old.room }
     {
@@ -101,7 +99,7 @@ impl Events {
 
     /// Returns the events in their order.
     pub fn as_slice(&self) -> &[Event]
-        ensures { map event_of result.now ≡ self.now.list }
+        ensures { result.now ≡ self.now.list }
     {
         self.items.as_slice()
     }

@@ -2,9 +2,8 @@
 
 ghost use Rattle.std.specs.Prelude.{◌≡◌, ◌+◌, ◌<◌, ◌≤◌, ◌∷◌, ◌++◌, [], length, replicate, get_or, IfOk, OnOk, OnErr};
 ghost use Rattle.llb_model.specs.Landing.{steps_by};
-ghost use Rattle.llb_model.specs.Table as table;
+ghost use Rattle.llb_model.specs.declared.event.Event.TheVariants as own;
 ghost use Rattle.llb_board.specs.History.{claimed, unclaimed, cancelled, taken_by, uncancelled, front, last_of, space_back};
-ghost use Rattle.llb_events.specs.Views.{event_of};
 
 use crate::events::Events;
 use llb_events::{Event, Memory};
@@ -59,7 +58,7 @@ impl History {
     /// Appends an event, for which there is room.
     pub(crate) fn record(&mut self, event: Event)
         requires { length self.old.list < self.old.space.room }
-        ensures list { self.new.list ≡ self.old.list ++ event_of event ∷ [] }
+        ensures list { self.new.list ≡ self.old.list ++ event ∷ [] }
         ensures space { self.new.space ≡ self.old.space }
     {
         self.events.push_reserved(event);
@@ -70,7 +69,7 @@ impl History {
         requires room { length self.old.list < self.old.space.room }
         requires low { v < length self.old.space.cancels }
         requires few { get_or self.old.space.cancels v 0 ≤ length self.old.list }
-        ensures list { self.new.list ≡ self.old.list ++ table.Cancel w ∷ [] }
+        ensures list { self.new.list ≡ self.old.list ++ own.Cancel w ∷ [] }
         ensures space { self.new.space ≡ cancelled v self.old.space }
     {
         self.events.push_reserved(Event::Cancel(w));

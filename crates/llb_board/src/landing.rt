@@ -3,12 +3,12 @@
 
 ghost use Rattle.std.specs.Prelude.{◌≡◌, option_map, slice_get, IfOk, IfErr, OnOk, OnErr};
 ghost use Rattle.std.specs.List.{list_any};
+ghost use Rattle.llb_model.specs.Table.{HasSettled};
 ghost use Rattle.llb_model.specs.Caches as model;
 ghost use Rattle.llb_model.specs.State.{Execution, runs};
 ghost use Rattle.llb_state.specs.Jobs.{is_shared};
 ghost use Rattle.llb_board.specs.Begun.{IsKnown};
 ghost use Rattle.llb_board.specs.Landing.{CanLand, StandsInWay, IsRefused, land_fault, places_had, runs_shared, IsThrough, Lands};
-ghost use Rattle.llb_events.specs.Views.{settle_reply};
 
 use crate::board::Board;
 use crate::fault::LandFault;
@@ -32,7 +32,7 @@ impl Board {
     /// 139 `Stranger` where the outcome's job is not what the worker runs now, with the caches as they are now. Then the fault holds the
     /// outcome, and the board is as it was. Does not allocate.
     pub fn land(&mut self, w: u32, outcome: Outcome) -> Result<Settled, LandFault>
-        ensures gives { IfOk result (λ r. Lands self.old w outcome self.new (settle_reply r)) }
+        ensures gives { IfOk result (λ r. Lands self.old w outcome self.new (HasSettled r)) }
         ensures refused { IfErr result (λ e. IsRefused self.old w outcome e) }
         ensures err { OnErr result (self.new ≡ self.old) }
     {
@@ -48,7 +48,7 @@ impl Board {
     /// micro-step done. It compares nothing. Does not allocate.
     pub fn land_known(&mut self, w: u32, outcome: Outcome) -> Settled
         requires known { IsKnown self.old w outcome.job }
-        ensures gives { Lands self.old w outcome self.new (settle_reply result) }
+        ensures gives { Lands self.old w outcome self.new (HasSettled result) }
     {
         begun_are_plain(self);
         let vertex = outcome.job().vertex();

@@ -2,7 +2,6 @@
 
 ghost use Rattle.std.specs.Prelude.{◌≡◌, OnErr, IfOk};
 ghost use Rattle.llb_board.specs.Undo.{GivesWalk, walk_of, undone, CanUndo};
-ghost use Rattle.llb_events.specs.Views.{event_of};
 
 use crate::board::Board;
 use llb_events::{Cancelled, Event, Settled, Stepped, WalkFault};
@@ -28,7 +27,7 @@ impl Board {
     /// Does an event, and returns its reply with what takes it back; memory for that grows with what the event changes. Fails with the fault of
     /// the claim, the step, the settle or the cancel, or with 141 `Memory`, which may come at any time.
     pub fn walk(&mut self, event: Event) -> Result<Walked, WalkFault>
-        ensures gives { GivesWalk (λ r. (self.new, r.reply)) result (walk_of self.old (event_of event)) }
+        ensures gives { GivesWalk (λ r. (self.new, r.reply)) result (walk_of self.old event) }
         ensures undo { IfOk result (λ r. undone r.undo self.new ≡ self.old) }
         ensures can { IfOk result (λ r. CanUndo r.undo self.new) }
         ensures err { OnErr result (self.new ≡ self.old) }
@@ -41,7 +40,7 @@ impl Board {
 
     // Does an event and returns its reply.
     fn happen(&mut self, event: Event) -> Result<Reply, WalkFault>
-        ensures gives { GivesWalk (λ r. (self.new, r)) result (walk_of self.old (event_of event)) }
+        ensures gives { GivesWalk (λ r. (self.new, r)) result (walk_of self.old event) }
         ensures err { OnErr result (self.new ≡ self.old) }
     {
         match event {

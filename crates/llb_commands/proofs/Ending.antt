@@ -12,7 +12,8 @@ use Rattle.llb_model.specs.Kept.{store_of}
 use Rattle.llb_model.specs.Program.{Build}
 use Rattle.llb_model.specs.Outcome.{Ending, Done, Failed, Outcome, ending_in, outcome, output_in}
 use Rattle.llb_model.specs.State.{Status, Waiting, Running, Settled, State, Opening, opening, ending_of, ending_at, is_done, is_failed, is_stopped}
-use Rattle.llb_model.specs.Table.{Event, Reply, table}
+use Rattle.llb_model.specs.declared.event.Event.{Event}
+use Rattle.llb_model.specs.Table.{Reply, table}
 use Rattle.llb_model.specs.Run.{run, chosen, is_complete, StandsPlainly}
 use Rattle.llb_model.specs.Consistent.{IsConsistent}
 use Rattle.llb_model.specs.Laws.{HasNoCaches, AreChosen}

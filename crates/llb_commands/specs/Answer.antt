@@ -12,7 +12,8 @@ use Rattle.llb_model.specs.Program.{Build}
 use Rattle.llb_model.specs.Outcome.{Failed, ending_in, outcome, output_in}
 use Rattle.llb_model.specs.State.{State, Opening, opening, ending_at}
 use Rattle.llb_loader.specs.Missing.{missing_local}
-use Rattle.llb_model.specs.Table.{Event, Reply}
+use Rattle.llb_model.specs.declared.event.Event.{Event}
+use Rattle.llb_model.specs.Table.{Reply}
 use Rattle.llb_model.specs.Run.{run, is_complete, StandsPlainly}
 use Rattle.llb_model.specs.Laws.{HasNoCaches}
 use Rattle.llb_treetext.specs.TreeText.{tree_text}

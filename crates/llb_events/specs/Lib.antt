@@ -2,4 +2,3 @@
 -- refusals as faults) and Faults (the texts of refusals, and what a walk's refusal is by that of its event).
 pub mod Views
 pub mod Causes
-pub mod Faults

@@ -4,54 +4,10 @@ use Rattle.llb_model.specs.Program.{Build}
 use Rattle.llb_model.specs.Outcome.{Done, Failed}
 use Rattle.llb_model.specs.declared.fault.VertexFault.{VertexFault}
 use Rattle.llb_model.specs.State as model
-use Rattle.llb_model.specs.Table as table
-use Rattle.llb_events.specs.declared.event.Event.{Event}
-use Rattle.llb_events.specs.declared.event.Event.TheVariants as event
-use Rattle.llb_events.specs.declared.event.Stepped.{Stepped}
-use Rattle.llb_events.specs.declared.event.Stepped.TheVariants.{Read, Acted, Merged, Ran, Skipped, Fault}
-use Rattle.llb_events.specs.declared.event.Settled.{Settled}
-use Rattle.llb_events.specs.declared.event.Settled.TheVariants as settled
-use Rattle.llb_events.specs.declared.event.Cancelled.{Cancelled}
 use Rattle.llb_events.specs.declared.event.Status.{Status}
 use Rattle.llb_events.specs.declared.event.Status.TheVariants as seen
 use Rattle.llb_events.specs.declared.event.WorkerStatus.{WorkerStatus}
 use Rattle.llb_events.specs.declared.event.WorkerStatus.TheVariants as worker
-
--- the machine's event
-abbrev pub event_of : Event → table.Event
-event_of (event.Claim w v) = table.Claim w v
-event_of (event.Step w) = table.Step w
-event_of (event.Settle w) = table.Settle w
-event_of (event.Cancel w) = table.Cancel w
-
--- ---- replies
-
--- the reply to a claim: its job
-abbrev pub claim_reply : table.Job → table.Reply
-claim_reply j = table.Claimed j
-
--- the reply to a micro-step
-abbrev pub step_reply : Stepped → table.Reply
-step_reply Read = table.HasRead
-step_reply (Acted a) = table.Acted a
-step_reply (Merged i) = table.HasMerged i
-step_reply (Ran c status) = table.HasRun c status
-step_reply (Skipped c) = table.Skipped c
-step_reply (Fault f) = table.Faulted f
-
--- a fault, or where there is none what was done
-abbrev pub fault_or : Option VertexFault → Stepped → Stepped
-fault_or (Some f) done = Fault f
-fault_or None done = done
-
--- the reply to a settle
-abbrev pub settle_reply : Settled → table.Reply
-settle_reply (settled.Done v) = table.SettledDone v
-settle_reply (settled.Failed v) = table.SettledFailed v
-
--- the reply to a cancel
-abbrev pub cancel_reply : Cancelled → table.Reply
-cancel_reply c = table.Cancelled c.vertex c.done
 
 -- ---- looks
 

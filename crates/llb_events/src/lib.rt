@@ -3,7 +3,7 @@
 #![tactic(auto)]
 
 mod event;
-mod fault;
 
-pub use event::{Cancelled, Event, Settled, Status, Stepped, WorkerStatus};
-pub use fault::{CancelFault, ClaimFault, Memory, SettleFault, StepFault, WalkFault};
+pub use llb_model::{Cancelled, Event, Settled, Stepped};
+pub use event::{Status, WorkerStatus};
+pub use llb_model::{CancelFault, ClaimFault, Memory, SettleFault, StepFault, WalkFault};

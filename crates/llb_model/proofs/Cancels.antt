@@ -7,7 +7,10 @@ use Rattle.std.specs.Prelude.{cond, Bool, true, false}
 use Rattle.llb_loader.specs.declared.graph.Vertex.{Vertex}
 use Rattle.llb_model.specs.Program.{Build}
 use Rattle.llb_model.specs.State.{Status, Waiting, Running, Settled, State, Opening, opening}
-use Rattle.llb_model.specs.Table.{Event, Step, Cancel, Reply, Cancelled, table}
+use Rattle.llb_model.specs.declared.event.Event.{Event}
+use Rattle.llb_model.specs.declared.event.Event.TheVariants.{Step, Cancel}
+use Rattle.llb_model.specs.Table.{cancel_reply}
+use Rattle.llb_model.specs.Table.{Reply, table}
 use Rattle.llb_model.specs.Run.{run}
 use Rattle.llb_model.specs.Landing.{steps_by}
 use Rattle.llb_model.specs.Room.{events_of, is_cancel_of, cancels_in, counts_from, cancel_counts, most_from, owed_by, owed_from, room_taken}
@@ -81,14 +84,14 @@ counts_stay b s e a rs goes_on given =
 
 -- after a cancel that of its vertex is one more
 pub counts_grow : (b : Build) (v n : ℕ) (rs : List Reply) (x : Vertex) → slice_get b.graph.vertices v ≡ Some x
-    → cancel_counts b (rs ++ Cancelled v n ∷ []) ≡ slice_set (cancel_counts b rs) v (get_or (cancel_counts b rs) v 0 + 1)
+    → cancel_counts b (rs ++ cancel_reply v n ∷ []) ≡ slice_set (cancel_counts b rs) v (get_or (cancel_counts b rs) v 0 + 1)
 counts_grow b v n rs x there =
-    let qs = rs ++ Cancelled v n ∷ [] in
+    let qs = rs ++ cancel_reply v n ∷ [] in
     let one : cancels_in (0 + v) qs ≡ suc (cancels_in (0 + v) rs)
-    = ap (λ j. cancels_in j qs) (sym (from_zero v)) ∙ cancels_once_more v rs (Cancelled v n) (eq-eqb v v refl) ∙ ap (λ j. suc (cancels_in j rs))
+    = ap (λ j. cancels_in j qs) (sym (from_zero v)) ∙ cancels_once_more v rs (cancel_reply v n) (eq-eqb v v refl) ∙ ap (λ j. suc (cancels_in j rs))
     (from_zero v) in
     let others : (u : ℕ) → u ≢ 0 + v → cancels_in u qs ≡ cancels_in u rs
-    = λ u apart. cancels_later u rs (Cancelled v n) (ne_eqb v u (λ e. apart (sym e ∙ from_zero v))) in
+    = λ u apart. cancels_later u rs (cancel_reply v n) (ne_eqb v u (λ e. apart (sym e ∙ from_zero v))) in
     counts_more b.graph.vertices 0 v rs qs one others
     ∙ ap (slice_set (cancel_counts b rs) v) (ap suc (sym (counts_place b.graph.vertices 0 v rs x there)) ∙ next (get_or (cancel_counts b rs) v 0))
   where

@@ -17,7 +17,9 @@ use Rattle.llb_model.specs.Caches.{trees_at}
 use Rattle.llb_model.specs.Program.{Build, MicroStep, Run, Workspace, Mounted, Left, all_and, runs_of, setting_of, steps_of, program_at, workspace_on, filled}
 use Rattle.llb_model.specs.Program.{blanked, last_of, is_run, no_fault, ran, micro_step, step_on}
 use Rattle.llb_model.specs.State.{Execution, Idle, Runs, State, opening, program_in, work_of, is_finished, begin_at}
-use Rattle.llb_model.specs.Table.{Event, Claim, Step, Settle, Cancel, execution_on, with_step, table}
+use Rattle.llb_model.specs.declared.event.Event.{Event}
+use Rattle.llb_model.specs.declared.event.Event.TheVariants.{Claim, Step, Settle, Cancel}
+use Rattle.llb_model.specs.Table.{execution_on, with_step, table}
 use Rattle.llb_model.specs.Laws.{fault_of, ExecsEndByLastStatus}
 use Rattle.llb_model.proofs.Lists.{some_of, inside, got_set, got_replicate}
 use Rattle.llb_model.proofs.Parts.{next_step_is}

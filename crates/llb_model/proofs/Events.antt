@@ -10,8 +10,11 @@ use Rattle.llb_model.specs.Program.{Build, MicroStep, Start, start_with, needs_o
 use Rattle.llb_model.specs.Outcome.{inputs_from}
 use Rattle.llb_model.specs.State.{Status, Waiting, Running, Settled, Execution, WorkerStatus, Idle, Runs, State, ending_at, start_from, ready}
 use Rattle.llb_model.specs.State.{program_in, work_of, is_finished, next_step, ending_from, held, places_for, held_key, begin_at}
-use Rattle.llb_model.specs.SettleCause.{SettleCause, NotFinished}
-use Rattle.llb_model.specs.Table.{Event, Claim, Step, Settle, Cancel, Reply, or_not_ready, claim_start, claim_at, claim_unless, claimed}
+use Rattle.llb_model.specs.declared.refusal.SettleFault.{SettleFault}
+use Rattle.llb_model.specs.declared.refusal.SettleFault.TheVariants.{NotFinished}
+use Rattle.llb_model.specs.declared.event.Event.{Event}
+use Rattle.llb_model.specs.declared.event.Event.TheVariants.{Claim, Step, Settle, Cancel}
+use Rattle.llb_model.specs.Table.{Reply, or_not_ready, claim_start, claim_at, claim_unless, claimed}
 use Rattle.llb_model.specs.Table.{execution_on, with_step, step_by, step_with, stepped, settle_with, settled, cancel_with, cancelled, table}
 use Rattle.llb_model.proofs.Lists.{inside, length_set}
 
@@ -134,7 +137,7 @@ step_is b s w a e = by_worker (slice_get s.workers w) refl (granted_ok (stepped 
     by_worker (Some Idle) is e = absurd cc
     by_worker (Some (Runs x)) is e = by_next x is (next_step (program_in b x).steps x) refl e
 
-settle_if : Build → State → ℕ → Execution → Bool → Result Answer SettleCause
+settle_if : Build → State → ℕ → Execution → Bool → Result Answer SettleFault
 settle_if b s w x fin = cond fin (Ok (settle_with s w x.vertex (ending_from (program_in b x) x))) (Err NotFinished)
 
 -- what a granted settle shows: the worker runs something that is finished, and the settle's state and reply

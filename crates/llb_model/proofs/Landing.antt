@@ -8,7 +8,8 @@ use Rattle.llb_model.specs.Caches.{Instance, Store, put_all, Hold, Distinct}
 use Rattle.llb_model.specs.Program.{Build, MicroStep, Left, step_on, unless_faulted, go_on}
 use Rattle.llb_model.specs.Outcome.{ending}
 use Rattle.llb_model.specs.State.{Execution, WorkerStatus, Idle, Runs, State, program_in}
-use Rattle.llb_model.specs.Table.{Step, Settle, Reply, step_by, settle_reply, settle_with, table}
+use Rattle.llb_model.specs.declared.event.Event.TheVariants.{Step, Settle}
+use Rattle.llb_model.specs.Table.{Reply, step_by, settle_reply, settle_with, table}
 use Rattle.llb_model.specs.Run.{run, after}
 use Rattle.llb_model.specs.Landing.{steps_by, further, is_over, AreThere, left_so_far, with_steps, after_steps, landed, StepsAsBlock, LandsAsBlock}
 use Rattle.llb_model.proofs.Lists.{get_set_same}

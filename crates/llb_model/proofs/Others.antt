@@ -7,12 +7,15 @@ use Rattle.llb_cache.specs.declared.key.Mode.{Mode}
 use Rattle.llb_cache.specs.declared.key.Mode.TheVariants.{Shared, Private, Locked}
 use Rattle.llb_tree.specs.Tree.{TreeMap}
 use Rattle.llb_model.specs.Caches.{Instance, Store, content, put, Has, IsExclusive}
-use Rattle.llb_model.specs.ClaimCause.{ClaimCause}
-use Rattle.llb_model.specs.SettleCause.{SettleCause, NotFinished}
+use Rattle.llb_model.specs.declared.refusal.ClaimFault.{ClaimFault}
+use Rattle.llb_model.specs.declared.refusal.SettleFault.{SettleFault}
+use Rattle.llb_model.specs.declared.refusal.SettleFault.TheVariants.{NotFinished}
 use Rattle.llb_model.specs.Program.{Build, MicroStep, Need, Work, Left, Start, needs_of, base_in, begin, step_on}
 use Rattle.llb_model.specs.State.{Execution, WorkerStatus, Idle, Runs, State, opening, program_in, work_of, is_finished, next_step, ending_from, held}
 use Rattle.llb_model.specs.State.{number_for, place_for, places_for, held_key, first_trees, begin_at}
-use Rattle.llb_model.specs.Table.{Event, Claim, Step, Settle, Cancel, Claimed, claim_start, execution_on, job_on, claim_with, claim_at}
+use Rattle.llb_model.specs.declared.event.Event.{Event}
+use Rattle.llb_model.specs.declared.event.Event.TheVariants.{Claim, Step, Settle, Cancel}
+use Rattle.llb_model.specs.Table.{Claimed, claim_start, execution_on, job_on, claim_with, claim_at}
 use Rattle.llb_model.specs.Table.{claim_unless, claimed, with_step, step_reply, step_by, step_with, stepped, settle_with, settled, cancelled, table}
 use Rattle.llb_model.specs.Laws.{IsReached, IsLockedOnce, OthersKeep, with_content, with_content_after, OthersIgnore}
 use Rattle.llb_model.proofs.Lists.{got_set, got_replicate}
@@ -93,7 +96,7 @@ claim_ignores b s u v p t apart = go (claim_start s.statuses v (slice_get s.work
     by_key start (Some k) is = refl
     by_key start None is = ap (λ (a : Answer). Some a) (claim_same b s p t u v start (claim_places s start) (apart start is))
 
-    go : (r : Result Start ClaimCause) → result_ok (claimed b (with_content p t s) u v r) ≡ option_map (with_content_after p t) (result_ok (claimed b s u v r))
+    go : (r : Result Start ClaimFault) → result_ok (claimed b (with_content p t s) u v r) ≡ option_map (with_content_after p t) (result_ok (claimed b s u v r))
     go (Err cause) = refl
     go (Ok start) = by_key start (held_key (held s.workers) (needs_of start.vertex)) refl
 
@@ -117,7 +120,7 @@ settle_ignores : (b : Build) (s : State) (u : ℕ) (p : Instance) (t : TreeMap) 
 unfolding table Ignored
 settle_ignores b s u p t = go (slice_get s.workers u)
   where
-    settle_if : State → Execution → Bool → Result Answer SettleCause
+    settle_if : State → Execution → Bool → Result Answer SettleFault
     settle_if r x fin = cond fin (Ok (settle_with r u x.vertex (ending_from (program_in b x) x))) (Err NotFinished)
 
     by_test : (x : Execution) (fin : Bool) → result_ok (settle_if (with_content p t s) x fin)

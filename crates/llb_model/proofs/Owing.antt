@@ -7,7 +7,10 @@ use Rattle.std.proofs.lemmas.List.Sums.{sum_by-append}
 use Rattle.llb_loader.specs.declared.graph.Vertex.{Vertex}
 use Rattle.llb_model.specs.Program.{Build}
 use Rattle.llb_model.specs.State.{Status, Waiting, Running, Settled, Execution, WorkerStatus, Idle, Runs, State, Opening, opening, program_in, ending_from}
-use Rattle.llb_model.specs.Table.{Event, Claim, Step, Settle, Cancel, Reply, Cancelled, table}
+use Rattle.llb_model.specs.declared.event.Event.{Event}
+use Rattle.llb_model.specs.declared.event.Event.TheVariants.{Claim, Step, Settle, Cancel}
+use Rattle.llb_model.specs.Table.{cancel_reply}
+use Rattle.llb_model.specs.Table.{Reply, table}
 use Rattle.llb_model.specs.Run.{run}
 use Rattle.llb_model.specs.Room.{events_of, is_cancel_of, cancels_in, most_events, to_come, all_to_come, all_left, still_to_come}
 use Rattle.llb_model.specs.Room.{owed_by, owed_from, owed, owed_at, room_taken}
@@ -149,14 +152,14 @@ event_owes b s (Cancel w) a rs here given =
     (by_vertex c.x.vertex c.x.done vertex.0 vertex.1 status)
   where
     by_vertex : (v n : ℕ) (x : Vertex) → slice_get b.graph.vertices v ≡ Some x → slice_get s.statuses v ≡ Some (Running w)
-        → owed b (slice_set s.statuses v Waiting) (rs ++ Cancelled v n ∷ []) + 0 + most_events b rs
-        ≡ owed b s.statuses rs + most_events b (rs ++ Cancelled v n ∷ [])
+        → owed b (slice_set s.statuses v Waiting) (rs ++ cancel_reply v n ∷ []) + 0 + most_events b rs
+        ≡ owed b s.statuses rs + most_events b (rs ++ cancel_reply v n ∷ [])
     by_vertex v n x there status =
         let vs = b.graph.vertices in
-        let qs = rs ++ Cancelled v n ∷ [] in
-        let one : cancels_in v qs ≡ suc (cancels_in v rs) = cancels_once_more v rs (Cancelled v n) (eq-eqb v v refl) in
+        let qs = rs ++ cancel_reply v n ∷ [] in
+        let one : cancels_in v qs ≡ suc (cancels_in v rs) = cancels_once_more v rs (cancel_reply v n) (eq-eqb v v refl) in
         let others : (u : ℕ) → u ≢ 0 + v → cancels_in u qs ≡ cancels_in u rs =
-        λ u apart. cancels_later u rs (Cancelled v n) (ne_eqb v u (λ e. apart (sym e ∙ from_zero v))) in
+        λ u apart. cancels_later u rs (cancel_reply v n) (ne_eqb v u (λ e. apart (sym e ∙ from_zero v))) in
         let most = most_more vs 0 v rs qs (subst (λ j. cancels_in j qs ≡ suc (cancels_in j rs)) (from_zero v) one) others in
         let events : events_at (slice_get vs v) ≡ events_of x = ap events_at there in
         let set = owed_set vs s.statuses 0 v x (Running w) Waiting qs there status in

@@ -11,7 +11,9 @@ use Rattle.llb_model.specs.Program.{part}
 use Rattle.llb_model.specs.Outcome.{Ending, Ended, ending, ending_in, outcome_on, outcome, is_plain}
 use Rattle.llb_model.specs.State.{Status, Waiting, Running, Settled, Execution, Idle, Runs, State, Opening, opening, ending_of, ending_at}
 use Rattle.llb_model.specs.State.{program_in, work_of, is_finished, ending_from, held, places_for, begin_at}
-use Rattle.llb_model.specs.Table.{Event, Claim, Step, Settle, Cancel, Reply, execution_on, with_step, table}
+use Rattle.llb_model.specs.declared.event.Event.{Event}
+use Rattle.llb_model.specs.declared.event.Event.TheVariants.{Claim, Step, Settle, Cancel}
+use Rattle.llb_model.specs.Table.{Reply, execution_on, with_step, table}
 use Rattle.llb_model.specs.Run.{run}
 use Rattle.llb_model.specs.Plain.{left_of, IsUnderWay, StandsByOutcomes}
 use Rattle.llb_model.proofs.Lists.{some_of, inside, got_set, got_replicate}

@@ -10,8 +10,11 @@ use Rattle.llb_model.specs.Program.{Build, MicroStep, ReadLocal, Act, LayInput, 
 use Rattle.llb_model.specs.Outcome.{Ending, Done, Failed}
 use Rattle.llb_model.specs.State.{Status, Waiting, Running, Settled, WorkerStatus, Idle, Runs, State, Opening, opening, program_in, work_of, ending_from}
 use Rattle.llb_model.specs.State.{begin_at}
-use Rattle.llb_model.specs.Table.{Event, Claim, Step, Settle, Cancel, Reply, HasRead, Acted, HasMerged, HasRun, Skipped, Cancelled}
-use Rattle.llb_model.specs.Table.{execution_on, with_step, unless_failed, step_reply, settle_reply, table}
+use Rattle.llb_model.specs.declared.event.Event.{Event}
+use Rattle.llb_model.specs.declared.event.Event.TheVariants.{Claim, Step, Settle, Cancel}
+use Rattle.llb_model.specs.Table.{cancel_reply}
+use Rattle.llb_model.specs.Table.{Reply}
+use Rattle.llb_model.specs.Table.{execution_on, with_step, step_reply, settle_reply, table}
 use Rattle.llb_model.specs.Run.{run}
 use Rattle.llb_model.specs.Room.{events_of, is_cancel_of, cancels_in, most_from, most_events, to_come, all_to_come, left_by, all_left, still_to_come}
 use Rattle.llb_model.proofs.Lists.{got_within}
@@ -119,48 +122,30 @@ most_more (y ∷ vs) k (suc v) rs qs more same =
     sums a m e = omega arith
 
 -- a cancel of a vertex, in front of other replies
-cancel_first : (v n : ℕ) (rs : List Reply) → cancels_in v (Cancelled v n ∷ rs) ≡ suc (cancels_in v rs)
-cancel_first v n rs = cancels_more v (Cancelled v n) rs (eq-eqb v v refl)
+cancel_first : (v n : ℕ) (rs : List Reply) → cancels_in v (cancel_reply v n ∷ rs) ≡ suc (cancels_in v rs)
+cancel_first v n rs = cancels_more v (cancel_reply v n) rs (eq-eqb v v refl)
 
-other_first : (v n : ℕ) (rs : List Reply) (u : ℕ) → u ≢ v → cancels_in u (Cancelled v n ∷ rs) ≡ cancels_in u rs
-other_first v n rs u apart = cancels_same u (Cancelled v n) rs (ne_eqb v u (λ e. apart (sym e)))
+other_first : (v n : ℕ) (rs : List Reply) (u : ℕ) → u ≢ v → cancels_in u (cancel_reply v n ∷ rs) ≡ cancels_in u rs
+other_first v n rs u apart = cancels_same u (cancel_reply v n) rs (ne_eqb v u (λ e. apart (sym e)))
 
 pub from_zero : (v : ℕ) → v ≡ 0 + v
 from_zero v = omega arith
 
-most_cancel : (vs : List Vertex) (v n : ℕ) (rs : List Reply) → most_from 0 vs (Cancelled v n ∷ rs) ≡ most_from 0 vs rs + events_at (slice_get vs v)
+most_cancel : (vs : List Vertex) (v n : ℕ) (rs : List Reply) → most_from 0 vs (cancel_reply v n ∷ rs) ≡ most_from 0 vs rs + events_at (slice_get vs v)
 most_cancel vs v n rs =
-    most_more vs 0 v rs (Cancelled v n ∷ rs)
-    (subst (λ j. cancels_in j (Cancelled v n ∷ rs) ≡ suc (cancels_in j rs)) (from_zero v) (cancel_first v n rs))
+    most_more vs 0 v rs (cancel_reply v n ∷ rs)
+    (subst (λ j. cancels_in j (cancel_reply v n ∷ rs) ≡ suc (cancels_in j rs)) (from_zero v) (cancel_first v n rs))
     (λ u apart. other_first v n rs u (λ e. apart (e ∙ from_zero v)))
-
-unless_no_cancel : (v : ℕ) (f : Option VertexFault) (r : Reply) → is_cancel_of v r ≡ false → is_cancel_of v (unless_failed f r) ≡ false
-unless_no_cancel v None r same = same
-unless_no_cancel v (Some f) r same = refl
-
-step_no_cancel : (v k : ℕ) (m : MicroStep) (own : Workspace) (left : Left) → is_cancel_of v (step_reply k m own left) ≡ false
-step_no_cancel v k ReadLocal own left = unless_no_cancel v left.fault HasRead refl
-step_no_cancel v k (Act action) own left = unless_no_cancel v left.fault (Acted k) refl
-step_no_cancel v k (LayInput i) own left = unless_no_cancel v left.fault (HasMerged k) refl
-step_no_cancel v k (Run setting command ends) own left = by_run (is_run command.join (last_of own))
-  where
-    by_run : (b : Bool) → is_cancel_of v (cond b (HasRun k (last_of left.work.own)) (Skipped k)) ≡ false
-    by_run true = refl
-    by_run false = refl
-
-settle_no_cancel : (v u : ℕ) (e : Ending) → is_cancel_of v (settle_reply u e) ≡ false
-settle_no_cancel v u (Done trees) = refl
-settle_no_cancel v u (Failed f) = refl
 
 -- only a cancel has such a reply
 pub no_cancel : (b : Build) (s : State) (e : Event) (a : Answer) → ((w : ℕ) → e ≢ Cancel w) → table b s e ≡ Some a → (v : ℕ) → is_cancel_of v a.1 ≡ false
 no_cancel b s (Claim w u) a goes_on given v = let c = claim_is b s w u a given in ap (λ (t : Answer). is_cancel_of v t.1) c.gives
 no_cancel b s (Step w) a goes_on given v =
     let c = step_is b s w a given in
-    ap (λ (t : Answer). is_cancel_of v t.1) c.gives ∙ step_no_cancel v c.x.done c.step c.x.own (step_on c.x.done (Some c.step) (work_of s c.x))
+    ap (λ (t : Answer). is_cancel_of v t.1) c.gives
 no_cancel b s (Settle w) a goes_on given v =
     let c = settle_is b s w a given in
-    ap (λ (t : Answer). is_cancel_of v t.1) c.gives ∙ settle_no_cancel v c.x.vertex (ending_from (program_in b c.x) c.x)
+    ap (λ (t : Answer). is_cancel_of v t.1) c.gives
 no_cancel b s (Cancel w) a goes_on given v = absurd (goes_on w refl)
 
 -- ---- the whole

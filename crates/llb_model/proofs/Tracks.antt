@@ -12,7 +12,10 @@ use Rattle.llb_model.specs.Program.{program_at, needs_of, base_in, step_on, unle
 use Rattle.llb_model.specs.Outcome.{Ending, ending}
 use Rattle.llb_model.specs.State.{Status, Waiting, Running, Settled, Execution, Idle, Runs, State, Opening, opening, ending_of, ending_at}
 use Rattle.llb_model.specs.State.{ready, program_in, is_finished, next_step, work_of, ending_from, held, IsFree, first_trees, begin_at}
-use Rattle.llb_model.specs.Table.{Event, Claim, Step, Settle, Cancel, Reply, Cancelled}
+use Rattle.llb_model.specs.declared.event.Event.{Event}
+use Rattle.llb_model.specs.declared.event.Event.TheVariants.{Claim, Step, Settle, Cancel}
+use Rattle.llb_model.specs.Table.{cancel_reply}
+use Rattle.llb_model.specs.Table.{Reply}
 use Rattle.llb_model.specs.Table.{execution_on, claim_at, with_step, after_step, after_end, after_settle}
 use Rattle.llb_model.specs.Table.{settle_reply, table}
 use Rattle.llb_model.specs.Order.{Order, at_first, cut_in, named, done_of, stands_after, whole_at, run_whole}
@@ -25,7 +28,7 @@ use Rattle.llb_model.proofs.Events.{Answer, IsReady, ready_as, claim_places, cla
 use Rattle.llb_model.proofs.Outcomes.{inputs_mono}
 use Rattle.llb_model.proofs.Plain.{ending_settled}
 use Rattle.llb_model.proofs.Separate.{IsSeparate, TakesFree, opening_separate, event_separate}
-use Rattle.llb_model.proofs.Cuts.{cuts, step_cuts, uncut_here, uncut_later, cut_here, cut_later, after_reply, step_stays, settle_stays}
+use Rattle.llb_model.proofs.Cuts.{cuts, uncut_here, uncut_later, cut_here, cut_later, after_reply}
 
 -- all places count
 abbrev pub any : Instance → Type 0
@@ -415,27 +418,24 @@ event_tracks b differ s o (Claim w v) a rs before free given =
     (sym (places_numbered (held s.workers) (needs_of c.start.vertex))) now))
 event_tracks b differ s o (Step w) a rs before free given =
     let c = step_is b s w a given in
-    let left = step_on c.x.done (Some c.step) (work_of s c.x) in
-    let tracks = subst (Tracks b s o) (step_cuts c.x.done c.step c.x.own left rs) (subst (λ (t : Answer). Tracks b s o (cuts (t.1 ∷ rs))) c.gives before) in
+    let tracks = subst (λ (t : Answer). Tracks b s o (cuts (t.1 ∷ rs))) c.gives before in
     let separate = subst (λ (t : Answer). IsSeparate any t.0.workers) c.gives (event_separate any b s (Step w) a tracks.separate free given) in
     subst (λ (t : Answer). Tracks b t.0 (after_reply b o t.1 rs) (cuts rs)) (sym c.gives)
-    (subst (λ (q : Order). Tracks b (after_step s w c.x left) q (cuts rs)) (sym (step_stays b o c.x.done c.step c.x.own left rs))
-    (step_tracks b s o (cuts rs) tracks w c.x c.step c.there c.next separate))
+    (step_tracks b s o (cuts rs) tracks w c.x c.step c.there c.next separate)
 event_tracks b differ s o (Settle w) a rs before free given =
     let c = settle_is b s w a given in
     let end = ending_from (program_in b c.x) c.x in
     let tracks = subst (λ (t : Answer). Tracks b s o (cuts (t.1 ∷ rs))) c.gives before in
     let separate = subst (λ (t : Answer). IsSeparate any t.0.workers) c.gives (event_separate any b s (Settle w) a tracks.separate free given) in
     subst (λ (t : Answer). Tracks b t.0 (after_reply b o t.1 rs) (cuts rs)) (sym c.gives)
-    (subst (λ (q : Order). Tracks b (after_settle s w c.x.vertex end) q (cuts rs)) (sym (settle_stays b o c.x.vertex end rs))
     (settle_tracks b s o (cuts (settle_reply c.x.vertex end ∷ rs)) tracks w c.x (cuts rs) c.there c.finished
-    (uncut_here c.x.vertex end rs) (uncut_later c.x.vertex end rs) separate))
+    (uncut_here c.x.vertex end rs) (uncut_later c.x.vertex end rs) separate)
 event_tracks b differ s o (Cancel w) a rs before free given =
     let c = cancel_is b s w a given in
     let tracks = subst (λ (t : Answer). Tracks b s o (cuts (t.1 ∷ rs))) c.gives before in
     let separate = subst (λ (t : Answer). IsSeparate any t.0.workers) c.gives (event_separate any b s (Cancel w) a tracks.separate free given) in
     subst (λ (t : Answer). Tracks b t.0 (after_reply b o t.1 rs) (cuts rs)) (sym c.gives)
-    (cancel_tracks b s o (cuts (Cancelled c.x.vertex c.x.done ∷ rs)) tracks w c.x (cuts rs) c.there
+    (cancel_tracks b s o (cuts (cancel_reply c.x.vertex c.x.done ∷ rs)) tracks w c.x (cuts rs) c.there
     (cut_here c.x.vertex c.x.done rs) (cut_later c.x.vertex c.x.done rs) separate)
 
 -- at first all vertices wait in both, and the caches are the same, however claims will end

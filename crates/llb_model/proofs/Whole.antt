@@ -5,8 +5,11 @@ use Rattle.llb_cache.specs.declared.key.Key.{Key}
 use Rattle.llb_model.specs.Caches.{Instance, IsExclusive}
 use Rattle.llb_model.specs.Program.{Build, needs_of}
 use Rattle.llb_model.specs.State.{Status, Waiting, Running, Settled, State, opening, program_in, is_finished, held, place_for}
-use Rattle.llb_model.specs.Table.{Event, Claim, Step, Settle, Cancel, Reply, Claimed, HasRead, Acted, HasMerged, HasRun, Skipped, Faulted, SettledDone}
-use Rattle.llb_model.specs.Table.{SettledFailed, Cancelled, table}
+use Rattle.llb_model.specs.declared.event.Event.{Event}
+use Rattle.llb_model.specs.declared.event.Event.TheVariants.{Claim, Step, Settle, Cancel}
+use Rattle.llb_model.specs.Table.{HasStepped, HasSettled, HasCancelled}
+use Rattle.llb_model.specs.Table.{Reply, Claimed}
+use Rattle.llb_model.specs.Table.{table}
 use Rattle.llb_model.specs.Run.{run}
 use Rattle.llb_model.specs.Order.{Order, at_first, order, claims_in, StandsIn}
 use Rattle.llb_model.specs.Laws.{HasDistinctNeeds, NoShared, RunsInClaimOrder, EachIn, IsChosen, AloneInClaimOrder}
@@ -23,15 +26,9 @@ use Rattle.llb_model.proofs.Tracks.{any, Agrees, agree_settled, Tracks, event_tr
 
 order_after : (b : Build) (o : Order) (r : Reply) (rs : List Reply) → order b o (claims_in (r ∷ rs)) ≡ order b (after_reply b o r rs) (claims_in rs)
 order_after b o (Claimed job) rs = refl
-order_after b o HasRead rs = refl
-order_after b o (Acted a) rs = refl
-order_after b o (HasMerged i) rs = refl
-order_after b o (HasRun c s) rs = refl
-order_after b o (Skipped c) rs = refl
-order_after b o (Faulted f) rs = refl
-order_after b o (SettledDone v) rs = refl
-order_after b o (SettledFailed v) rs = refl
-order_after b o (Cancelled v k) rs = refl
+order_after b o (HasStepped r) rs = refl
+order_after b o (HasSettled r) rs = refl
+order_after b o (HasCancelled r) rs = refl
 
 -- what each event keeps of a state, its claim order and the replies to come, a run keeps
 pub run_follows : (b : Build) (C : State → Event → Type 0) (Q : State → Order → List Reply → Type 0)

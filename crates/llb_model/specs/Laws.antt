@@ -17,7 +17,9 @@ use Rattle.llb_model.specs.declared.fault.VertexFault.TheVariants as fault
 use Rattle.llb_model.specs.Program.{Build, MicroStep, Run, Mounted, Work, Need, key_of, needs_of, has_cache, all_and, runs_of, filled, taken, blanked}
 use Rattle.llb_model.specs.Program.{last_of, is_run, part}
 use Rattle.llb_model.specs.State.{Running, Execution, Runs, State, Opening, opening, program_in, is_finished, IsFree, places_by}
-use Rattle.llb_model.specs.Table.{Event, Claim, Job, Reply, Claimed, worker_of, table}
+use Rattle.llb_model.specs.declared.event.Event.{Event}
+use Rattle.llb_model.specs.declared.event.Event.TheVariants.{Claim}
+use Rattle.llb_model.specs.Table.{Job, Reply, Claimed, worker_of, table}
 use Rattle.llb_model.specs.Run.{run, chosen}
 use Rattle.llb_model.specs.Order.{at_first, order, claims_in, StandsIn}
 use Rattle.llb_model.specs.Landing.{is_over}

@@ -8,10 +8,6 @@ pub mod Caches
 pub mod Program
 pub mod Outcome
 pub mod State
-pub mod ClaimCause
-pub mod StepCause
-pub mod SettleCause
-pub mod CancelCause
 pub mod Table
 pub mod Run
 pub mod Room
@@ -22,3 +18,4 @@ pub mod Laws
 pub mod Kept
 pub mod Leases
 pub mod Landing
+pub mod Faults

@@ -4,7 +4,9 @@ use Rattle.llb_model.specs.Caches.{Instance, Store, content, put_all}
 use Rattle.llb_model.specs.Program.{Build, MicroStep, Program, Work, Left, Start, program_of, needs_of, part, whole}
 use Rattle.llb_model.specs.Outcome.{Ending, ending}
 use Rattle.llb_model.specs.State.{Status, Waiting, Settled, State, ready, IsFree, begin_at, places_by}
-use Rattle.llb_model.specs.Table.{Reply, Claimed, HasRead, Acted, HasMerged, HasRun, Skipped, Faulted, SettledDone, SettledFailed, Cancelled}
+use Rattle.llb_model.specs.declared.event.Settled.TheVariants as ended
+use Rattle.llb_model.specs.Table.{HasStepped, HasSettled, HasCancelled}
+use Rattle.llb_model.specs.Table.{Reply, Claimed}
 
 -- the statuses of vertices, and the contents of the caches, where nothing runs
 pub record Order : Type 0 where
@@ -21,15 +23,10 @@ at_first b store = record { statuses = replicate (length b.graph.vertices) Waiti
 abbrev pub cut_in : ℕ → List Reply → Option ℕ
 cut_in v [] = None
 cut_in v (Claimed job ∷ rs) = cut_in v rs
-cut_in v (HasRead ∷ rs) = cut_in v rs
-cut_in v (Acted a ∷ rs) = cut_in v rs
-cut_in v (HasMerged i ∷ rs) = cut_in v rs
-cut_in v (HasRun c s ∷ rs) = cut_in v rs
-cut_in v (Skipped c ∷ rs) = cut_in v rs
-cut_in v (Faulted f ∷ rs) = cut_in v rs
-cut_in v (SettledDone u ∷ rs) = if u == v then None else cut_in v rs
-cut_in v (SettledFailed u ∷ rs) = if u == v then None else cut_in v rs
-cut_in v (Cancelled u k ∷ rs) = if u == v then Some k else cut_in v rs
+cut_in v (HasStepped r ∷ rs) = cut_in v rs
+cut_in v (HasSettled (ended.Done u) ∷ rs) = if u == v then None else cut_in v rs
+cut_in v (HasSettled (ended.Failed u) ∷ rs) = if u == v then None else cut_in v rs
+cut_in v (HasCancelled r ∷ rs) = if r.vertex == v then Some r.done else cut_in v rs
 
 -- a vertex, with the numbers of the instances that its claim names, and where the claim was cancelled how many micro-steps were done
 pub record Named : Type 0 where
@@ -80,15 +77,9 @@ order b o (c ∷ cs) = order b (after_whole b o c) cs
 abbrev pub claims_in : List Reply → List Named
 claims_in [] = []
 claims_in (Claimed job ∷ rs) = named job.vertex job.instances (cut_in job.vertex rs) ∷ claims_in rs
-claims_in (HasRead ∷ rs) = claims_in rs
-claims_in (Acted a ∷ rs) = claims_in rs
-claims_in (HasMerged i ∷ rs) = claims_in rs
-claims_in (HasRun c s ∷ rs) = claims_in rs
-claims_in (Skipped c ∷ rs) = claims_in rs
-claims_in (Faulted f ∷ rs) = claims_in rs
-claims_in (SettledDone v ∷ rs) = claims_in rs
-claims_in (SettledFailed v ∷ rs) = claims_in rs
-claims_in (Cancelled v k ∷ rs) = claims_in rs
+claims_in (HasStepped r ∷ rs) = claims_in rs
+claims_in (HasSettled r ∷ rs) = claims_in rs
+claims_in (HasCancelled r ∷ rs) = claims_in rs
 
 -- settled vertices and free instances are those of an order
 pub record StandsIn (s : State) (o : Order) : Type 0 where

@@ -3,8 +3,10 @@ use Rattle.std.specs.Prelude.{ℕ, zero, suc, ◌+◌, ◌-◌, ◌*◌, ◌==�
 use Rattle.llb_loader.specs.declared.graph.Vertex.{Vertex}
 use Rattle.llb_model.specs.Program.{Build, program_of}
 use Rattle.llb_model.specs.State.{Status, Waiting, Running, Settled, WorkerStatus, Idle, Runs, State, program_in}
-use Rattle.llb_model.specs.Table.{Event, Claim, Step, Settle, Cancel, Reply, Claimed, HasRead, Acted, HasMerged, HasRun}
-use Rattle.llb_model.specs.Table.{Skipped, Faulted, SettledDone, SettledFailed, Cancelled}
+use Rattle.llb_model.specs.declared.event.Event.{Event}
+use Rattle.llb_model.specs.declared.event.Event.TheVariants.{Claim, Step, Settle, Cancel}
+use Rattle.llb_model.specs.Table.{HasStepped, HasSettled, HasCancelled}
+use Rattle.llb_model.specs.Table.{Reply, Claimed}
 
 -- the most events that a vertex can take: its claim, its micro-steps, its settle
 abbrev pub events_of : Vertex → ℕ
@@ -13,15 +15,9 @@ events_of v = length (program_of v).steps + 2
 -- whether a reply is that of a cancel of vertex v
 abbrev pub is_cancel_of : ℕ → Reply → Bool
 is_cancel_of v (Claimed job) = false
-is_cancel_of v HasRead = false
-is_cancel_of v (Acted a) = false
-is_cancel_of v (HasMerged i) = false
-is_cancel_of v (HasRun c s) = false
-is_cancel_of v (Skipped c) = false
-is_cancel_of v (Faulted f) = false
-is_cancel_of v (SettledDone u) = false
-is_cancel_of v (SettledFailed u) = false
-is_cancel_of v (Cancelled u k) = u == v
+is_cancel_of v (HasStepped r) = false
+is_cancel_of v (HasSettled r) = false
+is_cancel_of v (HasCancelled r) = r.vertex == v
 
 -- how often a vertex was cancelled
 abbrev pub cancels_in : ℕ → List Reply → ℕ

@@ -3,6 +3,13 @@ use Rattle.std.specs.Prelude.{ℕ, ◌+◌, List, map, Option, Some, None, slice
 use Rattle.std.specs.Result.{result_ok}
 use Rattle.llb_cache.specs.declared.key.Key.{Key}
 use Rattle.llb_loader.specs.declared.graph.Vertex.{Vertex}
+use Rattle.llb_model.specs.declared.event.Event.{Event}
+use Rattle.llb_model.specs.declared.event.Event.TheVariants.{Claim, Step, Settle, Cancel}
+use Rattle.llb_model.specs.declared.event.Stepped as of_step
+use Rattle.llb_model.specs.declared.event.Stepped.TheVariants as did
+use Rattle.llb_model.specs.declared.event.Settled as of_settle
+use Rattle.llb_model.specs.declared.event.Settled.TheVariants as ended
+use Rattle.llb_model.specs.declared.event.Cancelled as of_cancel
 use Rattle.llb_model.specs.declared.fault.VertexFault.{VertexFault}
 use Rattle.llb_model.specs.Caches.{Instance, put_all}
 use Rattle.llb_model.specs.Program.{Build, MicroStep, ReadLocal, Act, LayInput, Run, Program, Workspace, Work, Left, Start, program_of, needs_of, step_on}
@@ -10,17 +17,14 @@ use Rattle.llb_model.specs.Program.{last_of, is_run}
 use Rattle.llb_model.specs.Outcome.{Ending, Done, Failed}
 use Rattle.llb_model.specs.State.{Status, Waiting, Running, Settled, Execution, WorkerStatus, Idle, Runs, State, start_from, program_in, work_of, is_finished}
 use Rattle.llb_model.specs.State.{next_step, ending_from, held, places_for, held_key, begin_at}
-use Rattle.llb_model.specs.ClaimCause as claim
-use Rattle.llb_model.specs.StepCause as step
-use Rattle.llb_model.specs.SettleCause as settle
-use Rattle.llb_model.specs.CancelCause as cancel
-
--- an event: worker w claims vertex v, does the next micro-step of what it runs, settles it, or cancels it
-pub data Event : Type 0 where
-  Claim : ℕ → ℕ → Event
-  Step : ℕ → Event
-  Settle : ℕ → Event
-  Cancel : ℕ → Event
+use Rattle.llb_model.specs.declared.refusal.ClaimFault.{ClaimFault}
+use Rattle.llb_model.specs.declared.refusal.ClaimFault.TheVariants as claim
+use Rattle.llb_model.specs.declared.refusal.StepFault.{StepFault}
+use Rattle.llb_model.specs.declared.refusal.StepFault.TheVariants as step
+use Rattle.llb_model.specs.declared.refusal.SettleFault.{SettleFault}
+use Rattle.llb_model.specs.declared.refusal.SettleFault.TheVariants as settle
+use Rattle.llb_model.specs.declared.refusal.CancelFault.{CancelFault}
+use Rattle.llb_model.specs.declared.refusal.CancelFault.TheVariants as cancel
 
 -- the worker of an event
 abbrev pub worker_of : Event → ℕ
@@ -39,29 +43,22 @@ pub record Job : Type 0 where
   pub work : Work
   pub instances : List ℕ
 
--- the reply to an event. `Acted`, `HasMerged`, `HasRun` and `Skipped` have the number of the micro-step, and `HasRun` also the status; `Cancelled` has the
--- vertex and how many micro-steps were done
+-- the reply to an event
 pub data Reply : Type 0 where
   Claimed : Job → Reply
-  HasRead : Reply
-  Acted : ℕ → Reply
-  HasMerged : ℕ → Reply
-  HasRun : ℕ → ℕ → Reply
-  Skipped : ℕ → Reply
-  Faulted : VertexFault → Reply
-  SettledDone : ℕ → Reply
-  SettledFailed : ℕ → Reply
-  Cancelled : ℕ → ℕ → Reply
+  HasStepped : of_step.Stepped → Reply
+  HasSettled : of_settle.Settled → Reply
+  HasCancelled : of_cancel.Cancelled → Reply
 
 -- ---- a claim
 
 -- a value, or the refusal that the vertex is not Ready
-abbrev pub or_not_ready : {A : Type 0} → Option A → Result A claim.ClaimCause
+abbrev pub or_not_ready : {A : Type 0} → Option A → Result A ClaimFault
 or_not_ready (Some x) = Ok x
 or_not_ready None = Err claim.NotReady
 
 -- what a claim begins with: worker w is idle and vertex v is Ready; or the first cause why it is refused
-abbrev pub claim_start : List Status → ℕ → Option WorkerStatus → Option Vertex → Result Start claim.ClaimCause
+abbrev pub claim_start : List Status → ℕ → Option WorkerStatus → Option Vertex → Result Start ClaimFault
 claim_start statuses v None vertex = Err claim.NoWorker
 claim_start statuses v (Some (Runs x)) vertex = Err claim.Busy
 claim_start statuses v (Some Idle) None = Err claim.NoVertex
@@ -93,17 +90,17 @@ abbrev pub claim_at : Build → State → ℕ → ℕ → Start → List Instanc
 claim_at b s w v start ps = claim_with s w v start.vertex (begin_at b s.store start ps) ps
 
 -- a claim, given the first locked key among the needs that is held; it is refused if there is one
-abbrev pub claim_unless : Build → State → ℕ → ℕ → Start → Option Key → Result (State × Reply) claim.ClaimCause
+abbrev pub claim_unless : Build → State → ℕ → ℕ → Start → Option Key → Result (State × Reply) ClaimFault
 claim_unless b s w v start (Some k) = Err (claim.Held k)
 claim_unless b s w v start None = Ok (claim_at b s w v start (places_for (held s.workers) (needs_of start.vertex)))
 
 -- a claim, given what it begins with or why it can't begin
-abbrev pub claimed : Build → State → ℕ → ℕ → Result Start claim.ClaimCause → Result (State × Reply) claim.ClaimCause
+abbrev pub claimed : Build → State → ℕ → ℕ → Result Start ClaimFault → Result (State × Reply) ClaimFault
 claimed b s w v (Ok start) = claim_unless b s w v start (held_key (held s.workers) (needs_of start.vertex))
 claimed b s w v (Err cause) = Err cause
 
 -- the claim of vertex v by worker w: the state after it and the reply, or why it is refused
-abbrev pub claim_grant : Build → State → ℕ → ℕ → Result (State × Reply) claim.ClaimCause
+abbrev pub claim_grant : Build → State → ℕ → ℕ → Result (State × Reply) ClaimFault
 claim_grant b s w v = claimed b s w v (claim_start s.statuses v (slice_get s.workers w) (slice_get b.graph.vertices v))
 
 -- ---- a step
@@ -112,19 +109,22 @@ claim_grant b s w v = claimed b s w v (claim_start s.statuses v (slice_get s.wor
 abbrev pub with_step : Execution → Left → Execution
 with_step x left = record x { done = x.done + 1; fault = left.fault; own = left.work.own }
 
--- the fault, or else this reply
-abbrev pub unless_failed : Option VertexFault → Reply → Reply
-unless_failed None reply = reply
-unless_failed (Some f) reply = Faulted f
+-- the fault, or else what was done
+abbrev pub unless_failed : Option VertexFault → of_step.Stepped → of_step.Stepped
+unless_failed None done = done
+unless_failed (Some f) done = did.Fault f
 
--- the reply to micro-step k, from the workspace before it and what it left; that to a command that ran has the command's status, even if this is the exec's
--- fault
+-- what micro-step k did, from the workspace before it and what it left; of a command that ran it has the command's status, even if this is the exec's fault
+abbrev pub step_done : ℕ → MicroStep → Workspace → Left → of_step.Stepped
+step_done k ReadLocal before left = unless_failed left.fault did.Read
+step_done k (Act action) before left = unless_failed left.fault (did.Acted k)
+step_done k (LayInput i) before left = unless_failed left.fault (did.Merged k)
+step_done k (Run setting command ends) before left =
+    if is_run command.join (last_of before) then did.Ran k (last_of left.work.own) else did.Skipped k
+
+-- the reply to micro-step k
 abbrev pub step_reply : ℕ → MicroStep → Workspace → Left → Reply
-step_reply k ReadLocal before left = unless_failed left.fault HasRead
-step_reply k (Act action) before left = unless_failed left.fault (Acted k)
-step_reply k (LayInput i) before left = unless_failed left.fault (HasMerged k)
-step_reply k (Run setting command ends) before left =
-    if is_run command.join (last_of before) then HasRun k (last_of left.work.own) else Skipped k
+step_reply k m before left = HasStepped (step_done k m before left)
 
 -- the state after a step: the trees that it leaves are in the caches at once, and stay there even if a later micro-step faults
 abbrev pub after_step : State → ℕ → Execution → Left → State
@@ -135,18 +135,18 @@ abbrev pub step_by : State → ℕ → Execution → MicroStep → Left → Stat
 step_by s w x m left = (after_step s w x left, step_reply x.done m x.own left)
 
 -- a step, given the next micro-step; it is refused if nothing is left to do
-abbrev pub step_with : State → ℕ → Execution → Option MicroStep → Result (State × Reply) step.StepCause
+abbrev pub step_with : State → ℕ → Execution → Option MicroStep → Result (State × Reply) StepFault
 step_with s w x None = Err step.NothingLeft
 step_with s w x (Some m) = Ok (step_by s w x m (step_on x.done (Some m) (work_of s x)))
 
 -- a step, given what the worker does: the next micro-step, or why it is refused
-abbrev pub stepped : Build → State → ℕ → Option WorkerStatus → Result (State × Reply) step.StepCause
+abbrev pub stepped : Build → State → ℕ → Option WorkerStatus → Result (State × Reply) StepFault
 stepped b s w None = Err step.NoWorker
 stepped b s w (Some Idle) = Err step.NotRunning
 stepped b s w (Some (Runs x)) = step_with s w x (next_step (program_in b x).steps x)
 
 -- the step of worker w: the state after it and the reply, or why it is refused
-abbrev pub step_grant : Build → State → ℕ → Result (State × Reply) step.StepCause
+abbrev pub step_grant : Build → State → ℕ → Result (State × Reply) StepFault
 step_grant b s w = stepped b s w (slice_get s.workers w)
 
 -- ---- an end
@@ -157,10 +157,14 @@ after_end s w v status = record s { statuses = slice_set s.statuses v status; wo
 
 -- ---- a settle
 
+-- how vertex v was settled
+abbrev pub settle_done : ℕ → Ending → of_settle.Settled
+settle_done v (Done trees) = ended.Done v
+settle_done v (Failed f) = ended.Failed v
+
 -- the reply to a settle of vertex v
 abbrev pub settle_reply : ℕ → Ending → Reply
-settle_reply v (Done trees) = SettledDone v
-settle_reply v (Failed f) = SettledFailed v
+settle_reply v e = HasSettled (settle_done v e)
 
 -- the state after a settle of vertex v
 abbrev pub after_settle : State → ℕ → ℕ → Ending → State
@@ -171,30 +175,34 @@ abbrev pub settle_with : State → ℕ → ℕ → Ending → State × Reply
 settle_with s w v e = (after_settle s w v e, settle_reply v e)
 
 -- a settle, given what the worker does: it must run something that is finished
-abbrev pub settled : Build → State → ℕ → Option WorkerStatus → Result (State × Reply) settle.SettleCause
+abbrev pub settled : Build → State → ℕ → Option WorkerStatus → Result (State × Reply) SettleFault
 settled b s w None = Err settle.NoWorker
 settled b s w (Some Idle) = Err settle.NotRunning
 settled b s w (Some (Runs x)) =
     if is_finished (program_in b x).steps x then Ok (settle_with s w x.vertex (ending_from (program_in b x) x)) else Err settle.NotFinished
 
 -- the settle of worker w: the state after it and the reply, or why it is refused
-abbrev pub settle_grant : Build → State → ℕ → Result (State × Reply) settle.SettleCause
+abbrev pub settle_grant : Build → State → ℕ → Result (State × Reply) SettleFault
 settle_grant b s w = settled b s w (slice_get s.workers w)
 
 -- ---- a cancel
 
+-- the reply to a cancel of vertex v of which k micro-steps were done
+abbrev pub cancel_reply : ℕ → ℕ → Reply
+cancel_reply v k = HasCancelled (record { vertex = v; done = k })
+
 -- the state after a cancel, and its reply: the vertex waits again, and the caches keep what the micro-steps have written
 abbrev pub cancel_with : State → ℕ → ℕ → ℕ → State × Reply
-cancel_with s w v k = (after_end s w v Waiting, Cancelled v k)
+cancel_with s w v k = (after_end s w v Waiting, cancel_reply v k)
 
 -- a cancel, given what the worker does: it gives up what it runs, finished or not
-abbrev pub cancelled : State → ℕ → Option WorkerStatus → Result (State × Reply) cancel.CancelCause
+abbrev pub cancelled : State → ℕ → Option WorkerStatus → Result (State × Reply) CancelFault
 cancelled s w None = Err cancel.NoWorker
 cancelled s w (Some Idle) = Err cancel.NotRunning
 cancelled s w (Some (Runs x)) = Ok (cancel_with s w x.vertex x.done)
 
 -- the cancel of worker w: the state after it and the reply, or why it is refused
-abbrev pub cancel_grant : State → ℕ → Result (State × Reply) cancel.CancelCause
+abbrev pub cancel_grant : State → ℕ → Result (State × Reply) CancelFault
 cancel_grant s w = cancelled s w (slice_get s.workers w)
 
 -- ---- the table

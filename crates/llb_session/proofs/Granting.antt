@@ -4,8 +4,7 @@ use Rattle.std.specs.Prelude.{Result, Ok, Err, Vec}
 use Rattle.std.specs.Global.{Global}
 use Rattle.llb_wire.specs.declared.sink.Failed.{Failed}
 use Rattle.llb_model.specs.Run.{chosen}
-use Rattle.llb_events.specs.Views.{event_of}
-use Rattle.llb_events.specs.declared.event.Event as own
+use Rattle.llb_model.specs.declared.event.Event as own
 use Rattle.llb_stepper.specs.Rules.{ChosenIsDone, stepper_memory}
 use Rattle.llb_stepper.specs.declared.fault.StepperFault.{StepperFault}
 use Rattle.llb_stepper.specs.Stepping.{Stepping}
@@ -18,10 +17,10 @@ use Rattle.llb_session.specs.Answers.{IsPerformed, GrantsNext, AnswersAs, Answer
 
 -- `next` prints what the chosen event prints, which is refused only for want of memory
 pub chosen_comes : (s t : Stepping) (e : own.Event) (r : Result (Vec ℕ Global) StepperFault) → ChosenIsDone s
-    → Some (event_of e) ≡ chosen s.board.build s.board.state
+    → Some e ≡ chosen s.board.build s.board.state
     → IsPerformed (ask.Event e) s t r → IsPerformed ask.Next s t r
 chosen_comes s t e (Ok text) law is comes = subst (λ o. GrantsNext o s text.items t) is comes
-chosen_comes s t e (Err fault) law is (same, refused) = (same, λ not. absurd (differ (law (event_of e) fault (sym is) (refused not)) not))
+chosen_comes s t e (Err fault) law is (same, refused) = (same, λ not. absurd (differ (law e fault (sym is) (refused not)) not))
   where
     differ : stepper_memory fault ≡ true → stepper_memory fault ≡ false → ⊥
     differ a b = cc

@@ -5,8 +5,7 @@ use Rattle.llb_wire.specs.declared.sink.Failed.{Failed}
 use Rattle.llb_model.specs.State.{ending_at}
 use Rattle.llb_model.specs.Outcome.{output_in}
 use Rattle.llb_model.specs.Run.{chosen}
-use Rattle.llb_model.specs.Table.{Event}
-use Rattle.llb_events.specs.Views.{event_of}
+use Rattle.llb_model.specs.declared.event.Event.{Event}
 use Rattle.llb_stepper.specs.declared.stop.Stop.{Stop}
 use Rattle.llb_stepper.specs.declared.fault.StepperFault.{StepperFault}
 use Rattle.llb_stepper.specs.declared.fault.StepperFault.TheVariants.{NothingBefore, BadCommand}
@@ -43,7 +42,7 @@ pub record GrantsGo (s : Stepping) (text : List ℕ) (t : Stepping) : Type 0 whe
 abbrev pub Grants : Request → Stepping → List ℕ → Stepping → Type 0
 Grants (ask.Break b) s text t = (t ≡ record s { breaks = s.breaks ++ b ∷ [] }) × (text ≡ [])
 Grants ask.Clear s text t = (t ≡ record s { breaks = [] }) × (text ≡ [])
-Grants (ask.Event e) s text t = GrantsEvent (event_of e) s text t
+Grants (ask.Event e) s text t = GrantsEvent e s text t
 Grants ask.Next s text t = GrantsNext (chosen s.board.build s.board.state) s text t
 Grants ask.Go s text t = GrantsGo s text t
 Grants ask.Back s text t = GoesBack s t × (text ≡ back_line (length t.board.events))
@@ -55,7 +54,7 @@ Grants ask.Quit s text t = (t ≡ s) × (text ≡ [])
 
 -- the fault is one with which the request is refused
 abbrev pub Refuses : Request → Stepping → StepperFault → Type 0
-Refuses (ask.Event e) s fault = done_of s (event_of e) ≡ Err fault
+Refuses (ask.Event e) s fault = done_of s e ≡ Err fault
 Refuses ask.Back s fault = (s.past ≡ []) × (fault ≡ NothingBefore)
 Refuses (ask.Break b) s fault = ⊥
 Refuses ask.Clear s fault = ⊥

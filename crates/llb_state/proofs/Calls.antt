@@ -16,7 +16,6 @@ use Rattle.llb_model.specs.State.{Status, Waiting, Settled, Execution, WorkerSta
 use Rattle.llb_model.specs.State.{start_from, ending_from, held, held_key, places_for}
 use Rattle.llb_model.specs.Kept.{store_of}
 use Rattle.llb_model.specs.Leases.{HoldsAs, asked}
-use Rattle.llb_model.specs.ClaimCause.{ClaimCause}
 use Rattle.llb_model.specs.Table.{or_not_ready, claim_start, claim_unless, claimed, claim_grant}
 use Rattle.llb_model.proofs.Lists.{inside}
 use Rattle.llb_model.proofs.Events.{Answer, ready_is}
@@ -26,11 +25,11 @@ use Rattle.llb_state.specs.Needs.{first_held_key, unless_held, places_taken}
 use Rattle.llb_state.specs.Rules.{Begun, begun_at, begun, Written}
 use Rattle.llb_state.specs.Views.{at_of}
 use Rattle.llb_state.specs.declared.desk.Desk.{Desk}
-use Rattle.llb_events.specs.declared.fault.ClaimFault.{ClaimFault}
-use Rattle.llb_events.specs.declared.fault.ClaimFault.TheVariants as claim
-use Rattle.llb_events.specs.declared.fault.StepFault.{StepFault}
-use Rattle.llb_events.specs.declared.fault.SettleFault.{SettleFault}
-use Rattle.llb_events.specs.declared.fault.SettleFault.TheVariants.{NotFinished}
+use Rattle.llb_model.specs.declared.refusal.ClaimFault.{ClaimFault}
+use Rattle.llb_model.specs.declared.refusal.ClaimFault.TheVariants as claim
+use Rattle.llb_model.specs.declared.refusal.StepFault.{StepFault}
+use Rattle.llb_model.specs.declared.refusal.SettleFault.{SettleFault}
+use Rattle.llb_model.specs.declared.refusal.SettleFault.TheVariants.{NotFinished}
 use Rattle.llb_state.proofs.Wanting.{first_refused_held}
 
 abbrev ok_of : {A E : Type 0} → A → Result A E
@@ -41,7 +40,7 @@ inside_ok e = cc
 
 -- ---- a claim
 
-abbrev pub start_for : Build → State → ℕ → ℕ → Result Start ClaimCause
+abbrev pub start_for : Build → State → ℕ → ℕ → Result Start ClaimFault
 start_for b s w v = claim_start s.statuses v (slice_get s.workers w) (slice_get b.graph.vertices v)
 
 pub record CanClaim (b : Build) (s : State) (w v : ℕ) (x : Vertex) : Type 0 where

@@ -8,7 +8,6 @@ use Rattle.llb_cache.specs.Caches.{CachesValue, Leases, leases, AreApart, AreThe
 use Rattle.llb_loader.specs.declared.graph.Vertex.{Vertex}
 use Rattle.llb_loader.specs.Graph.{IsGraph}
 use Rattle.llb_model.specs.Caches.{Distinct, put_all}
-use Rattle.llb_model.specs.ClaimCause.{ClaimCause}
 use Rattle.llb_model.specs.Kept.{store_of}
 use Rattle.llb_model.specs.Leases.{HoldsAs}
 use Rattle.llb_model.specs.Outcome.{inputs_from}
@@ -20,16 +19,14 @@ use Rattle.llb_model.proofs.Leases.{makes_alike}
 use Rattle.llb_model.proofs.Leasing.{leased_holds_as}
 use Rattle.llb_model.proofs.Lists.{get_set_same}
 use Rattle.llb_model.proofs.Needs.{graph_distinct}
-use Rattle.llb_events.specs.Faults.{GivesClaim, claim_memory, claim_may_want}
-use Rattle.llb_events.specs.declared.fault.ClaimFault.{ClaimFault}
+use Rattle.llb_model.specs.Faults.{GivesClaim, claim_memory, claim_may_want}
+use Rattle.llb_model.specs.declared.refusal.ClaimFault.{ClaimFault}
 use Rattle.llb_state.specs.Needs.{first_held_key, unless_held, places_taken}
 use Rattle.llb_state.specs.Caches.{lease_if, written, places_at, rows_after}
 use Rattle.llb_state.specs.Room.{supplies_of, supplies_for}
-use Rattle.llb_events.specs.Causes.{faulted, claim_fault}
 use Rattle.llb_state.specs.Rules.{Begun, begun, begun_at}
 use Rattle.llb_state.specs.Vertices.{VerticesValue, with_status}
 use Rattle.llb_state.specs.Views.{at_of, leased_by, execution_of}
-use Rattle.llb_events.specs.Views.{claim_reply}
 use Rattle.llb_state.specs.Workers.{WorkersValue, BegunValue, IsBegunAt, IsBegunOn, Fits, state_in, claim_in, reply_of, rule_of}
 use Rattle.llb_state.specs.declared.desk.Desk.{Desk}
 use Rattle.llb_state.specs.declared.desk.Desk.TheVariants as desk
@@ -46,33 +43,33 @@ use Rattle.llb_state.proofs.Worked.{seen_of}
 -- ---- refusals
 
 -- a claim that can't begin is refused for that cause
-pub refused_start : (b : Build) (s : State) (w v : ℕ) (r : Result Start ClaimCause) (e : ClaimFault) → faulted claim_fault r ≡ Err e
-    → reply_of (faulted claim_fault (claimed b s w v r)) ≡ Err e
+pub refused_start : (b : Build) (s : State) (w v : ℕ) (r : Result Start ClaimFault) (e : ClaimFault) → r ≡ Err e
+    → reply_of (claimed b s w v r) ≡ Err e
 refused_start b s w v (Ok start) e is = absurd cc
 refused_start b s w v (Err cause) e is = by_fault is
   where
-    by_fault : ◌≡◌ {A = Result Start ClaimFault} (Err (claim_fault cause)) (Err e) → ◌≡◌ {A = Result Reply ClaimFault} (Err (claim_fault cause)) (Err e)
+    by_fault : ◌≡◌ {A = Result Start ClaimFault} (Err cause) (Err e) → ◌≡◌ {A = Result Reply ClaimFault} (Err cause) (Err e)
     by_fault is = cc
 
 -- a claim of a vertex that needs a key that is held is refused for it
 pub refused_held : (b : Build) (s : State) (w v : ℕ) (x : Vertex) (c : CachesValue) (e : ClaimFault) → CanClaim b s w v x → HoldsAs c.out s.workers
-    → unless_held (needs_of x) (first_held_key c.out (needs_of x)) ≡ Err e → reply_of (faulted claim_fault (claim_grant b s w v)) ≡ Err e
+    → unless_held (needs_of x) (first_held_key c.out (needs_of x)) ≡ Err e → reply_of (claim_grant b s w v) ≡ Err e
 refused_held b s w v x c e can same is =
     let h = held_is_fault (needs_of x) (first_held_key c.out (needs_of x)) e is in
-    ap (λ r. reply_of (faulted claim_fault r)) can.grants
-    ∙ ap (λ o. reply_of (faulted claim_fault (claim_unless b s w v (start_with x can.trees) o)))
+    ap (λ r. reply_of r) can.grants
+    ∙ ap (λ o. reply_of (claim_unless b s w v (start_with x can.trees) o))
     (sym (leased_as_held c s.workers can.trees x same) ∙ h.1)
     ∙ ap (λ f. Err f) (sym h.2)
 
 -- memory may be wanted of a claim where it may be of the look at its keys
 pub wants_as : (b : Build) (s : State) (w v : ℕ) (x : Vertex) (c : CachesValue) → CanClaim b s w v x → HoldsAs c.out s.workers
-    → claim_may_want (faulted claim_fault (claim_grant b s w v)) ≡ claim_may_want (unless_held (needs_of x) (first_held_key c.out (needs_of x)))
+    → claim_may_want (claim_grant b s w v) ≡ claim_may_want (unless_held (needs_of x) (first_held_key c.out (needs_of x)))
 wants_as b s w v x c can same =
-    ap (λ r. claim_may_want (faulted claim_fault r)) can.grants ∙ by_key (held_key (held s.workers) (needs_of x))
+    ap (λ r. claim_may_want r) can.grants ∙ by_key (held_key (held s.workers) (needs_of x))
     ∙ ap (λ o. claim_may_want (unless_held (needs_of x) o)) (sym (leased_as_held c s.workers can.trees x same))
   where
     by_key : (o : Option Key)
-        → claim_may_want (faulted claim_fault (claim_unless b s w v (start_with x can.trees) o))
+        → claim_may_want (claim_unless b s w v (start_with x can.trees) o)
         ≡ claim_may_want (unless_held (needs_of x) o)
     by_key None = refl
     by_key (Some k) = refl
@@ -135,10 +132,10 @@ module _ (vs : VerticesValue) (ws : WorkersValue) (out : Leases) (w v : ℕ) (x 
     Claimed (same_job i),
   )
 
-  pub replies : reply_of (claim_in vs ws w v) ≡ Ok (claim_reply g.job)
+  pub replies : reply_of (claim_in vs ws w v) ≡ Ok (Claimed g.job)
   replies =
-      ap (λ r. reply_of (faulted claim_fault r)) can.grants
-      ∙ ap (λ o. reply_of (faulted claim_fault (claim_unless vs.build (state_in vs ws) w v (start_with x can.trees) o))) free
+      ap (λ r. reply_of r) can.grants
+      ∙ ap (λ o. reply_of (claim_unless vs.build (state_in vs ws) w v (start_with x can.trees) o)) free
       ∙ ap (λ (a : State × Reply). Ok a.1) grants
 
   pub begun_on : g.supplies ≡ supplies_for (Some x) → IsBegunOn vs ws g
@@ -168,7 +165,7 @@ module _ (vs : VerticesValue) (ws : WorkersValue) (out : Leases) (w v : ℕ) (x 
 
   pub begin_gives : (r : Result BegunValue ClaimFault)
       → GivesClaim rule_of r (begun vs.build (record { rows = ws.rows; out = out }) w v x (inputs_from (ending_at vs.statuses) x.inputs))
-      → GivesClaim (λ g. claim_reply g.job) r (reply_of (claim_in vs ws w v))
+      → GivesClaim (λ g. Claimed g.job) r (reply_of (claim_in vs ws w v))
   begin_gives (Ok g) begins = replies vs ws out w v x can leased ns admitted g begins
   begin_gives (Err e) begins = λ known. absurd (begun_ok e (begins known))
 
@@ -253,7 +250,7 @@ module _ (vs : VerticesValue) (ds : List Desk) (c : CachesValue) (w v : ℕ) (g 
 
     -- the table grants the claim, and this is the state after it
     pub start_grants : claim_grant vs.build (state_in vs (seen_of ds c.rows)) w v
-        ≡ Ok (state_in (with_status v (Running w) vs) (seen_of (slice_set ds w (desk.Runs l own)) new.rows), claim_reply g.job)
+        ≡ Ok (state_in (with_status v (Running w) vs) (seen_of (slice_set ds w (desk.Runs l own)) new.rows), Claimed g.job)
     start_grants =
         ap (λ o. claimed vs.build (state_in vs (seen_of ds c.rows)) w v (claim_start vs.statuses v (slice_get (map at_of ds) w) o)) on.there
         ∙ ap (claimed vs.build (state_in vs (seen_of ds c.rows)) w v) on.starts
@@ -261,7 +258,7 @@ module _ (vs : VerticesValue) (ds : List Desk) (c : CachesValue) (w v : ℕ) (g 
         ∙ ap (λ (a : State × Reply). Ok a) on.grants
         ∙ (λ i. Ok (
           record { statuses = slice_set vs.statuses v (Running w); workers = sym workers i; store = sym store i },
-          claim_reply g.job,
+          Claimed g.job,
         ))
 
     -- the instances of the worker are the ones that are written or made

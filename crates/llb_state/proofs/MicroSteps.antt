@@ -9,14 +9,16 @@ use Rattle.llb_loader.specs.Graph.{IsGraph}
 use Rattle.llb_loader.specs.Rules.{kind_mounts}
 use Rattle.llb_loader.specs.declared.graph.Vertex.{Vertex}
 use Rattle.llb_tree.specs.Tree.{TreeMap}
+use Rattle.llb_model.specs.declared.event.Stepped.TheVariants as did
+use Rattle.llb_model.specs.Table.{HasStepped}
 use Rattle.llb_model.specs.Caches.{Instance, Has, Distinct, trees_at}
 use Rattle.llb_model.specs.Kept.{store_of}
 use Rattle.llb_model.specs.Leases.{put_each}
 use Rattle.llb_model.specs.Program.{Build, MicroStep, Left, key_of, mount_of, needs_of, program_of, program_at, step_on}
 use Rattle.llb_model.specs.State.{Execution}
-use Rattle.llb_model.specs.Table.{Reply, Skipped, with_step, step_reply}
+use Rattle.llb_model.specs.Table.{Reply, with_step, step_reply}
 use Rattle.llb_execution.specs.Parts.{work_with, mounts_in, shown_in, is_skipped}
-use Rattle.llb_events.specs.declared.fault.StepFault.{StepFault}
+use Rattle.llb_model.specs.declared.refusal.StepFault.{StepFault}
 use Rattle.llb_events.specs.Causes.{step_memory}
 use Rattle.llb_state.specs.Room.{Supplies, supplies_of, supplies_for, setting_at, needs_at}
 use Rattle.llb_state.specs.Rules.{worked, worked_to, written_by, worked_in}
@@ -47,10 +49,10 @@ module _ (b : Build) (rows : List Row) (x : Execution) (v : Vertex) (m : MicroSt
 
   -- a command that is skipped is counted, and that is all
   pub skipped_to : is_skipped m x.own ≡ true → ((p : Instance) → Has x.places p → p.number < length (trees_of rows p.key))
-      → worked_in b rows x ≡ Ok (record x { done = x.done + 1 }, rows, Skipped x.done)
+      → worked_in b rows x ≡ Ok (record x { done = x.done + 1 }, rows, HasStepped (did.Skipped x.done))
   skipped_to skips within =
       by_vertex ∙ ap (written_by rows x.places) (skip_to (program_of v).steps x held m clean at skips)
-      ∙ ap (λ (rs : List Row). Ok (record x { done = x.done + 1 }, rs, Skipped x.done)) (put_each_same rows x.places within)
+      ∙ ap (λ (rs : List Row). Ok (record x { done = x.done + 1 }, rs, HasStepped (did.Skipped x.done))) (put_each_same rows x.places within)
 
   -- else the execution, the lists of instances and the reply are as what it leaves says
   pub stepped_by : (ts : List TreeMap) (left : Left) (r : Reply) (after : List Row) (ps : List Instance) → ts ≡ held

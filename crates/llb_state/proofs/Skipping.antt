@@ -9,6 +9,8 @@ use Rattle.llb_cache.specs.declared.key.Key.{Key}
 use Rattle.llb_cache.specs.Caches as cache
 use Rattle.llb_cache.specs.Caches.{Row, trees_of}
 use Rattle.llb_tree.specs.Tree.{TreeMap, empty_tree}
+use Rattle.llb_model.specs.declared.event.Stepped.TheVariants as did
+use Rattle.llb_model.specs.Table.{HasStepped}
 use Rattle.llb_model.specs.declared.fault.VertexFault.{VertexFault}
 use Rattle.llb_model.specs.Caches.{Instance, Has, content, trees_at}
 use Rattle.llb_model.specs.Kept.{store_of}
@@ -21,7 +23,6 @@ use Rattle.llb_model.proofs.Lists.{get_within}
 use Rattle.llb_execution.specs.Parts.{left_with, is_skipped}
 use Rattle.llb_execution.proofs.Stepping.{skip_leaves}
 use Rattle.llb_state.specs.Rules.{Worked, worked, worked_to}
-use Rattle.llb_events.specs.Views.{step_reply}
 use Rattle.llb_state.proofs.Lists.{set_same}
 use Rattle.llb_state.proofs.Steps.{goes_to}
 
@@ -66,19 +67,19 @@ not_true true e = absurd (false≢true e)
 not_true false e = refl
 
 -- what is skipped says so
-pub skip_reply : (k : ℕ) (m : MicroStep) (before : Workspace) (left : Left) → is_skipped m before ≡ true → table.Skipped k ≡ table.step_reply k m before left
+pub skip_reply : (k : ℕ) (m : MicroStep) (before : Workspace) (left : Left) → is_skipped m before ≡ true → HasStepped (did.Skipped k) ≡ table.step_reply k m before left
 skip_reply k ReadLocal before left skips = absurd (false≢true skips)
 skip_reply k (Act action) before left skips = absurd (false≢true skips)
 skip_reply k (LayInput i) before left skips = absurd (false≢true skips)
 skip_reply k (Run s c ends) before left skips =
-    sym (ap (λ b. cond b (table.HasRun k (last_of left.work.own)) (table.Skipped k)) (not_true (is_run c.join (last_of before)) skips))
+    sym (ap (λ b. HasStepped (cond b (did.Ran k (last_of left.work.own)) (did.Skipped k))) (not_true (is_run c.join (last_of before)) skips))
 
 -- ---- the execution
 
 -- a command that is skipped is counted, and that is all
 pub skip_to : (steps : List MicroStep) (x : Execution) (trees : List TreeMap) (m : MicroStep) → x.fault ≡ None → slice_get steps x.done ≡ Some m
     → is_skipped m x.own ≡ true
-    → worked steps x trees ≡ Ok (record { execution = record x { done = x.done + 1 }; trees = trees; reply = table.Skipped x.done })
+    → worked steps x trees ≡ Ok (record { execution = record x { done = x.done + 1 }; trees = trees; reply = HasStepped (did.Skipped x.done) })
 skip_to steps x trees m clean at skips =
     goes_to steps x trees m clean at
     ∙ ap (λ (left : Left). Ok (worked_to x m left)) (sym (skip_leaves x.done m x.own trees skips))

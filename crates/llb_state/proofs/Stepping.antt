@@ -23,8 +23,8 @@ use Rattle.llb_state.specs.Caches.{written, places_at, leased_places}
 use Rattle.llb_events.specs.Causes.{step_memory, GivesStep}
 use Rattle.llb_state.specs.Rules.{Written, worked_by, written_by, worked_in}
 use Rattle.llb_state.specs.Views.{at_of, leased_by, execution_of}
-use Rattle.llb_events.specs.declared.event.Stepped.{Stepped}
-use Rattle.llb_events.specs.declared.fault.StepFault.{StepFault}
+use Rattle.llb_model.specs.declared.event.Stepped.{Stepped}
+use Rattle.llb_model.specs.declared.refusal.StepFault.{StepFault}
 use Rattle.llb_state.specs.declared.desk.Desk.{Desk}
 use Rattle.llb_state.specs.declared.desk.Desk.TheVariants as desk
 use Rattle.llb_state.specs.declared.desk.Execution as own

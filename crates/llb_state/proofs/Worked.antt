@@ -3,6 +3,7 @@ use Rattle.std.proofs.Common.{◌≡◌, ℕ, ◌<◌, List, map, length, Option
 use Rattle.std.specs.Prelude.{Result, Ok, Err, OnOk, is_ok, slice_get, slice_set}
 use Rattle.llb_wire.specs.Answer.{MemoryLast}
 use Rattle.llb_cache.specs.Caches.{Row, Leases, trees_of, AreApart, AreThere}
+use Rattle.llb_model.specs.Table.{HasStepped}
 use Rattle.llb_model.specs.Caches.{Instance, Has, trees_at}
 use Rattle.llb_model.specs.Kept.{store_of}
 use Rattle.llb_model.specs.Leases.{put_each}
@@ -11,14 +12,13 @@ use Rattle.llb_model.specs.State.{Status, Execution, WorkerStatus, Runs, State, 
 use Rattle.llb_model.specs.Table.{Reply, step_grant, stepped, step_with, with_step, step_reply}
 use Rattle.llb_model.proofs.Leases.{writes_alike}
 use Rattle.llb_execution.specs.Parts.{work_with}
-use Rattle.llb_events.specs.declared.event.Stepped.{Stepped}
-use Rattle.llb_events.specs.declared.fault.StepFault.{StepFault}
+use Rattle.llb_model.specs.declared.event.Stepped.{Stepped}
+use Rattle.llb_model.specs.declared.refusal.StepFault.{StepFault}
 use Rattle.llb_state.specs.Caches.{written, rows_after}
 use Rattle.llb_state.specs.Room.{ready_made, supplies_of, supplies_for}
-use Rattle.llb_events.specs.Causes.{faulted, step_fault, step_memory, GivesStep}
+use Rattle.llb_events.specs.Causes.{step_memory, GivesStep}
 use Rattle.llb_state.specs.Rules.{Written, worked_by, written_by, worked_in}
 use Rattle.llb_state.specs.Vertices.{VerticesValue}
-use Rattle.llb_events.specs.Views as views
 use Rattle.llb_state.specs.Views.{at_of, execution_of}
 use Rattle.llb_state.specs.Workers.{WorkersValue, Fits, state_in, step_in}
 use Rattle.llb_state.specs.declared.desk.Desk.{Desk}
@@ -44,13 +44,13 @@ granted_in S ws w (Err e) = Err e
 -- the table's step is a micro-step over the lists of instances, where those of the worker are there
 pub stepped_in : (b : Build) (S : List Status) (ws : List WorkerStatus) (rows : List Row) (w : ℕ) (x : Execution)
     → slice_get ws w ≡ Some (Runs x) → ((p : Instance) → Has x.places p → p.number < length (trees_of rows p.key))
-    → faulted step_fault (step_grant b (record { statuses = S; workers = ws; store = store_of rows }) w) ≡ granted_in S ws w (worked_in b rows x)
+    → (step_grant b (record { statuses = S; workers = ws; store = store_of rows }) w) ≡ granted_in S ws w (worked_in b rows x)
 stepped_in b S ws rows w x there within =
-    ap (λ o. faulted step_fault (stepped b (record { statuses = S; workers = ws; store = store_of rows }) w o)) there
+    ap (λ o. (stepped b (record { statuses = S; workers = ws; store = store_of rows }) w o)) there
     ∙ by_next (next_step (program_in b x).steps x)
   where
     by_next : (o : Option MicroStep)
-        → faulted step_fault (step_with (record { statuses = S; workers = ws; store = store_of rows }) w x o)
+        → (step_with (record { statuses = S; workers = ws; store = store_of rows }) w x o)
         ≡ granted_in S ws w (written_by rows x.places (worked_by x (trees_at (store_of rows) x.places) o))
     by_next None = refl
     by_next (Some m) =
@@ -94,13 +94,13 @@ module _ (vs : VerticesValue) (ds : List Desk) (rows : List Row) (out : Leases) 
 
   -- after it the worker's seat is set, and the rows are these
   pub step_gives : (r : Result Stepped StepFault) (y : own.Execution) (after : List Row)
-      → GivesStep (λ s. (execution_of y, after, views.step_reply s)) r (worked_in vs.build rows (execution_of x))
-      → GivesStep (λ s. (state_in vs (seen_of (slice_set ds w (desk.Runs l y)) after), views.step_reply s)) r (step_in vs (seen_of ds rows) w)
+      → GivesStep (λ s. (execution_of y, after, HasStepped s)) r (worked_in vs.build rows (execution_of x))
+      → GivesStep (λ s. (state_in vs (seen_of (slice_set ds w (desk.Runs l y)) after), HasStepped s)) r (step_in vs (seen_of ds rows) w)
   step_gives r y after gives =
-      subst (λ (ws : List WorkerStatus). GivesStep (λ s. (record { statuses = vs.statuses; workers = ws; store = store_of after }, views.step_reply s)) r
+      subst (λ (ws : List WorkerStatus). GivesStep (λ s. (record { statuses = vs.statuses; workers = ws; store = store_of after }, HasStepped s)) r
       (step_in vs (seen_of ds rows) w))
       (sym (map_set at_of ds w (desk.Runs l y)))
-      (gives_by vs.statuses (map at_of ds) w r (λ s. (execution_of y, after, views.step_reply s)) (worked_in vs.build rows (execution_of x))
+      (gives_by vs.statuses (map at_of ds) w r (λ s. (execution_of y, after, HasStepped s)) (worked_in vs.build rows (execution_of x))
       (step_in vs (seen_of ds rows) w) whole gives)
 
   pub step_last : (r : Result Stepped StepFault) → MemoryLast step_memory r (worked_in vs.build rows (execution_of x))
@@ -109,13 +109,13 @@ module _ (vs : VerticesValue) (ds : List Desk) (rows : List Row) (out : Leases) 
       last_by vs.statuses (map at_of ds) w r (worked_in vs.build rows (execution_of x)) (step_in vs (seen_of ds rows) w) whole last
 
   pub step_rows : (r : Result Stepped StepFault) (y : own.Execution) (after : List Row)
-      → GivesStep (λ s. (execution_of y, after, views.step_reply s)) r (worked_in vs.build rows (execution_of x))
+      → GivesStep (λ s. (execution_of y, after, HasStepped s)) r (worked_in vs.build rows (execution_of x))
       → OnOk r (after ≡ rows_after rows (state_in vs (seen_of (slice_set ds w (desk.Runs l y)) after)) w)
   step_rows r y after gives =
       ok_through _ _ r
       (λ (is : after ≡ written (store_of after) rows y.places.items). is
       ∙ ap (written (store_of after) rows) (sym (places_set ds w (desk.Runs l x) l y at)))
-      (rows_through vs.build rows after (execution_of x) (execution_of y) r views.step_reply
+      (rows_through vs.build rows after (execution_of x) (execution_of y) r HasStepped
       (holding rows out ds w l x apart there crew.leased at).distinct within gives)
 
   pub step_crew : (y : own.Execution) (new : Leases) → new ≡ out → y.places ≡ x.places → Crew (slice_set ds w (desk.Runs l y)) new
@@ -134,11 +134,11 @@ module _ (vs : VerticesValue) (ds : List Desk) (rows : List Row) (out : Leases) 
       sym (ap (λ (p : Written). p.0.vertex) whole)
 
   pub step_fits : (r : Result Stepped StepFault) (y : own.Execution) (after : List Row) → supplies_of y ≡ supplies_of x
-      → GivesStep (λ s. (execution_of y, after, views.step_reply s)) r (worked_in vs.build rows (execution_of x))
+      → GivesStep (λ s. (execution_of y, after, HasStepped s)) r (worked_in vs.build rows (execution_of x))
       → Fits vs.build (seen_of ds rows) → OnOk r (Fits vs.build (seen_of (slice_set ds w (desk.Runs l y)) after))
   step_fits (Ok s) y after same gives fits =
       supplies_claimed vs.build ds w l y fits
       (same ∙ made_enough vs.build ds w l x fits at
       ∙ ap (λ k. supplies_for (slice_get vs.build.graph.vertices k))
-      (sym (vertex_stays y after (views.step_reply s) (next_step (program_in vs.build (execution_of x)).steps (execution_of x)) gives)))
+      (sym (vertex_stays y after (HasStepped s) (next_step (program_in vs.build (execution_of x)).steps (execution_of x)) gives)))
   step_fits (Err e) y after same gives fits = tt

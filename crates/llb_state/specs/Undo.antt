@@ -12,12 +12,14 @@ use Rattle.llb_model.specs.Leases.{put_each}
 use Rattle.llb_model.specs.Program.{key_of}
 use Rattle.llb_model.specs.State.{State, Status, Waiting, Running, Execution, WorkerStatus, Idle, Runs, held, places_for}
 use Rattle.llb_model.specs.Table as table
-use Rattle.llb_events.specs.declared.fault.WalkFault.{WalkFault}
-use Rattle.llb_events.specs.declared.fault.WalkFault.TheVariants as walk
-use Rattle.llb_events.specs.declared.fault.SettleFault.TheVariants as no_settle
-use Rattle.llb_events.specs.declared.fault.CancelFault.TheVariants as no_cancel
+use Rattle.llb_model.specs.declared.event.Event as own_event
+use Rattle.llb_model.specs.declared.event.Event.TheVariants as event
+use Rattle.llb_model.specs.declared.refusal.WalkFault.{WalkFault}
+use Rattle.llb_model.specs.declared.refusal.WalkFault.TheVariants as walk
+use Rattle.llb_model.specs.declared.refusal.SettleFault.TheVariants as no_settle
+use Rattle.llb_model.specs.declared.refusal.CancelFault.TheVariants as no_cancel
 use Rattle.llb_state.specs.Room.{Supplies, supplies_for, mounts_at, needs_at}
-use Rattle.llb_events.specs.Causes.{faulted, settle_fault, cancel_fault}
+use Rattle.llb_events.specs.Causes.{faulted}
 use Rattle.llb_state.specs.Caches.{places_at, lent_of}
 use Rattle.llb_state.specs.Undoing.{Left, left_in}
 use Rattle.llb_state.specs.Vertices.{VerticesValue, status_of}
@@ -31,11 +33,11 @@ use Rattle.llb_state.specs.declared.workers.undoing.End.TheVariants as end
 -- ---- the result of an event
 
 -- the table's answer to an event on this state, its refusals as those of a walk
-abbrev pub walk_in : VerticesValue → WorkersValue → table.Event → Result (State × table.Reply) WalkFault
-walk_in vs ws (table.Claim w v) = faulted walk.Claim (claim_in vs ws w v)
-walk_in vs ws (table.Step w) = faulted walk.Step (step_in vs ws w)
-walk_in vs ws (table.Settle w) = faulted walk.Settle (faulted settle_fault (table.settle_grant vs.build (state_in vs ws) w))
-walk_in vs ws (table.Cancel w) = faulted walk.Cancel (faulted cancel_fault (table.cancel_grant (state_in vs ws) w))
+abbrev pub walk_in : VerticesValue → WorkersValue → own_event.Event → Result (State × table.Reply) WalkFault
+walk_in vs ws (event.Claim w v) = faulted walk.Claim (claim_in vs ws w v)
+walk_in vs ws (event.Step w) = faulted walk.Step (step_in vs ws w)
+walk_in vs ws (event.Settle w) = faulted walk.Settle (table.settle_grant vs.build (state_in vs ws) w)
+walk_in vs ws (event.Cancel w) = faulted walk.Cancel (table.cancel_grant (state_in vs ws) w)
 
 -- whether a refusal of a walk is that of memory
 abbrev pub walk_memory : WalkFault → Bool
@@ -46,9 +48,9 @@ walk_memory (walk.Settle e) = false
 walk_memory (walk.Cancel e) = false
 
 -- the event by which a worker leaves what it runs, and its faults if the worker is not there or is idle
-abbrev pub end_of : End → ℕ → table.Event
-end_of end.Settle w = table.Settle w
-end_of end.Cancel w = table.Cancel w
+abbrev pub end_of : End → ℕ → own_event.Event
+end_of end.Settle w = event.Settle w
+end_of end.Cancel w = event.Cancel w
 
 -- the refusal of an end by a worker that is not there
 abbrev pub no_worker : End → WalkFault
@@ -184,8 +186,8 @@ pub record MarksEnd (vs : VerticesValue) (ws : WorkersValue) (e : End) (w : ℕ)
   pub keys : map (λ (p : Instance). p.key) left.execution.places ≡ left.supplies.keys
 
 -- what is kept before an event has what the event can displace
-abbrev pub MarksIn : VerticesValue → WorkersValue → table.Event → Displaced → Type 0
-MarksIn vs ws (table.Claim w v) u = MarksClaim vs ws w v u
-MarksIn vs ws (table.Step w) u = MarksStep vs ws w u
-MarksIn vs ws (table.Settle w) u = MarksEnd vs ws end.Settle w u
-MarksIn vs ws (table.Cancel w) u = MarksEnd vs ws end.Cancel w u
+abbrev pub MarksIn : VerticesValue → WorkersValue → own_event.Event → Displaced → Type 0
+MarksIn vs ws (event.Claim w v) u = MarksClaim vs ws w v u
+MarksIn vs ws (event.Step w) u = MarksStep vs ws w u
+MarksIn vs ws (event.Settle w) u = MarksEnd vs ws end.Settle w u
+MarksIn vs ws (event.Cancel w) u = MarksEnd vs ws end.Cancel w u

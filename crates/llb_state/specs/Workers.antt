@@ -10,12 +10,11 @@ use Rattle.llb_model.specs.Leases.{AreLeased, asked}
 use Rattle.llb_model.specs.Program.{Build, needs_of, start_with}
 use Rattle.llb_model.specs.State.{State, Running, Execution, WorkerStatus, Idle, Runs, held, held_key, places_for}
 use Rattle.llb_model.specs.Table.{Job, Reply, Claimed, claim_start, claim_at, claim_grant, step_grant}
-use Rattle.llb_events.specs.declared.fault.ClaimFault.{ClaimFault}
-use Rattle.llb_events.specs.declared.fault.StepFault.{StepFault}
+use Rattle.llb_model.specs.declared.refusal.ClaimFault.{ClaimFault}
+use Rattle.llb_model.specs.declared.refusal.StepFault.{StepFault}
 use Rattle.llb_state.specs.Jobs.{IsRunOf}
 use Rattle.llb_execution.specs.Jobs.{OutcomeValue}
 use Rattle.llb_state.specs.Room.{Supplies, supplies_for, needed}
-use Rattle.llb_events.specs.Causes.{faulted, claim_fault, step_fault}
 use Rattle.llb_state.specs.Rules.{Begun}
 use Rattle.llb_state.specs.Vertices.{VerticesValue}
 
@@ -41,11 +40,11 @@ state_in vs ws = record { statuses = vs.statuses; workers = ws.workers; store = 
 
 -- what the table gives for a claim and a step, with the cause as a fault
 abbrev pub claim_in : VerticesValue → WorkersValue → ℕ → ℕ → Result (State × Reply) ClaimFault
-claim_in vs ws w v = faulted claim_fault (claim_grant vs.build (state_in vs ws) w v)
+claim_in vs ws w v = (claim_grant vs.build (state_in vs ws) w v)
 
 -- the table's answer to a step of worker w on this state
 abbrev pub step_in : VerticesValue → WorkersValue → ℕ → Result (State × Reply) StepFault
-step_in vs ws w = faulted step_fault (step_grant vs.build (state_in vs ws) w)
+step_in vs ws w = (step_grant vs.build (state_in vs ws) w)
 
 -- the reply alone
 abbrev pub reply_of : {S E : Type 0} → Result (S × Reply) E → Result Reply E

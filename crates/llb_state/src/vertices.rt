@@ -3,7 +3,7 @@
 
 ghost use Rattle.std.specs.Prelude.{◌≡◌, ◌<◌, ◌^◌, ◌||◌, IfOk, IfErr, length, option_map, replicate, slice_get, false, is_ok, true, Some, Err};
 ghost use Rattle.std.specs.Prelude.{MatchResult, map, ℕ, ◌+◌, All, get_or};
-ghost use Rattle.llb_events.specs.Faults.{GivesClaim};
+ghost use Rattle.llb_model.specs.Faults.{GivesClaim};
 ghost use Rattle.llb_loader.specs.Graph.{IsGraph, IsVertexOf};
 ghost use Rattle.llb_links.specs.Links.{IsLinked, users_at, users_of};
 ghost use Rattle.llb_model.specs.Outcome.{inputs_from, output_in};
@@ -11,7 +11,6 @@ ghost use Rattle.llb_model.specs.Program.{program_at, program_of};
 ghost use Rattle.llb_model.specs.Run.{least, each, is_settled};
 ghost use Rattle.llb_model.specs.State.{Idle, ending_at, is_blocked, is_ready};
 ghost use Rattle.llb_model.specs.Table.{claim_start};
-ghost use Rattle.llb_events.specs.Causes.{faulted, claim_fault};
 ghost use Rattle.llb_state.specs.Rules.{or_not_ready};
 ghost use Rattle.llb_events.specs.Views.{look, look_in};
 ghost use Rattle.llb_state.specs.Vertices.{all_waiting, with_status, status_of, AreCounted, IsWhole};
@@ -233,7 +232,7 @@ impl Vertices {
         ensures graph { IfOk result (λ _. IsGraph self.now.build.graph) }
         ensures first { MatchResult result
             (λ _. is_ok (claim_start self.now.statuses v (Some Idle) (slice_get self.now.build.graph.vertices v)) ≡ true)
-            (λ e. faulted claim_fault (claim_start self.now.statuses v (Some Idle) (slice_get self.now.build.graph.vertices v)) ≡ Err e) }
+            (λ e. claim_start self.now.statuses v (Some Idle) (slice_get self.now.build.graph.vertices v) ≡ Err e) }
     {
         let Some(vertex) = self.build.vertex(v) else {
             return Err(ClaimFault::NoVertex);

@@ -6,16 +6,15 @@ use Rattle.std.specs.List.{list_any}
 use Rattle.llb_model.specs.Run.{chosen}
 use Rattle.llb_model.specs.Room.{still_to_come}
 use Rattle.llb_model.specs.State.{State}
-use Rattle.llb_model.specs.Table.{Event, Reply, table}
+use Rattle.llb_model.specs.declared.event.Event.{Event}
+use Rattle.llb_model.specs.Table.{Reply, table}
 use Rattle.llb_model.proofs.Alone.{chosen_comes_nearer}
 use Rattle.llb_board.specs.Seen.{BoardValue, after_event}
 use Rattle.llb_stepper.specs.declared.stop.Break.{Break}
 use Rattle.llb_stepper.specs.declared.stop.Stop.{Stop}
-use Rattle.std.proofs.lemmas.Option.{slice_get-get_or, slice_get-map}
 use Rattle.llb_board.specs.Undo.{walk_of}
-use Rattle.llb_events.specs.Views.{event_of}
-use Rattle.llb_events.specs.declared.event.Event as own
-use Rattle.llb_events.specs.declared.fault.WalkFault.{WalkFault}
+use Rattle.llb_model.specs.declared.event.Event as own
+use Rattle.llb_model.specs.declared.refusal.WalkFault.{WalkFault}
 use Rattle.llb_board.specs.declared.walk.Reply as short
 use Rattle.llb_stepper.specs.declared.fault.StepperFault.{StepperFault}
 use Rattle.llb_stepper.specs.declared.fault.StepperFault.TheVariants as fault
@@ -310,10 +309,6 @@ refused_at s t es i e f kept at refused = record {
         by_walk (Ok a) (Err b) same is = absurd cc
         by_walk (Err a) (Ok b) same is = absurd cc
         by_walk (Err a) (Err b) same is = let faults : a ≡ b = cc in ap (λ g. Err (fault.Board g)) faults ∙ is
-
--- the event at a place of a list
-pub event_at : (es : List own.Event) (i : ℕ) (d : own.Event) → i < length es → slice_get (map event_of es) i ≡ Some (event_of (get_or es i d))
-event_at es i d lt = slice_get-map event_of es i ∙ ap (option_map event_of) (slice_get-get_or es i d lt)
 
 -- with a chosen event fewer events are still to come
 pub nearer : (s t : Stepping) (e : Event) (met : Bool) → MeetsOn s e t met → chosen s.board.build s.board.state ≡ Some e

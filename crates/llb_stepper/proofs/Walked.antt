@@ -5,16 +5,18 @@ use Rattle.std.proofs.lemmas.List.{reverse-append, length-reverse, length-append
 use Rattle.std.specs.Prelude.{Result, Ok, Err}
 use Rattle.std.specs.List.{list_any}
 use Rattle.std.specs.Result.{result_ok}
+use Rattle.llb_model.specs.declared.event.Settled.TheVariants as ended
 use Rattle.llb_model.specs.Run.{chosen}
 use Rattle.llb_model.specs.State.{State}
-use Rattle.llb_model.specs.Table.{Event, Claim, Step, Settle, Cancel, Reply, Claimed, HasRead, Acted, HasMerged, HasRun, Skipped, Faulted}
-use Rattle.llb_model.specs.Table.{SettledDone, SettledFailed, Cancelled, claim_grant, step_grant, settle_grant, cancel_grant, table}
+use Rattle.llb_model.specs.declared.event.Event.{Event}
+use Rattle.llb_model.specs.declared.event.Event.TheVariants.{Claim, Step, Settle, Cancel}
+use Rattle.llb_model.specs.Table.{Reply, Claimed, HasStepped, HasSettled, HasCancelled}
+use Rattle.llb_model.specs.Table.{claim_grant, step_grant, settle_grant, cancel_grant, table}
 use Rattle.llb_board.specs.Seen.{BoardValue, after_event, recorded}
 use Rattle.llb_board.specs.Laws.{ChosenIsGranted}
-use Rattle.llb_events.specs.Causes.{claim_fault, step_fault, settle_fault, cancel_fault}
 use Rattle.llb_board.specs.Undo.{told, told_as, undone, walk_of, CanUndo}
-use Rattle.llb_events.specs.declared.fault.WalkFault.{WalkFault}
-use Rattle.llb_events.specs.declared.fault.WalkFault.TheVariants as walk
+use Rattle.llb_model.specs.declared.refusal.WalkFault.{WalkFault}
+use Rattle.llb_model.specs.declared.refusal.WalkFault.TheVariants as walk
 use Rattle.llb_board.specs.declared.walk.Reply as short
 use Rattle.llb_board.specs.declared.walk.Walked.{Walked}
 use Rattle.llb_stepper.specs.declared.stop.Break.{Break}
@@ -32,57 +34,47 @@ inside : {x y : BoardValue × short.Reply} → ◌≡◌ {A = Walk} (Ok x) (Ok y
 inside e = cc
 
 -- an event that is granted: the board after it, and its reply in short
-by_grant : {C F : Type 0} (b n : BoardValue) (e : Event) (q : short.Reply) (fault : C → F) (out : F → WalkFault) (o : Result (State × Reply) C)
-    → told_as out (recorded b e fault o) ≡ Ok (n, q) → (r : Reply) × (option_map {U = BoardValue × Reply} (λ a. (after_event b e a.0, a.1)) (result_ok o)
+by_grant : {F : Type 0} (b n : BoardValue) (e : Event) (q : short.Reply) (out : F → WalkFault) (o : Result (State × Reply) F)
+    → told_as out (recorded b e o) ≡ Ok (n, q) → (r : Reply) × (option_map {U = BoardValue × Reply} (λ a. (after_event b e a.0, a.1)) (result_ok o)
     ≡ Some (n, r)) × (q ≡ told r)
-by_grant b n e q fault out (Err cause) is = absurd cc
-by_grant b n e q fault out (Ok (s, r)) is =
+by_grant b n e q out (Err cause) is = absurd cc
+by_grant b n e q out (Ok (s, r)) is =
     let same = inside is in
     (r, ap (λ (p : BoardValue × short.Reply). Some (p.0, r)) same, ap (λ (p : BoardValue × short.Reply). p.1) (sym same))
 
 pub answers : (b n : BoardValue) (e : Event) (q : short.Reply) → walk_of b e ≡ Ok (n, q) → (r : Reply) × (answered b e ≡ Some (n, r)) × (q ≡ told r)
 unfolding table
-answers b n (Claim w v) q is = by_grant b n (Claim w v) q claim_fault walk.Claim (claim_grant b.build b.state w v) is
-answers b n (Step w) q is = by_grant b n (Step w) q step_fault walk.Step (step_grant b.build b.state w) is
-answers b n (Settle w) q is = by_grant b n (Settle w) q settle_fault walk.Settle (settle_grant b.build b.state w) is
-answers b n (Cancel w) q is = by_grant b n (Cancel w) q cancel_fault walk.Cancel (cancel_grant b.state w) is
+answers b n (Claim w v) q is = by_grant b n (Claim w v) q walk.Claim (claim_grant b.build b.state w v) is
+answers b n (Step w) q is = by_grant b n (Step w) q walk.Step (step_grant b.build b.state w) is
+answers b n (Settle w) q is = by_grant b n (Settle w) q walk.Settle (settle_grant b.build b.state w) is
+answers b n (Cancel w) q is = by_grant b n (Cancel w) q walk.Cancel (cancel_grant b.state w) is
 
 -- where the table grants an event, a walk is not refused
-grants_by : {C F : Type 0} (b : BoardValue) (e : Event) (fault : C → F) (out : F → WalkFault) (o : Result (State × Reply) C) (f : WalkFault)
-    → is_some (result_ok o) ≡ true → told_as out (recorded b e fault o) ≡ Err f → ⊥
-grants_by b e fault out (Err cause) f granted is = cc
-grants_by b e fault out (Ok p) f granted is = cc
+grants_by : {F : Type 0} (b : BoardValue) (e : Event) (out : F → WalkFault) (o : Result (State × Reply) F) (f : WalkFault)
+    → is_some (result_ok o) ≡ true → told_as out (recorded b e o) ≡ Err f → ⊥
+grants_by b e out (Err cause) f granted is = cc
+grants_by b e out (Ok p) f granted is = cc
 
 pub not_refused : (b : BoardValue) (e : Event) (f : WalkFault) → is_some (table b.build b.state e) ≡ true → walk_of b e ≡ Err f → ⊥
 unfolding table
-not_refused b (Claim w v) f granted is = grants_by b (Claim w v) claim_fault walk.Claim (claim_grant b.build b.state w v) f granted is
-not_refused b (Step w) f granted is = grants_by b (Step w) step_fault walk.Step (step_grant b.build b.state w) f granted is
-not_refused b (Settle w) f granted is = grants_by b (Settle w) settle_fault walk.Settle (settle_grant b.build b.state w) f granted is
-not_refused b (Cancel w) f granted is = grants_by b (Cancel w) cancel_fault walk.Cancel (cancel_grant b.state w) f granted is
+not_refused b (Claim w v) f granted is = grants_by b (Claim w v) walk.Claim (claim_grant b.build b.state w v) f granted is
+not_refused b (Step w) f granted is = grants_by b (Step w) walk.Step (step_grant b.build b.state w) f granted is
+not_refused b (Settle w) f granted is = grants_by b (Settle w) walk.Settle (settle_grant b.build b.state w) f granted is
+not_refused b (Cancel w) f granted is = grants_by b (Cancel w) walk.Cancel (cancel_grant b.state w) f granted is
 
 -- a breakpoint is met by a reply in short as by the reply
 met_told : (e : Event) (r : Reply) (k : Break) → meets_told e (told r) k ≡ meets e r k
 met_told e r (stop.Claims v) = refl
 met_told e (Claimed job) (stop.Settles v) = refl
-met_told e HasRead (stop.Settles v) = refl
-met_told e (Acted a) (stop.Settles v) = refl
-met_told e (HasMerged i) (stop.Settles v) = refl
-met_told e (HasRun c status) (stop.Settles v) = refl
-met_told e (Skipped c) (stop.Settles v) = refl
-met_told e (Faulted f) (stop.Settles v) = refl
-met_told e (SettledDone u) (stop.Settles v) = refl
-met_told e (SettledFailed u) (stop.Settles v) = refl
-met_told e (Cancelled u k) (stop.Settles v) = refl
+met_told e (HasStepped s) (stop.Settles v) = refl
+met_told e (HasSettled (ended.Done u)) (stop.Settles v) = refl
+met_told e (HasSettled (ended.Failed u)) (stop.Settles v) = refl
+met_told e (HasCancelled c) (stop.Settles v) = refl
 met_told e (Claimed job) stop.Fails = refl
-met_told e HasRead stop.Fails = refl
-met_told e (Acted a) stop.Fails = refl
-met_told e (HasMerged i) stop.Fails = refl
-met_told e (HasRun c status) stop.Fails = refl
-met_told e (Skipped c) stop.Fails = refl
-met_told e (Faulted f) stop.Fails = refl
-met_told e (SettledDone u) stop.Fails = refl
-met_told e (SettledFailed u) stop.Fails = refl
-met_told e (Cancelled u k) stop.Fails = refl
+met_told e (HasStepped s) stop.Fails = refl
+met_told e (HasSettled (ended.Done u)) stop.Fails = refl
+met_told e (HasSettled (ended.Failed u)) stop.Fails = refl
+met_told e (HasCancelled c) stop.Fails = refl
 
 pub any_told : (e : Event) (r : Reply) (ks : List Break) → list_any (meets_told e (told r)) ks ≡ list_any (meets e r) ks
 any_told e r ks = ap (λ test. list_any test ks) (λ i k. met_told e r k i)

@@ -3,12 +3,17 @@ use Rattle.std.specs.Prelude.{◌≡◌, ◌≤◌, ◌<◌, ◌+◌, ℕ, ◌-�
 use Rattle.std.specs.Fmt.{decimal}
 use Rattle.llb_ops.specs.Kinds.{kind_text}
 use Rattle.llb_loader.specs.declared.graph.Vertex.{Vertex}
+use Rattle.llb_model.specs.declared.event.Settled.TheVariants as ended
+use Rattle.llb_model.specs.declared.event.Settled.{Settled}
+use Rattle.llb_model.specs.declared.event.Stepped.{Stepped}
+use Rattle.llb_model.specs.declared.event.Stepped.TheVariants.{Read, Acted, Merged, Ran, Skipped, Fault}
 use Rattle.llb_model.specs.declared.fault.VertexFault.{VertexFault}
 use Rattle.llb_model.specs.declared.fault.VertexFault.TheVariants as vertex
 use Rattle.llb_model.specs.State.{State, opening}
 use Rattle.llb_model.specs.Run.{run}
-use Rattle.llb_model.specs.Table.{Event, Claim, Step, Settle, Cancel, Reply, Claimed, HasRead, Acted, HasMerged, HasRun, Skipped, Faulted}
-use Rattle.llb_model.specs.Table.{SettledDone, SettledFailed, Cancelled}
+use Rattle.llb_model.specs.declared.event.Event.{Event}
+use Rattle.llb_model.specs.declared.event.Event.TheVariants.{Claim, Step, Settle, Cancel}
+use Rattle.llb_model.specs.Table.{Reply, Claimed, HasStepped, HasSettled, HasCancelled}
 use Rattle.llb_board.specs.Seen.{BoardValue}
 use Rattle.llb_stepper.specs.Stepping.{Stepping, answered}
 
@@ -48,18 +53,26 @@ vertex_of (Step w) = 0
 vertex_of (Settle w) = 0
 vertex_of (Cancel w) = 0
 
+-- the reply to a micro-step as it is printed
+abbrev pub step_text : Stepped → List ℕ
+step_text Read = codes "read"
+step_text (Acted a) = codes "acted " ++ decimal a
+step_text (Merged i) = codes "merged " ++ decimal i
+step_text (Ran c status) = codes "ran " ++ pair_text c status
+step_text (Skipped c) = codes "skipped " ++ decimal c
+step_text (Fault f) = fault_text f
+
+-- the reply to a settle as it is printed
+abbrev pub settle_text : Settled → List ℕ
+settle_text (ended.Done v) = done_text v
+settle_text (ended.Failed v) = failed_text v
+
 -- the reply to an event as it is printed; that to a claim names what was claimed
 abbrev pub reply_text : List Vertex → Event → Reply → List ℕ
 reply_text vertices e (Claimed job) = claimed_text (slice_get vertices (vertex_of e))
-reply_text vertices e HasRead = codes "read"
-reply_text vertices e (Acted a) = codes "acted " ++ decimal a
-reply_text vertices e (HasMerged i) = codes "merged " ++ decimal i
-reply_text vertices e (HasRun c status) = codes "ran " ++ pair_text c status
-reply_text vertices e (Skipped c) = codes "skipped " ++ decimal c
-reply_text vertices e (Faulted f) = fault_text f
-reply_text vertices e (SettledDone v) = done_text v
-reply_text vertices e (SettledFailed v) = failed_text v
-reply_text vertices e (Cancelled v k) = pair_text v k
+reply_text vertices e (HasStepped s) = step_text s
+reply_text vertices e (HasSettled s) = settle_text s
+reply_text vertices e (HasCancelled c) = pair_text c.vertex c.done
 
 -- the line of an event without its line end: its number, the event, ` -> ` and the reply
 abbrev pub record_text : List Vertex → ℕ → Event × Reply → List ℕ

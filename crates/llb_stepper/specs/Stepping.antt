@@ -2,8 +2,10 @@
 use Rattle.std.specs.Prelude.{◌≡◌, ℕ, zero, suc, ◌+◌, ◌-◌, slice_get, ◌<◌, ◌==◌, nat_lt, if◌then◌else◌, Bool, true, false, List, []}
 use Rattle.std.specs.Prelude.{◌∷◌, length, take, drop, Option, Some, None, option_map}
 use Rattle.std.specs.List.{list_any}
-use Rattle.llb_model.specs.Table.{Event, Claim, Step, Settle, Cancel, Reply, Claimed, HasRead, Acted, HasMerged, HasRun, Skipped, Faulted}
-use Rattle.llb_model.specs.Table.{SettledDone, SettledFailed, Cancelled, table}
+use Rattle.llb_model.specs.declared.event.Settled.TheVariants as ended
+use Rattle.llb_model.specs.declared.event.Event.{Event}
+use Rattle.llb_model.specs.declared.event.Event.TheVariants.{Claim, Step, Settle, Cancel}
+use Rattle.llb_model.specs.Table.{Reply, Claimed, HasStepped, HasSettled, HasCancelled, table}
 use Rattle.llb_model.specs.State.{State, opening}
 use Rattle.llb_model.specs.Run.{chosen}
 use Rattle.llb_board.specs.Seen.{BoardValue, after_event}
@@ -48,29 +50,19 @@ claims v (Cancel w) = false
 
 -- whether a reply is that to a settle of vertex v
 abbrev pub settles : ℕ → Reply → Bool
-settles v (SettledDone u) = u == v
-settles v (SettledFailed u) = u == v
+settles v (HasSettled (ended.Done u)) = u == v
+settles v (HasSettled (ended.Failed u)) = u == v
 settles v (Claimed job) = false
-settles v HasRead = false
-settles v (Acted a) = false
-settles v (HasMerged i) = false
-settles v (HasRun c status) = false
-settles v (Skipped c) = false
-settles v (Faulted f) = false
-settles v (Cancelled u k) = false
+settles v (HasStepped s) = false
+settles v (HasCancelled c) = false
 
 -- whether a reply is that to a settle of a vertex that failed
 abbrev pub has_failed : Reply → Bool
-has_failed (SettledFailed u) = true
-has_failed (SettledDone u) = false
+has_failed (HasSettled (ended.Failed u)) = true
+has_failed (HasSettled (ended.Done u)) = false
 has_failed (Claimed job) = false
-has_failed HasRead = false
-has_failed (Acted a) = false
-has_failed (HasMerged i) = false
-has_failed (HasRun c status) = false
-has_failed (Skipped c) = false
-has_failed (Faulted f) = false
-has_failed (Cancelled u k) = false
+has_failed (HasStepped s) = false
+has_failed (HasCancelled c) = false
 
 -- whether an event with its reply meets a breakpoint: a claim of the vertex, a settle of the vertex, or a settle of a vertex that failed
 abbrev pub meets : Event → Reply → Break → Bool

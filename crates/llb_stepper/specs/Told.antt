@@ -2,21 +2,16 @@
 use Rattle.std.specs.Prelude.{ℕ, ◌==◌, Bool, true, false, List, ◌++◌, codes, slice_get}
 use Rattle.std.specs.Fmt.{decimal}
 use Rattle.llb_loader.specs.declared.graph.Vertex.{Vertex}
-use Rattle.llb_model.specs.Table.{Event}
+use Rattle.llb_model.specs.declared.event.Event.{Event}
 use Rattle.llb_model.specs.Table as table
 use Rattle.llb_board.specs.Undo.{told}
-use Rattle.llb_events.specs.Views.{event_of}
-use Rattle.llb_events.specs.declared.event.Event as own
-use Rattle.llb_events.specs.declared.event.Stepped.{Stepped}
-use Rattle.llb_events.specs.declared.event.Stepped.TheVariants.{Read, Acted, Merged, Ran, Skipped, Fault}
-use Rattle.llb_events.specs.declared.event.Settled.{Settled}
-use Rattle.llb_events.specs.declared.event.Settled.TheVariants as settled
+use Rattle.llb_model.specs.declared.event.Settled.TheVariants as settled
 use Rattle.llb_board.specs.declared.walk.Reply.{Reply}
 use Rattle.llb_board.specs.declared.walk.Reply.TheVariants as reply
 use Rattle.llb_stepper.specs.declared.stop.Break.{Break}
 use Rattle.llb_stepper.specs.declared.stop.Break.TheVariants as stop
 use Rattle.llb_stepper.specs.Stepping.{claims}
-use Rattle.llb_stepper.specs.Records.{event_text, claimed_text, vertex_of, pair_text, fault_text, done_text, failed_text}
+use Rattle.llb_stepper.specs.Records.{event_text, claimed_text, vertex_of, pair_text, step_text, settle_text}
 
 -- whether a reply is that to a settle of vertex v
 abbrev pub settles_told : ℕ → Reply → Bool
@@ -40,20 +35,6 @@ meets_told e r (stop.Claims v) = claims v e
 meets_told e r (stop.Settles v) = settles_told v r
 meets_told e r stop.Fails = failed_told r
 
--- the reply to a micro-step as it is printed
-abbrev pub step_text : Stepped → List ℕ
-step_text Read = codes "read"
-step_text (Acted a) = codes "acted " ++ decimal a
-step_text (Merged i) = codes "merged " ++ decimal i
-step_text (Ran c status) = codes "ran " ++ pair_text c status
-step_text (Skipped c) = codes "skipped " ++ decimal c
-step_text (Fault f) = fault_text f
-
--- the reply to a settle as it is printed
-abbrev pub settle_text : Settled → List ℕ
-settle_text (settled.Done v) = done_text v
-settle_text (settled.Failed v) = failed_text v
-
 -- the reply to an event as it is printed; that to a claim names what was claimed
 abbrev pub told_text : List Vertex → Event → Reply → List ℕ
 told_text vertices e reply.Claimed = claimed_text (slice_get vertices (vertex_of e))
@@ -64,10 +45,6 @@ told_text vertices e (reply.Cancelled c) = pair_text c.vertex c.done
 -- the line of an event, without its end
 abbrev pub line_text : List Vertex → ℕ → Event → Reply → List ℕ
 line_text vertices number e r = decimal number ++ (codes " " ++ (event_text e ++ (codes " -> " ++ told_text vertices e r)))
-
--- an event with its reply, in the board's own types
-abbrev pub seen_pair : own.Event × Reply → Event × Reply
-seen_pair p = (event_of p.0, p.1)
 
 -- an event with the table's reply, in the board's own type of replies
 abbrev pub told_pair : Event × table.Reply → Event × Reply

@@ -3,7 +3,6 @@
 
 ghost use Rattle.std.specs.Prelude.{◌≡◌, ◌++◌, ◌∷◌, [], OnOk, OnErr};
 ghost use Rattle.std.specs.List.{list_any};
-ghost use Rattle.llb_events.specs.Views.{event_of};
 ghost use Rattle.llb_stepper.specs.Told.{meets_told};
 ghost use Rattle.llb_stepper.specs.BreakpointSets.{AreKinds, AreKindsOfOneMore, AreUnchanged, is_met_by_event, is_met_by_reply};
 
@@ -83,7 +82,7 @@ impl Kinds {
     }
 
     fn is_met_by_event(&self, event: Event) -> bool
-        ensures { result ≡ is_met_by_event self.now (event_of event) }
+        ensures { result ≡ is_met_by_event self.now event }
     {
         match event {
             Event::Claim(_, v) => self.claims.contains(&v),
@@ -134,7 +133,7 @@ impl Breakpoints {
 
     /// Returns whether an event that was done, with its reply, meets one of the breakpoints.
     pub(crate) fn is_met_by(&self, event: Event, reply: Reply) -> bool
-        ensures { result ≡ list_any (meets_told (event_of event) reply) self.now }
+        ensures { result ≡ list_any (meets_told event reply) self.now }
     {
         self.kinds.is_met_by_event(event) || self.kinds.is_met_by_reply(reply)
     }

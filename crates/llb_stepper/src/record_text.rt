@@ -1,9 +1,8 @@
 //! The lines of a record as text: an event by its number, and the reply to it.
 
 ghost use Rattle.std.specs.Prelude.{◌≡◌, IfOk, option_map, string_bytes};
-ghost use Rattle.llb_events.specs.Views.{event_of};
-ghost use Rattle.llb_stepper.specs.Records.{event_text, claimed_text, pair_text, fault_text, vertex_of};
-ghost use Rattle.llb_stepper.specs.Told.{step_text, settle_text, told_text, line_text};
+ghost use Rattle.llb_stepper.specs.Records.{event_text, claimed_text, pair_text, fault_text, vertex_of, step_text, settle_text};
+ghost use Rattle.llb_stepper.specs.Told.{told_text, line_text};
 
 use llb_board::{Cancelled, Event, Reply, Settled, Stepped};
 use llb_loader::Vertex;
@@ -12,7 +11,7 @@ use llb_ops::kind_name;
 use std::alloc::{AllocError, Global};
 
 fn event_text(alloc: Global, event: Event) -> Result<String, AllocError>
-    ensures { IfOk result (λ s. string_bytes s ≡ event_text (event_of event)) }
+    ensures { IfOk result (λ s. string_bytes s ≡ event_text event) }
 {
     match event {
         Event::Claim(w, v) => format!(in alloc; "claim {w} {v}"),
@@ -77,7 +76,7 @@ fn cancel_text(alloc: Global, cancelled: Cancelled) -> Result<String, AllocError
 
 // The vertex of a claim; of another event 0, which is not asked for.
 fn vertex_of(event: Event) -> u32
-    ensures { result ≡ vertex_of (event_of event) }
+    ensures { result ≡ vertex_of event }
 {
     match event {
         Event::Claim(_, v) => v,
@@ -91,7 +90,7 @@ fn reply_text(
     event: Event,
     reply: Reply,
 ) -> Result<String, AllocError>
-    ensures { IfOk result (λ s. string_bytes s ≡ told_text vertices.now (event_of event) reply) }
+    ensures { IfOk result (λ s. string_bytes s ≡ told_text vertices.now event reply) }
 {
     match reply {
         Reply::Claimed => claimed_text(alloc, vertices.get(vertex_of(event) as usize)),
@@ -109,7 +108,7 @@ pub(crate) fn line_text(
     event: Event,
     reply: Reply,
 ) -> Result<String, AllocError>
-    ensures { IfOk result (λ s. string_bytes s ≡ line_text vertices.now number (event_of event) reply) }
+    ensures { IfOk result (λ s. string_bytes s ≡ line_text vertices.now number event reply) }
 {
     let event_text = event_text(alloc, event)?;
     let reply_text = reply_text(alloc, vertices, event, reply)?;

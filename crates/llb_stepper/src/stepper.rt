@@ -3,11 +3,10 @@
 ghost use Rattle.std.specs.Prelude.{◌≡◌, ◌≤◌, ◌+◌, ◌++◌, ◌∷◌, [], length, drop, Bool, true, map, option_map, false, IfOk, IfErr};
 ghost use Rattle.std.specs.Prelude.{OnOk, OnErr, Some, string_bytes};
 ghost use Rattle.llb_model.specs.Run.{chosen};
-ghost use Rattle.llb_events.specs.Views.{event_of};
 ghost use Rattle.llb_stepper.specs.Rules.{GivesEvent, done_of, stepper_memory, IsRefusedAt, MeetsOn, ChosenIsDone, ThereAndBack};
 ghost use Rattle.llb_stepper.specs.Stepping.{GoesBack, IsStop, IsGo, IsReplayed, PastIsTheRecords, timeline, lesser};
 ghost use Rattle.llb_stepper.specs.Records.{record_at, record_text, RecordIsTheRun};
-ghost use Rattle.llb_stepper.specs.Told.{seen_pair, told_pair};
+ghost use Rattle.llb_stepper.specs.Told.{told_pair};
 ghost use Rattle.llb_stepper.specs.declared.fault.StepperFault.TheVariants as fault;
 
 use crate::breakpoints::Breakpoints;
@@ -97,7 +96,7 @@ impl Stepper {
 
     /// Does one event. Fails with 171 and the board's refusal, or with 174. Memory may be refused, 171 141 or 174, at any growth.
     pub fn do_event(&mut self, event: Event) -> Result<(), StepperFault>
-        ensures gives { GivesEvent (λ _. self.new) result (done_of self.old (event_of event)) }
+        ensures gives { GivesEvent (λ _. self.new) result (done_of self.old event) }
         ensures err { OnErr result (self.new ≡ self.old) }
     {
         self.walk(event)?;
@@ -106,7 +105,7 @@ impl Stepper {
 
     /// Returns the chosen event, without doing it: `None` where the board is complete. Does not allocate.
     pub fn next(&self) -> Option<Event>
-        ensures { option_map event_of result ≡ chosen self.now.board.build self.now.board.state }
+        ensures { result ≡ chosen self.now.board.build self.now.board.state }
     {
         self.board.chosen()
     }
@@ -143,7 +142,7 @@ impl Stepper {
 
     // Event i with its reply.
     fn recorded(&self, i: u64) -> Option<(Event, Reply)>
-        ensures { option_map seen_pair result ≡ option_map told_pair (record_at self.now i) }
+        ensures { result ≡ option_map told_pair (record_at self.now i) }
     {
         let events = self.board.events().as_slice();
         let number = i as usize;
@@ -168,8 +167,8 @@ impl Stepper {
 
     // One event, and whether it meets a breakpoint.
     fn walk(&mut self, event: Event) -> Result<bool, StepperFault>
-        ensures gives { GivesEvent (λ _. self.new) result (done_of self.old (event_of event)) }
-        ensures met { IfOk result (MeetsOn self.old (event_of event) self.new) }
+        ensures gives { GivesEvent (λ _. self.new) result (done_of self.old event) }
+        ensures met { IfOk result (MeetsOn self.old event self.new) }
         ensures err { OnErr result (self.new ≡ self.old) }
     {
         self.walked.reserve(1)?;
@@ -239,8 +238,8 @@ impl Stepper {
 
     /// Does the given events, up to the first that meets a breakpoint. Where one is refused, 171 or 174, all that it did is taken back.
     pub fn replay(&mut self, events: &[Event]) -> Result<Stop, StepperFault>
-        ensures stops { IfOk result (IsStop self.old (map event_of events.now) self.new) }
-        ensures refused { IfErr result (IsRefusedAt self.old (map event_of events.now)) }
+        ensures stops { IfOk result (IsStop self.old events.now self.new) }
+        ensures refused { IfErr result (IsRefusedAt self.old events.now) }
         ensures err { OnErr result (self.new ≡ self.old) }
     {
         let start = self.depth();

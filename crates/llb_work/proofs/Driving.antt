@@ -11,12 +11,13 @@ use Rattle.std.specs.Bool.{OnTrue, OnFalse}
 use Rattle.std.specs.List.{count_by}
 use Rattle.std.specs.Result.{result_ok}
 use Rattle.llb_loader.specs.Graph.{IsGraph}
+use Rattle.llb_model.specs.Table.{HasStepped, HasSettled, HasCancelled}
 use Rattle.llb_model.specs.Consistent.{IsConsistent}
 use Rattle.llb_model.specs.Program.{Build}
-use Rattle.llb_model.specs.SettleCause.{SettleCause}
-use Rattle.llb_model.specs.CancelCause.{CancelCause}
 use Rattle.llb_model.specs.State.{State}
-use Rattle.llb_model.specs.Table.{Event, Claim, Step, Settle, Cancel, Reply, worker_of, claim_grant, step_grant, settle_grant, cancel_grant, table}
+use Rattle.llb_model.specs.declared.event.Event.{Event}
+use Rattle.llb_model.specs.declared.event.Event.TheVariants.{Claim, Step, Settle, Cancel}
+use Rattle.llb_model.specs.Table.{Reply, worker_of, claim_grant, step_grant, settle_grant, cancel_grant, table}
 use Rattle.llb_model.specs.Run.{run, events_by, chosen}
 use Rattle.llb_model.specs.Laws.{AreChosen}
 use Rattle.llb_model.proofs.Lists.{inside as some_inside}
@@ -26,18 +27,16 @@ use Rattle.llb_model.proofs.Alone.{Ascends, alone_step, chosen_comes_nearer}
 use Rattle.llb_board.specs.Seen.{BoardValue, after_event, recorded}
 use Rattle.llb_board.specs.Laws.{ChosenIsGranted}
 use Rattle.llb_board.specs.Rules.{claim_of, step_of, settle_of, cancel_of}
-use Rattle.llb_events.specs.Causes.{claim_fault, GivesStep, step_fault, GivesSettle, settle_fault, GivesCancel}
-use Rattle.llb_events.specs.Causes.{cancel_fault}
-use Rattle.llb_events.specs.Faults.{GivesClaim}
-use Rattle.llb_events.specs.Views.{event_of, step_reply, settle_reply, cancel_reply}
-use Rattle.llb_events.specs.declared.event.Event as event
-use Rattle.llb_events.specs.declared.event.Stepped.{Stepped}
-use Rattle.llb_events.specs.declared.event.Settled.{Settled}
-use Rattle.llb_events.specs.declared.fault.ClaimFault.{ClaimFault}
-use Rattle.llb_events.specs.declared.fault.StepFault.{StepFault}
-use Rattle.llb_events.specs.declared.fault.SettleFault.{SettleFault}
-use Rattle.llb_events.specs.declared.event.Cancelled.{Cancelled}
-use Rattle.llb_events.specs.declared.fault.CancelFault.{CancelFault}
+use Rattle.llb_events.specs.Causes.{GivesStep, GivesSettle, GivesCancel}
+use Rattle.llb_model.specs.Faults.{GivesClaim}
+use Rattle.llb_model.specs.declared.event.Event as event
+use Rattle.llb_model.specs.declared.event.Stepped.{Stepped}
+use Rattle.llb_model.specs.declared.event.Settled.{Settled}
+use Rattle.llb_model.specs.declared.refusal.ClaimFault.{ClaimFault}
+use Rattle.llb_model.specs.declared.refusal.StepFault.{StepFault}
+use Rattle.llb_model.specs.declared.refusal.SettleFault.{SettleFault}
+use Rattle.llb_model.specs.declared.event.Cancelled.{Cancelled}
+use Rattle.llb_model.specs.declared.refusal.CancelFault.{CancelFault}
 use Rattle.llb_work.specs.Alone.{Takes, IsLeft, Goes, TakesMemory}
 
 abbrev ok_of : {A F : Type 0} → A → Result A F
@@ -47,10 +46,10 @@ inside : {A F : Type 0} {x y : A} → ok_of {F = F} x ≡ ok_of y → x ≡ y
 inside e = cc
 
 -- a call that is granted takes its event
-pub takes_of : {C F : Type 0} (b : BoardValue) (e : Event) (fault : C → F) (o : Result (State × Reply) C) (n : BoardValue) (r : Reply)
-    → table b.build b.state e ≡ result_ok o → recorded b e fault o ≡ Ok (n, r) → Takes b e n
-takes_of {C} {F} b e fault (Err cause) n r is given = absurd cc
-takes_of {C} {F} b e fault (Ok (s, q)) n r is given =
+pub takes_of : {F : Type 0} (b : BoardValue) (e : Event) (o : Result (State × Reply) F) (n : BoardValue) (r : Reply)
+    → table b.build b.state e ≡ result_ok o → recorded b e o ≡ Ok (n, r) → Takes b e n
+takes_of {F} b e (Err cause) n r is given = absurd cc
+takes_of {F} b e (Ok (s, q)) n r is given =
     let same : after_event b e s ≡ n = ap (λ (x : BoardValue × Reply). x.0) (inside {F = F} given) in
     subst (Takes b e) same (record { build = refl; opening = refl; first = refl; reply = q; given = is; events = refl })
 
@@ -113,49 +112,49 @@ pub claim_takes : {J : Type 0} (reply : J → Reply) (b n : BoardValue) (w v : �
     → GivesClaim (λ job. (n, reply job)) r (claim_of b w v) → is_ok r ≡ true
     → Takes b (Claim w v) n
 unfolding table
-claim_takes reply b n w v (Ok job) gives ok = takes_of b (Claim w v) claim_fault (claim_grant b.build b.state w v) n (reply job) refl gives
+claim_takes reply b n w v (Ok job) gives ok = takes_of b (Claim w v) (claim_grant b.build b.state w v) n (reply job) refl gives
 claim_takes reply b n w v (Err e) gives ok = absurd cc
 
 -- a step that returns no fault is granted, and is added at the end of the record
-pub step_takes : (b n : BoardValue) (w : ℕ) (r : Result Stepped StepFault) → GivesStep (λ s. (n, step_reply s)) r (step_of b w) → is_ok r ≡ true
+pub step_takes : (b n : BoardValue) (w : ℕ) (r : Result Stepped StepFault) → GivesStep (λ s. (n, HasStepped s)) r (step_of b w) → is_ok r ≡ true
     → Takes b (Step w) n
 unfolding table
-step_takes b n w (Ok s) gives ok = takes_of b (Step w) step_fault (step_grant b.build b.state w) n (step_reply s) refl gives
+step_takes b n w (Ok s) gives ok = takes_of b (Step w) (step_grant b.build b.state w) n (HasStepped s) refl gives
 step_takes b n w (Err e) gives ok = absurd cc
 
 -- a settle that returns no fault is granted, and is added at the end of the record
-pub settle_takes : (b n : BoardValue) (w : ℕ) (r : Result Settled SettleFault) → GivesSettle (λ s. (n, settle_reply s)) r (settle_of b w)
+pub settle_takes : (b n : BoardValue) (w : ℕ) (r : Result Settled SettleFault) → GivesSettle (λ s. (n, HasSettled s)) r (settle_of b w)
     → is_ok r ≡ true → Takes b (Settle w) n
 unfolding table
-settle_takes b n w (Ok s) gives ok = takes_of b (Settle w) settle_fault (settle_grant b.build b.state w) n (settle_reply s) refl gives
+settle_takes b n w (Ok s) gives ok = takes_of b (Settle w) (settle_grant b.build b.state w) n (HasSettled s) refl gives
 settle_takes b n w (Err e) gives ok = absurd cc
 
 -- a settle that is refused is not granted
-pub settle_left : (b n : BoardValue) (w : ℕ) (r : Result Settled SettleFault) → GivesSettle (λ s. (n, settle_reply s)) r (settle_of b w)
+pub settle_left : (b n : BoardValue) (w : ℕ) (r : Result Settled SettleFault) → GivesSettle (λ s. (n, HasSettled s)) r (settle_of b w)
     → is_ok r ≡ false → IsLeft b (Settle w)
 unfolding table
 settle_left b n w (Ok s) gives refused = absurd cc
 settle_left b n w (Err e) gives refused = by_grant (settle_grant b.build b.state w) (gives refl)
   where
-    by_grant : (o : Result (State × Reply) SettleCause) → recorded b (Settle w) settle_fault o ≡ Err e → result_ok o ≡ None
+    by_grant : (o : Result (State × Reply) SettleFault) → recorded b (Settle w) o ≡ Err e → result_ok o ≡ None
     by_grant (Err cause) is = refl
     by_grant (Ok p) is = absurd cc
 
 -- a cancel that returns no fault is granted, and is added at the end of the record
-pub cancel_takes : (b n : BoardValue) (w : ℕ) (r : Result Cancelled CancelFault) → GivesCancel (λ s. (n, cancel_reply s)) r (cancel_of b w)
+pub cancel_takes : (b n : BoardValue) (w : ℕ) (r : Result Cancelled CancelFault) → GivesCancel (λ s. (n, HasCancelled s)) r (cancel_of b w)
     → is_ok r ≡ true → Takes b (Cancel w) n
 unfolding table
-cancel_takes b n w (Ok s) gives ok = takes_of b (Cancel w) cancel_fault (cancel_grant b.state w) n (cancel_reply s) refl gives
+cancel_takes b n w (Ok s) gives ok = takes_of b (Cancel w) (cancel_grant b.state w) n (HasCancelled s) refl gives
 cancel_takes b n w (Err e) gives ok = absurd cc
 
 -- a cancel that is refused is not granted
-pub cancel_left : (b n : BoardValue) (w : ℕ) (r : Result Cancelled CancelFault) → GivesCancel (λ s. (n, cancel_reply s)) r (cancel_of b w)
+pub cancel_left : (b n : BoardValue) (w : ℕ) (r : Result Cancelled CancelFault) → GivesCancel (λ s. (n, HasCancelled s)) r (cancel_of b w)
     → is_ok r ≡ false → IsLeft b (Cancel w)
 unfolding table
 cancel_left b n w (Ok s) gives refused = absurd cc
 cancel_left b n w (Err e) gives refused = by_grant (cancel_grant b.state w) (gives refl)
   where
-    by_grant : (o : Result (State × Reply) CancelCause) → recorded b (Cancel w) cancel_fault o ≡ Err e → result_ok o ≡ None
+    by_grant : (o : Result (State × Reply) CancelFault) → recorded b (Cancel w) o ≡ Err e → result_ok o ≡ None
     by_grant (Err cause) is = refl
     by_grant (Ok p) is = absurd cc
 
@@ -197,13 +196,13 @@ zeros (suc k) (suc w) = zeros k w
 -- ---- each worker's events
 
 abbrev pub of_worker : ℕ → event.Event → Bool
-of_worker w e = worker_of (event_of e) == w
+of_worker w e = worker_of e == w
 
 -- a worker has as many events among the seen ones as among the events themselves
-pub count_seen : (w : ℕ) (es : List event.Event) → events_by w (map event_of es) ≡ count_by (of_worker w) es
+pub count_seen : (w : ℕ) (es : List event.Event) → events_by w es ≡ count_by (of_worker w) es
 count_seen w [] = refl
 count_seen w (e ∷ es) =
-    sum_by-cons (λ x. cond (worker_of x == w) 1 0) (event_of e) (map event_of es)
+    sum_by-cons (λ x. cond (worker_of x == w) 1 0) e es
     ∙ ap (λ n. cond (of_worker w e) 1 0 + n) (count_seen w es) ∙ sym (sum_by-cons (λ x. cond (of_worker w x) 1 0) e es)
 
 -- the counts of the first i events
@@ -212,7 +211,7 @@ Counts made es i = (length made ≡ 64) × ((w : ℕ) → w < 64 → slice_index
 
 -- one more event adds one to the count of its worker, and nothing to the other counts
 module _ (made : List ℕ) (es : List event.Event) (i u : ℕ) (d : event.Event) (fits : i < length es)
-    (is : u ≡ worker_of (event_of (get_or es i d))) (so_far : Counts made es i) where
+    (is : u ≡ worker_of (get_or es i d)) (so_far : Counts made es i) where
   other : (w : ℕ) → w ≢ u → count_by (of_worker w) (take (i + 1) es) ≡ count_by (of_worker w) (take i es)
   other w apart = count_by_more_no (of_worker w) es i d fits (ne_eqb _ _ (λ e. apart (sym e ∙ sym is)))
 

@@ -3,26 +3,28 @@ use Rattle.std.proofs.Common.{◌≡◌, ℕ, [], ◌∷◌, ◌++◌, Result, O
 use Rattle.std.specs.Prelude.{IfOk, OnErr, Some}
 use Rattle.std.specs.Result.{result_ok}
 use Rattle.std.proofs.lemmas.Option.{slice_get_within}
+use Rattle.llb_model.specs.Table.{HasStepped, HasSettled, HasCancelled}
 use Rattle.llb_model.specs.State.{State, Idle}
-use Rattle.llb_model.specs.Table.{Event, Job, Claimed, claim_grant, table}
+use Rattle.llb_model.specs.declared.event.Event.{Event}
+use Rattle.llb_model.specs.Table.{Job, Claimed, claim_grant, table}
 use Rattle.llb_model.proofs.Events.{claim_is}
-use Rattle.llb_model.specs.Table.{Reply, Claim, Step, Settle, Cancel}
+use Rattle.llb_model.specs.declared.event.Event.TheVariants.{Claim, Step, Settle, Cancel}
+use Rattle.llb_model.specs.Table.{Reply}
 use Rattle.llb_model.specs.Landing.{landing}
 use Rattle.llb_board.specs.Seen.{BoardValue, after_event, recorded}
 use Rattle.llb_execution.specs.Jobs.{OutcomeValue}
 use Rattle.llb_board.specs.Begun.{ClaimsArePlain}
 use Rattle.llb_board.specs.Landing.{Lands}
 use Rattle.llb_board.specs.Rules.{claim_of, step_of, settle_of, cancel_of}
-use Rattle.llb_events.specs.Causes.{claim_fault, GivesStep, GivesSettle, GivesCancel}
-use Rattle.llb_events.specs.Faults.{GivesClaim}
-use Rattle.llb_events.specs.Views.{claim_reply, step_reply, settle_reply, cancel_reply}
-use Rattle.llb_events.specs.declared.event.Stepped.{Stepped}
-use Rattle.llb_events.specs.declared.event.Settled.{Settled}
-use Rattle.llb_events.specs.declared.fault.ClaimFault.{ClaimFault}
-use Rattle.llb_events.specs.declared.fault.StepFault.{StepFault}
-use Rattle.llb_events.specs.declared.fault.SettleFault.{SettleFault}
-use Rattle.llb_events.specs.declared.event.Cancelled.{Cancelled}
-use Rattle.llb_events.specs.declared.fault.CancelFault.{CancelFault}
+use Rattle.llb_events.specs.Causes.{GivesStep, GivesSettle, GivesCancel}
+use Rattle.llb_model.specs.Faults.{GivesClaim}
+use Rattle.llb_model.specs.declared.event.Stepped.{Stepped}
+use Rattle.llb_model.specs.declared.event.Settled.{Settled}
+use Rattle.llb_model.specs.declared.refusal.ClaimFault.{ClaimFault}
+use Rattle.llb_model.specs.declared.refusal.StepFault.{StepFault}
+use Rattle.llb_model.specs.declared.refusal.SettleFault.{SettleFault}
+use Rattle.llb_model.specs.declared.event.Cancelled.{Cancelled}
+use Rattle.llb_model.specs.declared.refusal.CancelFault.{CancelFault}
 use Rattle.llb_board.specs.declared.fault.LandFault.{LandFault}
 use Rattle.llb_work.specs.Crew.{GoesOn}
 use Rattle.llb_work.proofs.Driving.{claim_takes, step_takes, settle_takes, cancel_takes}
@@ -38,10 +40,10 @@ claim_goes reply b n w v (Ok job) gives err = takes_one b n (Claim w v) (claim_t
 claim_goes reply b n w v (Err e) gives err = stays b n err
 
 -- if a recorded call returns a board and a reply, it was granted with the state of that board and that reply
-granted : {C F : Type 0} (b n : BoardValue) (e : Event) (fault : C → F) (o : Result (State × Reply) C) (r : Reply) → recorded b e fault o ≡ Ok (n, r)
+granted : {F : Type 0} (b n : BoardValue) (e : Event) (o : Result (State × Reply) F) (r : Reply) → recorded b e o ≡ Ok (n, r)
     → result_ok o ≡ Some (n.state, r)
-granted {C} {F} b n e fault (Err cause) r given = absurd cc
-granted {C} {F} b n e fault (Ok (s, q)) r given =
+granted {F} b n e (Err cause) r given = absurd cc
+granted {F} b n e (Ok (s, q)) r given =
     let same : ◌≡◌ {A = BoardValue × Reply} (after_event b e s, q) (n, r) = inside_ok given in
     ap (λ (x : BoardValue × Reply). Some (x.0.state, x.1)) same
   where
@@ -53,12 +55,12 @@ job_in other (Claimed job) = job
 job_in other r = other
 
 -- a claim that is granted is of a worker and a vertex of the board, and so is its job
-pub claim_here : (b n : BoardValue) (w v : ℕ) (r : Result Job ClaimFault) → ClaimsArePlain b → GivesClaim (λ job. (n, claim_reply job)) r (claim_of b w v)
+pub claim_here : (b n : BoardValue) (w v : ℕ) (r : Result Job ClaimFault) → ClaimsArePlain b → GivesClaim (λ job. (n, Claimed job)) r (claim_of b w v)
     → IfOk r (IsClaimed b w v)
 unfolding table job_in
 claim_here b n w v (Err e) plain gives = tt
 claim_here b n w v (Ok job) plain gives =
-    let given = granted b n (Claim w v) claim_fault (claim_grant b.build b.state w v) (Claimed job) gives in
+    let given = granted b n (Claim w v) (claim_grant b.build b.state w v) (Claimed job) gives in
     let c = claim_is b.build b.state w v (n.state, Claimed job) given in
     let same = ap (λ (a : State × Reply). job_in job a.1) c.gives in
     let worker = slice_get_within b.state.workers w Idle c.idle in
@@ -71,18 +73,18 @@ claim_here b n w v (Ok job) plain gives =
     }
 
 -- a step adds its event to the record or changes nothing, so the board goes on either way
-pub step_goes : (b n : BoardValue) (w : ℕ) (r : Result Stepped StepFault) → GivesStep (λ s. (n, step_reply s)) r (step_of b w) → OnErr r (n ≡ b) → GoesOn b n
+pub step_goes : (b n : BoardValue) (w : ℕ) (r : Result Stepped StepFault) → GivesStep (λ s. (n, HasStepped s)) r (step_of b w) → OnErr r (n ≡ b) → GoesOn b n
 step_goes b n w (Ok s) gives err = takes_one b n (Step w) (step_takes b n w (Ok s) gives refl)
 step_goes b n w (Err e) gives err = stays b n err
 
 -- a settle adds its event to the record or changes nothing, so the board goes on either way
-pub settle_goes : (b n : BoardValue) (w : ℕ) (r : Result Settled SettleFault) → GivesSettle (λ s. (n, settle_reply s)) r (settle_of b w) → OnErr r (n ≡ b)
+pub settle_goes : (b n : BoardValue) (w : ℕ) (r : Result Settled SettleFault) → GivesSettle (λ s. (n, HasSettled s)) r (settle_of b w) → OnErr r (n ≡ b)
     → GoesOn b n
 settle_goes b n w (Ok s) gives err = takes_one b n (Settle w) (settle_takes b n w (Ok s) gives refl)
 settle_goes b n w (Err e) gives err = stays b n err
 
 -- a cancel adds its event to the record or changes nothing, so the board goes on either way
-pub cancel_goes : (b n : BoardValue) (w : ℕ) (r : Result Cancelled CancelFault) → GivesCancel (λ s. (n, cancel_reply s)) r (cancel_of b w) → OnErr r (n ≡ b)
+pub cancel_goes : (b n : BoardValue) (w : ℕ) (r : Result Cancelled CancelFault) → GivesCancel (λ s. (n, HasCancelled s)) r (cancel_of b w) → OnErr r (n ≡ b)
     → GoesOn b n
 cancel_goes b n w (Ok s) gives err = takes_one b n (Cancel w) (cancel_takes b n w (Ok s) gives refl)
 cancel_goes b n w (Err e) gives err = stays b n err
@@ -100,7 +102,7 @@ land_leads b n w o reply lands = record {
 }
 
 -- a landing adds its block of events to the record or changes nothing, so the board goes on either way
-pub land_goes : (b n : BoardValue) (w : ℕ) (o : OutcomeValue) (r : Result Settled LandFault) → IfOk r (λ s. Lands b w o n (settle_reply s)) → OnErr r (n ≡ b)
+pub land_goes : (b n : BoardValue) (w : ℕ) (o : OutcomeValue) (r : Result Settled LandFault) → IfOk r (λ s. Lands b w o n (HasSettled s)) → OnErr r (n ≡ b)
     → GoesOn b n
-land_goes b n w o (Ok s) gives err = land_leads b n w o (settle_reply s) gives
+land_goes b n w o (Ok s) gives err = land_leads b n w o (HasSettled s) gives
 land_goes b n w o (Err e) gives err = stays b n err

@@ -3,7 +3,6 @@
 ghost use Rattle.std.specs.Prelude.{◌≡◌, ◌<◌, ◌==◌, ◌↔◌, ◌⊎◌, ℕ, Some, None, [], length, slice_get, slice_index, IfSome, true};
 ghost use Rattle.std.specs.Bool.{OnTrue, OnFalse};
 ghost use Rattle.llb_model.specs.Table.{worker_of};
-ghost use Rattle.llb_events.specs.Views.{event_of};
 ghost use Rattle.llb_model.specs.Outcome.{outcome};
 ghost use Rattle.llb_model.specs.Run.{chosen, is_complete, claims_of, AreAscending, StandsPlainly};
 ghost use Rattle.std.specs.List.{count_by};
@@ -19,9 +18,9 @@ use llb_board::{Board, Event};
 
 /// Does one event and returns whether it was granted; if it was refused, the board is unchanged.
 pub(crate) fn do_event(board: &mut Board, event: Event) -> bool
-    ensures taken { OnTrue result (Takes board.old (event_of event) board.new) }
+    ensures taken { OnTrue result (Takes board.old event board.new) }
     ensures kept { OnFalse result (board.new ≡ board.old) }
-    ensures left { OnFalse result (IsLeft board.old (event_of event)) }
+    ensures left { OnFalse result (IsLeft board.old event) }
 {
     match event {
         Event::Claim(w, v) => board.claim(w, v).is_ok(),
@@ -51,7 +50,7 @@ fn go_alone(board: &mut Board) -> bool
 
 /// Returns the worker whose event it is.
 pub(crate) fn worker_of(event: Event) -> u32
-    ensures { result ≡ worker_of (event_of event) }
+    ensures { result ≡ worker_of event }
 {
     match event {
         Event::Claim(w, _) | Event::Step(w) | Event::Settle(w) | Event::Cancel(w) => w,
@@ -60,7 +59,7 @@ pub(crate) fn worker_of(event: Event) -> u32
 
 // Returns how many of the events are each worker's.
 fn made_by(events: &[Event]) -> [u64; 64]
-    ensures { (w : ℕ) → w < 64 → slice_index result w ≡ count_by (λ e. worker_of (event_of e) == w) events.now }
+    ensures { (w : ℕ) → w < 64 → slice_index result w ≡ count_by (λ e. worker_of e == w) events.now }
 {
     let mut made = [0; 64];
     for event in events {

@@ -3,7 +3,6 @@
 ghost use Rattle.std.specs.Prelude.{◌≡◌, ◌≤◌, ◌<◌, ◌+◌, ◌^◌, sum, length, true, Some};
 ghost use Rattle.std.specs.Bool.{OnTrue};
 ghost use Rattle.llb_model.specs.Run.{chosen, is_complete};
-ghost use Rattle.llb_events.specs.Views.{event_of};
 ghost use Rattle.llb_work.specs.Crew.{GoesOn};
 
 use crate::alone::{do_event, worker_of};
@@ -12,7 +11,7 @@ use llb_board::{Board, Event};
 
 // Returns the worker of the chosen event, which is one of the board's workers.
 fn chosen_worker(board: &Board, event: Event) -> u32
-    requires { Some (event_of event) ≡ chosen board.now.build board.now.state }
+    requires { Some event ≡ chosen board.now.build board.now.state }
     ensures { result < 64 }
 {
     board.has_workers();

@@ -2,8 +2,9 @@
 
 ghost use Rattle.std.specs.Prelude.{◌≡◌, ◌<◌, ◌^◌, length, map, true, Ok, Some, OnErr, OnOk, IfErr, IfOk};
 ghost use Rattle.std.specs.List.{All};
-ghost use Rattle.llb_events.specs.Faults.{GivesClaim, claim_memory, claim_may_want};
-ghost use Rattle.llb_events.specs.declared.fault.ClaimFault.TheVariants as claim;
+ghost use Rattle.llb_model.specs.Table.{Claimed};
+ghost use Rattle.llb_model.specs.Faults.{GivesClaim, claim_memory, claim_may_want};
+ghost use Rattle.llb_model.specs.declared.refusal.ClaimFault.TheVariants as claim;
 ghost use Rattle.llb_loader.specs.Graph.{IsVertexOf};
 ghost use Rattle.llb_model.specs.Outcome.{inputs_from};
 ghost use Rattle.llb_model.specs.Program.{needs_of, program_of};
@@ -15,7 +16,6 @@ ghost use Rattle.llb_state.specs.Caches.{rows_after};
 ghost use Rattle.llb_state.specs.Room.{supplies_for, supplies_of};
 ghost use Rattle.llb_state.specs.Rules as rules;
 ghost use Rattle.llb_state.specs.Vertices.{with_status};
-ghost use Rattle.llb_events.specs.Views.{claim_reply};
 ghost use Rattle.llb_state.specs.Views.{execution_of};
 ghost use Rattle.llb_state.specs.Workers.{IsBegunOn, Fits, claim_in, reply_of, state_in, rule_of};
 
@@ -100,7 +100,7 @@ impl Workers {
         w: u32,
         v: u32,
     ) -> Result<Begun, ClaimFault>
-        ensures gives { GivesClaim (λ b. claim_reply b.job) result (reply_of (claim_in vertices.now self.now w v)) }
+        ensures gives { GivesClaim (λ b. Claimed b.job) result (reply_of (claim_in vertices.now self.now w v)) }
         ensures last { IfErr result (λ e. claim_memory e ≡ true → claim_may_want (claim_in vertices.now self.now w v) ≡ true) }
         ensures begun { IfOk result (λ b. IsBegunOn vertices.now self.now b) }
         ensures at { IfOk result (λ b. (b.job.worker ≡ w) × (b.job.vertex ≡ v)) }
@@ -121,7 +121,7 @@ impl Workers {
         requires { IsBegunOn vertices.now self.old begun }
         ensures job { IfOk result (λ job. job ≡ begun.job) }
         ensures grants { OnOk result (claim_grant vertices.now.build (state_in vertices.now self.old) begun.job.worker begun.job.vertex
-            ≡ Ok (state_in (with_status begun.job.vertex (Running begun.job.worker) vertices.now) self.new, claim_reply begun.job)) }
+            ≡ Ok (state_in (with_status begun.job.vertex (Running begun.job.worker) vertices.now) self.new, Claimed begun.job)) }
         ensures rows { OnOk result (self.new.rows
             ≡ rows_after self.old.rows (state_in (with_status begun.job.vertex (Running begun.job.worker) vertices.now) self.new) begun.job.worker) }
         ensures count { length self.new.workers ≡ length self.old.workers }

@@ -3,6 +3,7 @@
 ghost use Rattle.std.specs.Prelude.{◌≡◌, length, false, Some, OnErr, OnOk, slice_get};
 ghost use Rattle.llb_execution.specs.Parts as parts;
 ghost use Rattle.llb_execution.specs.Parts.{is_skipped};
+ghost use Rattle.llb_model.specs.Table.{HasStepped, unless_failed};
 ghost use Rattle.llb_model.specs.Leases.{HasLease};
 ghost use Rattle.llb_model.specs.Program as model;
 ghost use Rattle.llb_model.specs.Program.{Left, last_of};
@@ -12,7 +13,6 @@ ghost use Rattle.llb_state.specs.Room.{supplies_of, supplies_for};
 ghost use Rattle.llb_events.specs.Causes.{step_memory, GivesStep};
 ghost use Rattle.llb_state.specs.Rules.{worked_in};
 ghost use Rattle.llb_state.specs.Views.{execution_of};
-ghost use Rattle.llb_events.specs.Views.{fault_or, step_reply};
 ghost use Rattle.llb_state.specs.Workers.{Fits, state_in, step_in};
 ghost use Rattle.llb_wire.specs.Answer.{MemoryLast};
 
@@ -31,7 +31,7 @@ impl Workers {
     /// 136 `NotRunning`, 137 `NothingLeft` or 141 `Memory`; then nothing has changed.
     pub fn step(&mut self, alloc: Global, vertices: &Vertices, w: u32) -> Result<Stepped, StepFault>
         requires { Fits vertices.now.build self.old }
-        ensures gives { GivesStep (λ r. (state_in vertices.now self.new, step_reply r)) result (step_in vertices.now self.old w) }
+        ensures gives { GivesStep (λ r. (state_in vertices.now self.new, HasStepped r)) result (step_in vertices.now self.old w) }
         ensures last { MemoryLast step_memory result (step_in vertices.now self.old w) }
         ensures rows { OnOk result (self.new.rows ≡ rows_after self.old.rows (state_in vertices.now self.new) w) }
         ensures count { length self.new.workers ≡ length self.old.workers }
@@ -61,7 +61,7 @@ fn micro_step(
 ) -> Result<Stepped, StepFault>
     requires supplies { supplies_of execution.old ≡ supplies_for (slice_get vertices.now.build.graph.vertices execution.old.vertex) }
     requires leased { HasLease caches.old.out (Some lease) execution.old.places.items }
-    ensures gives { GivesStep (λ r. (execution_of execution.new, caches.new.rows, step_reply r)) result
+    ensures gives { GivesStep (λ r. (execution_of execution.new, caches.new.rows, HasStepped r)) result
         (worked_in vertices.now.build caches.old.rows (execution_of execution.old)) }
     ensures last { MemoryLast step_memory result (worked_in vertices.now.build caches.old.rows (execution_of execution.old)) }
     ensures supplies { supplies_of execution.new ≡ supplies_of execution.old }
@@ -95,7 +95,7 @@ fn micro_step(
 // Returns the reply of the micro-step of number `done`, which was not skipped, given the last status and the fault that it left.
 fn told(step: MicroStep<'_>, done: u32, last: u32, fault: Option<VertexFault>) -> Stepped
     ensures { (before : model.Workspace) (left : Left) → is_skipped (parts.step_in step.entry) before ≡ false → last_of left.work.own ≡ last
-        → left.fault ≡ fault → step_reply result ≡ table.step_reply done (parts.step_in step.entry) before left }
+        → left.fault ≡ fault → HasStepped result ≡ table.step_reply done (parts.step_in step.entry) before left }
 {
     match step {
         MicroStep::ReadLocal => unless_faulted(fault, Stepped::Read),
@@ -107,7 +107,7 @@ fn told(step: MicroStep<'_>, done: u32, last: u32, fault: Option<VertexFault>) -
 
 // Returns the fault as a reply, or `done` if there is no fault.
 fn unless_faulted(fault: Option<VertexFault>, done: Stepped) -> Stepped
-    ensures { result ≡ fault_or fault done }
+    ensures { result ≡ unless_failed fault done }
 {
     match fault {
         Some(fault) => Stepped::Fault(fault),

@@ -2,14 +2,13 @@
 //! the vertex of the event shows, and none for other caches.
 
 ghost use Rattle.std.specs.Prelude.{◌≡◌, ◌<◌, false, length, map, option_map, slice_get, IfOk, IfErr, Err};
-ghost use Rattle.llb_model.specs.Table.{Step};
+ghost use Rattle.llb_model.specs.declared.event.Event.TheVariants.{Step};
 ghost use Rattle.llb_state.specs.Needs.{growth_for};
 ghost use Rattle.llb_state.specs.Room.{needs_at, ready_made};
 ghost use Rattle.llb_state.specs.Undo.{MarksIn, MarksClaim, MarksStep, MarksEnd, CanPutBack};
 ghost use Rattle.llb_state.specs.Undo.{walk_in, walk_memory, end_of, no_worker, not_running};
 ghost use Rattle.llb_state.specs.Undo.{back_in, workers_before, rows_before, supplies_before, change_in, change_of};
 ghost use Rattle.llb_state.specs.Views.{at_of, leased_by};
-ghost use Rattle.llb_events.specs.Views.{event_of};
 ghost use Rattle.llb_state.specs.Workers.{Fits, IsCrew};
 
 use crate::copying::copied;
@@ -94,8 +93,8 @@ impl Workers {
         event: Event,
     ) -> Result<Undo, WalkFault>
         requires { Fits vertices.now.build self.now }
-        ensures marks { IfOk result (λ u. MarksIn vertices.now self.now (event_of event) u) }
-        ensures refused { IfErr result (λ e. walk_memory e ≡ false → walk_in vertices.now self.now (event_of event) ≡ Err e) }
+        ensures marks { IfOk result (λ u. MarksIn vertices.now self.now event u) }
+        ensures refused { IfErr result (λ e. walk_memory e ≡ false → walk_in vertices.now self.now event ≡ Err e) }
     {
         match event {
             Event::Claim(w, v) => Ok(self.before_claim(alloc, vertices, w, v)?),

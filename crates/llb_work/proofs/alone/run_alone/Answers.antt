@@ -1,9 +1,7 @@
 use Rattle.std.proofs.Common.{◌≡◌, length, drop, None, true, ap, sym, ◌∙◌}
 use Rattle.std.specs.List.{count_by}
-use Rattle.std.proofs.lemmas.List.{drop-map}
 use Rattle.llb_model.specs.Run.{events_by, chosen, is_complete}
 use Rattle.llb_model.proofs.Complete.{complete_rests}
-use Rattle.llb_events.specs.Views.{event_of}
 use Rattle.llb_work.proofs.Driving.{of_worker, count_seen, when_true}
 use Rattle.llb_work.proofs.Ending.{ends_in_order}
 use Rattle.llb_work.proofs.alone.run_alone.Goals.{then-whole, else-whole}
@@ -14,7 +12,7 @@ returns-clause-made c =
     let es = c.as_slice.result.now in
     let n = c.len-before.result in
     let old : n ≡ length c.args.board.events = c.len-before.ensures ∙ ap length c.events.ensures.all in
-    let added = sym (drop-map event_of n es) ∙ ap (drop n) (c.as_slice.ensures ∙ c.events-2.ensures.all)
+    let added = ap (drop n) (c.as_slice.ensures ∙ c.events-2.ensures.all)
     ∙ ap (λ k. drop k c.go_alone-whole.new.board.events) old in
     λ w lt. c.made_by-made.ensures w lt ∙ ap (count_by (of_worker w)) c.split_at.ensures.back ∙ sym (count_seen w (drop n es)) ∙ ap (events_by w) added
 

@@ -1,5 +1,4 @@
 use Rattle.std.proofs.Common.{arith, sym}
-use Rattle.llb_events.specs.Views.{event_of}
 use Rattle.llb_work.proofs.Ends.{chosen_is_workers}
 use Rattle.llb_work.proofs.rest.chosen_worker.Goals as goal
 
@@ -10,6 +9,6 @@ returns c =
       arith,
       c.worker_of.ensures,
       c.has_workers.ensures.few,
-      chosen_is_workers b.build b.state (event_of c.args.event) c.has_workers.ensures.some
+      chosen_is_workers b.build b.state c.args.event c.has_workers.ensures.some
           (sym c.requires),
     )

@@ -1,5 +1,4 @@
 use Rattle.std.proofs.Common.{ap, arith, length, refl, sym, ◌∙◌}
-use Rattle.llb_events.specs.Views.{event_of}
 use Rattle.llb_work.proofs.Driving.{longer, nearer}
 use Rattle.llb_work.proofs.Afters.{goes_nowhere, goes_further, takes_one}
 use Rattle.llb_work.proofs.rest.go_to_end.Goals as goal
@@ -15,7 +14,7 @@ add_one-requires-clause-room c =
       c.requires,
       c.loop-event.invariant.1,
       longer b c.do_event.new.board
-          (event_of c.in-Some.event) c.if-not-do_event.ensures.taken,
+          c.in-Some.event c.if-not-do_event.ensures.taken,
       c.len.ensures ∙ ap length c.events.ensures.all,
     )
 
@@ -23,7 +22,7 @@ pub loop-event-preserved : goal.loop-event-preserved
 loop-event-preserved c =
     let b = c.loop-event.board in
     let n = c.do_event.new.board in
-    let e = event_of c.in-Some.event in
+    let e = c.in-Some.event in
     let taken = c.if-not-do_event.ensures.taken in (
       goes_further c.args.board.now b n c.loop-event.invariant.0 (takes_one b n e taken),
       omega
@@ -32,4 +31,4 @@ loop-event-preserved c =
 
 pub loop-event-smaller : goal.loop-event-smaller
 loop-event-smaller c =
-    nearer c.loop-event.board c.do_event.new.board (event_of c.in-Some.event) c.if-not-do_event.ensures.taken (sym c.in-Some.ensures)
+    nearer c.loop-event.board c.do_event.new.board c.in-Some.event c.if-not-do_event.ensures.taken (sym c.in-Some.ensures)

@@ -1,7 +1,7 @@
 use Rattle.std.proofs.Common.{◌≡◌, ◌∙◌, sym, ap}
 use Rattle.std.specs.Prelude.{Ok, slice_get}
-use Rattle.llb_model.specs.Table.{Cancel, Cancelled}
-use Rattle.llb_events.specs.Causes.{cancel_fault}
+use Rattle.llb_model.specs.Table.{cancel_reply}
+use Rattle.llb_model.specs.declared.event.Event.TheVariants.{Cancel}
 use Rattle.llb_state.specs.Rules.{given_up_at}
 use Rattle.llb_board.specs.Seen.{BoardValue, seen}
 use Rattle.llb_board.specs.Rules.{cancel_of}
@@ -59,8 +59,8 @@ returns-clause-gives c =
     let x = c.in_ok-cancelled.cancelled in
     let new = c.give_up.new.self in
     ap (λ (m : BoardValue). cancel_of m c.args.w) (sym c.self.view_is)
-    ∙ recorded_as b.vertices _ b.start.rows b.workers new b.history.list (Cancel c.args.w) cancel_fault _ (Cancelled x.vertex x.done)
+    ∙ recorded_as b.vertices _ b.start.rows b.workers new b.history.list (Cancel c.args.w) _ (cancel_reply x.vertex x.done)
     (gives b.vertices b.start.rows b.workers new b.history.list b.history.space c.args.w x.vertex x.done c.self.invariant (given p) e.idle e.rows)
     (left_count b.workers new c.args.w e.idle)
     (rows_kept b.vertices b.start.rows b.workers new b.history.list b.history.space c.args.w x.vertex x.done c.self.invariant (given p) e.idle e.rows)
-    ∙ (λ i. Ok (seen (sym c.set.ensures i) b.start.rows new (sym c.record_cancel.ensures.list i), Cancelled x.vertex x.done))
+    ∙ (λ i. Ok (seen (sym c.set.ensures i) b.start.rows new (sym c.record_cancel.ensures.list i), cancel_reply x.vertex x.done))

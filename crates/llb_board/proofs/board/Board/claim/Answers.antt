@@ -1,9 +1,9 @@
 use Rattle.std.proofs.Common.{◌≡◌, ◌∙◌, ◌+◌, ◌++◌, ◌∷◌, [], true, false, sym, ap, rules}
 use Rattle.std.specs.Prelude.{Ok, Err, slice_get}
-use Rattle.llb_model.specs.Table.{Claim, claim_grant}
-use Rattle.llb_events.specs.Causes.{claim_fault}
-use Rattle.llb_events.specs.Faults.{claim_memory, claim_may_want}
-use Rattle.llb_events.specs.Views.{claim_reply}
+use Rattle.llb_model.specs.Table.{Claimed}
+use Rattle.llb_model.specs.declared.event.Event.TheVariants.{Claim}
+use Rattle.llb_model.specs.Table.{claim_grant}
+use Rattle.llb_model.specs.Faults.{claim_memory, claim_may_want}
 use Rattle.llb_state.specs.Workers.{state_in}
 use Rattle.llb_board.specs.Seen.{BoardValue, seen}
 use Rattle.llb_board.specs.Rules.{claim_of}
@@ -57,7 +57,7 @@ set-requires-clause-low c =
     let e = c.in-Ok.ensures in
     let new = c.start.new.self in
     let grants = granted_at b.vertices b.workers new c.args.w c.args.v c.in_ok-begun.begun.job.worker c.in_ok-begun.begun.job.vertex _ a.0 a.1 e.grants in
-    low b.vertices b.start.rows b.workers new b.history.list b.history.space c.args.w c.args.v c.steps.result (claim_reply c.in_ok-begun.begun.job)
+    low b.vertices b.start.rows b.workers new b.history.list b.history.space c.args.w c.args.v c.steps.result (Claimed c.in_ok-begun.begun.job)
     c.self.invariant grants c.steps.ensures.all
 
 pub set-requires-clause-whole : goal.set-requires-clause-whole
@@ -71,7 +71,7 @@ record-requires c =
     let new = c.start.new.self in
     let grants = granted_at b.vertices b.workers new c.args.w c.args.v c.in_ok-begun.begun.job.worker c.in_ok-begun.begun.job.vertex _ a.0 a.1 e.grants in
     rw (c.in_ok-reserve.ensures.list, c.in_ok-reserve.ensures.ok)
-    (room b.vertices b.start.rows b.workers new b.history.list b.history.space c.args.w c.args.v c.steps.result (claim_reply c.in_ok-begun.begun.job)
+    (room b.vertices b.start.rows b.workers new b.history.list b.history.space c.args.w c.args.v c.steps.result (Claimed c.in_ok-begun.begun.job)
     c.self.invariant grants c.steps.ensures.all)
 
 pub invariant_of-self-2 : goal.invariant_of-self-2
@@ -83,7 +83,7 @@ invariant_of-self-2 c =
     let grants = granted_at b.vertices b.workers new c.args.w c.args.v c.in_ok-begun.begun.job.worker c.in_ok-begun.begun.job.vertex _ a.0 a.1 e.grants in
     let rows = rows_at b.vertices b.workers new c.args.w c.args.v c.in_ok-begun.begun.job.worker c.in_ok-begun.begun.job.vertex a.0 a.1 e.rows in
     rw (c.record.ensures.list, c.record.ensures.space, c.in_ok-reserve.ensures.list, c.in_ok-reserve.ensures.ok, c.set.ensures)
-    (keeps b.vertices b.start.rows b.workers new b.history.list b.history.space c.args.w c.args.v c.steps.result (claim_reply c.in_ok-begun.begun.job)
+    (keeps b.vertices b.start.rows b.workers new b.history.list b.history.space c.args.w c.args.v c.steps.result (Claimed c.in_ok-begun.begun.job)
     c.self.invariant grants c.steps.ensures.all e.count rows (e.fits c.self.invariant.fits))
 
 pub returns-clause-gives : goal.returns-clause-gives
@@ -95,12 +95,12 @@ returns-clause-gives c =
     let grants = granted_at b.vertices b.workers new c.args.w c.args.v c.in_ok-begun.begun.job.worker c.in_ok-begun.begun.job.vertex _ a.0 a.1 e.grants in
     let rows = rows_at b.vertices b.workers new c.args.w c.args.v c.in_ok-begun.begun.job.worker c.in_ok-begun.begun.job.vertex a.0 a.1 e.rows in
     ap (λ (m : BoardValue). claim_of m c.args.w c.args.v) (sym c.self.view_is)
-    ∙ recorded_as b.vertices _ b.start.rows b.workers new b.history.list (Claim c.args.w c.args.v) claim_fault _ (claim_reply c.in_ok-begun.begun.job)
+    ∙ recorded_as b.vertices _ b.start.rows b.workers new b.history.list (Claim c.args.w c.args.v) _ (Claimed c.in_ok-begun.begun.job)
     grants e.count rows
     ∙ (λ i. Ok (
       seen (sym c.set.ensures i) b.start.rows new (sym (c.record.ensures.list ∙ ap (λ es. es ++ Claim c.args.w c.args.v ∷ [])
           c.in_ok-reserve.ensures.list) i),
-      claim_reply (sym e.job i),
+      Claimed (sym e.job i),
     ))
 
 -- if memory for the lease is refused, the board is as it was

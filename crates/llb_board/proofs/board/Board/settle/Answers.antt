@@ -1,10 +1,10 @@
 use Rattle.std.proofs.Common.{◌≡◌, ◌∙◌, sym, ap}
 use Rattle.std.specs.Prelude.{Ok, Some, slice_get, if◌then◌else◌}
+use Rattle.llb_model.specs.declared.event.Settled.TheVariants as ended
+use Rattle.llb_model.specs.Table.{HasSettled}
 use Rattle.llb_model.specs.State.{Status, ending_of, is_failed}
 use Rattle.llb_model.specs.Table as table
-use Rattle.llb_model.specs.Table.{Settle, SettledDone, SettledFailed}
-use Rattle.llb_events.specs.Causes.{settle_fault}
-use Rattle.llb_events.specs.Views.{settle_reply}
+use Rattle.llb_model.specs.declared.event.Event.TheVariants.{Settle}
 use Rattle.llb_state.specs.Rules.{left_at}
 use Rattle.llb_state.specs.Vertices.{status_of}
 use Rattle.llb_board.specs.Seen.{BoardValue, seen}
@@ -52,16 +52,16 @@ returns-clause-gives c =
     let new = c.leave.new.self in
     let can = ends b.vertices b.start.rows b.workers new b.history.list b.history.space c.args.w v (status_of c.in_ok-v.stage) c.self.invariant
     (given p) e.idle e.rows in
-    let reply : table.settle_reply v can.ending ≡ settle_reply c.settled.result
+    let reply : table.settle_done v can.ending ≡ c.settled.result
     = reply_is v can.ending
-    ∙ ap (λ (k : Status). if is_failed (ending_of (Some k)) then SettledFailed v else SettledDone v) (sym can.is)
-    ∙ ap (λ f. if f then SettledFailed v else SettledDone v) (sym c.has_failed-failed.ensures)
+    ∙ ap (λ (k : Status). if is_failed (ending_of (Some k)) then ended.Failed v else ended.Done v) (sym can.is)
+    ∙ ap (λ f. if f then ended.Failed v else ended.Done v) (sym c.has_failed-failed.ensures)
     ∙ sym c.settled.ensures in
     ap (λ (m : BoardValue). settle_of m c.args.w) (sym c.self.view_is)
-    ∙ recorded_as b.vertices _ b.start.rows b.workers new b.history.list (Settle c.args.w) settle_fault _ (table.settle_reply v can.ending)
+    ∙ recorded_as b.vertices _ b.start.rows b.workers new b.history.list (Settle c.args.w) _ (table.settle_reply v can.ending)
     (grants b.vertices b.start.rows b.workers new b.history.list b.history.space c.args.w v (status_of c.in_ok-v.stage) c.self.invariant
     (given p) e.idle e.rows)
     (left_count b.workers new c.args.w e.idle)
     (rows_stay b.vertices b.start.rows b.workers new b.history.list b.history.space c.args.w v (status_of c.in_ok-v.stage) c.self.invariant
     (given p) e.idle e.rows)
-    ∙ (λ i. Ok (seen (sym c.set.ensures i) b.start.rows new (sym c.record.ensures.list i), reply i))
+    ∙ (λ i. Ok (seen (sym c.set.ensures i) b.start.rows new (sym c.record.ensures.list i), HasSettled (reply i)))

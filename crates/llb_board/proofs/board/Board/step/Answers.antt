@@ -1,11 +1,10 @@
 use Rattle.std.proofs.Common.{◌≡◌, refl, arith}
 use Rattle.std.specs.Prelude.{Ok}
-use Rattle.llb_model.specs.Table.{Step, step_grant}
-use Rattle.llb_events.specs.Causes.{step_fault}
-use Rattle.llb_events.specs.Views.{step_reply}
+use Rattle.llb_model.specs.declared.event.Event.TheVariants.{Step}
+use Rattle.llb_model.specs.Table.{HasStepped, step_grant}
 use Rattle.llb_state.specs.Workers.{state_in}
 use Rattle.llb_board.specs.Seen.{seen}
-use Rattle.llb_board.proofs.Calls.{granted, step_done}
+use Rattle.llb_board.proofs.Calls.{step_done}
 use Rattle.llb_board.proofs.Kept.{has_room, kept_after}
 use Rattle.llb_board.proofs.Spaces.{space_stays}
 use Rattle.llb_board.proofs.board.Board.step.Goals as goal
@@ -13,8 +12,8 @@ use Rattle.llb_board.proofs.board.Board.step.Goals.{In_ok-stepped}
 
 -- the table grants the step
 given : (c : In_ok-stepped) → step_grant c.self.inside.vertices.build (state_in c.self.inside.vertices c.self.inside.workers) c.args.w
-    ≡ Ok (state_in c.self.inside.vertices c.step.new.self, step_reply c.in_ok-stepped.stepped)
-given c = granted step_fault _ _ c.in_ok-stepped.ensures.gives
+    ≡ Ok (state_in c.self.inside.vertices c.step.new.self, HasStepped c.in_ok-stepped.stepped)
+given c = c.in_ok-stepped.ensures.gives
 
 pub record-requires : goal.record-requires
 record-requires c =
@@ -30,7 +29,7 @@ invariant_of-self-2 c =
     let p = (goal.at.invariant_of-self-2 c).In_ok-stepped in
     let e = c.in_ok-stepped.ensures in
     let new = c.step.new.self in
-    let r = step_reply c.in_ok-stepped.stepped in
+    let r = HasStepped c.in_ok-stepped.stepped in
     let done = step_done b.vertices.build (state_in b.vertices b.workers) c.args.w _ (given p) in
     rw (c.record.ensures.list, c.record.ensures.space)
     (kept_after b.vertices b.vertices.statuses b.start.rows b.workers new b.history.list b.history.space (Step c.args.w) r c.self.invariant done

@@ -1,7 +1,6 @@
 use Rattle.std.proofs.Common.{◌≡◌, ◌∙◌, false, sym, ap, subst, rules}
 use Rattle.std.specs.Prelude.{Err}
 use Rattle.llb_loader.specs.Graph.{IsGraph}
-use Rattle.llb_events.specs.Views.{event_of}
 use Rattle.llb_state.specs.Undo.{walk_memory}
 use Rattle.llb_board.specs.Seen.{BoardValue}
 use Rattle.llb_board.specs.Undo.{walk_of}
@@ -12,9 +11,9 @@ pub returns-in_err-undo-clause-gives : goal.returns-in_err-undo-clause-gives
 returns-in_err-undo-clause-gives c =
     let b = c.self.inside in
     let e = c.in_err-undo.field-0.0 in
-    let refused : walk_memory e ≡ false → walk_of c.args.self.now (event_of c.args.event) ≡ Err e
-    = λ known. ap (λ (m : BoardValue). walk_of m (event_of c.args.event)) (sym c.self.view_is)
-    ∙ walk_refused b.vertices b.start.rows b.workers b.history.list (event_of c.args.event) e (c.in_err-undo.ensures.refused known) in
+    let refused : walk_memory e ≡ false → walk_of c.args.self.now c.args.event ≡ Err e
+    = λ known. ap (λ (m : BoardValue). walk_of m c.args.event) (sym c.self.view_is)
+    ∙ walk_refused b.vertices b.start.rows b.workers b.history.list c.args.event e (c.in_err-undo.ensures.refused known) in
     search (rules, refused)
 
 pub returns-clause-undo : goal.returns-clause-undo
@@ -22,8 +21,8 @@ returns-clause-undo c =
     let b = c.self.inside in
     walk_back b.vertices b.start.rows b.workers b.history.list
     (subst (λ (m : BoardValue). IsGraph m.build.graph) (sym c.self.view_is) c.is_graph.ensures) _
-    (event_of c.args.event) c.in_ok-reply.reply c.in_ok-undo.undo c.self.invariant.replays
-    (ap (λ (m : BoardValue). walk_of m (event_of c.args.event)) c.self.view_is ∙ c.in_ok-reply.ensures.gives)
+    c.args.event c.in_ok-reply.reply c.in_ok-undo.undo c.self.invariant.replays
+    (ap (λ (m : BoardValue). walk_of m c.args.event) c.self.view_is ∙ c.in_ok-reply.ensures.gives)
     c.in_ok-undo.ensures.marks
     ∙ c.self.view_is
 
@@ -32,6 +31,6 @@ returns-clause-can c =
     let b = c.self.inside in
     walk_can b.vertices b.start.rows b.workers b.history.list
     (subst (λ (m : BoardValue). IsGraph m.build.graph) (sym c.self.view_is) c.is_graph.ensures) _
-    (event_of c.args.event) c.in_ok-reply.reply c.in_ok-undo.undo c.self.invariant.replays
-    (ap (λ (m : BoardValue). walk_of m (event_of c.args.event)) c.self.view_is ∙ c.in_ok-reply.ensures.gives)
+    c.args.event c.in_ok-reply.reply c.in_ok-undo.undo c.self.invariant.replays
+    (ap (λ (m : BoardValue). walk_of m c.args.event) c.self.view_is ∙ c.in_ok-reply.ensures.gives)
     c.in_ok-undo.ensures.marks

@@ -6,15 +6,14 @@ use Rattle.llb_model.specs.State.{Idle, is_waiting, start_from}
 use Rattle.llb_model.specs.Table.{claim_start}
 use Rattle.llb_model.specs.Table as table
 use Rattle.llb_model.proofs.Vertices.{kind_at}
-use Rattle.llb_events.specs.Causes.{faulted, claim_fault}
 use Rattle.llb_state.specs.Vertices.{VerticesValue, status_of}
-use Rattle.llb_events.specs.declared.fault.ClaimFault.TheVariants.{NotReady}
+use Rattle.llb_model.specs.declared.refusal.ClaimFault.TheVariants.{NotReady}
 use Rattle.llb_state.proofs.Behind.{ready_so}
 use Rattle.llb_state.proofs.InStep.{tells_in}
 use Rattle.llb_state.proofs.vertices.Vertices.ready.Goals as goal
 use Rattle.llb_state.proofs.vertices.Vertices.ready.Goals.{After-is_ready}
 
-not_ready : (o : Option Start) → is_some o ≡ false → faulted claim_fault (table.or_not_ready o) ≡ Err NotReady
+not_ready : (o : Option Start) → is_some o ≡ false → (table.or_not_ready o) ≡ Err NotReady
 not_ready None is = refl
 not_ready (Some start) is = absurd cc
 
@@ -36,9 +35,9 @@ starts c =
 pub returns-then-not-is_ready-clause-first : goal.returns-then-not-is_ready-clause-first
 returns-then-not-is_ready-clause-first c =
     let b = c.self.inside in
-    ap (λ (n : VerticesValue). faulted claim_fault (claim_start n.statuses c.args.v (Some Idle) (slice_get n.build.graph.vertices c.args.v)))
+    ap (λ (n : VerticesValue). (claim_start n.statuses c.args.v (Some Idle) (slice_get n.build.graph.vertices c.args.v)))
     (sym c.self.view_is)
-    ∙ ap (λ o. faulted claim_fault (claim_start (map status_of b.stages.items) c.args.v (Some Idle) o)) (sym c.in-Some.ensures.there)
+    ∙ ap (λ o. (claim_start (map status_of b.stages.items) c.args.v (Some Idle) o)) (sym c.in-Some.ensures.there)
     ∙ not_ready _ (starts (goal.at.returns-then-not-is_ready-clause-first c).After-is_ready ∙ c.if-not-is_ready.true)
 
 pub returns-clause-kind : goal.returns-clause-kind

@@ -2,13 +2,12 @@ use Rattle.std.proofs.Common.{◌≡◌, ◌∙◌, List, map, sym, ap, subst, r
 use Rattle.std.specs.Prelude.{Option, Some, Err, IfOk, IfErr, false, true, is_ok, slice_get}
 use Rattle.std.specs.List.{All}
 use Rattle.llb_cache.specs.Caches.{CachesValue}
+use Rattle.llb_model.specs.Table.{Claimed}
 use Rattle.llb_model.specs.State.{WorkerStatus, Idle}
 use Rattle.llb_model.specs.Table.{claim_start, claimed}
 use Rattle.llb_model.proofs.Leasing.{leased_holds_as}
-use Rattle.llb_events.specs.Faults.{GivesClaim, claim_memory, claim_may_want}
-use Rattle.llb_events.specs.Causes.{faulted, claim_fault}
+use Rattle.llb_model.specs.Faults.{GivesClaim, claim_memory, claim_may_want}
 use Rattle.llb_state.specs.Views.{at_of, leased_by}
-use Rattle.llb_events.specs.Views.{claim_reply}
 use Rattle.llb_state.specs.Workers.{WorkersValue, IsBegunOn, state_in, claim_in, reply_of}
 use Rattle.llb_state.specs.Needs.{IsFound}
 use Rattle.llb_state.specs.declared.needs.Wanted.{Wanted}
@@ -53,7 +52,7 @@ pub returns-in-None-clause-gives : goal.returns-in-None-clause-gives
 returns-in-None-clause-gives c =
     let vs = c.args.vertices.now in
     λ known. ap (λ (s : WorkersValue). reply_of (claim_in vs s c.args.w c.args.v)) (sym c.self.view_is)
-    ∙ ap (λ (o : Option WorkerStatus). reply_of (faulted claim_fault
+    ∙ ap (λ (o : Option WorkerStatus). reply_of (
     (claimed vs.build (state_in vs (seen_of c.self.inside.seats.items c.self.inside.caches.rows))
     c.args.w c.args.v (claim_start vs.statuses c.args.v o (slice_get vs.build.graph.vertices c.args.v)))))
     (ap (λ (ds : List Desk). slice_get (map at_of ds) c.args.w) (sym c.deref.ensures.value) ∙ sym c.in-None.ensures)
@@ -62,7 +61,7 @@ pub returns-in-Some-Runs-clause-gives : goal.returns-in-Some-Runs-clause-gives
 returns-in-Some-Runs-clause-gives c =
     let vs = c.args.vertices.now in
     λ known. ap (λ (s : WorkersValue). reply_of (claim_in vs s c.args.w c.args.v)) (sym c.self.view_is)
-    ∙ ap (λ (o : Option WorkerStatus). reply_of (faulted claim_fault
+    ∙ ap (λ (o : Option WorkerStatus). reply_of (
     (claimed vs.build (state_in vs (seen_of c.self.inside.seats.items c.self.inside.caches.rows))
     c.args.w c.args.v (claim_start vs.statuses c.args.v o (slice_get vs.build.graph.vertices c.args.v)))))
     (ap (λ (ds : List Desk). slice_get (map at_of ds) c.args.w) (sym c.deref.ensures.value) ∙ sym c.in-Some-Runs.ensures
@@ -78,7 +77,7 @@ returns-in_err-vertex-clause-gives c =
     let refused : claim_memory e ≡ false → reply_of (claim_in vs c.args.self.now c.args.w c.args.v) ≡ Err e
     = λ known. ap (λ (s : WorkersValue). reply_of (claim_in vs s c.args.w c.args.v)) (sym c.self.view_is)
     ∙ refused_start vs.build (state_in vs (seen_of c.self.inside.seats.items c.self.inside.caches.rows)) c.args.w c.args.v _ e
-    (ap (λ o. faulted claim_fault (claim_start vs.statuses c.args.v o (slice_get vs.build.graph.vertices c.args.v))) at ∙ c.in_err-vertex.ensures.first) in
+    (ap (λ o. (claim_start vs.statuses c.args.v o (slice_get vs.build.graph.vertices c.args.v))) at ∙ c.in_err-vertex.ensures.first) in
     search (rules, refused)
 
 pub wanted_by-requires-clause-seeds : goal.wanted_by-requires-clause-seeds
@@ -114,7 +113,7 @@ returns-clause-gives c =
     let p = path.In_ok-vertex in
     let vs = c.args.vertices.now in
     let s = c.self.inside in
-    subst (λ (n : WorkersValue). GivesClaim (λ g. claim_reply g.job) c.begun_with.result (reply_of (claim_in vs n c.args.w c.args.v))) c.self.view_is
+    subst (λ (n : WorkersValue). GivesClaim (λ g. Claimed g.job) c.begun_with.result (reply_of (claim_in vs n c.args.w c.args.v))) c.self.view_is
     (begin_gives vs (seen p) s.caches.out c.args.w c.args.v c.in_ok-vertex.vertex.now (can p) (leased path.After-is_exclusive) _
     c.in_ok-wanted.ensures.gives c.begun_with.result
     (c.begun_with.ensures.gives s.caches (still s.caches _ _ c.deref-2.ensures.value c.in_ok-wanted.ensures.found)))

@@ -1,11 +1,11 @@
 use Rattle.std.proofs.Common.{◌≡◌, ◌≢◌, ◌∙◌, ℕ, sym, ap, subst}
 use Rattle.std.specs.Prelude.{Ok, AllPairs, slice_set}
 use Rattle.llb_cache.specs.declared.need.Need as cache_need
+use Rattle.llb_model.specs.Table.{Claimed}
 use Rattle.llb_model.specs.State.{Running}
 use Rattle.llb_model.specs.Table.{Job, claim_grant}
 use Rattle.llb_state.specs.Caches.{lease_if, rows_after}
 use Rattle.llb_state.specs.Vertices.{with_status}
-use Rattle.llb_events.specs.Views.{claim_reply}
 use Rattle.llb_state.specs.Workers.{WorkersValue, IsBegunAt, Fits, state_in}
 use Rattle.llb_state.specs.declared.desk.Desk.TheVariants as desk
 use Rattle.llb_state.proofs.Claims.{differ, few, start_grants, start_rows, start_crew, start_fits}
@@ -69,9 +69,9 @@ returns-in-Ok-clause-grants c =
     let s = c.self.inside in
     let v = c.args.begun.job.vertex in
     subst (λ (n : ℕ). claim_grant vs.build (state_in vs c.args.self.now) n v
-    ≡ Ok (state_in (with_status v (Running n) vs) (after path.In-Ok), claim_reply c.args.begun.job)) (sym (worker_is path.After-is_exclusive))
+    ≡ Ok (state_in (with_status v (Running n) vs) (after path.In-Ok), Claimed c.args.begun.job)) (sym (worker_is path.After-is_exclusive))
     (subst (λ (ws : WorkersValue). claim_grant vs.build (state_in vs ws) c.worker-w.result v
-    ≡ Ok (state_in (with_status v (Running c.worker-w.result) vs) (after path.In-Ok), claim_reply c.args.begun.job)) c.self.view_is
+    ≡ Ok (state_in (with_status v (Running c.worker-w.result) vs) (after path.In-Ok), Claimed c.args.begun.job)) c.self.view_is
     (start_grants vs s.seats.items s.caches c.worker-w.result v c.args.begun (on_w path.After-is_exclusive)
     c.self.invariant c.is_exclusive.ensures.apart c.is_exclusive.ensures.there c.vertex.ensures.graph c.in-Ok.lease c.into_parts-job.result.1
     c.lease_for.new.caches c.into_parts-job.ensures.execution c.into_parts-job.ensures.supplies (leased path.In-Ok)))

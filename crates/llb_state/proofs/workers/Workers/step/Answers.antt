@@ -2,12 +2,12 @@ use Rattle.std.proofs.Common.{◌≡◌, ◌∙◌, ◌<◌, Option, length, ap,
 use Rattle.std.specs.Prelude.{Some, OnOk, slice_get, slice_set}
 use Rattle.std.proofs.lemmas.Option.{slice_get-get_or}
 use Rattle.llb_wire.specs.Answer.{MemoryLast}
+use Rattle.llb_model.specs.Table.{HasStepped}
 use Rattle.llb_model.specs.State.{WorkerStatus}
 use Rattle.llb_model.specs.Table.{stepped}
 use Rattle.llb_state.specs.Caches.{rows_after}
-use Rattle.llb_events.specs.Causes.{faulted, step_fault, step_memory, GivesStep}
+use Rattle.llb_events.specs.Causes.{step_memory, GivesStep}
 use Rattle.llb_state.specs.Views.{at_of}
-use Rattle.llb_events.specs.Views.{step_reply}
 use Rattle.llb_state.specs.Workers.{WorkersValue, Fits, state_in, step_in}
 use Rattle.llb_state.specs.declared.desk.Desk.TheVariants as desk
 use Rattle.llb_state.proofs.Kept.{made_enough}
@@ -55,7 +55,7 @@ returns-in-Idle-clause-gives c =
     let at : slice_get ds c.args.w ≡ Some desk.Idle
     = slice_get-get_or ds c.args.w c.index_mut.result.now low ∙ ap (λ d. Some d) (sym c.index_mut.ensures.value ∙ c.in-Idle.is) in
     λ known. ap (λ (v : WorkersValue). step_in vs v c.args.w) (sym c.self.view_is)
-    ∙ ap (λ (o : Option WorkerStatus). faulted step_fault (stepped vs.build (state_in vs (seen_of ds s.caches.rows)) c.args.w o))
+    ∙ ap (λ (o : Option WorkerStatus). (stepped vs.build (state_in vs (seen_of ds s.caches.rows)) c.args.w o))
     (get_map at_of ds c.args.w desk.Idle at)
 
 pub returns-in-Runs-clause-gives : goal.returns-in-Runs-clause-gives
@@ -69,7 +69,7 @@ returns-in-Runs-clause-gives c =
     let low : c.args.w < length ds = search rules in
     let at : slice_get ds c.args.w ≡ Some (desk.Runs l c.in-Runs.execution)
     = slice_get-get_or ds c.args.w c.index_mut.result.now low ∙ ap (λ d. Some d) (sym c.index_mut.ensures.value ∙ c.in-Runs.is) in
-    subst (λ (v : WorkersValue). GivesStep (λ r. (state_in vs (seen_of (slice_set ds c.args.w (desk.Runs l y)) after), step_reply r)) c.micro_step.result
+    subst (λ (v : WorkersValue). GivesStep (λ r. (state_in vs (seen_of (slice_set ds c.args.w (desk.Runs l y)) after), HasStepped r)) c.micro_step.result
     (step_in vs v c.args.w)) c.self.view_is
     (step_gives vs ds s.caches.rows s.caches.out c.args.w l c.in-Runs.execution c.self.invariant c.is_exclusive.ensures.apart
     c.is_exclusive.ensures.there at c.micro_step.result y after c.micro_step.ensures.gives)

@@ -1,11 +1,11 @@
 use Rattle.std.proofs.Common.{◌≡◌, ◌∙◌, Option, Some, None, length, refl, ap, sym, arith}
 use Rattle.std.specs.Prelude.{is_some, false}
+use Rattle.llb_model.specs.Table.{HasStepped}
 use Rattle.llb_model.specs.Caches.{trees_at}
 use Rattle.llb_model.specs.Kept.{store_of}
 use Rattle.llb_execution.specs.Parts.{left_with, step_in}
 use Rattle.llb_state.specs.Caches.{leased_places}
 use Rattle.llb_state.specs.Views.{execution_of}
-use Rattle.llb_events.specs.Views.{step_reply}
 use Rattle.llb_state.proofs.MicroSteps.{step_last, skipped_to, stepped_by, shown_apart, shown_within, few_places, few_done}
 use Rattle.llb_state.proofs.Stepping.{held_within, places_are, trees_count}
 use Rattle.llb_state.proofs.workers.stepping.micro_step.Goals as goal
@@ -88,7 +88,7 @@ returns-clause-gives c =
     let clean = none_of x.fault (sym c.is_some.ensures ∙ c.if-is_some.false) in
     let left = left_with c.step.new.self c.step.new.trees.items c.in_ok-fault.fault in
     stepped_by b rows x v m (sym c.in-Some.ensures.there) clean (sym c.in-Some-step_of.ensures)
-    c.in_ok-trees.trees.items left (step_reply c.told.result) c.write_back.new.caches.rows (leased_places c.args.caches.now.out c.args.lease)
+    c.in_ok-trees.trees.items left (HasStepped c.told.result) c.write_back.new.caches.rows (leased_places c.args.caches.now.out c.args.lease)
     (c.in_ok-trees.ensures.trees ∙ ap (trees_at (store_of rows)) c.deref.ensures.value) c.in_ok-fault.ensures.left
     (c.told.ensures x.own left (sym c.skips.ensures ∙ c.if-skips.false) (sym c.last.ensures) refl) c.write_back.ensures.rows
     (places_are c.args.caches.now.out c.args.lease x.places c.requires.leased)

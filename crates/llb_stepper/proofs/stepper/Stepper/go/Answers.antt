@@ -1,6 +1,5 @@
-use Rattle.std.proofs.Common.{◌≡◌, ◌-◌, ◌∙◌, None, option_map, length, sym, ap, subst}
+use Rattle.std.proofs.Common.{◌≡◌, ◌-◌, ◌∙◌, None, length, sym, ap, subst}
 use Rattle.llb_model.specs.Run.{chosen}
-use Rattle.llb_events.specs.Views.{event_of}
 use Rattle.llb_stepper.specs.Rules.{MeetsOn}
 use Rattle.llb_stepper.specs.Stepping.{Stepping}
 use Rattle.llb_stepper.proofs.Stops.{nearer, none_chosen, one_chosen, stops_chosen, ends_chosen, done_since, since, chosen_as}
@@ -12,7 +11,7 @@ loop-event-init c = (none_chosen c.args.self.now, c.depth-before.ensures)
 
 pub returns-in-Ok-true-clause-goes : goal.returns-in-Ok-true-clause-goes
 returns-in-Ok-true-clause-goes c =
-    let e = event_of c.in-Some.event in
+    let e = c.in-Some.event in
     let so_far = c.loop-event.invariant.0 in
     let met = subst (MeetsOn c.loop-event.self e c.walk.new.self) c.in-Ok-true.field-0-test c.in-Ok-true.ensures.met in
     stops_chosen c.args.self.now c.loop-event.self c.walk.new.self (c.depth.result - c.depth-before.result) e
@@ -22,14 +21,14 @@ returns-in-Ok-true-clause-goes c =
 
 pub returns-in-Err-clause-refused : goal.returns-in-Err-clause-refused
 returns-in-Err-clause-refused c =
-    memory_alone c.loop-event.self (event_of c.in-Some.event) c.in-Err.fault
-    (chosen_granted c.self.inside.board c.loop-event.self (event_of c.in-Some.event) (ap (λ (x : Stepping). x.board) c.self.view_is) c.chosen_is_granted.ensures
+    memory_alone c.loop-event.self c.in-Some.event c.in-Err.fault
+    (chosen_granted c.self.inside.board c.loop-event.self c.in-Some.event (ap (λ (x : Stepping). x.board) c.self.view_is) c.chosen_is_granted.ensures
     (sym c.in-Some.ensures))
     c.in-Err.ensures.gives
 
 pub loop-event-preserved : goal.loop-event-preserved
 loop-event-preserved c =
-    let e = event_of c.in-Some.event in
+    let e = c.in-Some.event in
     let met = subst (MeetsOn c.loop-event.self e c.walk.new.self) c.in-Ok-false.field-0-test c.in-Ok-false.ensures.met in (
       one_chosen c.args.self.now c.loop-event.self c.walk.new.self e c.loop-event.invariant.0 (chosen_as _ c.loop-event.self e c.in-Some.ensures
           c.self.view_is) met,
@@ -38,7 +37,7 @@ loop-event-preserved c =
 
 pub loop-event-smaller : goal.loop-event-smaller
 loop-event-smaller c =
-    let e = event_of c.in-Some.event in
+    let e = c.in-Some.event in
     let met = subst (MeetsOn c.loop-event.self e c.walk.new.self) c.in-Ok-false.field-0-test c.in-Ok-false.ensures.met in
     nearer c.loop-event.self c.walk.new.self e _ met (chosen_as _ c.loop-event.self e c.in-Some.ensures c.self.view_is)
 
@@ -46,7 +45,7 @@ pub returns-clause-goes : goal.returns-clause-goes
 returns-clause-goes c =
     let so_far = c.loop-event.invariant.0 in
     let none : chosen c.loop-event.self.board.build c.loop-event.self.board.state ≡ None =
-    ap (λ (x : Stepping). chosen x.board.build x.board.state) (sym c.self.view_is) ∙ sym c.chosen.ensures ∙ ap (option_map event_of) c.in_default.is in
+    ap (λ (x : Stepping). chosen x.board.build x.board.state) (sym c.self.view_is) ∙ sym c.chosen.ensures ∙ c.in_default.is in
     ends_chosen c.args.self.now c.loop-event.self (c.depth-2.result - c.depth-before.result)
     (since c.args.self.now c.loop-event.self (length so_far.events) c.depth-before.result c.depth-2.result so_far.gone.depth c.loop-event.invariant.1
     c.depth-2.ensures) so_far none c.past_is_the_records-2.ensures

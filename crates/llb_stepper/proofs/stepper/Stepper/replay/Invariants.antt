@@ -1,8 +1,7 @@
 -- So many of the events were done, and met no breakpoint.
 use Rattle.std.proofs.Common.{◌≡◌, map, length}
-use Rattle.llb_events.specs.Views.{event_of}
 use Rattle.llb_stepper.proofs.Stops.{GoneTo}
 use Rattle.llb_stepper.proofs.stepper.Stepper.replay.Given as goal
 
 abbrev pub invariant-loop-event : goal.invariant-loop-event
-invariant-loop-event l = GoneTo l.fn.self (map event_of l.events) l.self l.event-index × (l.start ≡ length l.fn.self.past)
+invariant-loop-event l = GoneTo l.fn.self l.events l.self l.event-index × (l.start ≡ length l.fn.self.past)

@@ -1,5 +1,4 @@
 use Rattle.std.proofs.Common.{[], ◌∷◌, ◌++◌, reverse, ap, sym, subst, ◌∙◌}
-use Rattle.llb_events.specs.Views.{event_of}
 use Rattle.llb_stepper.specs.Kept.{AreWalked}
 use Rattle.llb_stepper.proofs.Walked.{walked_more, meets_more}
 use Rattle.llb_stepper.proofs.stepper.Stepper.walk.Goals as goal
@@ -9,7 +8,7 @@ invariant_of-self-in-Ok c =
     let w = c.in-Ok.walked in
     let more = c.push_reserved.ensures.items ∙ ap (λ l. l ++ w ∷ []) c.reserve.ensures.items in
     subst (λ l. AreWalked c.walk.new.self (reverse l)) (sym more)
-    (walked_more c.self.inside.board c.walk.new.self (event_of c.args.event) c.self.inside.walked.items w c.in-Ok.ensures.undo c.in-Ok.ensures.gives
+    (walked_more c.self.inside.board c.walk.new.self c.args.event c.self.inside.walked.items w c.in-Ok.ensures.undo c.in-Ok.ensures.gives
     c.in-Ok.ensures.can
     c.self.invariant)
 
@@ -17,5 +16,5 @@ pub returns-in-Ok-clause-met : goal.returns-in-Ok-clause-met
 returns-in-Ok-clause-met c =
     let w = c.in-Ok.walked in
     let more = c.push_reserved.ensures.items ∙ ap (λ l. l ++ w ∷ []) c.reserve.ensures.items in
-    meets_more c.self.inside.board c.walk.new.self (event_of c.args.event) c.self.inside.walked.items w c.in-Ok.ensures.undo c.in-Ok.ensures.gives
+    meets_more c.self.inside.board c.walk.new.self c.args.event c.self.inside.walked.items w c.in-Ok.ensures.undo c.in-Ok.ensures.gives
     c.args.self.now c.self.inside.breaks c.push_reserved.new.self.items c.is_met_by-met.result more c.self.view_is c.is_met_by-met.ensures

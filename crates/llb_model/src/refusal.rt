@@ -1,7 +1,7 @@
 //! Why an event is refused. A fault prints its number, and after it the ID of a held key.
 
 ghost use Rattle.std.specs.Prelude.{Some};
-ghost use Rattle.llb_events.specs.Faults.{claim_text, step_text, settle_text, cancel_text, walk_text};
+ghost use Rattle.llb_model.specs.Faults.{claim_text, step_text, settle_text, cancel_text, walk_text};
 
 use llb_cache::Key;
 use llb_tree::TreeFault;
@@ -203,7 +203,7 @@ impl From<llb_applet::Memory> for Memory {
 
 impl From<AllocError> for ClaimFault {
     ghost use Rattle.std.specs.Prelude.{◌≡◌};
-    ghost use Rattle.llb_events.specs.declared.fault.ClaimFault.TheVariants.{Memory};
+    ghost use Rattle.llb_model.specs.declared.refusal.ClaimFault.TheVariants.{Memory};
 
     ghost from_gives = { λ _ e. e ≡ Memory };
 
@@ -214,7 +214,7 @@ impl From<AllocError> for ClaimFault {
 
 impl<T: Drop> From<AllocFailed<T>> for ClaimFault {
     ghost use Rattle.std.specs.Prelude.{◌≡◌};
-    ghost use Rattle.llb_events.specs.declared.fault.ClaimFault.TheVariants.{Memory};
+    ghost use Rattle.llb_model.specs.declared.refusal.ClaimFault.TheVariants.{Memory};
 
     ghost from_gives = { λ _ e. e ≡ Memory };
 
@@ -226,7 +226,7 @@ impl<T: Drop> From<AllocFailed<T>> for ClaimFault {
 /// Converts the fault of a call on a tree that can only lack memory.
 impl From<TreeFault> for ClaimFault {
     ghost use Rattle.std.specs.Prelude.{◌≡◌};
-    ghost use Rattle.llb_events.specs.declared.fault.ClaimFault.TheVariants.{Memory};
+    ghost use Rattle.llb_model.specs.declared.refusal.ClaimFault.TheVariants.{Memory};
 
     ghost from_gives = { λ _ e. e ≡ Memory };
 
@@ -238,7 +238,7 @@ impl From<TreeFault> for ClaimFault {
 /// Converts the fault of a copy of a text, and of the parts of an execution.
 impl From<llb_wire::Memory> for ClaimFault {
     ghost use Rattle.std.specs.Prelude.{◌≡◌};
-    ghost use Rattle.llb_events.specs.declared.fault.ClaimFault.TheVariants.{Memory};
+    ghost use Rattle.llb_model.specs.declared.refusal.ClaimFault.TheVariants.{Memory};
 
     ghost from_gives = { λ _ e. e ≡ Memory };
 
@@ -250,7 +250,7 @@ impl From<llb_wire::Memory> for ClaimFault {
 /// Converts the fault of making room for events.
 impl From<Memory> for ClaimFault {
     ghost use Rattle.std.specs.Prelude.{◌≡◌};
-    ghost use Rattle.llb_events.specs.declared.fault.ClaimFault.TheVariants as claim;
+    ghost use Rattle.llb_model.specs.declared.refusal.ClaimFault.TheVariants as claim;
 
     ghost from_gives = { λ _ e. e ≡ claim.Memory };
 
@@ -262,7 +262,7 @@ impl From<Memory> for ClaimFault {
 /// Converts the fault of a copy of a key.
 impl From<llb_cache::Memory> for ClaimFault {
     ghost use Rattle.std.specs.Prelude.{◌≡◌};
-    ghost use Rattle.llb_events.specs.declared.fault.ClaimFault.TheVariants.{Memory};
+    ghost use Rattle.llb_model.specs.declared.refusal.ClaimFault.TheVariants.{Memory};
 
     ghost from_gives = { λ _ e. e ≡ Memory };
 
@@ -274,7 +274,7 @@ impl From<llb_cache::Memory> for ClaimFault {
 /// Converts the fault of a lease that can only lack memory.
 impl From<llb_cache::LeaseFault> for ClaimFault {
     ghost use Rattle.std.specs.Prelude.{◌≡◌};
-    ghost use Rattle.llb_events.specs.declared.fault.ClaimFault.TheVariants.{Memory};
+    ghost use Rattle.llb_model.specs.declared.refusal.ClaimFault.TheVariants.{Memory};
 
     ghost from_gives = { λ _ e. e ≡ Memory };
 
@@ -286,7 +286,7 @@ impl From<llb_cache::LeaseFault> for ClaimFault {
 /// Converts the fault of a call on a tree that can only lack memory.
 impl From<TreeFault> for StepFault {
     ghost use Rattle.std.specs.Prelude.{◌≡◌};
-    ghost use Rattle.llb_events.specs.declared.fault.StepFault.TheVariants.{Memory};
+    ghost use Rattle.llb_model.specs.declared.refusal.StepFault.TheVariants.{Memory};
 
     ghost from_gives = { λ _ e. e ≡ Memory };
 
@@ -298,7 +298,7 @@ impl From<TreeFault> for StepFault {
 /// Converts the fault of a micro-step on a view, which can only lack memory.
 impl From<llb_wire::Memory> for StepFault {
     ghost use Rattle.std.specs.Prelude.{◌≡◌};
-    ghost use Rattle.llb_events.specs.declared.fault.StepFault.TheVariants.{Memory};
+    ghost use Rattle.llb_model.specs.declared.refusal.StepFault.TheVariants.{Memory};
 
     ghost from_gives = { λ _ e. e ≡ Memory };
 
@@ -309,7 +309,7 @@ impl From<llb_wire::Memory> for StepFault {
 
 impl From<AllocError> for StepFault {
     ghost use Rattle.std.specs.Prelude.{◌≡◌};
-    ghost use Rattle.llb_events.specs.declared.fault.StepFault.TheVariants.{Memory};
+    ghost use Rattle.llb_model.specs.declared.refusal.StepFault.TheVariants.{Memory};
 
     ghost from_gives = { λ _ e. e ≡ Memory };
 
@@ -320,7 +320,7 @@ impl From<AllocError> for StepFault {
 
 impl From<Memory> for WalkFault {
     ghost use Rattle.std.specs.Prelude.{◌≡◌};
-    ghost use Rattle.llb_events.specs.declared.fault.WalkFault.TheVariants as walk;
+    ghost use Rattle.llb_model.specs.declared.refusal.WalkFault.TheVariants as walk;
 
     ghost from_gives = { λ _ e. e ≡ walk.Memory };
 
@@ -332,7 +332,7 @@ impl From<Memory> for WalkFault {
 /// Converts the fault of a mark of a view.
 impl From<llb_wire::Memory> for WalkFault {
     ghost use Rattle.std.specs.Prelude.{◌≡◌};
-    ghost use Rattle.llb_events.specs.declared.fault.WalkFault.TheVariants as walk;
+    ghost use Rattle.llb_model.specs.declared.refusal.WalkFault.TheVariants as walk;
 
     ghost from_gives = { λ _ e. e ≡ walk.Memory };
 
@@ -343,7 +343,7 @@ impl From<llb_wire::Memory> for WalkFault {
 
 impl From<ClaimFault> for WalkFault {
     ghost use Rattle.std.specs.Prelude.{◌≡◌};
-    ghost use Rattle.llb_events.specs.Faults.{claim_refused};
+    ghost use Rattle.llb_model.specs.Faults.{claim_refused};
 
     ghost from_gives = { λ f e. e ≡ claim_refused f };
 
@@ -357,7 +357,7 @@ impl From<ClaimFault> for WalkFault {
 
 impl From<StepFault> for WalkFault {
     ghost use Rattle.std.specs.Prelude.{◌≡◌};
-    ghost use Rattle.llb_events.specs.Faults.{step_refused};
+    ghost use Rattle.llb_model.specs.Faults.{step_refused};
 
     ghost from_gives = { λ f e. e ≡ step_refused f };
 
@@ -371,7 +371,7 @@ impl From<StepFault> for WalkFault {
 
 impl From<SettleFault> for WalkFault {
     ghost use Rattle.std.specs.Prelude.{◌≡◌};
-    ghost use Rattle.llb_events.specs.declared.fault.WalkFault.TheVariants as walk;
+    ghost use Rattle.llb_model.specs.declared.refusal.WalkFault.TheVariants as walk;
 
     ghost from_gives = { λ f e. e ≡ walk.Settle f };
 
@@ -382,7 +382,7 @@ impl From<SettleFault> for WalkFault {
 
 impl From<CancelFault> for WalkFault {
     ghost use Rattle.std.specs.Prelude.{◌≡◌};
-    ghost use Rattle.llb_events.specs.declared.fault.WalkFault.TheVariants as walk;
+    ghost use Rattle.llb_model.specs.declared.refusal.WalkFault.TheVariants as walk;
 
     ghost from_gives = { λ f e. e ≡ walk.Cancel f };
 

@@ -2,16 +2,16 @@
 use Rattle.std.specs.Prelude.{ℕ, Bool, true, false, List, ◌++◌, Result, Ok, Err, codes}
 use Rattle.llb_wire.specs.Answer as answer
 use Rattle.llb_cache.specs.Key.{has_text}
-use Rattle.llb_events.specs.declared.fault.ClaimFault.{ClaimFault}
-use Rattle.llb_events.specs.declared.fault.ClaimFault.TheVariants as claim
-use Rattle.llb_events.specs.declared.fault.StepFault.{StepFault}
-use Rattle.llb_events.specs.declared.fault.StepFault.TheVariants as step
-use Rattle.llb_events.specs.declared.fault.SettleFault.{SettleFault}
-use Rattle.llb_events.specs.declared.fault.SettleFault.TheVariants as settle
-use Rattle.llb_events.specs.declared.fault.CancelFault.{CancelFault}
-use Rattle.llb_events.specs.declared.fault.CancelFault.TheVariants as cancel
-use Rattle.llb_events.specs.declared.fault.WalkFault.{WalkFault}
-use Rattle.llb_events.specs.declared.fault.WalkFault.TheVariants as walk
+use Rattle.llb_model.specs.declared.refusal.ClaimFault.{ClaimFault}
+use Rattle.llb_model.specs.declared.refusal.ClaimFault.TheVariants as claim
+use Rattle.llb_model.specs.declared.refusal.StepFault.{StepFault}
+use Rattle.llb_model.specs.declared.refusal.StepFault.TheVariants as step
+use Rattle.llb_model.specs.declared.refusal.SettleFault.{SettleFault}
+use Rattle.llb_model.specs.declared.refusal.SettleFault.TheVariants as settle
+use Rattle.llb_model.specs.declared.refusal.CancelFault.{CancelFault}
+use Rattle.llb_model.specs.declared.refusal.CancelFault.TheVariants as cancel
+use Rattle.llb_model.specs.declared.refusal.WalkFault.{WalkFault}
+use Rattle.llb_model.specs.declared.refusal.WalkFault.TheVariants as walk
 
 -- the text of the refusal of a claim
 abbrev pub claim_text : ClaimFault → List ℕ
