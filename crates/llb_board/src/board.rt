@@ -15,11 +15,13 @@ ghost use Rattle.llb_loader.specs.Graph.{IsGraph};
 ghost use Rattle.llb_links.specs.Links.{users_of};
 ghost use Rattle.llb_wire.specs.Answer.{MemoryLast};
 ghost use Rattle.llb_cache.specs.Caches.{leases};
+ghost use Rattle.llb_model.specs.Caches.{content, place};
 ghost use Rattle.llb_model.specs.Kept.{store_of};
 ghost use Rattle.llb_model.specs.Leases.{HoldsAs};
 ghost use Rattle.llb_events.specs.Causes.{step_memory, GivesStep, GivesSettle, GivesCancel};
 ghost use Rattle.llb_model.specs.Faults.{GivesClaim, claim_memory, claim_may_want};
 ghost use Rattle.llb_events.specs.Views.{look_at, worker_look};
+ghost use Rattle.llb_state.specs.Looks.{worked_on, cached_at};
 ghost use Rattle.llb_state.specs.Vertices.{all_waiting, status_of};
 ghost use Rattle.llb_board.specs.Seen.{BoardValue, Replays, opened, replies_in};
 ghost use Rattle.llb_board.specs.declared.fault.OpenFault.TheVariants as opening;
@@ -30,7 +32,7 @@ use crate::choice::next_event;
 use crate::events::Events;
 use crate::fault::OpenFault;
 use crate::history::History;
-use llb_cache::Caches;
+use llb_cache::{Caches, Key};
 use llb_events::{
     CancelFault, Cancelled, ClaimFault, Event, Memory, SettleFault, Settled, Status, StepFault,
     Stepped, WorkerStatus,
@@ -236,6 +238,15 @@ impl Board {
         self.workers.look(&self.vertices, w)
     }
 
+    /// Returns tree i of those that a worker works on now: the local tree of a source; the inputs of a file op, then its results so far; the
+    /// inputs of a merge, then what is laid so far; the tree of each mount of an exec, that of a cache's instance as it is now. `None` where
+    /// the worker is idle, or there is no such worker or tree. Does not allocate.
+    pub fn worked_on(&self, w: u32, i: u32) -> Option<&Tree>
+        ensures { option_map (λ t. t.now) result ≡ worked_on self.now.state w i }
+    {
+        self.workers.worked_on(w, i)
+    }
+
     /// Returns output i of a vertex that is done; `None` where there is no such vertex or output. Does not allocate.
     pub fn output(&self, v: u32, i: u32) -> Option<&Tree>
         ensures { option_map (λ t. t.now) result ≡ output_in (ending_at self.now.state.statuses v) i }
@@ -291,6 +302,18 @@ impl Board {
         self.workers.caches()
     }
 
+    /// Returns the tree of instance i of key k as it is now, the keys numbered in the order of the rows of `caches`; `None` where there is no
+    /// such key or instance. Does not allocate.
+    pub fn cached(&self, k: u32, i: u32) -> Option<&Tree>
+        ensures { option_map (λ t. t.now) result ≡ cached_at self.now.rows self.now.state.store k i }
+    {
+        let caches = self.workers.caches();
+        match caches.key(k as usize) {
+            Some(key) => cached_in(caches, key, i),
+            None => None,
+        }
+    }
+
     /// Returns the graph, the local trees and the caches as they are now, with no lease out. Does not allocate.
     pub fn into_parts(self) -> (Graph, Locals, Caches)
         ensures graph { result.0 ≡ self.build.graph }
@@ -334,6 +357,13 @@ impl Board {
     {
         let _ = &self.history;
     }
+}
+
+// Returns the tree of instance i of a key.
+fn cached_in<'a>(caches: &'a Caches, key: &Key, i: u32) -> Option<&'a Tree>
+    ensures { option_map (λ t. t.now) result ≡ content (store_of caches.now.rows) (place key.now i) }
+{
+    caches.instance(key, i)
 }
 
 // Returns whether a board may have this number of workers: 1 to 64.

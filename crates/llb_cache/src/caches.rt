@@ -14,7 +14,7 @@ use crate::key::Key;
 use crate::key_ref::KeyRef;
 use crate::marks::Marks;
 use crate::need::{Instance, Need};
-use crate::rows::{Rows, no_rows, reserve, trees_at, trees_with};
+use crate::rows::{Rows, key_at, no_rows, reserve, trees_at, trees_with};
 use crate::search::{count, keys_differ};
 use llb_tree::Tree;
 use llb_wire::{Many, all_same};
@@ -221,6 +221,20 @@ impl Caches {
         ensures { result ≡ leases self.now.out }
     {
         count(&self.out)
+    }
+
+    /// Returns how many keys there are. Does not allocate.
+    pub fn keys(&self) -> usize
+        ensures { result ≡ length self.now.rows }
+    {
+        self.rows.entries.len()
+    }
+
+    /// Returns key k in the order in which the keys were first leased; `None` past the last one. Does not allocate.
+    pub fn key(&self, k: usize) -> Option<&Key>
+        ensures { option_map (λ x. x.now) result ≡ slice_get (keys_of self.now.rows) k }
+    {
+        key_at(&self.rows, k)
     }
 
     /// Returns how many instances a key has. Does not allocate.

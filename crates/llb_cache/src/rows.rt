@@ -115,6 +115,16 @@ pub(crate) fn row_near(rows: &Rows, key: &KeyRef<'_>, near: Option<usize>) -> Op
     row_of(rows, key)
 }
 
+// The key of a row.
+pub(crate) fn key_at(rows: &Rows, row: usize) -> Option<&Key>
+    ensures { option_map (λ k. k.now) result ≡ slice_get (keys_of rows.now.entries.items) row }
+{
+    match rows.entries.get(row) {
+        Some(entry) => Some(&entry.0),
+        None => None,
+    }
+}
+
 // The trees of a key, where it has a row.
 pub(crate) fn trees_with<'a>(rows: &'a Rows, key: &Key) -> Option<&'a Trees>
     requires { AreOrdered rows.now }

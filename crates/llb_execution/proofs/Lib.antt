@@ -8,3 +8,4 @@ pub mod Places
 pub mod Marks
 pub mod Doing
 pub mod Matching
+pub mod Looking

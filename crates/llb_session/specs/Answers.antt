@@ -1,11 +1,13 @@
 -- The reply to each line of a session, and the stepper after it.
 use Rattle.std.specs.Prelude.{◌≡◌, ◌⊎◌, ◌-◌, ◌++◌, ◌∷◌, ℕ, Bool, true, false, if◌then◌else◌, List, [], length, codes, Option, Some, None, Result, Ok, Err, Vec}
+use Rattle.std.specs.Prelude.{option_map, slice_get}
 use Rattle.std.specs.Global.{Global}
 use Rattle.llb_wire.specs.declared.sink.Failed.{Failed}
-use Rattle.llb_model.specs.State.{ending_at}
+use Rattle.llb_model.specs.State.{Execution, ending_at, runs}
 use Rattle.llb_model.specs.Outcome.{output_in}
 use Rattle.llb_model.specs.Run.{chosen}
 use Rattle.llb_model.specs.declared.event.Event.{Event}
+use Rattle.llb_state.specs.Looks.{worked_on, cached_at}
 use Rattle.llb_stepper.specs.declared.stop.Stop.{Stop}
 use Rattle.llb_stepper.specs.declared.fault.StepperFault.{StepperFault}
 use Rattle.llb_stepper.specs.declared.fault.StepperFault.TheVariants.{NothingBefore, BadCommand}
@@ -15,7 +17,7 @@ use Rattle.llb_session.specs.declared.request.Request.{Request}
 use Rattle.llb_session.specs.declared.request.Request.TheVariants as ask
 use Rattle.llb_session.specs.Request.{request_in}
 use Rattle.llb_session.specs.Streams.{Stream, IsKept, IsWritten, IsPartWritten}
-use Rattle.llb_session.specs.Texts.{status_lines, record_line, record_lines, tree_lines, fault_line, back_line}
+use Rattle.llb_session.specs.Texts.{status_lines, record_line, record_lines, tree_lines, work_lines, key_lines, fault_line, back_line}
 
 -- ---- a request that is granted: what it prints, and where it leads
 
@@ -48,6 +50,11 @@ Grants ask.Go s text t = GrantsGo s text t
 Grants ask.Back s text t = GoesBack s t × (text ≡ back_line (length t.board.events))
 Grants ask.Status s text t = (t ≡ s) × (text ≡ status_lines s.board (length s.board.build.graph.vertices))
 Grants (ask.Tree v i) s text t = (t ≡ s) × (text ≡ tree_lines (output_in (ending_at s.board.state.statuses v) i))
+Grants (ask.Work w) s text t =
+    (t ≡ s) × (text ≡ work_lines (option_map (λ (x : Execution). x.own) (runs (slice_get s.board.state.workers w))))
+Grants (ask.WorkTree w i) s text t = (t ≡ s) × (text ≡ tree_lines (worked_on s.board.state w i))
+Grants ask.Caches s text t = (t ≡ s) × (text ≡ key_lines s.board.rows (length s.board.rows))
+Grants (ask.Cache k i) s text t = (t ≡ s) × (text ≡ tree_lines (cached_at s.board.rows s.board.state.store k i))
 Grants ask.Quit s text t = (t ≡ s) × (text ≡ [])
 
 -- ---- a request that is refused for another cause than memory
@@ -62,6 +69,10 @@ Refuses ask.Next s fault = ⊥
 Refuses ask.Go s fault = ⊥
 Refuses ask.Status s fault = ⊥
 Refuses (ask.Tree v i) s fault = ⊥
+Refuses (ask.Work w) s fault = ⊥
+Refuses (ask.WorkTree w i) s fault = ⊥
+Refuses ask.Caches s fault = ⊥
+Refuses (ask.Cache k i) s fault = ⊥
 Refuses ask.Quit s fault = ⊥
 
 -- the result of a request: it is granted, or all is as before, and memory was refused or a cause applies

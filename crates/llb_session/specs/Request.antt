@@ -33,6 +33,7 @@ alone word =
     else if is_text word (codes "go") then Some ask.Go
     else if is_text word (codes "back") then Some ask.Back
     else if is_text word (codes "status") then Some ask.Status
+    else if is_text word (codes "caches") then Some ask.Caches
     else if is_text word (codes "quit") then Some ask.Quit
     else None
 
@@ -47,6 +48,14 @@ break_at word rest =
 abbrev pub break_in : List ℕ → Option Request
 break_in rest = if is_text rest (codes "fail") then Some (ask.Break Fails) else then_in (parted rest) (λ p. break_at p.0 p.1)
 
+-- the text after `work`: a worker, if it is one number, else a worker and a tree
+abbrev pub work_by : List ℕ → Option ℕ → Option Request
+work_by rest (Some w) = Some (ask.Work w)
+work_by rest None = option_map (λ (p : ℕ × ℕ). ask.WorkTree p.0 p.1) (pair_in rest)
+
+abbrev pub work_in : List ℕ → Option Request
+work_in rest = work_by rest (number_in rest)
+
 -- a line of a word and the rest after it
 abbrev pub word_with_rest : List ℕ → List ℕ → Option Request
 word_with_rest word rest =
@@ -56,6 +65,8 @@ word_with_rest word rest =
     else if is_text word (codes "settle") then option_map (λ w. ask.Event (Settle w)) (number_in rest)
     else if is_text word (codes "cancel") then option_map (λ w. ask.Event (Cancel w)) (number_in rest)
     else if is_text word (codes "tree") then option_map (λ (p : ℕ × ℕ). ask.Tree p.0 p.1) (pair_in rest)
+    else if is_text word (codes "work") then work_in rest
+    else if is_text word (codes "cache") then option_map (λ (p : ℕ × ℕ). ask.Cache p.0 p.1) (pair_in rest)
     else None
 
 -- a line by its first word and the rest after it, if it has more words than one

@@ -1,8 +1,16 @@
--- What a session prints: how vertices look, lines of the record, trees, and refusals.
-use Rattle.std.specs.Prelude.{ℕ, zero, suc, ◌+◌, List, [], ◌++◌, codes, Option, Some, None, option_map}
+-- What a session prints: how vertices look, lines of the record, trees, what workers work on, caches, and refusals.
+use Rattle.std.specs.Prelude.{ℕ, zero, suc, ◌+◌, List, [], ◌++◌, codes, length, Option, Some, None, option_map, slice_get}
+use Rattle.std.specs.Map.{keys_of}
 use Rattle.std.specs.Fmt.{decimal}
 use Rattle.llb_tree.specs.Tree.{TreeMap}
-use Rattle.llb_treetext.specs.TreeText.{tree_text}
+use Rattle.llb_treetext.specs.TreeText.{tree_text, path_text}
+use Rattle.llb_cache.specs.Caches.{Row, trees_of}
+use Rattle.llb_cache.specs.declared.key.Key.{Key}
+use Rattle.llb_cache.specs.declared.key.Seed.{Seed}
+use Rattle.llb_cache.specs.declared.key.Mode.{Mode}
+use Rattle.llb_cache.specs.declared.key.Mode.TheVariants.{Shared, Private, Locked}
+use Rattle.llb_model.specs.Program.{Workspace}
+use Rattle.llb_execution.specs.Looks.{Role, Local, Input, ResultOf, Laid, MountAt, roles_of}
 use Rattle.llb_model.specs.Failure.{failure_text}
 use Rattle.llb_board.specs.Seen.{BoardValue}
 use Rattle.llb_events.specs.Views.{look_at}
@@ -54,6 +62,61 @@ record_lines s from (suc k) = record_lines s from k ++ record_line s (from + k +
 abbrev pub tree_lines : Option TreeMap → List ℕ
 tree_lines None = codes "none\n"
 tree_lines (Some t) = tree_text t
+
+-- what a tree is to the worker that works on it
+abbrev pub role_text : Role → List ℕ
+role_text Local = codes "local"
+role_text Input = codes "input"
+role_text (ResultOf a) = codes "result " ++ decimal a
+role_text Laid = codes "laid"
+role_text (MountAt dest) = codes "mount " ++ path_text dest
+
+-- the line of tree i of a worker
+abbrev pub role_line : ℕ → Role → List ℕ
+role_line i role = decimal i ++ (codes " " ++ (role_text role ++ codes "\n"))
+
+-- the same; empty if there is no such tree
+abbrev pub role_line_of : ℕ → Option Role → List ℕ
+role_line_of i None = []
+role_line_of i (Some role) = role_line i role
+
+-- a line for each tree of a worker below a number
+unfoldable pub role_lines : List Role → ℕ → List ℕ
+role_lines roles zero = []
+role_lines roles (suc i) = role_lines roles i ++ role_line_of i (slice_get roles i)
+
+-- a line for each tree of what a worker runs, or that it runs nothing
+abbrev pub work_lines : Option Workspace → List ℕ
+work_lines None = codes "none\n"
+work_lines (Some own) = role_lines (roles_of own) (length (roles_of own))
+
+-- the word of a mode
+abbrev pub mode_word : Mode → List ℕ
+mode_word Shared = codes "shared"
+mode_word Private = codes "private"
+mode_word Locked = codes "locked"
+
+-- the text of a seed, or that there is none
+abbrev pub seed_text : Option Seed → List ℕ
+seed_text None = codes "-"
+seed_text (Some s) = s.digest ++ (codes "." ++ decimal s.index)
+
+-- the line of key k, which has n instances
+abbrev pub key_line : ℕ → Key → ℕ → List ℕ
+key_line k key n =
+    decimal k
+    ++ (codes " "
+    ++ (mode_word key.mode ++ (codes " " ++ (decimal n ++ (codes " " ++ (seed_text key.seed ++ (codes " " ++ (key.id ++ codes "\n"))))))))
+
+-- the same; empty if there is no such key
+abbrev pub key_line_of : List Row → ℕ → Option Key → List ℕ
+key_line_of rows k None = []
+key_line_of rows k (Some key) = key_line k key (length (trees_of rows key))
+
+-- a line for each key below a number
+unfoldable pub key_lines : List Row → ℕ → List ℕ
+key_lines rows zero = []
+key_lines rows (suc k) = key_lines rows k ++ key_line_of rows k (slice_get (keys_of rows) k)
 
 -- the line of a refusal
 abbrev pub fault_line : StepperFault → List ℕ

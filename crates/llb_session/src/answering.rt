@@ -7,7 +7,9 @@ ghost use Rattle.llb_session.specs.Texts.{record_lines};
 ghost use Rattle.llb_stepper.specs.Rules.{stepper_memory};
 
 use crate::request::{Request, request_in};
-use crate::text::{back_line, fault_line, line_text, record_text, status_text, tree_text};
+use crate::text::{
+    back_line, caches_text, fault_line, line_text, record_text, status_text, tree_text, work_text,
+};
 use llb_board::Event;
 use llb_stepper::{Break, Stepper, StepperFault, chosen_is_done};
 use llb_wire::{Failed, Over, write_all};
@@ -119,6 +121,34 @@ fn tree(alloc: Global, stepper: &mut Stepper, v: u32, i: u32) -> Result<Vec<u8>,
     tree_text(alloc, stepper.board().output(v, i))
 }
 
+// What the trees are that a worker works on.
+fn work(alloc: Global, stepper: &mut Stepper, w: u32) -> Result<Vec<u8>, StepperFault>
+    ensures { IsPerformed (ask.Work w) stepper.old stepper.new result }
+{
+    Ok(work_text(alloc, stepper.board().workspace(w))?.into_bytes())
+}
+
+// A tree that a worker works on as text.
+fn work_tree(alloc: Global, stepper: &mut Stepper, w: u32, i: u32) -> Result<Vec<u8>, StepperFault>
+    ensures { IsPerformed (ask.WorkTree w i) stepper.old stepper.new result }
+{
+    tree_text(alloc, stepper.board().worked_on(w, i))
+}
+
+// The keys of the caches.
+fn caches(alloc: Global, stepper: &mut Stepper) -> Result<Vec<u8>, StepperFault>
+    ensures { IsPerformed ask.Caches stepper.old stepper.new result }
+{
+    Ok(caches_text(alloc, stepper.board())?.into_bytes())
+}
+
+// The tree of an instance as text.
+fn cache(alloc: Global, stepper: &mut Stepper, k: u32, i: u32) -> Result<Vec<u8>, StepperFault>
+    ensures { IsPerformed (ask.Cache k i) stepper.old stepper.new result }
+{
+    tree_text(alloc, stepper.board().cached(k, i))
+}
+
 // What is asked for, and what it prints.
 fn perform(alloc: Global, stepper: &mut Stepper, request: Request) -> Result<Vec<u8>, StepperFault>
     ensures { IsPerformed request stepper.old stepper.new result }
@@ -132,6 +162,10 @@ fn perform(alloc: Global, stepper: &mut Stepper, request: Request) -> Result<Vec
         Request::Back => back(alloc, stepper),
         Request::Status => status(alloc, stepper),
         Request::Tree(v, i) => tree(alloc, stepper, v, i),
+        Request::Work(w) => work(alloc, stepper, w),
+        Request::WorkTree(w, i) => work_tree(alloc, stepper, w, i),
+        Request::Caches => caches(alloc, stepper),
+        Request::Cache(k, i) => cache(alloc, stepper, k, i),
         Request::Quit => Ok(Vec::new(alloc)),
     }
 }

@@ -1,7 +1,7 @@
 //! What a line of a session asks for.
 
 ghost use Rattle.std.specs.Prelude.{◌≡◌, option_map};
-ghost use Rattle.llb_session.specs.Request.{parted, number_in, pair_in, request_in, alone, break_in, break_at, word_with_rest, by_words};
+ghost use Rattle.llb_session.specs.Request.{parted, number_in, pair_in, request_in, alone, break_in, break_at, work_in, word_with_rest, by_words};
 
 use llb_board::Event;
 use llb_stepper::Break;
@@ -27,6 +27,14 @@ pub enum Request {
     Status,
     /// Prints an output of a vertex as text: the number of the vertex and that of the output.
     Tree(u32, u32),
+    /// Prints what the trees are that a worker works on, by the number of the worker.
+    Work(u32),
+    /// Prints a tree that a worker works on as text: the number of the worker and that of the tree.
+    WorkTree(u32, u32),
+    /// Prints the keys of the caches.
+    Caches,
+    /// Prints the tree of an instance of a cache as text: the number of the key and that of the instance.
+    Cache(u32, u32),
     /// Ends the session.
     Quit,
 }
@@ -66,6 +74,8 @@ fn alone(word: &str) -> Option<Request>
         Some(Request::Back)
     } else if word == "status" {
         Some(Request::Status)
+    } else if word == "caches" {
+        Some(Request::Caches)
     } else if word == "quit" {
         Some(Request::Quit)
     } else {
@@ -99,6 +109,17 @@ fn break_in(rest: &str) -> Option<Request>
     break_at(word, number)
 }
 
+// The text after `work`: a worker, or a worker and a tree.
+fn work_in(rest: &str) -> Option<Request>
+    ensures { result ≡ work_in rest.now }
+{
+    if let Some(w) = number(rest) {
+        return Some(Request::Work(w));
+    }
+    let (w, i) = pair(rest)?;
+    Some(Request::WorkTree(w, i))
+}
+
 // A line of a word and the rest after it.
 fn word_with_rest(word: &str, rest: &str) -> Option<Request>
     ensures { result ≡ word_with_rest word.now rest.now }
@@ -120,6 +141,11 @@ fn word_with_rest(word: &str, rest: &str) -> Option<Request>
     } else if word == "tree" {
         let (v, i) = pair(rest)?;
         Some(Request::Tree(v, i))
+    } else if word == "work" {
+        work_in(rest)
+    } else if word == "cache" {
+        let (k, i) = pair(rest)?;
+        Some(Request::Cache(k, i))
     } else {
         None
     }

@@ -1,13 +1,17 @@
-//! The texts that a session prints: how vertices look, lines of the record, trees, and refusals.
+//! The texts that a session prints: how vertices look, lines of the record, trees, what workers work on, caches, and refusals.
 
 ghost use Rattle.std.specs.Prelude.{◌≡◌, ◌++◌, ◌-◌, ◌+◌, true, length, option_map, IfOk, IfErr, string_bytes};
 ghost use Rattle.llb_session.specs.Texts.{status_line, status_lines, record_line, record_lines, tree_lines, fault_line, back_line};
+ghost use Rattle.llb_session.specs.Texts.{role_line, role_lines, work_lines, seed_text, mode_word, key_line, key_lines};
+ghost use Rattle.llb_execution.specs.Looks.{role_in, roles_of};
 ghost use Rattle.llb_stepper.specs.Rules.{stepper_memory};
 
-use llb_board::{Board, Status};
+use llb_board::{Board, Status, Workspace};
+use llb_cache::{Key, Mode, Seed};
+use llb_execution::Part;
 use llb_stepper::{Stepper, StepperFault};
 use llb_tree::Tree;
-use llb_treetext::print_tree;
+use llb_treetext::{print_tree, push_path};
 use llb_wire::Over;
 use std::alloc::{AllocError, Global};
 
@@ -99,6 +103,112 @@ pub(crate) fn tree_text(alloc: Global, tree: Option<&Tree>) -> Result<Vec<u8>, S
             }
         }
         None => text.extend_from_slice(b"none\n")?,
+    }
+    Ok(text)
+}
+
+// The line of tree i of a worker.
+fn push_part(text: &mut String, i: usize, part: Part<'_>) -> Result<(), StepperFault>
+    ensures line { IfOk result (λ _. string_bytes text.new ≡ string_bytes text.old ++ role_line i (role_in part.entry)) }
+    ensures memory { IfErr result (λ e. stepper_memory e ≡ true) }
+{
+    match part {
+        Part::Local => writeln!(text, "{i} local")?,
+        Part::Input => writeln!(text, "{i} input")?,
+        Part::ResultOf(a) => writeln!(text, "{i} result {a}")?,
+        Part::Laid => writeln!(text, "{i} laid")?,
+        Part::MountAt(dest) => {
+            write!(text, "{i} mount ")?;
+            push_path(text, dest)?;
+            text.push_str("\n")?;
+        }
+    }
+    Ok(())
+}
+
+// A line for each tree of a workspace.
+#[tactic(auto, unfolding(crate::specs::Texts::role_lines))]
+fn parts_text(alloc: Global, workspace: &Workspace) -> Result<String, StepperFault>
+    ensures lines { IfOk result (λ s. string_bytes s ≡ role_lines (roles_of workspace.now) (length (roles_of workspace.now))) }
+    ensures memory { IfErr result (λ e. stepper_memory e ≡ true) }
+{
+    let mut text = String::new(alloc);
+    for i in 0..workspace.parts() {
+        if let Some(part) = workspace.part(i) {
+            push_part(&mut text, i, part)?;
+        }
+    }
+    Ok(text)
+}
+
+/// Returns a line for each tree of what a worker runs, and the line for nothing.
+pub(crate) fn work_text(
+    alloc: Global,
+    workspace: Option<&Workspace>,
+) -> Result<String, StepperFault>
+    ensures lines { IfOk result (λ s. string_bytes s ≡ work_lines (option_map (λ v. v.now) workspace.entry)) }
+    ensures memory { IfErr result (λ e. stepper_memory e ≡ true) }
+{
+    match workspace {
+        Some(workspace) => parts_text(alloc, workspace),
+        None => {
+            let mut text = String::new(alloc);
+            text.push_str("none\n")?;
+            Ok(text)
+        }
+    }
+}
+
+fn mode_word(mode: Mode) -> &'static str
+    ensures { result.now ≡ mode_word mode }
+{
+    match mode {
+        Mode::Shared => "shared",
+        Mode::Private => "private",
+        Mode::Locked => "locked",
+    }
+}
+
+// The text of a seed.
+fn push_seed(text: &mut String, seed: &Option<Seed>) -> Result<(), StepperFault>
+    ensures line { IfOk result (λ _. string_bytes text.new ≡ string_bytes text.old ++ seed_text seed.now) }
+    ensures memory { IfErr result (λ e. stepper_memory e ≡ true) }
+{
+    match seed {
+        Some(seed) => {
+            let digest = &seed.digest;
+            let index = seed.index;
+            write!(text, "{digest}.{index}")?;
+        }
+        None => text.push_str("-")?,
+    }
+    Ok(())
+}
+
+// The line of key k, which has n instances.
+fn push_key(text: &mut String, k: usize, key: &Key, n: u32) -> Result<(), StepperFault>
+    ensures line { IfOk result (λ _. string_bytes text.new ≡ string_bytes text.old ++ key_line k key.now n) }
+    ensures memory { IfErr result (λ e. stepper_memory e ≡ true) }
+{
+    let mode = mode_word(key.mode);
+    write!(text, "{k} {mode} {n} ")?;
+    push_seed(text, &key.seed)?;
+    writeln!(text, " {key}")?;
+    Ok(())
+}
+
+/// Returns a line for each key of the caches.
+#[tactic(auto, unfolding(crate::specs::Texts::key_lines))]
+pub(crate) fn caches_text(alloc: Global, board: &Board) -> Result<String, StepperFault>
+    ensures lines { IfOk result (λ s. string_bytes s ≡ key_lines board.now.rows (length board.now.rows)) }
+    ensures memory { IfErr result (λ e. stepper_memory e ≡ true) }
+{
+    let caches = board.caches();
+    let mut text = String::new(alloc);
+    for k in 0..caches.keys() {
+        if let Some(key) = caches.key(k) {
+            push_key(&mut text, k, key, caches.instances(key))?;
+        }
     }
     Ok(text)
 }

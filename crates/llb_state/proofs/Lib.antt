@@ -29,3 +29,4 @@ pub mod Landings
 pub mod Undoings
 pub mod Befores
 pub mod MicroSteps
+pub mod Looking

@@ -12,6 +12,7 @@ ghost use Rattle.llb_events.specs.Views.{look_of};
 mod claiming;
 mod landing;
 mod leaving;
+mod looking;
 mod stepping;
 mod undoing;
 

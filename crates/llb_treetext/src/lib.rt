@@ -16,5 +16,6 @@ mod row;
 pub use digest::tree_digest;
 pub use fault::{PrintFault, TextFault};
 pub use laws::{one_answer, reads_back};
+pub use line::push_path;
 pub use print::print_tree;
 pub use read::read_tree;

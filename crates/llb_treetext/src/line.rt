@@ -66,8 +66,8 @@ fn push_names(line: &mut String, names: &[Name]) -> Result<(), AllocError>
     Ok(())
 }
 
-// A slash before each name, and one alone for the root.
-fn push_path(line: &mut String, path: &Path) -> Result<(), AllocError>
+/// Puts the text of a path after a text: a slash before each name, and one alone for the root.
+pub fn push_path(line: &mut String, path: &Path) -> Result<(), AllocError>
     ensures { OnOk result (string_bytes line.new ≡ string_bytes line.old ++ path_text path.now) }
 {
     if path.is_root() {

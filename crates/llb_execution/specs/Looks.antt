@@ -1,0 +1,80 @@
+-- The trees that a workspace is on, in an order, and what each of them is to it: for a look at a worker that runs.
+use Rattle.std.specs.Prelude.{ℕ, ◌+◌, ◌==◌, List, [], ◌∷◌, ◌++◌, map, Option, Some, None, slice_get, if◌then◌else◌}
+use Rattle.llb_tree.specs.Tree.{TreeMap}
+use Rattle.llb_mount.specs.declared.shown.Shown.{Shown}
+use Rattle.llb_model.specs.Program.{Workspace, LocalTree, Files, Layers, Mounted, filled}
+use Rattle.llb_execution.specs.declared.look.Look.{Look}
+use Rattle.llb_execution.specs.declared.look.Look.TheVariants as look
+use Rattle.llb_execution.specs.declared.look.Part.{Part}
+use Rattle.llb_execution.specs.declared.look.Part.TheVariants as part
+
+-- the tree that a mount shows
+abbrev pub shown_tree : Shown → TreeMap
+shown_tree m = m.tree
+
+-- the trees that a workspace is on, where the cache instances that it holds have these trees, in the order of the needs: for a source its local tree; for a
+-- file op its inputs, then the results so far; for a merge its inputs, then what is laid so far; for an exec the tree of each mount, which of a mount that
+-- shows a cache is that of its instance
+abbrev pub trees_with : Workspace → List TreeMap → List TreeMap
+trees_with (LocalTree t) trees = t ∷ []
+trees_with (Files inputs results) trees = inputs ++ results
+trees_with (Layers inputs t) trees = inputs ++ t ∷ []
+trees_with (Mounted mounts caches last) trees = map shown_tree (filled mounts caches trees)
+
+-- the tree of a look, where the cache instances have these trees
+abbrev pub looked : List TreeMap → Option Look → Option TreeMap
+looked trees None = None
+looked trees (Some (look.Here t)) = Some t.now
+looked trees (Some (look.Cached k)) = slice_get trees k
+
+-- the tree of an instance if its number is given, else another tree
+abbrev pub tree_or : Option TreeMap → List TreeMap → Option ℕ → Option TreeMap
+tree_or own trees None = own
+tree_or own trees (Some k) = slice_get trees k
+
+-- the last place of i that is known after number m, which is at k
+abbrev pub next_place : ℕ → ℕ → ℕ → Option ℕ → Option ℕ
+next_place i m k place = if m == i then Some k else place
+
+-- the tree beside the last of these numbers that is i, else another tree
+abbrev pub last_tree : ℕ → List ℕ → List TreeMap → Option TreeMap → Option TreeMap
+last_tree i [] trees own = own
+last_tree i (m ∷ ms) [] own = own
+last_tree i (m ∷ ms) (t ∷ trees) own = last_tree i ms trees (if m == i then Some t else own)
+
+-- what a tree is to the workspace that is on it: a source's local tree, an input, the result of an action, what is laid so far, or the tree that a mount with
+-- this dest shows
+pub data Role : Type 0 where
+  Local : Role
+  Input : Role
+  ResultOf : ℕ → Role
+  Laid : Role
+  MountAt : List (List ℕ) → Role
+
+-- a role that borrows its dest
+abbrev pub role_in : Part → Role
+role_in part.Local = Local
+role_in part.Input = Input
+role_in (part.ResultOf a) = ResultOf a
+role_in part.Laid = Laid
+role_in (part.MountAt dest) = MountAt dest.now
+
+-- the role of an input
+abbrev pub input_role : TreeMap → Role
+input_role t = Input
+
+-- the role of a mount's tree
+abbrev pub mount_role : Shown → Role
+mount_role m = MountAt m.dest
+
+-- the results of actions from number a on
+abbrev pub results_from : ℕ → List TreeMap → List Role
+results_from a [] = []
+results_from a (t ∷ trees) = ResultOf a ∷ results_from (a + 1) trees
+
+-- what each of the trees is that a workspace is on
+abbrev pub roles_of : Workspace → List Role
+roles_of (LocalTree t) = Local ∷ []
+roles_of (Files inputs results) = map input_role inputs ++ results_from 0 results
+roles_of (Layers inputs t) = map input_role inputs ++ Laid ∷ []
+roles_of (Mounted mounts caches last) = map mount_role mounts

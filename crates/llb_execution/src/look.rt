@@ -1,0 +1,198 @@
+//! A look at a workspace: the trees that it is on, in an order, and what each of them is to it. Nothing here allocates.
+
+ghost use Rattle.std.specs.Prelude.{◌≡◌, ◌++◌, ◌∷◌, [], ℕ, List, Option, length, map, option_map, slice_get};
+ghost use Rattle.llb_tree.specs.Tree.{TreeMap};
+ghost use Rattle.llb_model.specs.Program.{filled};
+ghost use Rattle.llb_execution.specs.Looks.{trees_with, looked, tree_or, last_tree, next_place, shown_tree, role_in, roles_of};
+ghost use Rattle.llb_execution.specs.Looks.{Local, Laid, input_role, mount_role, results_from};
+
+use crate::workspace::{Own, Workspace};
+use llb_mount::View as Mounts;
+use llb_tree::{Path, Tree};
+
+/// One of the trees that a workspace is on.
+pub enum Look<'a> {
+    /// A tree of the workspace's own.
+    Here(&'a Tree),
+    /// The tree of the cache instance of the need of this number.
+    Cached(usize),
+}
+
+/// What a tree is to the workspace that is on it.
+pub enum Part<'a> {
+    /// The local tree of a source.
+    Local,
+    /// The tree of an input.
+    Input,
+    /// The result of the action of this number.
+    ResultOf(usize),
+    /// What a merge has laid so far.
+    Laid,
+    /// The tree that the mount at this path shows.
+    MountAt(&'a Path),
+}
+
+impl Workspace {
+    /// Returns tree i of those that the workspace is on: the local tree of a source; the inputs of a file op, then its results so far; the
+    /// inputs of a merge, then what is laid so far; the tree of each mount of an exec, for one that shows a cache the number of the need
+    /// whose instance has it. So many instances are held. `None` past the last tree.
+    pub fn look(&self, i: u32, held: usize) -> Option<Look<'_>>
+        ensures { (trees : List TreeMap) → length trees ≡ held → looked trees result ≡ slice_get (trees_with self.now trees) i }
+    {
+        match &self.own {
+            Own::Local(tree) => here(before_last(&[], tree, i)),
+            Own::Files(inputs, results) => here(among(inputs, results, i)),
+            Own::Layers(inputs, laid) => here(before_last(inputs, laid, i)),
+            Own::Mounted(mounts, numbers, _) => look_in(mounts, numbers, i, held),
+        }
+    }
+
+    /// Returns how many trees the workspace is on. Does not allocate.
+    pub fn parts(&self) -> usize
+        ensures { result ≡ length (roles_of self.now) }
+    {
+        match &self.own {
+            Own::Local(_) => 1,
+            Own::Files(inputs, results) => inputs.len() + results.len(),
+            Own::Layers(inputs, _) => inputs.len() + 1,
+            Own::Mounted(mounts, _, _) => mounts.mounts().len(),
+        }
+    }
+
+    /// Returns what tree i is to the workspace; `None` past the last tree. Does not allocate.
+    pub fn part(&self, i: usize) -> Option<Part<'_>>
+        ensures { option_map role_in result ≡ slice_get (roles_of self.now) i }
+    {
+        match &self.own {
+            Own::Local(_) => local_part(i),
+            Own::Files(inputs, results) => file_part(inputs, results, i),
+            Own::Layers(inputs, _) => merge_part(inputs, i),
+            Own::Mounted(mounts, _, _) => mount_part(mounts, i),
+        }
+    }
+}
+
+// What tree i of a source is.
+fn local_part<'a>(i: usize) -> Option<Part<'a>>
+    ensures { option_map role_in result ≡ slice_get (Local ∷ []) i }
+{
+    if i == 0 {
+        return Some(Part::Local);
+    }
+    None
+}
+
+// What tree i of a file op is.
+fn file_part<'a>(inputs: &[Tree], results: &[Tree], i: usize) -> Option<Part<'a>>
+    ensures { option_map role_in result ≡ slice_get (map input_role inputs.now ++ results_from 0 results.now) i }
+{
+    if i < inputs.len() {
+        return Some(Part::Input);
+    }
+    let a = i - inputs.len();
+    if a < results.len() {
+        return Some(Part::ResultOf(a));
+    }
+    None
+}
+
+// What tree i of a merge is.
+fn merge_part<'a>(inputs: &[Tree], i: usize) -> Option<Part<'a>>
+    ensures { option_map role_in result ≡ slice_get (map input_role inputs.now ++ Laid ∷ []) i }
+{
+    if i < inputs.len() {
+        return Some(Part::Input);
+    }
+    if i == inputs.len() {
+        return Some(Part::Laid);
+    }
+    None
+}
+
+// What tree i of an exec is.
+fn mount_part(mounts: &Mounts, i: usize) -> Option<Part<'_>>
+    ensures { option_map role_in result ≡ slice_get (map mount_role mounts.now) i }
+{
+    match mounts.mounts().get(i) {
+        Some(shown) => Some(Part::MountAt(&shown.dest)),
+        None => None,
+    }
+}
+
+// A look at a tree of the workspace's own.
+fn here(tree: Option<&Tree>) -> Option<Look<'_>>
+    ensures { (trees : List TreeMap) → looked trees result ≡ option_map (λ t. t.now) tree.entry }
+{
+    match tree {
+        Some(tree) => Some(Look::Here(tree)),
+        None => None,
+    }
+}
+
+// The tree of a number in one list of trees and then another.
+fn among<'a>(first: &'a [Tree], second: &'a [Tree], i: u32) -> Option<&'a Tree>
+    ensures { option_map (λ t. t.now) result ≡ slice_get (first.now ++ second.now) i }
+{
+    let at = i as usize;
+    if at < first.len() {
+        return first.get(at);
+    }
+    second.get(at - first.len())
+}
+
+// The tree of a number in a list of trees and one more.
+fn before_last<'a>(first: &'a [Tree], last: &'a Tree, i: u32) -> Option<&'a Tree>
+    ensures { option_map (λ t. t.now) result ≡ slice_get (first.now ++ last.now ∷ []) i }
+{
+    let at = i as usize;
+    if at < first.len() {
+        return first.get(at);
+    }
+    if at == first.len() {
+        return Some(last);
+    }
+    None
+}
+
+// A look at the tree of a mount.
+fn look_in<'a>(mounts: &'a Mounts, numbers: &[u32], i: u32, held: usize) -> Option<Look<'a>>
+    ensures { (trees : List TreeMap) → length trees ≡ held
+        → looked trees result ≡ slice_get (map shown_tree (filled mounts.now numbers.now trees)) i }
+{
+    let Some(tree) = mount_tree(mounts, i) else {
+        return None;
+    };
+    match last_place(numbers, i, held) {
+        Some(k) => Some(Look::Cached(k)),
+        None => Some(Look::Here(tree)),
+    }
+}
+
+// The tree that a mount has itself.
+fn mount_tree(mounts: &Mounts, i: u32) -> Option<&Tree>
+    ensures { option_map (λ t. t.now) result ≡ slice_get (map shown_tree mounts.now) i }
+{
+    match mounts.mounts().get(i as usize) {
+        Some(shown) => Some(&shown.tree),
+        None => None,
+    }
+}
+
+// Which of these numbers, of which so many count, is the last that is i.
+fn last_place(numbers: &[u32], i: u32, held: usize) -> Option<usize>
+    ensures { (trees : List TreeMap) (own : Option TreeMap) → length trees ≡ held → tree_or own trees result ≡ last_tree i numbers.now trees own }
+{
+    let mut place = None;
+    let count = numbers.len().min(held);
+    for k in 0..count {
+        place = next_place(i, numbers[k], k, place);
+    }
+    place
+}
+
+// The place that is known after number k.
+fn next_place(i: u32, number: u32, k: usize, place: Option<usize>) -> Option<usize>
+    ensures { result ≡ next_place i number k place }
+{
+    if number == i { Some(k) } else { place }
+}
