@@ -6,12 +6,16 @@ mod build;
 mod copying;
 mod desk;
 mod ending;
+mod fault;
 mod instances;
 mod landing;
 mod needs;
 mod outfit;
+mod status;
 mod vertices;
 mod workers;
 
+pub use fault::{Memory, WalkFault};
+pub use status::{Status, WorkerStatus};
 pub use vertices::{Stage, Vertices};
 pub use workers::{Change, Undo, Workers};
