@@ -1,5 +1,5 @@
 //! What is known of a board's vertices, and what its workers do with the caches: two types, each of which keeps what must hold of it. It is built
-//! on `llb_events`, `llb_execution` and `llb_links`.
+//! on `llb_execution` and `llb_links`.
 #![tactic(auto)]
 
 mod build;
