@@ -1,13 +1,13 @@
 -- The first command of a script always runs.
-use Rattle.std.proofs.Common.{◌≡◌, ℕ, ◌+◌, List, [], ◌∷◌, ◌++◌, Option, Some, None, Result, Ok, Err, refl, slice_index_or}
-use Rattle.std.specs.Prelude.{⊥, Bool, true, false, if◌then◌else◌}
+use Rattle.std.proofs.Common.{◌≡◌, ℕ, ◌+◌, List, [], ◌∷◌, ◌++◌, Option, Some, None, Result, Ok, Err, refl, map, slice_index_or}
+use Rattle.std.specs.Prelude.{Bool, true, false, if◌then◌else◌}
 use Rattle.llb_wire.specs.Answer.{◌>>=◌}
 use Rattle.llb_applet.specs.declared.fault.ScriptFault.{ScriptFault}
 use Rattle.llb_applet.specs.declared.command.Command.{Command}
 use Rattle.llb_applet.specs.declared.join.Join.{Join}
 use Rattle.llb_applet.specs.declared.join.Join.TheVariants.{Then}
 use Rattle.llb_applet.specs.declared.join.Joined.{Joined}
-use Rattle.llb_applet.specs.Words.{Call, join_of, first_call, at_word, calls_from, calls_of, bad_place_of}
+use Rattle.llb_applet.specs.Words.{Call, join_of, first_call, at_word, calls_from, calls_of, bad_place_of, words_of}
 use Rattle.llb_applet.specs.Calls.{command_of}
 use Rattle.llb_applet.specs.Scripts.{joined, commands_of, commands_unless, commands_in, is_shell, script_of, BeginsWithThen}
 
@@ -24,11 +24,12 @@ BothBegin (Err e) = Unit {0}
 -- the first call of words has the join of the call that has begun
 begins_from : (words : List (List ℕ)) (join : Join) (call : List (List ℕ)) → BeginsWith join (calls_from words join call)
 begins_from [] join call = refl
-begins_from (word ∷ words) join call = by_join (join_of word)
+begins_from (word ∷ words) join call = by_join (join_of word) (begins_from words join (call ++ word ∷ []))
   where
-    by_join : (next : Option Join) → BeginsWith join (at_word join call word next (λ next begun. calls_from words next begun))
-    by_join (Some next) = refl
-    by_join None = begins_from words join (call ++ word ∷ [])
+    by_join : (next : Option Join) → BeginsWith join (calls_from words join (call ++ word ∷ []))
+        → BeginsWith join (at_word join call word next (λ next begun. calls_from words next begun))
+    by_join (Some next) rest = refl
+    by_join None rest = rest
 
 -- the commands of calls begin as the calls do
 begins_commands : (number : ℕ) (calls : List Call) → BeginsWith Then calls → BothBegin (commands_of number calls)
@@ -47,7 +48,7 @@ begins_commands number (call ∷ calls) begins = by_command (command_of number c
 -- the commands of a text
 begins_unless : (place : Option ℕ) (text : List ℕ) → BothBegin (commands_unless place text)
 begins_unless (Some place) text = tt
-begins_unless None text = begins_commands 0 (calls_of text) (begins_from _ Then [])
+begins_unless None text = begins_commands 0 (calls_of text) (begins_from (map (λ w. w.bytes) (words_of text)) Then [])
 
 -- the commands of arguments
 pub begins_script : (args : List (List ℕ)) → BothBegin (script_of args)
