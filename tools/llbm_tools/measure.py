@@ -1,4 +1,3 @@
-#!/usr/bin/env python3
 """Measures the program llbm: pairs of runs in the same minutes, and their ratios.
 
 In: the measurements in the table in this file, or only those named NAME .. . The program is ../crates/llbm/out/llbm
@@ -25,13 +24,9 @@ import tempfile
 import time
 from typing import NamedTuple
 
-sys.dont_write_bytecode = True
-sys.path.insert(0, os.path.dirname(os.path.realpath(__file__)))
+from llbm_tools.common import check_open, discard_output, os_error_text, say
+from llbm_tools.paths import PROGRAM, TOOLS
 
-from common import check_open, discard_output, os_error_text, say  # noqa: E402
-
-HERE = pathlib.Path(__file__).resolve().parent
-PROGRAM = HERE.parent / "crates" / "llbm" / "out" / "llbm"
 RUNS = 5
 
 
@@ -140,7 +135,7 @@ class Inputs:
         if key not in self.made:
             place = self.folder / str(len(self.made))
             with open(place, "wb") as file:
-                subprocess.run([sys.executable, HERE / tool, *self.smaller(text)], stdout=file, check=True)
+                subprocess.run([sys.executable, TOOLS / tool, *self.smaller(text)], stdout=file, check=True)
             self.made[key] = place
         return self.made[key]
 
@@ -260,7 +255,3 @@ def main() -> int:
         say(os_error_text(fault))
         discard_output()
         return 3
-
-
-if __name__ == "__main__":
-    sys.exit(main())
