@@ -46,7 +46,7 @@ def resting(library: Library, statement: str) -> tuple[list[Definition], list[st
 def reading(library: Library) -> list[str]:
     """Returns the table of files to read, with how many lines of each."""
     cones = {name: resting(library, name) for name in STATEMENTS}
-    lines = {}
+    lines: dict[tuple[str, str], dict[str, int]] = {}
     for name, (definitions, _) in cones.items():
         for one in definitions:
             counts = lines.setdefault((one.crate, one.file), dict.fromkeys(STATEMENTS, 0))
