@@ -25,3 +25,6 @@ pub use llb_execution::{Gate, Job, Outcome, Program, Stopped, WorkFault, Workspa
 pub use llb_state::Undo;
 pub use llb_wire::{Bytes, Text};
 pub use walk::{Reply, Walked};
+
+/// What a worker does, by a shorter name.
+pub type At = WorkerStatus;
