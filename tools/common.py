@@ -1,9 +1,22 @@
-"""What the tools of this folder share: the rules for names, text for a person, and the standard streams."""
+"""What the tools of this folder share: the program, rules for names, text for a person, and the standard streams."""
 
 import contextlib
 import os
+import pathlib
 import re
+import shutil
+import subprocess
 import sys
+
+ROOT = pathlib.Path(__file__).resolve().parent.parent
+KIT = "rattle-kit-13f logic dac8208d650f15bf"
+# The program that the proof of everything leaves, and the one that `unproved-program` makes.
+PROVED = ROOT / "crates" / "llbm" / "out" / "llbm"
+UNPROVED = ROOT / "out" / "llbm-unproved"
+# The list of an installation, and its program.
+INSTALLED = ROOT / "installed"
+INSTALLED_PROGRAM = ROOT.parent.parent / "bin" / "llbm"
+NOT_PROVED = "not proved, compiled with"
 
 MOST_BYTES = 67_108_864
 MOST_NAMES = 128
@@ -60,3 +73,26 @@ def discard_output() -> None:
 def os_error_text(fault: OSError) -> str:
     """Returns a failed read or write as one line."""
     return f"{fault.filename or 'a read or a write failed'}: {fault.strerror}"
+
+
+def is_unproved(program: str | os.PathLike) -> bool:
+    """Returns whether a program says of itself, by `--version`, that it is not proved."""
+    try:
+        said = subprocess.run([program, "--version"], stdin=subprocess.DEVNULL, capture_output=True, timeout=60).stderr
+    except (OSError, subprocess.TimeoutExpired):
+        return False
+    return NOT_PROVED.encode() in said
+
+
+def program_named(word: str | None) -> str:
+    """Returns the given program, else that of the installation or repository around this folder.
+
+    A proved one comes before one that is not; that the program is not proved is said on standard error.
+    """
+    if word is not None:
+        return word
+    places = [INSTALLED_PROGRAM] if INSTALLED.is_file() else [PROVED, UNPROVED]
+    found = next((place for place in places if shutil.which(place)), None)
+    if found and is_unproved(found):
+        say(f"{os.path.relpath(found)}: the program is not proved")
+    return str(found or places[0])

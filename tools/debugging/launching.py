@@ -17,13 +17,12 @@ from typing import NamedTuple
 
 import definition
 import faults
-from common import MOST_BYTES, os_error_text
+from common import MOST_BYTES, os_error_text, program_named
 from debugging import places
 from debugging.arguments import Refused, argument, of_kind
 from debugging.session import Refusal, Session, SessionFailed
 
 TOOLS = pathlib.Path(__file__).resolve().parent.parent
-PROGRAM = TOOLS.parent / "crates" / "llbm" / "out" / "llbm"
 
 MOST_WORKERS = 64
 USUAL_WORKERS = 2
@@ -72,12 +71,11 @@ def cause_of(words: list[str], otherwise: str, entries: faults.Entries | None = 
 
 
 def program_of(arguments: dict) -> str:
-    """Returns the program: the one that is named, else the one on PATH, else the one that was built here."""
+    """Returns the program: the one that is named, else the one on PATH, else that of this folder."""
     named = argument(arguments, "llbm", str, "")
-    for word in [named] if named else ["llbm", str(PROGRAM)]:
-        found = shutil.which(word)
-        if found:
-            return found
+    found = shutil.which(named or "llbm") or shutil.which(named or program_named(None))
+    if found:
+        return found
     raise Refused(f"{named or 'llbm'}: there is no such program" + ("" if named else "; the argument llbm names one"))
 
 
