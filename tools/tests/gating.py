@@ -26,6 +26,11 @@ def loaded(name):
 
 
 TESTS = "tests, 7 runs of the tools, as root"
+LATE = [
+    "test chain::a_chain_of_65535_vertices_is_evaluated_run_and_walked ... FAILED",
+    "    checked: no-answer: the program did not end within the time limit",
+]
+OTHER = ["test crew::a_worker_is_stopped ... FAILED", "    checked: fault: index out of bounds"]
 RESULT = "test result: {}. {} passed; {} failed; {} ignored; 0 filtered out"
 
 
@@ -58,6 +63,9 @@ class Gate(WithPrograms):
             ([RESULT.format("ok", 71, 0, 2), "run=ended status=0 proved=no"], 0, 71, 0, 2),
             ([RESULT.format("FAILED", 70, 1, 0), "run=ended status=101 proved=no"], 101, 70, 1, 0),
             (["run=none proved=no"], 6, 0, 1),
+            ([*LATE, RESULT.format("FAILED", 60, 1, 0), "run=no-answer proved=no"], 6, 60, 0, 1),
+            ([*LATE, *OTHER, RESULT.format("FAILED", 59, 2, 0), "run=no-answer proved=no"], 6, 59, 1, 1),
+            ([LATE[0], OTHER[1], RESULT.format("FAILED", 60, 1, 0)], 4, 60, 1),
         ]:
             self.assertEqual(counts_in(lines, status), (*counts, *[0] * (3 - len(counts))), lines)
 

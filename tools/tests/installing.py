@@ -90,6 +90,15 @@ class Install(WithFake):
         self.assertEqual(done.returncode, 0, done.stderr)
         self.assertTrue((self.at / "result").is_dir())
 
+    def test_an_installation_may_be_moved(self):
+        self.install()
+        moved = self.at / "moved"
+        self.prefix.rename(moved)
+        for path in ("bin/llbm-lint", "bin/llbm-explain", "share/doc/llbm/FAULTS.md"):
+            self.assertTrue((moved / path).is_file(), path)
+        done = subprocess.run([sys.executable, moved / "bin" / "llbm-explain", "fault", "12"], capture_output=True)
+        self.assertEqual((done.returncode, done.stderr), (0, b""))
+
     def test_a_dry_run_prints_the_paths_and_writes_nothing(self):
         lines = self.install("--dry-run")
         self.assertFalse(self.prefix.exists())
