@@ -227,6 +227,7 @@ class WithProgram(Folder):
         self.assertNotIn(b"fault 173", answers)
 
     def test_a_text_that_is_too_long_is_refused(self):
+        base.skip_if_slow(self)
         self.make(b"a", b"")
         os.truncate(self.place(b"in", b"a"), 1 << 25)
         done = self.build(base.ending(base.source("local://src")), f"src={self.at / 'in'}")
@@ -238,6 +239,7 @@ class WithProgram(Folder):
         return self.output(*words, given=given, preexec_fn=narrow).decode().splitlines()
 
     def test_the_deepest_graph_needs_no_deep_stack(self):
+        base.skip_if_slow(self)
         given = run("bigdef", "chain", str(DEEPEST)).stdout
         last = DEEPEST - 1
         inputs = ["-", *(f"{number}.0" for number in range(last))]
@@ -250,6 +252,7 @@ class WithProgram(Folder):
         self.assertTrue(self.output("asm", given=text, preexec_fn=narrow) == given)
 
     def test_the_deepest_graph_is_run_and_undone(self):
+        base.skip_if_slow(self)
         given = run("bigdef", "chain", str(DEEPEST)).stdout
         events = 3 * DEEPEST
         commands = b"go\n" + b"back\n" * (events + 1)
