@@ -1,8 +1,8 @@
 -- A failure as text: the part of its line after the vertex.
 use Rattle.std.specs.Prelude.{ℕ, List, ◌++◌, codes}
 use Rattle.std.specs.Fmt.{decimal}
-use Rattle.llb_model.specs.declared.fault.VertexFault.{VertexFault}
-use Rattle.llb_model.specs.declared.fault.VertexFault.TheVariants.{Action, Exit}
+use Rattle.llb_events.specs.declared.fault.VertexFault.{VertexFault}
+use Rattle.llb_events.specs.declared.fault.VertexFault.TheVariants.{Action, Exit}
 
 -- the action and its fault, or the command and its status
 abbrev pub failure_text : VertexFault → List ℕ

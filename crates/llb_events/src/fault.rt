@@ -1,7 +1,7 @@
 //! Why a vertex fails. A failure prints what comes after the vertex in its line.
 
 ghost use Rattle.std.specs.Prelude.{Some};
-ghost use Rattle.llb_model.specs.Failure.{failure_text};
+ghost use Rattle.llb_events.specs.Failure.{failure_text};
 
 use llb_wire::Same;
 use std::error::Error;

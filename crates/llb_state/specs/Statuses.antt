@@ -1,13 +1,13 @@
--- What events and replies represent in the words of the machine's definitions, and how a vertex and a worker look.
+-- How a vertex and a worker look, in a state of the machine.
 use Rattle.std.specs.Prelude.{ℕ, Bool, List, Option, Some, None, option_map, slice_get, if◌then◌else◌}
 use Rattle.llb_model.specs.Program.{Build}
 use Rattle.llb_model.specs.Outcome.{Done, Failed}
-use Rattle.llb_model.specs.declared.fault.VertexFault.{VertexFault}
+use Rattle.llb_events.specs.declared.fault.VertexFault.{VertexFault}
 use Rattle.llb_model.specs.State as model
-use Rattle.llb_events.specs.declared.event.Status.{Status}
-use Rattle.llb_events.specs.declared.event.Status.TheVariants as seen
-use Rattle.llb_events.specs.declared.event.WorkerStatus.{WorkerStatus}
-use Rattle.llb_events.specs.declared.event.WorkerStatus.TheVariants as worker
+use Rattle.llb_state.specs.declared.status.Status.{Status}
+use Rattle.llb_state.specs.declared.status.Status.TheVariants as seen
+use Rattle.llb_state.specs.declared.status.WorkerStatus.{WorkerStatus}
+use Rattle.llb_state.specs.declared.status.WorkerStatus.TheVariants as worker
 
 -- ---- looks
 

@@ -1,17 +1,16 @@
--- The text after the word `fault` where a board refuses an event: the number, and the key of a cache that is held. And where memory is a claim's cause.
+-- The text after the word `fault` where a board refuses an event: the number, and the key of a cache that is held. And how the results of events are specified:
+-- what the table returns, or memory was refused.
 use Rattle.std.specs.Prelude.{ℕ, Bool, true, false, List, ◌++◌, Result, Ok, Err, codes}
 use Rattle.llb_wire.specs.Answer as answer
 use Rattle.llb_cache.specs.Key.{has_text}
-use Rattle.llb_model.specs.declared.refusal.ClaimFault.{ClaimFault}
-use Rattle.llb_model.specs.declared.refusal.ClaimFault.TheVariants as claim
-use Rattle.llb_model.specs.declared.refusal.StepFault.{StepFault}
-use Rattle.llb_model.specs.declared.refusal.StepFault.TheVariants as step
-use Rattle.llb_model.specs.declared.refusal.SettleFault.{SettleFault}
-use Rattle.llb_model.specs.declared.refusal.SettleFault.TheVariants as settle
-use Rattle.llb_model.specs.declared.refusal.CancelFault.{CancelFault}
-use Rattle.llb_model.specs.declared.refusal.CancelFault.TheVariants as cancel
-use Rattle.llb_model.specs.declared.refusal.WalkFault.{WalkFault}
-use Rattle.llb_model.specs.declared.refusal.WalkFault.TheVariants as walk
+use Rattle.llb_events.specs.declared.refusal.ClaimFault.{ClaimFault}
+use Rattle.llb_events.specs.declared.refusal.ClaimFault.TheVariants as claim
+use Rattle.llb_events.specs.declared.refusal.StepFault.{StepFault}
+use Rattle.llb_events.specs.declared.refusal.StepFault.TheVariants as step
+use Rattle.llb_events.specs.declared.refusal.SettleFault.{SettleFault}
+use Rattle.llb_events.specs.declared.refusal.SettleFault.TheVariants as settle
+use Rattle.llb_events.specs.declared.refusal.CancelFault.{CancelFault}
+use Rattle.llb_events.specs.declared.refusal.CancelFault.TheVariants as cancel
 
 -- the text of the refusal of a claim
 abbrev pub claim_text : ClaimFault → List ℕ
@@ -40,30 +39,6 @@ abbrev pub cancel_text : CancelFault → List ℕ
 cancel_text cancel.NoWorker = codes "131"
 cancel_text cancel.NotRunning = codes "136"
 
--- the text of the refusal of any event
-abbrev pub walk_text : WalkFault → List ℕ
-walk_text (walk.Claim e) = claim_text e
-walk_text (walk.Step e) = step_text e
-walk_text (walk.Settle e) = settle_text e
-walk_text (walk.Cancel e) = cancel_text e
-walk_text walk.Memory = codes "141"
-
--- refused memory is one fault, whichever call it was refused to
-abbrev pub claim_refused : ClaimFault → WalkFault
-claim_refused claim.Memory = walk.Memory
-claim_refused claim.NoWorker = walk.Claim claim.NoWorker
-claim_refused claim.Busy = walk.Claim claim.Busy
-claim_refused claim.NoVertex = walk.Claim claim.NoVertex
-claim_refused claim.NotReady = walk.Claim claim.NotReady
-claim_refused (claim.Held k) = walk.Claim (claim.Held k)
-
--- the refusal of a step as that of a walk
-abbrev pub step_refused : StepFault → WalkFault
-step_refused step.Memory = walk.Memory
-step_refused step.NoWorker = walk.Step step.NoWorker
-step_refused step.NotRunning = walk.Step step.NotRunning
-step_refused step.NothingLeft = walk.Step step.NothingLeft
-
 -- ---- memory that a claim may want
 
 -- where memory may be needed: where there is no other cause, or for the text of the key that is held
@@ -88,3 +63,36 @@ claim_memory (claim.Held key) = false
 -- a result of a claim is what the rule returns, but for want of memory
 abbrev pub GivesClaim : {X Y : Type 0} → (X → Y) → Result X ClaimFault → Result Y ClaimFault → Type 0
 GivesClaim = answer.Gives claim_memory
+
+-- ---- steps
+
+-- whether memory was refused to a step
+abbrev pub step_memory : StepFault → Bool
+step_memory step.Memory = true
+step_memory step.NoWorker = false
+step_memory step.NotRunning = false
+step_memory step.NothingLeft = false
+
+-- a step's result is what the table returns, or memory was refused
+abbrev pub GivesStep : {X Y : Type 0} → (X → Y) → Result X StepFault → Result Y StepFault → Type 0
+GivesStep = answer.Gives step_memory
+
+-- ---- settles
+
+-- no settle wants memory
+abbrev pub settle_memory : SettleFault → Bool
+settle_memory e = false
+
+-- a settle's result is what the table returns
+abbrev pub GivesSettle : {X Y : Type 0} → (X → Y) → Result X SettleFault → Result Y SettleFault → Type 0
+GivesSettle = answer.Gives settle_memory
+
+-- ---- cancels
+
+-- no cancel wants memory
+abbrev pub cancel_memory : CancelFault → Bool
+cancel_memory e = false
+
+-- a cancel's result is what the table returns
+abbrev pub GivesCancel : {X Y : Type 0} → (X → Y) → Result X CancelFault → Result Y CancelFault → Type 0
+GivesCancel = answer.Gives cancel_memory
