@@ -1,4 +1,3 @@
-#!/usr/bin/env python3
 """Changes a foreign definition, as a client of BuildKit marshals it, into one that llbm accepts.
 
 In: a definition, on standard input or in the file DEFINITION. Sources that are images, git repositories, files from
@@ -26,15 +25,8 @@ import os
 import sys
 from collections.abc import Iterator
 
-sys.dont_write_bytecode = True
-sys.path.insert(0, os.path.dirname(os.path.realpath(__file__)))
-
-import adopting  # noqa: E402
-import adoption_rules  # noqa: E402
-import common  # noqa: E402
-import findings  # noqa: E402
-import op_reading  # noqa: E402
-from definition import Unreadable  # noqa: E402
+from llbm_tools import adopting, adoption_rules, common, findings, op_reading
+from llbm_tools.definition import Unreadable
 
 HINTS = {
     "SecretMount": "--without-secrets drops it",
@@ -174,7 +166,3 @@ def main() -> int:
         common.discard_output()
         return 3
     return 0
-
-
-if __name__ == "__main__":
-    sys.exit(main())

@@ -11,16 +11,12 @@ import shlex
 from collections.abc import Callable
 from typing import NamedTuple
 
-import definition
-import findings
-import names
-import op_reading
-import op_rules
-from adoption_rules import Rule, rule_for
-from common import shortened
-from local_names import LocalNames, is_known
-from op_reading import Record
-from rewriting import changed, with_each, with_message, with_text, with_texts, without, written
+from llbm_tools import definition, findings, names, op_reading, op_rules
+from llbm_tools.adoption_rules import Rule, rule_for
+from llbm_tools.common import shortened
+from llbm_tools.local_names import LocalNames, is_known
+from llbm_tools.op_reading import Record
+from llbm_tools.rewriting import changed, with_each, with_message, with_text, with_texts, without, written
 
 KINDS = frozenset([2, 3, 4, 5, 6, 7])
 EXEC, SOURCE, FILE = 2, 3, 4

@@ -15,7 +15,7 @@ llbm; if there are none, the execution keeps its words.
 import shlex
 from typing import NamedTuple
 
-import script_faults
+from llbm_tools import script_faults
 
 ARROW = "=>"
 KINDS = ("digest", "name", "words")

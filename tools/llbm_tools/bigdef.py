@@ -1,4 +1,3 @@
-#!/usr/bin/env python3
 """Writes a large definition of one kind, for measuring growth.
 
 In: KIND and COUNT. The kinds:
@@ -39,15 +38,11 @@ Exit status: 0 the definition is written; 2 the command line is refused; 3 a wri
 """
 
 import argparse
-import os
 import sys
 
-sys.dont_write_bytecode = True
-sys.path.insert(0, os.path.dirname(os.path.realpath(__file__)))
-
-import messages  # noqa: E402
-from common import check_open, discard_output, os_error_text, say  # noqa: E402
-from messages import edge, encoded, made  # noqa: E402
+from llbm_tools import messages
+from llbm_tools.common import check_open, discard_output, os_error_text, say
+from llbm_tools.messages import edge, encoded, made
 
 MOST_INPUTS = 1024
 MOST_ACTIONS = 512
@@ -348,7 +343,3 @@ def main() -> int:
         discard_output()
         return 3
     return 0
-
-
-if __name__ == "__main__":
-    sys.exit(main())

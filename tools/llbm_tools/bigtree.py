@@ -1,4 +1,3 @@
-#!/usr/bin/env python3
 """Writes the text of a large tree, for measuring growth.
 
 In: FILES files of BYTES bytes each (16 by default), spread over DIRECTORIES directories, which are two levels deep. The
@@ -16,10 +15,7 @@ import os
 import sys
 from collections.abc import Iterator
 
-sys.dont_write_bytecode = True
-sys.path.insert(0, os.path.dirname(os.path.realpath(__file__)))
-
-from common import check_open, discard_output, is_name, os_error_text, say  # noqa: E402
+from llbm_tools.common import check_open, discard_output, is_name, os_error_text, say
 
 MOST_FILES = 100_000_000
 MOST_SIZE = 1 << 30
@@ -96,7 +92,3 @@ def main() -> int:
         discard_output()
         return 3
     return 0
-
-
-if __name__ == "__main__":
-    sys.exit(main())

@@ -1,4 +1,3 @@
-#!/usr/bin/env python3
 """Runs a definition on directories or archives, and writes its result as a new directory or archive.
 
 In: the file DEFINITION, and for each local source NAME=DIRECTORY or NAME=ARCHIVE, split at its first `=`; if a name is
@@ -37,17 +36,11 @@ import tempfile
 from collections.abc import Iterable, Iterator
 from typing import BinaryIO, NamedTuple
 
-sys.dont_write_bytecode = True
-sys.path.insert(0, os.path.dirname(os.path.realpath(__file__)))
-
-import faults  # noqa: E402
-import progress  # noqa: E402
-import shows  # noqa: E402
-from archives import is_archive  # noqa: E402
-from common import MOST_BYTES, os_error_text, program_named, say, shortened  # noqa: E402
-from streams import Refused  # noqa: E402
-
-HERE = pathlib.Path(__file__).resolve().parent
+from llbm_tools import faults, progress, shows
+from llbm_tools.archives import is_archive
+from llbm_tools.common import MOST_BYTES, os_error_text, program_named, say, shortened
+from llbm_tools.paths import TOOLS
+from llbm_tools.streams import Refused
 
 SIGNALS = {signal.SIGINT, signal.SIGTERM, signal.SIGHUP}
 PATIENCE = 5
@@ -186,7 +179,7 @@ class Build:
 
     def tool(self, name: str, *words: str) -> list[str]:
         """Returns the command of another tool in this folder."""
-        return [sys.executable, str(HERE / name), *words]
+        return [sys.executable, str(TOOLS / name), *words]
 
     def text(self, number: int) -> str:
         """Returns the path of the text of a source."""
@@ -360,7 +353,3 @@ def main() -> int:
         build.clean()
         say("interrupted: nothing is written")
         return 128 + signalled.args[0]
-
-
-if __name__ == "__main__":
-    sys.exit(main())

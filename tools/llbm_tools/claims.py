@@ -1,4 +1,3 @@
-#!/usr/bin/env python3
 """Prints what has to be read to believe a statement, and maintains the lists in docs/CLAIMS.md.
 
 In: the sources in crates/. `tools/claims STATEMENT` prints every definition that a statement depends on, nearest first,
@@ -14,16 +13,13 @@ write failed.
 """
 
 import argparse
-import os
 import pathlib
 import re
 import sys
 
-sys.dont_write_bytecode = True
-sys.path.insert(0, os.path.dirname(os.path.realpath(__file__)))
-
-from common import discard_output, os_error_text, say  # noqa: E402
-from definitions import ROOT, Definition, Library, contract  # noqa: E402
+from llbm_tools.common import discard_output, os_error_text, say
+from llbm_tools.definitions import Definition, Library, contract
+from llbm_tools.paths import ROOT
 
 PAGE = ROOT / "docs" / "CLAIMS.md"
 FUNCTION = re.compile(r"\s*(?:pub(?:\(\w+\))? )?(?:const |unsafe )?fn (\w+)")
@@ -152,7 +148,3 @@ def main() -> int:
         say(os_error_text(fault))
         discard_output()
         return 3
-
-
-if __name__ == "__main__":
-    sys.exit(main())

@@ -2,20 +2,14 @@
 
 import contextlib
 import os
-import pathlib
 import re
 import shutil
 import subprocess
 import sys
 
-ROOT = pathlib.Path(__file__).resolve().parent.parent
+from llbm_tools import paths
+
 KIT = "rattle-kit-13f logic dac8208d650f15bf"
-# The program that the proof of everything leaves, and the one that `unproved-program` makes.
-PROVED = ROOT / "crates" / "llbm" / "out" / "llbm"
-UNPROVED = ROOT / "out" / "llbm-unproved"
-# The list of an installation, and its program.
-INSTALLED = ROOT / "installed"
-INSTALLED_PROGRAM = ROOT.parent.parent / "bin" / "llbm"
 NOT_PROVED = "not proved, compiled with"
 
 MOST_BYTES = 67_108_864
@@ -91,7 +85,7 @@ def program_named(word: str | None) -> str:
     """
     if word is not None:
         return word
-    places = [INSTALLED_PROGRAM] if INSTALLED.is_file() else [PROVED, UNPROVED]
+    places = [paths.INSTALLED_PROGRAM] if paths.INSTALLED.is_file() else [paths.PROVED, paths.UNPROVED]
     found = next((place for place in places if shutil.which(place)), None)
     if found and is_unproved(found):
         say(f"{os.path.relpath(found)}: the program is not proved")

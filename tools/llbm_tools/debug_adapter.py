@@ -1,4 +1,3 @@
-#!/usr/bin/env python3
 """Lets an editor step through the run of a definition, by the Debug Adapter Protocol over `llbm step`.
 
 In: requests on standard input, each a JSON object after a header with its Content-Length. A launch names the
@@ -21,16 +20,12 @@ command line is refused: standard error says why; 3 a read or a write failed; 13
 
 import argparse
 import json
-import os
 import signal
 import sys
 
-sys.dont_write_bytecode = True
-sys.path.insert(0, os.path.dirname(os.path.realpath(__file__)))
-
-import common  # noqa: E402
-from debugging.adapter import RUNNING, Adapter  # noqa: E402
-from debugging.wire import Malformed, Reader, Writer  # noqa: E402
+from llbm_tools import common
+from llbm_tools.debugging.adapter import RUNNING, Adapter
+from llbm_tools.debugging.wire import Malformed, Reader, Writer
 
 
 def parse_options() -> argparse.Namespace:
@@ -89,7 +84,3 @@ def main() -> int:
     except KeyboardInterrupt:
         return 130
     return 0
-
-
-if __name__ == "__main__":
-    sys.exit(main())

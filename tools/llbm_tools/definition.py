@@ -11,7 +11,7 @@ import shlex
 from collections.abc import Iterator
 from typing import NamedTuple
 
-from common import MOST_BYTES
+from llbm_tools.common import MOST_BYTES
 
 MOST_FIELDS = 536_870_911
 MOST_OF_A_NUMBER = 1 << 64

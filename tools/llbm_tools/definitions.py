@@ -14,7 +14,7 @@ import pathlib
 import re
 from collections.abc import Iterator
 
-ROOT = pathlib.Path(__file__).resolve().parent.parent
+from llbm_tools.paths import ROOT
 
 MODIFIERS = r"(?:(?:pub|abbrev|unfoldable|opaque)\s+)*"
 TYPE = re.compile(rf"{MODIFIERS}(?:record|data)\s+(\S+)")

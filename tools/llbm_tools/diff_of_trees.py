@@ -1,4 +1,3 @@
-#!/usr/bin/env python3
 """Prints the differences between two trees.
 
 In: FIRST and SECOND, each a directory, an archive (a path that is not a directory and ends in .tar, .tar.gz, .tgz,
@@ -26,20 +25,16 @@ import contextlib
 import hashlib
 import io
 import os
-import pathlib
 import subprocess
 import sys
 from collections.abc import Iterator
 from typing import BinaryIO
 
-sys.dont_write_bytecode = True
-sys.path.insert(0, os.path.dirname(os.path.realpath(__file__)))
+from llbm_tools.archives import is_archive
+from llbm_tools.paths import TOOLS
+from llbm_tools.streams import Failed, Refused, exit_status, standard_input, temporary_file, write_output
+from llbm_tools.trees import Entry, checked, owner_word, path_of
 
-from archives import is_archive  # noqa: E402
-from streams import Failed, Refused, exit_status, standard_input, temporary_file, write_output  # noqa: E402
-from trees import Entry, checked, owner_word, path_of  # noqa: E402
-
-HERE = pathlib.Path(__file__).resolve().parent
 STANDARD_INPUT = "-"
 
 EQUAL, DIFFERENT, REFUSED = 0, 1, 2
@@ -60,7 +55,7 @@ def read_by(reader: str, place: str, options: argparse.Namespace, stored: Binary
     """Stores the tree text that a tool makes of a path."""
     flags = ["--strict"] if options.strict else []
     flags += ["--owner", "{}:{}".format(*options.owner)] if options.owner else []
-    command = [sys.executable, str(HERE / reader), *flags, "--", place]
+    command = [sys.executable, str(TOOLS / reader), *flags, "--", place]
     status = subprocess.run(command, stdin=subprocess.DEVNULL, stdout=stored).returncode
     if status == REFUSED or options.strict and status == 1:
         raise Refused(f"{place}: could not be read as a tree")
@@ -189,7 +184,3 @@ def main() -> int:
     """Runs the tool, and returns its exit status."""
     options = parse_options()
     return exit_status(lambda: compare(options))
-
-
-if __name__ == "__main__":
-    sys.exit(main())

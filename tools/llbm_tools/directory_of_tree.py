@@ -1,4 +1,3 @@
-#!/usr/bin/env python3
 """Writes a tree text as a new directory.
 
 In: a tree text on standard input, and the directory's name on the command line; it does not exist yet, or it is an
@@ -18,14 +17,10 @@ import argparse
 import binascii
 import contextlib
 import os
-import sys
 from collections.abc import Iterable, Iterator
 
-sys.dont_write_bytecode = True
-sys.path.insert(0, os.path.dirname(os.path.realpath(__file__)))
-
-from streams import Failed, Refused, exit_status, input_lines, temporary_file  # noqa: E402
-from trees import MOST_OF_AN_OWNER, Entry, Names, check_into, entry_of  # noqa: E402
+from llbm_tools.streams import Failed, Refused, exit_status, input_lines, temporary_file
+from llbm_tools.trees import MOST_OF_AN_OWNER, Entry, Names, check_into, entry_of
 
 OPENING = os.O_RDONLY | os.O_CLOEXEC | os.O_NOFOLLOW | os.O_DIRECTORY
 MAKING = os.O_WRONLY | os.O_CLOEXEC | os.O_NOFOLLOW | os.O_CREAT | os.O_EXCL
@@ -140,7 +135,3 @@ def main() -> int:
     """Runs the tool, and returns its exit status."""
     options = parse_options()
     return exit_status(lambda: write_checked(options.directory))
-
-
-if __name__ == "__main__":
-    sys.exit(main())

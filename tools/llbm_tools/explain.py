@@ -1,4 +1,3 @@
-#!/usr/bin/env python3
 """Explains fault and failure lines of llbm with the sentences of docs/FAULTS.md.
 
 In: a line as words of the command line, as in `explain fault 82 3 12`, or lines on standard input if no words are
@@ -14,15 +13,10 @@ other lines are explained; 3 a read or a write failed.
 """
 
 import argparse
-import os
 import sys
 from collections.abc import Iterable
 
-sys.dont_write_bytecode = True
-sys.path.insert(0, os.path.dirname(os.path.realpath(__file__)))
-
-import common  # noqa: E402
-import faults  # noqa: E402
+from llbm_tools import common, faults
 
 
 def write(text: str) -> None:
@@ -84,7 +78,3 @@ def main() -> int:
         common.say(common.os_error_text(fault))
         common.discard_output()
         return 3
-
-
-if __name__ == "__main__":
-    sys.exit(main())

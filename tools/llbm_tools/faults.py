@@ -4,15 +4,14 @@ It reads the tables of the page: that of all faults, those of names after a numb
 that of failures.
 """
 
-import pathlib
 import re
 from typing import NamedTuple
 
-import definition
-import names
-from common import data_in, printable
+from llbm_tools import definition, names
+from llbm_tools.common import data_in, printable
+from llbm_tools.paths import ROOT
 
-PAGE = pathlib.Path(__file__).resolve().parent.parent / "docs" / "FAULTS.md"
+PAGE = ROOT / "docs" / "FAULTS.md"
 
 NUMBERS = {"k", "i", "N", "V", "C", "P"}
 NAMES = {"FEATURE", "RULE"}

@@ -7,9 +7,7 @@ separate finding, and the index of an input is checked if the outputs of the ent
 
 from typing import NamedTuple
 
-import definition
-import op_reading
-import op_rules
+from llbm_tools import definition, op_reading, op_rules
 
 DEFINITION, ENTRY, TOO_FEW, COLLISION, NO_RESULT, UNKNOWN, CYCLE, FEATURE, RULE, INDEX = range(81, 91)
 

@@ -1,4 +1,3 @@
-#!/usr/bin/env python3
 """Checks that crates are built on what they say, and that proofs keep to the rule of the floors.
 
 In: crates.txt and the sources in crates/ of the repository around this folder, or around --repository DIRECTORY. A
@@ -21,18 +20,14 @@ Exit status: 0 nothing is wrong; 1 something is; 2 the command line is refused; 
 """
 
 import argparse
-import os
 import pathlib
 import re
 import sys
 from collections.abc import Iterator
 
-sys.dont_write_bytecode = True
-sys.path.insert(0, os.path.dirname(os.path.realpath(__file__)))
+from llbm_tools.common import check_open, discard_output, os_error_text, say
+from llbm_tools.paths import ROOT
 
-from common import check_open, discard_output, os_error_text, say  # noqa: E402
-
-HERE = pathlib.Path(__file__).resolve().parent
 
 # The crates whose proofs others may cite, and which others; None for any.
 LENDERS = {
@@ -160,7 +155,7 @@ def parse_options() -> argparse.Namespace:
         description="Checks what crates say of themselves, and which proofs cite others.", allow_abbrev=False
     )
     parser.add_argument(
-        "--repository", metavar="DIRECTORY", type=pathlib.Path, default=HERE.parent, help="default: that of this folder"
+        "--repository", metavar="DIRECTORY", type=pathlib.Path, default=ROOT, help="default: that of this folder"
     )
     return parser.parse_args()
 
@@ -179,7 +174,3 @@ def main() -> int:
         discard_output()
         return 3
     return int(bool(lines))
-
-
-if __name__ == "__main__":
-    sys.exit(main())

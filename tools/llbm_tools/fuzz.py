@@ -1,4 +1,3 @@
-#!/usr/bin/env python3
 """Runs the program llbm on random inputs, and prints which rule an input breaks.
 
 In: SECONDS, the duration; --cases N ends after N cases if that is sooner. The program is --llbm PROGRAM, or else
@@ -36,14 +35,10 @@ import tempfile
 import time
 from collections.abc import Iterator
 
-sys.dont_write_bytecode = True
-sys.path.insert(0, os.path.dirname(os.path.realpath(__file__)))
+from llbm_tools import fuzz_cases, limited
+from llbm_tools.common import check_open, discard_output, os_error_text, printable, program_named, say
+from llbm_tools.paths import ROOT
 
-import fuzz_cases  # noqa: E402
-import limited  # noqa: E402
-from common import check_open, discard_output, os_error_text, printable, program_named, say  # noqa: E402
-
-ROOT = pathlib.Path(__file__).resolve().parent.parent
 EXAMPLES = ROOT / "examples"
 
 MOST_STORED = 100
@@ -193,7 +188,3 @@ def main() -> int:
     except KeyboardInterrupt:
         say("interrupted")
         return 130
-
-
-if __name__ == "__main__":
-    sys.exit(main())

@@ -5,12 +5,10 @@ All randomness comes from the generator that is passed in, so equal seeds make e
 
 import random
 
-import definition
-import fuzz_made
-import messages
-from definition import Unreadable
-from fuzz_made import one_in
-from messages import NUMBER, TABLE, TRUTH, Message, Raw
+from llbm_tools import definition, fuzz_made, messages
+from llbm_tools.definition import Unreadable
+from llbm_tools.fuzz_made import one_in
+from llbm_tools.messages import NUMBER, TABLE, TRUTH, Message, Raw
 
 NUMBERS = [
     0, 1, 2, 3, 4, 5, 7, 63, 64, 127, 128, 255, 256, 420, 493, 1023, 1024, 4095, 4096, 65535, 65536, -1, -2, -128,

@@ -5,12 +5,9 @@ The rules are those of docs/FORMATS.md and docs/FAULTS.md. A broken rule raises 
 
 import re
 
-import common
-import definition
-import faults
-import messages
-from definition import Unreadable
-from limited import Ran
+from llbm_tools import common, definition, faults, messages
+from llbm_tools.definition import Unreadable
+from llbm_tools.limited import Ran
 
 LAST_STATUS = 3
 MOST_OF_A_NUMBER = 1 << 32

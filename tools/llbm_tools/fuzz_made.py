@@ -5,8 +5,8 @@ All randomness comes from the generator that is passed in, so equal seeds make e
 
 import random
 
-import messages
-from messages import Message, made
+from llbm_tools import messages
+from llbm_tools.messages import Message, made
 
 ALPHA, OMEGA = "\N{GREEK SMALL LETTER ALPHA}", "\N{GREEK SMALL LETTER OMEGA}"
 

@@ -1,4 +1,3 @@
-#!/usr/bin/env python3
 """Converts the lines of `llbm show` to a Graphviz digraph.
 
 In: the lines on standard input, `V KIND steps S outputs O inputs LIST` for each vertex by number and then `result V.I`;
@@ -17,18 +16,12 @@ the first faulty line is named on standard error as `line N: ...`, counted from 
 """
 
 import argparse
-import os
 import re
 import sys
 
-sys.dont_write_bytecode = True
-sys.path.insert(0, os.path.dirname(os.path.realpath(__file__)))
-
-import common  # noqa: E402
-import definition  # noqa: E402
-import names  # noqa: E402
-from shows import Edge, Show, Vertex, show_of  # noqa: E402
-from streams import Refused  # noqa: E402
+from llbm_tools import common, definition, names
+from llbm_tools.shows import Edge, Show, Vertex, show_of
+from llbm_tools.streams import Refused
 
 SHAPES = {"source": "folder", "file": "note", "merge": "trapezium", "exec": "box"}
 MOST_CHARACTERS = 60
@@ -134,7 +127,3 @@ def main() -> int:
         common.discard_output()
         return 3
     return 0
-
-
-if __name__ == "__main__":
-    sys.exit(main())

@@ -1,4 +1,3 @@
-#!/usr/bin/env python3
 """Converts the output of a session of `llbm step` to JSON.
 
 In: the output on standard input, or any of its lines, such as those of a record.
@@ -24,18 +23,13 @@ line is named on standard error as `line N: ...`, counted from 1; 3 a read or a 
 import argparse
 import io
 import json
-import os
 import re
-import sys
 from collections.abc import Iterable
 from typing import NamedTuple
 
-sys.dont_write_bytecode = True
-sys.path.insert(0, os.path.dirname(os.path.realpath(__file__)))
-
-from shows import KINDS, NUMBER  # noqa: E402
-from streams import Refused, exit_status, input_lines, write_output  # noqa: E402
-from trees import entry_of, path_of  # noqa: E402
+from llbm_tools.shows import KINDS, NUMBER
+from llbm_tools.streams import Refused, exit_status, input_lines, write_output
+from llbm_tools.trees import entry_of, path_of
 
 
 class Form(NamedTuple):
@@ -158,7 +152,3 @@ def main() -> int:
     )
     parser.parse_args()
     return exit_status(convert)
-
-
-if __name__ == "__main__":
-    sys.exit(main())

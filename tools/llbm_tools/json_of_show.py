@@ -1,4 +1,3 @@
-#!/usr/bin/env python3
 """Converts the lines of `llbm show` to JSON.
 
 In: the lines on standard input, `V KIND steps S outputs O inputs LIST` for each vertex by number and then `result V.I`.
@@ -13,14 +12,9 @@ line is named on standard error as `line N: ...`, counted from 1; 3 a read or a 
 import argparse
 import io
 import json
-import os
-import sys
 
-sys.dont_write_bytecode = True
-sys.path.insert(0, os.path.dirname(os.path.realpath(__file__)))
-
-from shows import Edge, Show, Vertex, show_of  # noqa: E402
-from streams import exit_status, input_lines, write_output  # noqa: E402
+from llbm_tools.shows import Edge, Show, Vertex, show_of
+from llbm_tools.streams import exit_status, input_lines, write_output
 
 
 def edge_object(edge: Edge) -> dict:
@@ -54,7 +48,3 @@ def main() -> int:
     )
     parser.parse_args()
     return exit_status(convert)
-
-
-if __name__ == "__main__":
-    sys.exit(main())

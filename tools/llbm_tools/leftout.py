@@ -4,8 +4,8 @@ import collections
 from collections.abc import Sequence
 from typing import NamedTuple
 
-from common import MOST_NAMES, is_name, say
-from trees import path_of
+from llbm_tools.common import MOST_NAMES, is_name, say
+from llbm_tools.trees import path_of
 
 
 class Exclusion(NamedTuple):

@@ -1,4 +1,3 @@
-#!/usr/bin/env python3
 """Finds lines in the repository that have more than 160 columns.
 
 In: the files that `git ls-files` lists in the repository around this folder, or around --repository DIRECTORY, as they
@@ -19,10 +18,8 @@ import subprocess
 import sys
 from collections.abc import Iterator
 
-sys.dont_write_bytecode = True
-sys.path.insert(0, os.path.dirname(os.path.realpath(__file__)))
-
-from common import check_open, discard_output, os_error_text, say  # noqa: E402
+from llbm_tools.common import check_open, discard_output, os_error_text, say
+from llbm_tools.paths import ROOT
 
 MOST_COLUMNS = 160
 PASSED_OVER = [
@@ -30,7 +27,6 @@ PASSED_OVER = [
     "examples/*/printed",
     "examples/*/words",
 ]
-HERE = pathlib.Path(__file__).resolve().parent
 
 
 class NoRepository(Exception):
@@ -79,7 +75,7 @@ def parse_options() -> argparse.Namespace:
         description="Finds the lines of the repository that have more than 160 columns.", allow_abbrev=False
     )
     parser.add_argument(
-        "--repository", metavar="DIRECTORY", type=pathlib.Path, default=HERE.parent, help="default: that of this folder"
+        "--repository", metavar="DIRECTORY", type=pathlib.Path, default=ROOT, help="default: that of this folder"
     )
     return parser.parse_args()
 
@@ -96,7 +92,3 @@ def main() -> int:
         say(os_error_text(fault))
         discard_output()
         return 3
-
-
-if __name__ == "__main__":
-    sys.exit(main())

@@ -1,4 +1,3 @@
-#!/usr/bin/env python3
 """Prints everything that keeps llbm from accepting a definition, not only the first fault.
 
 In: a definition, on standard input or in the file DEFINITION.
@@ -16,16 +15,9 @@ refused; 3 a read or a write failed.
 """
 
 import argparse
-import os
 import sys
 
-sys.dont_write_bytecode = True
-sys.path.insert(0, os.path.dirname(os.path.realpath(__file__)))
-
-import common  # noqa: E402
-import definition  # noqa: E402
-import findings  # noqa: E402
-import names  # noqa: E402
+from llbm_tools import common, definition, findings, names
 
 
 def names_in(data: bytes) -> list[str]:
@@ -69,7 +61,3 @@ def main() -> int:
         common.discard_output()
         return 3
     return 1 if lines else 0
-
-
-if __name__ == "__main__":
-    sys.exit(main())

@@ -2,7 +2,7 @@
 
 import re
 
-from op_rules import LOCAL
+from llbm_tools.op_rules import LOCAL
 
 IMAGES = ("docker-image", "docker-image+blob", "oci-layout", "oci-layout+blob")
 SCHEMES = (*IMAGES, "git", "http", "https")

@@ -1,4 +1,3 @@
-#!/usr/bin/env python3
 """Measures the program llbm: pairs of runs in the same minutes, and their ratios.
 
 In: the measurements in the table in this file, or only those named NAME .. . The program is --llbm PROGRAM, or else
@@ -26,12 +25,9 @@ import tempfile
 import time
 from typing import NamedTuple
 
-sys.dont_write_bytecode = True
-sys.path.insert(0, os.path.dirname(os.path.realpath(__file__)))
+from llbm_tools.common import check_open, discard_output, os_error_text, program_named, say
+from llbm_tools.paths import TOOLS
 
-from common import check_open, discard_output, os_error_text, program_named, say  # noqa: E402
-
-HERE = pathlib.Path(__file__).resolve().parent
 RUNS = 5
 
 
@@ -140,7 +136,7 @@ class Inputs:
         if key not in self.made:
             place = self.folder / str(len(self.made))
             with open(place, "wb") as file:
-                subprocess.run([sys.executable, HERE / tool, *self.smaller(text)], stdout=file, check=True)
+                subprocess.run([sys.executable, TOOLS / tool, *self.smaller(text)], stdout=file, check=True)
             self.made[key] = place
         return self.made[key]
 
@@ -263,7 +259,3 @@ def main() -> int:
         say(os_error_text(fault))
         discard_output()
         return 3
-
-
-if __name__ == "__main__":
-    sys.exit(main())

@@ -6,8 +6,8 @@ value: a number, bytes (also for a string), a message, or a Raw, which is a whol
 
 import re
 
-import definition
-from definition import EIGHT, FOUR, LENGTH, VARINT, Unreadable
+from llbm_tools import definition
+from llbm_tools.definition import EIGHT, FOUR, LENGTH, VARINT, Unreadable
 
 NUMBER, TRUTH, TEXT, BYTES = "number", "truth", "text", "bytes"
 

@@ -9,8 +9,8 @@ digests to places, and `infos` (2), the files of these. What cannot be parsed is
 
 from typing import NamedTuple
 
-import definition
-from common import printable
+from llbm_tools import definition
+from llbm_tools.common import printable
 
 CUSTOM_NAME = "llb.customname"
 CUSTOM_GROUP = "llb.customnamegroup"

@@ -8,8 +8,8 @@ message is a dict by the names of its fields, with defaults for absent ones, and
 from collections.abc import Iterator
 from typing import NamedTuple
 
-from common import MOST_BYTES
-from definition import EIGHT, FOUR, LENGTH, MOST_FIELDS, VARINT
+from llbm_tools.common import MOST_BYTES
+from llbm_tools.definition import EIGHT, FOUR, LENGTH, MOST_FIELDS, VARINT
 
 MOST_ENTRIES = 65_536
 MOST_OF_AN_ENTRY = 16_777_216

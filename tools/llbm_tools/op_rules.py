@@ -5,8 +5,8 @@ An op is a dict from `op_reading.read_op`. The definitions are in docs/FORMATS.m
 
 from collections.abc import Callable, Iterable, Iterator
 
-import script_faults
-from common import MOST_NAMES, is_name
+from llbm_tools import script_faults
+from llbm_tools.common import MOST_NAMES, is_name
 
 LOCAL = "local://"
 NONE = -1

@@ -9,8 +9,7 @@ import subprocess
 from collections.abc import Iterator
 from typing import BinaryIO, NamedTuple
 
-import definition
-import names
+from llbm_tools import definition, names
 
 CLAIM = re.compile(r"[0-9]+ claim [0-9]+ ([0-9]+) -> (\w+) [0-9]+")
 SETTLE = re.compile(r"[0-9]+ settle [0-9]+ -> ([0-9]+) (done|failed)")

@@ -1,4 +1,3 @@
-#!/usr/bin/env python3
 """Maintains the lists of public calls in docs/PROVED.md: for each call its signature, a sentence, and its clauses.
 
 In: the sources in crates/, of the crates that crates.txt names, in its order. A call is a public function that a crate
@@ -15,18 +14,14 @@ write failed.
 
 import argparse
 import dataclasses
-import os
 import pathlib
 import re
 import sys
 import textwrap
 
-sys.dont_write_bytecode = True
-sys.path.insert(0, os.path.dirname(os.path.realpath(__file__)))
+from llbm_tools.common import discard_output, os_error_text, say
+from llbm_tools.paths import ROOT
 
-from common import discard_output, os_error_text, say  # noqa: E402
-
-ROOT = pathlib.Path(__file__).resolve().parent.parent
 PAGE = ROOT / "docs" / "PROVED.md"
 OUTSIDE = {"llb_examples", "llb_stories", "llb_refusals"}
 # The calls that need no clause, each with the reason.
@@ -213,7 +208,3 @@ def main() -> int:
         say(os_error_text(fault))
         discard_output()
         return 3
-
-
-if __name__ == "__main__":
-    sys.exit(main())

@@ -1,4 +1,3 @@
-#!/usr/bin/env python3
 """Refuses each growth of memory of each call in turn, and each thread of some runs: runs the tests of `llb_refusals`
 with memory and threads that fail on demand.
 
@@ -24,13 +23,11 @@ import sys
 import tempfile
 from typing import NamedTuple
 
-sys.dont_write_bytecode = True
-sys.path.insert(0, os.path.dirname(os.path.realpath(__file__)))
+from llbm_tools.common import check_open, discard_output, os_error_text, printable, say
+from llbm_tools.paths import ROOT
 
-from common import check_open, discard_output, os_error_text, printable, say  # noqa: E402
-
-HERE = pathlib.Path(__file__).resolve().parent
-TESTS = HERE.parent / "crates" / "llb_refusals" / "out" / "llb_refusals_tests"
+TESTS = ROOT / "crates" / "llb_refusals" / "out" / "llb_refusals_tests"
+SOURCE = pathlib.Path(__file__).with_name("refuse.c")
 PATIENCE = 300
 
 NAMED = re.compile(r"(\S+): test")
@@ -67,7 +64,7 @@ def build_library(folder: str) -> str:
     page = subprocess.run(["rt", "doc"], capture_output=True, check=True, text=True).stdout.strip()
     clang = pathlib.Path(page).parent / "toolchain" / "bin" / "clang"
     library = os.path.join(folder, "refuse.so")
-    words = ["-O1", "-shared", "-fPIC", "-nostdlib", "-fuse-ld=lld", "-o", library, str(HERE / "refuse.c")]
+    words = ["-O1", "-shared", "-fPIC", "-nostdlib", "-fuse-ld=lld", "-o", library, str(SOURCE)]
     subprocess.run([str(clang), *words], check=True)
     return library
 
@@ -164,7 +161,3 @@ def main() -> int:
             say(os_error_text(fault))
             discard_output()
             return 3
-
-
-if __name__ == "__main__":
-    sys.exit(main())

@@ -1,4 +1,3 @@
-#!/usr/bin/env python3
 """Replays the commands of a page of this repository, and compares their output with what the page shows.
 
 In: pages in Markdown. A command is a line of a block (lines indented by four spaces, or between lines of ```) that
@@ -32,12 +31,9 @@ import tempfile
 from collections.abc import Iterator
 from typing import NamedTuple
 
-sys.dont_write_bytecode = True
-sys.path.insert(0, os.path.dirname(os.path.realpath(__file__)))
+from llbm_tools.common import check_open, discard_output, os_error_text, printable, program_named, say, shortened
+from llbm_tools.paths import ROOT
 
-from common import check_open, discard_output, os_error_text, printable, program_named, say, shortened  # noqa: E402
-
-ROOT = pathlib.Path(__file__).resolve().parent.parent
 PROGRAMS = ("crates/llbm/out/llbm", "out/llbm-unproved")
 PATIENCE = 120
 MOST_SHOWN = 200
@@ -234,7 +230,3 @@ def main() -> int:
         say(os_error_text(fault))
         discard_output()
         return 3
-
-
-if __name__ == "__main__":
-    sys.exit(main())

@@ -2,8 +2,8 @@
 
 from collections.abc import Callable
 
-from definition import LENGTH
-from op_reading import Record, counted, joined, records_in
+from llbm_tools.definition import LENGTH
+from llbm_tools.op_reading import Record, counted, joined, records_in
 
 
 def spelled(number: int) -> bytes:

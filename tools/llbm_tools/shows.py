@@ -3,7 +3,7 @@
 import re
 from typing import NamedTuple
 
-from streams import Refused
+from llbm_tools.streams import Refused
 
 KINDS = ("source", "file", "merge", "exec")
 

@@ -8,7 +8,7 @@ import tempfile
 from collections.abc import Callable, Iterator
 from typing import BinaryIO
 
-from common import discard_output, say
+from llbm_tools.common import discard_output, say
 
 REFUSED, FAILED, INTERRUPTED = 2, 3, 130
 

@@ -1,4 +1,3 @@
-#!/usr/bin/env python3
 """Writes a tree text as a tar archive; the same text always makes the same bytes.
 
 In: a tree text on standard input; the whole text is checked before anything is written, and its first faulty line is
@@ -16,17 +15,12 @@ a write failed (named on standard error); 130 interrupted. If it is not 0, no AR
 import argparse
 import binascii
 import io
-import os
 import re
-import sys
 import tarfile
 from typing import BinaryIO
 
-sys.dont_write_bytecode = True
-sys.path.insert(0, os.path.dirname(os.path.realpath(__file__)))
-
-from streams import exit_status, input_lines, temporary_file, write_new_file, write_output  # noqa: E402
-from trees import Entry, check_into, entry_of  # noqa: E402
+from llbm_tools.streams import exit_status, input_lines, temporary_file, write_new_file, write_output
+from llbm_tools.trees import Entry, check_into, entry_of
 
 MOST_SECONDS = (1 << 33) - 1
 
@@ -85,7 +79,3 @@ def main() -> int:
     """Runs the tool, and returns its exit status."""
     options = parse_options()
     return exit_status(lambda: write_checked(options))
-
-
-if __name__ == "__main__":
-    sys.exit(main())

@@ -1,4 +1,3 @@
-#!/usr/bin/env python3
 """Tests the tools of this folder by examples, in temporary folders that are removed at the end.
 
 In: the tools beside this file, with their tests in tests/; names of test cases on the command line, as in `test
@@ -27,11 +26,8 @@ import unittest
 from collections.abc import Iterator
 from typing import NamedTuple
 
-sys.dont_write_bytecode = True
-sys.path.insert(0, os.path.dirname(os.path.realpath(__file__)))
-
-import common  # noqa: E402
-from tests import base  # noqa: E402
+from llbm_tools import common
+from tests import base
 
 MODULES = [
     "adapter_runs",
@@ -210,7 +206,3 @@ def main() -> int:
         return test_all(options)
     except KeyboardInterrupt:
         return 130
-
-
-if __name__ == "__main__":
-    sys.exit(main())

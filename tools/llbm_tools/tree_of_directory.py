@@ -1,4 +1,3 @@
-#!/usr/bin/env python3
 """Writes the tree text of a directory to standard output.
 
 In: the directory that the command line names. A file with two names is written as two files; times, extended attributes
@@ -22,12 +21,9 @@ import os
 import stat
 import sys
 
-sys.dont_write_bytecode = True
-sys.path.insert(0, os.path.dirname(os.path.realpath(__file__)))
-
-from common import discard_output, say  # noqa: E402
-from leftout import DEVICE, LINK, PIPE, Exclusion, LeftOut, exclusion_of_names, say_of  # noqa: E402
-from trees import Names, Owner, line_start, owner_word, path_of, warn_of_length  # noqa: E402
+from llbm_tools.common import discard_output, say
+from llbm_tools.leftout import DEVICE, LINK, PIPE, Exclusion, LeftOut, exclusion_of_names, say_of
+from llbm_tools.trees import Names, Owner, line_start, owner_word, path_of, warn_of_length
 
 PIECE = 1 << 20
 
@@ -215,7 +211,3 @@ def main() -> int:
     except KeyboardInterrupt:
         discard_output()
         return 130
-
-
-if __name__ == "__main__":
-    sys.exit(main())

@@ -1,4 +1,3 @@
-#!/usr/bin/env python3
 """Writes the tree text of a tar archive to standard output.
 
 In: the archive that the command line names, or standard input; plain, or packed by gzip, bzip2, xz or, if this Python
@@ -19,20 +18,15 @@ interrupted.
 """
 
 import argparse
-import os
-import sys
 import tarfile
 from collections.abc import Iterator
 from typing import BinaryIO
 
-sys.dont_write_bytecode = True
-sys.path.insert(0, os.path.dirname(os.path.realpath(__file__)))
-
-import archives  # noqa: E402
-from archives import Member  # noqa: E402
-from leftout import DEVICE, LINK, NO_NAME, PIPE, Exclusion, LeftOut, exclusion_of_names  # noqa: E402
-from streams import Failed, Refused, exit_status, standard_input, temporary_file, write_output  # noqa: E402
-from trees import MOST_OF_AN_OWNER, Owner, line_start, owner_word, path_of, warn_of_length  # noqa: E402
+from llbm_tools import archives
+from llbm_tools.archives import Member
+from llbm_tools.leftout import DEVICE, LINK, NO_NAME, PIPE, Exclusion, LeftOut, exclusion_of_names
+from llbm_tools.streams import Failed, Refused, exit_status, standard_input, temporary_file, write_output
+from llbm_tools.trees import MOST_OF_AN_OWNER, Owner, line_start, owner_word, path_of, warn_of_length
 
 HARD_LINK = Exclusion("a hard link", "hard link", "hard links")
 OTHER = Exclusion("an entry of another kind", "entry of another kind", "entries of other kinds")
@@ -196,7 +190,3 @@ def main() -> int:
     """Runs the tool, and returns its exit status."""
     options = parse_options()
     return exit_status(lambda: read_archive(options))
-
-
-if __name__ == "__main__":
-    sys.exit(main())

@@ -8,8 +8,8 @@ import re
 from collections.abc import Iterable, Iterator
 from typing import BinaryIO, NamedTuple
 
-from common import MOST_BYTES, MOST_NAMES, is_name, say
-from streams import Refused
+from llbm_tools.common import MOST_BYTES, MOST_NAMES, is_name, say
+from llbm_tools.streams import Refused
 
 MOST_OF_AN_OWNER = (1 << 32) - 1
 

@@ -1,4 +1,3 @@
-#!/usr/bin/env python3
 """Tests the program as a process: its arguments, files and standard streams, its exit status and its output.
 
 In: PROGRAM, and the examples beside this folder. The expected result of each try is that of docs/FORMATS.md, under "The
@@ -18,12 +17,10 @@ import subprocess
 import sys
 from typing import NamedTuple
 
-sys.dont_write_bytecode = True
-sys.path.insert(0, os.path.dirname(os.path.realpath(__file__)))
+from llbm_tools.common import NOT_PROVED, check_open, discard_output, os_error_text, printable, say, shortened
+from llbm_tools.paths import ROOT
 
-from common import NOT_PROVED, check_open, discard_output, os_error_text, printable, say, shortened  # noqa: E402
-
-EXAMPLES = pathlib.Path(__file__).resolve().parent.parent / "examples"
+EXAMPLES = ROOT / "examples"
 VERSION = "1.0, proved with rattle-kit-13f logic dac8208d650f15bf"
 PATIENCE = 60
 MOST_SHOWN = 120
@@ -315,7 +312,3 @@ def main() -> int:
         say(os_error_text(fault))
         discard_output()
         return 3
-
-
-if __name__ == "__main__":
-    sys.exit(main())

@@ -5,7 +5,7 @@ import pathlib
 import subprocess
 import unittest
 
-import definition
+from llbm_tools import definition
 from tests import base
 from tests.base import ROOT, Folder
 

@@ -6,15 +6,10 @@ import random
 import re
 import unittest
 
-import definition
-import faults
-import fuzz_changed
-import fuzz_checks
-import fuzz_made
-import messages
-from fuzz_checks import Broken, Rules, Session, tree_fault
-from limited import Ran
-from messages import Raw, encoded, made
+from llbm_tools import definition, faults, fuzz_changed, fuzz_checks, fuzz_made, messages
+from llbm_tools.fuzz_checks import Broken, Rules, Session, tree_fault
+from llbm_tools.limited import Ran
+from llbm_tools.messages import Raw, encoded, made
 from tests import base
 from tests.base import ROOT, Folder, run, run_closed
 

@@ -12,7 +12,7 @@ import sys
 import unittest
 from unittest import mock
 
-import common
+from llbm_tools import common
 from tests import base
 from tests.base import ROOT, Folder, run
 

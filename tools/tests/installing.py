@@ -8,8 +8,8 @@ import sys
 import tarfile
 from unittest import mock
 
-import common
-import installing as made
+from llbm_tools import common
+from llbm_tools import installing as made
 from tests import base
 from tests.base import TOOLS, Folder, run
 

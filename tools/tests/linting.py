@@ -6,12 +6,8 @@ import subprocess
 import unittest
 from unittest import mock
 
-import definition
-import findings
-import op_reading
-import op_rules
-import script_faults
-from common import printable
+from llbm_tools import definition, findings, op_reading, op_rules, script_faults
+from llbm_tools.common import printable
 from tests import base
 from tests.base import ROOT, Folder, number, part, run, run_closed, run_into
 

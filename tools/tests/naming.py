@@ -2,8 +2,7 @@
 
 import unittest
 
-import definition
-import names
+from llbm_tools import definition, names
 from tests import base
 from tests.base import Folder, number, part, run
 

@@ -6,7 +6,7 @@ import shutil
 import subprocess
 import unittest
 
-import command_words as table
+from llbm_tools import command_words as table
 from tests import base
 from tests.base import Folder
 

@@ -8,14 +8,14 @@ import os
 import re
 from collections.abc import Callable
 
-from debugging import launching
-from debugging.arguments import Refused, argument, of_kind
-from debugging.capabilities import CAPABILITIES, CONDITIONS, FAILED
-from debugging.moving import Breakpoint, Ended, Motion, Mover, Stop
-from debugging.outgoing import Outgoing
-from debugging.session import Event, Refusal, SessionFailed
-from debugging.views import Views
-from debugging.wire import Writer
+from llbm_tools.debugging import launching
+from llbm_tools.debugging.arguments import Refused, argument, of_kind
+from llbm_tools.debugging.capabilities import CAPABILITIES, CONDITIONS, FAILED
+from llbm_tools.debugging.moving import Breakpoint, Ended, Motion, Mover, Stop
+from llbm_tools.debugging.outgoing import Outgoing
+from llbm_tools.debugging.session import Event, Refusal, SessionFailed
+from llbm_tools.debugging.views import Views
+from llbm_tools.debugging.wire import Writer
 
 SOURCE = 1
 COMMAND = re.compile("claim [0-9]{1,9} [0-9]{1,9}|(?:step|settle|cancel) [0-9]{1,9}")

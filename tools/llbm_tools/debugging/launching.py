@@ -15,14 +15,12 @@ import tempfile
 from collections.abc import Callable
 from typing import NamedTuple
 
-import definition
-import faults
-from common import MOST_BYTES, os_error_text, program_named
-from debugging import places
-from debugging.arguments import Refused, argument, of_kind
-from debugging.session import Refusal, Session, SessionFailed
-
-TOOLS = pathlib.Path(__file__).resolve().parent.parent
+from llbm_tools import definition, faults
+from llbm_tools.common import MOST_BYTES, os_error_text, program_named
+from llbm_tools.debugging import places
+from llbm_tools.debugging.arguments import Refused, argument, of_kind
+from llbm_tools.debugging.session import Refusal, Session, SessionFailed
+from llbm_tools.paths import TOOLS
 
 MOST_WORKERS = 64
 USUAL_WORKERS = 2

@@ -7,7 +7,7 @@ run. Forwards and backwards it stops in the same states: those after an event th
 from collections.abc import Callable
 from typing import NamedTuple
 
-from debugging.session import Event, Refusal, Session
+from llbm_tools.debugging.session import Event, Refusal, Session
 
 HELD, FINISHED = "fault 171 135", "fault 171 137"
 CLAIM, SETTLE = "claim", "settle"

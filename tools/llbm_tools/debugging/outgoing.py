@@ -1,7 +1,7 @@
 """What an adapter sends: responses and events of the protocol."""
 
-from common import printable
-from debugging.wire import Writer
+from llbm_tools.common import printable
+from llbm_tools.debugging.wire import Writer
 
 FAILURE = 1
 

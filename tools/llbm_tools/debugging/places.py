@@ -3,8 +3,8 @@
 import re
 from typing import NamedTuple
 
-import definition
-from debugging.arguments import Refused
+from llbm_tools import definition
+from llbm_tools.debugging.arguments import Refused
 
 NUMBER = r"(?:0|[1-9][0-9]*)"
 EDGE = rf"{NUMBER}\.{NUMBER}"

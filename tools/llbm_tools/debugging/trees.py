@@ -4,7 +4,7 @@ import binascii
 import re
 from typing import NamedTuple
 
-from common import printable
+from llbm_tools.common import printable
 
 MOST_SHOWN = 4_096
 MOST_NAMES_SHOWN = 1_000

@@ -7,11 +7,11 @@ running vertex has made so far.
 import re
 from collections.abc import Callable
 
-import definition
-from common import printable, shortened
-from debugging import trees
-from debugging.arguments import Refused
-from debugging.launching import Launched
+from llbm_tools import definition
+from llbm_tools.common import printable, shortened
+from llbm_tools.debugging import trees
+from llbm_tools.debugging.arguments import Refused
+from llbm_tools.debugging.launching import Launched
 
 MOST_OF_A_NAME = 60
 OUTPUT = re.compile(r"\s*([0-9]{1,9})\.([0-9]{1,9})(?:\s*|:(.*))", re.DOTALL)

@@ -13,20 +13,19 @@ import subprocess
 from collections.abc import Iterator
 from typing import NamedTuple
 
-import command_words
-import common
+from llbm_tools import command_words, common, paths
 
 # The tools that test or prove the repository, or install it, and their tests.
 OF_THE_REPOSITORY = {
-    "claims", "dist", "floors", "fuzz", "install", "lines", "measure", "proved", "refuse", "refuse.c", "replay", "test",
-    "tests", "tries", "unproved-program",
+    "claims", "dist", "floors", "fuzz", "install", "lines", "measure", "proved", "refuse", "replay", "test", "tests",
+    "tries", "unproved-program",
 }
 LIBRARY = "lib/llbm"
 PAGES = ("README.md", "CHANGELOG.md")
 EXAMPLES = ("*.definition", "*.text", "*.tree", "*.commands", "*.answers", "launch.json", "nvim-dap.lua", "dape.el")
-RECEIPT = common.ROOT / "out" / "gate-passed"
+RECEIPT = paths.ROOT / "out" / "gate-passed"
 STATE = f"{LIBRARY}/program"
-LISTED = f"{LIBRARY}/{common.INSTALLED.name}"
+LISTED = f"{LIBRARY}/{paths.INSTALLED.name}"
 
 VERSION = re.compile(r"^llbm (([\w.]+), .*)$", re.M)
 
@@ -91,17 +90,18 @@ def file_item(path: str, place: pathlib.Path) -> Item:
 
 
 def files_below(place: pathlib.Path) -> Iterator[pathlib.Path]:
-    """Yields the files below a folder in order, without what Python keeps."""
+    """Yields the files below a folder in order, without what Python and other programs keep there."""
     for file in sorted(place.rglob("*")):
-        if file.is_file() and "__pycache__" not in file.parts:
+        kept = any(part == "__pycache__" or part.startswith(".") for part in file.relative_to(place).parts)
+        if file.is_file() and not kept:
             yield file
 
 
 def tool_items() -> Iterator[Item]:
     """Yields the tools with their modules, and a command for each: all of the folder but the repository's own tools."""
-    folder = common.ROOT / "tools"
+    folder = paths.ROOT / "tools"
     for place in sorted(folder.iterdir()):
-        if place.name in OF_THE_REPOSITORY or place.name == "__pycache__":
+        if place.name in OF_THE_REPOSITORY or place.name == "__pycache__" or place.name.startswith("."):
             continue
         for file in files_below(place) if place.is_dir() else [place]:
             yield file_item(f"{LIBRARY}/tools/{file.relative_to(folder)}", file)
@@ -112,11 +112,11 @@ def tool_items() -> Iterator[Item]:
 def page_items() -> Iterator[Item]:
     """Yields the pages and the examples, which are beside the tools as in the repository."""
     for name in PAGES:
-        yield file_item(f"{LIBRARY}/{name}", common.ROOT / name)
-    for page in sorted((common.ROOT / "docs").glob("*.md")):
+        yield file_item(f"{LIBRARY}/{name}", paths.ROOT / name)
+    for page in sorted((paths.ROOT / "docs").glob("*.md")):
         yield file_item(f"{LIBRARY}/docs/{page.name}", page)
     for pattern in EXAMPLES:
-        for file in sorted((common.ROOT / "examples").glob(pattern)):
+        for file in sorted((paths.ROOT / "examples").glob(pattern)):
             yield file_item(f"{LIBRARY}/examples/{file.name}", file)
     yield Item("share/doc/llbm", link=f"../../{LIBRARY}/docs")
 
