@@ -25,8 +25,8 @@ import os
 import sys
 from collections.abc import Iterator
 
-from llbm_tools import adopting, adoption_rules, common, findings, op_reading
-from llbm_tools.definition import Unreadable
+from llbm_tools import adopting, adoption_rules, common, findings
+from llbm_tools.wire import Faulty, Unreadable
 
 HINTS = {
     "SecretMount": "--without-secrets drops it",
@@ -117,7 +117,7 @@ def adopt(options: argparse.Namespace) -> None:
     settings = settings_from(options)
     try:
         adopted = adopting.adopt(common.data_in(options.definition), settings)
-    except op_reading.Faulty as fault:
+    except Faulty as fault:
         raise Refused(f"not adopted: fault {findings.DEFINITION} {fault.number}") from fault
     except Unreadable as fault:
         raise Refused(f"not adopted: {fault}") from fault

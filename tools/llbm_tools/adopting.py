@@ -8,15 +8,16 @@ inputs.
 import functools
 import itertools
 import shlex
-from collections.abc import Callable
+from collections.abc import Callable, Sequence
 from typing import NamedTuple
 
-from llbm_tools import definition, findings, names, op_reading, op_rules
+from llbm_tools import definition, findings, names, op_reading, op_rules, wire
 from llbm_tools.adoption_rules import Rule, rule_for
 from llbm_tools.common import shortened
 from llbm_tools.local_names import LocalNames, is_known
-from llbm_tools.op_reading import Record
+from llbm_tools.ops import ChownOpt, ExecOp, FileAction, Input, Mount, Op, fields_of
 from llbm_tools.rewriting import changed, with_each, with_message, with_text, with_texts, without, written
+from llbm_tools.wire import Faulty, Record
 
 KINDS = frozenset([2, 3, 4, 5, 6, 7])
 EXEC, SOURCE, FILE = 2, 3, 4
@@ -25,7 +26,7 @@ OWNERS = {4: 3, 5: 4, 6: 4}
 COPY, UNPACK = 4, 7
 
 DROPPED = SECRETS, SSH, UNPACKS, OWNER_NAMES = "secrets", "ssh", "unpack", "owners"
-NOTHING = ["true"]
+NOTHING = ("true",)
 MOST_CHARACTERS = 60
 
 
@@ -47,7 +48,7 @@ class Adopted(NamedTuple):
     left: list[findings.Finding]
 
 
-def words_shown(words: list[str]) -> str:
+def words_shown(words: Sequence[str]) -> str:
     """Returns words in one line for a person, shortened."""
     return shortened(shlex.join(words), MOST_CHARACTERS)
 
@@ -72,14 +73,14 @@ class Entry:
         """Returns whether things of this kind are dropped."""
         return kind in self.settings.dropped
 
-    def changed_op(self, digest: str, entry: bytes, op: dict) -> bytes:
+    def changed_op(self, digest: str, entry: bytes, op: Op) -> bytes:
         """Returns the changed op; its inputs still have their old digests."""
-        if op["kind"] == "source" and digest in self.local:
-            self.changes.append(f"source {op['source']['identifier']} is {op_rules.LOCAL}{self.local[digest]}")
+        if op.source and digest in self.local:
+            self.changes.append(f"source {op.source.identifier} is {op_rules.LOCAL}{self.local[digest]}")
             return self.member(entry, SOURCE, lambda held: with_text(held, 1, op_rules.LOCAL + self.local[digest]))
-        if op["kind"] == "exec":
-            return self.member(entry, EXEC, lambda held: self.execution(digest, op["exec"], held))
-        if op["kind"] == "file":
+        if op.exec:
+            return self.member(entry, EXEC, functools.partial(self.execution, digest, op.exec))
+        if op.file:
             numbers = itertools.count()
             return self.member(
                 entry, FILE, lambda held: with_each(held, 2, lambda action: self.action(next(numbers), action))
@@ -90,21 +91,21 @@ class Entry:
         """Returns the entry with the member of its kind changed."""
         return changed(entry, lambda records: with_message(records, field, lambda held: changed(held, change), KINDS))
 
-    def execution(self, digest: str, exec_op: dict, records: list[Record]) -> list[Record]:
+    def execution(self, digest: str, exec_op: ExecOp, records: list[Record]) -> list[Record]:
         """Returns the records of an execution with its new words, and without what is dropped."""
         records = with_each(records, 2, self.mount)
-        if self.drops(SECRETS) and exec_op["secretenv"]:
-            shown = ", ".join(map(name_of_secret, exec_op["secretenv"]))
+        if self.drops(SECRETS) and exec_op.secretenv:
+            shown = ", ".join(map(name_of_secret, exec_op.secretenv))
             self.changes.append(f"dropped: secret environment {shown}")
             records = without(records, 5)
-        old = exec_op["meta"]["args"] if exec_op["meta"] else []
+        old = exec_op.meta.args if exec_op.meta else ()
         new = self.words(digest, old)
         if new == old:
             return records
         self.changes.append(f"runs {words_shown(new)} in place of {words_shown(old)}")
         return with_message(records, 1, lambda held: changed(held, lambda meta: with_texts(meta, 1, new)))
 
-    def words(self, digest: str, old: list[str]) -> list[str]:
+    def words(self, digest: str, old: tuple[str, ...]) -> tuple[str, ...]:
         """Returns the new words of an execution."""
         self.used = rule_for(self.settings.rules, digest, self.name, old)
         if self.used:
@@ -113,18 +114,18 @@ class Entry:
 
     def mount(self, held: bytes) -> bytes | None:
         """Returns a mount, or None if it is dropped."""
-        mount = op_reading.read("Mount", held)
+        mount = op_reading.read(Mount, held)
         for kind, number, shown in [(SECRETS, op_rules.SECRET, "secret"), (SSH, op_rules.SSH, "SSH")]:
-            if self.drops(kind) and mount["mountType"] == number:
-                self.changes.append(f"dropped: {shown} mount at {mount['dest']}")
+            if self.drops(kind) and mount.mount_type == number:
+                self.changes.append(f"dropped: {shown} mount at {mount.dest}")
                 return None
         return held
 
     def action(self, number: int, held: bytes) -> bytes:
         """Returns an action without what is dropped."""
-        kind = op_reading.read("FileAction", held)["kind"]
+        kind = op_reading.read(FileAction, held).kind
         for field in OWNERS:
-            if op_reading.MESSAGES["FileAction"][field].name == kind:
+            if fields_of(FileAction)[field].name == kind:
                 member = functools.partial(self.action_member, number, field)
                 return changed(
                     held, lambda records: with_message(records, field, lambda one: changed(one, member), ACTIONS)
@@ -145,10 +146,10 @@ class Entry:
 
     def owner(self, number: int, held: bytes, records: list[Record]) -> list[Record]:
         """Returns the records of an owner without those that are given by name."""
-        owner = op_reading.read("ChownOpt", held)
-        for field, who in [(1, "user"), (2, "group")]:
-            if owner[who] and owner[who]["kind"] == "byName":
-                shown = names.text_of(names.fields_of(owner[who]["byName"]), 1)
+        owner = op_reading.read(ChownOpt, held)
+        for field, who, given in [(1, "user", owner.user), (2, "group", owner.group)]:
+            if given and given.by_name is not None:
+                shown = names.text_of(names.fields_of(given.by_name), 1)
                 self.changes.append(f"dropped: {who} {shown} of action {number}")
                 records = without(records, field)
         return records
@@ -164,7 +165,7 @@ class Adoption:
         self.names = [name.text for name in names.names_of(data)]
         self.settings = settings
         self.rows: dict[str, int] = {}
-        self.ops: dict[int, dict] = {}
+        self.ops: dict[int, Op] = {}
         self.read()
         self.sources: list[tuple[str, str]] = []
         self.local: dict[str, str] = {}
@@ -180,12 +181,12 @@ class Adoption:
             if self.rows.setdefault(digest, row) == row:
                 try:
                     self.ops[row] = op_reading.read_op(entry)
-                except op_reading.Faulty:
+                except Faulty:
                     continue
 
     def name_sources(self) -> None:
         """Chooses a name for each source that becomes a local one, in the order of the rows."""
-        sources = {row: op["source"]["identifier"] for row, op in self.ops.items() if op["kind"] == "source"}
+        sources = {row: op.source.identifier for row, op in self.ops.items() if op.source}
         given = LocalNames(list(sources.values()))
         for row, identifier in sources.items():
             if is_known(identifier):
@@ -196,12 +197,12 @@ class Adoption:
 
     def order(self) -> list[int]:
         """Returns the rows that are ops, inputs first."""
-        named = {row: [self.rows.get(edge["digest"]) for edge in op["inputs"]] for row, op in self.ops.items()}
+        named = {row: [self.rows.get(edge.digest) for edge in op.inputs] for row, op in self.ops.items()}
         return definition.order_of({row: [one for one in rows if one in self.ops] for row, rows in named.items()})
 
     def input(self, held: bytes) -> bytes:
         """Returns an input with the new digest of the entry that it names."""
-        digest = op_reading.read("Input", held)["digest"]
+        digest = op_reading.read(Input, held).digest
         new = self.new.get(digest, digest)
         return held if new == digest else changed(held, lambda records: with_text(records, 1, new))
 
@@ -222,8 +223,8 @@ class Adoption:
     def renamed(self, held: bytes) -> bytes:
         """Returns an entry of a map with the new digest as its key; an entry that cannot be parsed stays as it is."""
         try:
-            records = op_reading.records_in(held)
-        except op_reading.Faulty:
+            records = list(wire.records(held))
+        except Faulty:
             return held
         key = names.text_of(names.fields_of(held), 1)
         new = self.new.get(key, key)
@@ -232,10 +233,10 @@ class Adoption:
     def source(self, held: bytes) -> bytes:
         """Returns `Source` with the new digests as keys of its locations; if it cannot be parsed it stays as it is."""
         try:
-            records = op_reading.records_in(held)
-        except op_reading.Faulty:
+            records = list(wire.records(held))
+        except Faulty:
             return held
-        return written(with_each(records, 1, lambda one: self.renamed(one) if isinstance(one, bytes) else one))
+        return written(with_each(records, 1, self.renamed))
 
     def result(self) -> bytes:
         """Returns the definition with all changes."""

@@ -13,6 +13,7 @@ llbm; if there are none, the execution keeps its words.
 """
 
 import shlex
+from collections.abc import Sequence
 from typing import NamedTuple
 
 from llbm_tools import script_faults
@@ -31,9 +32,9 @@ class Rule(NamedTuple):
     line: int
     kind: str
     wanted: tuple[str, ...]
-    words: list[str]
+    words: tuple[str, ...]
 
-    def fits(self, digest: str, name: str, args: list[str]) -> bool:
+    def fits(self, digest: str, name: str, args: Sequence[str]) -> bool:
         """Returns whether the rule applies to an execution."""
         return self.wanted == {"digest": (digest,), "name": (name,), "words": tuple(args)}[self.kind]
 
@@ -50,12 +51,12 @@ def rule_of(number: int, line: str) -> Rule:
     if ARROW not in rest:
         raise BadRules(f"line {number}: there is no {ARROW}")
     place = rest.index(ARROW)
-    wanted, new = tuple(rest[:place]), rest[place + 1 :]
+    wanted, new = tuple(rest[:place]), tuple(rest[place + 1 :])
     if len(wanted) != 1 and kind != "words":
         raise BadRules(f"line {number}: exactly one word goes between {kind} and {ARROW}")
-    fault = script_faults.fault_of(new) if new else None
-    if fault:
-        raise BadRules(f"line {number}: the new words are not a script: fault {fault}")
+    cause = script_faults.fault_of(new) if new else None
+    if cause:
+        raise BadRules(f"line {number}: the new words are not a script: fault {cause}")
     return Rule(number, kind, wanted, new)
 
 
@@ -69,6 +70,6 @@ def rules_in(data: bytes) -> list[Rule]:
     return [rule_of(number, line) for number, line in stripped if line and not line.startswith("#")]
 
 
-def rule_for(rules: list[Rule], digest: str, name: str, args: list[str]) -> Rule | None:
+def rule_for(rules: Sequence[Rule], digest: str, name: str, args: Sequence[str]) -> Rule | None:
     """Returns the first rule that applies to an execution, or None."""
     return next((rule for rule in rules if rule.fits(digest, name, args)), None)

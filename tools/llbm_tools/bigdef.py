@@ -80,7 +80,7 @@ def source(name: str) -> bytes:
     return encoded(made("Op", source=made("SourceOp", identifier=f"local://{name}")))
 
 
-def mount(dest: str, shown: int, output: int, **others: object) -> messages.Message:
+def mount(dest: str, shown: int, output: int, **others: messages.Givens) -> messages.Message:
     """Returns a mount of an input."""
     return made("Mount", input=shown, dest=dest, output=output, **others)
 

@@ -13,7 +13,7 @@ import argparse
 import math
 import os
 import sys
-from collections.abc import Iterator
+from collections.abc import Callable, Iterator
 
 from llbm_tools.common import check_open, discard_output, is_name, os_error_text, say
 
@@ -46,7 +46,7 @@ def lines(files: int, places: list[tuple[str, str]], size: int, suffix: str) -> 
         yield f"{kind} /{'/'.join(path)}\n"
 
 
-def number_to(most: int) -> object:
+def number_to(most: int) -> Callable[[str], int]:
     """Returns a parser of numbers up to a limit."""
 
     def read(word: str) -> int:

@@ -153,22 +153,25 @@ class Library:
 
     def cone(self, unit: Unit, text: str) -> tuple[list[Definition], list[str]]:
         """Returns all that a statement depends on, nearest first: the definitions, and the types of src/."""
-        reached, types, left = {}, {}, list(self.used(unit, text))
+        reached: dict[Definition, None] = {}
+        types: dict[str, None] = {}
+        left = list(self.used(unit, text))
         while left:
-            later = []
+            later: list[Definition | str] = []
             for one in left:
                 if isinstance(one, str):
-                    types.setdefault(one)
+                    types[one] = None
                 elif one not in reached:
                     reached[one] = None
-                    later += self.used(self.unit(one.crate, one.file), one.text())
+                    later += self.used(self.unit(one.crate, one.file) or Unit(), one.text())
             left = later
         return list(reached), list(types)
 
 
 def contract(file: pathlib.Path, name: str) -> tuple[Unit, str]:
     """Returns the clauses of a public function, and the `ghost use` lines of its file."""
-    unit, clauses, inside, depth = Unit(), [], False, 0
+    unit, inside, depth = Unit(), False, 0
+    clauses: list[str] = []
     text = file.read_text("utf-8")
     for use in re.findall(r"^\s*ghost use [^;]*;", text, re.M):
         read_use(unit, use.strip())

@@ -148,9 +148,9 @@ def difference(one: Entry | None, two: Entry | None) -> str:
     """Returns the line for a path without the path, or an empty text if both entries are equal."""
     if one == two:
         return ""
-    if one is None:
-        return f"added {whole(two)}"
-    return f"removed {whole(one)}" if two is None else f"changed {changes(one, two)}"
+    if one and two:
+        return f"changed {changes(one, two)}"
+    return f"removed {whole(one)}" if one else f"added {whole(two)}" if two else ""
 
 
 def compare(options: argparse.Namespace) -> int:
@@ -160,9 +160,9 @@ def compare(options: argparse.Namespace) -> int:
     lines = io.BytesIO()
     with text_of(options.first, options) as first, text_of(options.second, options) as second:
         for one, two in pairs_of(entries_of(options.first, first), entries_of(options.second, second)):
-            text = difference(one, two)
-            if text:
-                lines.write(text.encode() + b" " + path_of((one or two).names) + b"\n")
+            text, shown = difference(one, two), one or two
+            if text and shown:
+                lines.write(text.encode() + b" " + path_of(shown.names) + b"\n")
     different = lines.tell() > 0
     write_output(lines, "the differences")
     return DIFFERENT if different else EQUAL

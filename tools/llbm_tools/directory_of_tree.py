@@ -89,7 +89,7 @@ class Writer:
         """Makes a file, and closes it."""
         descriptor = os.open(entry.names[-1], MAKING, 0o600, dir_fd=parent)
         with open(descriptor, "wb") as file:
-            file.write(binascii.unhexlify(entry.content))
+            file.write(binascii.unhexlify(entry.content or b""))
             file.flush()
             finish(descriptor, entry)
 

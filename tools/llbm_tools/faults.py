@@ -7,9 +7,11 @@ that of failures.
 import re
 from typing import NamedTuple
 
-from llbm_tools import definition, names
+from llbm_tools import definition, names, op_reading
 from llbm_tools.common import data_in, printable
+from llbm_tools.ops import Op
 from llbm_tools.paths import ROOT
+from llbm_tools.wire import Unreadable
 
 PAGE = ROOT / "docs" / "FAULTS.md"
 
@@ -127,24 +129,23 @@ class Page:
         after = re.fullmatch(r"Name after ([0-9]+)", head)
         instead = re.fullmatch(r"Line for ([0-9]+)", head)
         if instead:
-            lines = [(bare(line).replace(r"\|", "|"), sentence) for line, sentence in rows]
-            self.lines[int(instead[1])] = [Line(*line) for line in lines]
+            self.lines[int(instead[1])] = [Line(bare(line).replace(r"\|", "|"), sentence) for line, sentence in rows]
         elif after:
-            for words, *rest in rows:
-                name, *arguments = words_of(words)
+            for called, *rest in rows:
+                name, *arguments = words_of(called)
                 self.names.setdefault(int(after[1]), {})[name] = Name(tuple(arguments), *rest)
         elif head == "Failure":
             self.failures += [Failure(bare(line), bare(name), *rest) for line, name, *rest in rows]
         elif head == "Fault":
-            for number, name, arguments, *rest in rows:
-                self.causes.setdefault(int(number), []).append(Cause(bare(name), words_of(arguments), *rest))
+            for number, cause, words, *rest in rows:
+                self.causes.setdefault(int(number), []).append(Cause(bare(cause), words_of(words), *rest))
 
     def causes_of(self, number: int) -> list[Cause]:
         """Returns the rows of a number, without repeated sentences: those that the program prints, or else all."""
         rows = self.causes.get(number)
         if rows is None:
             raise NoLine(f"there is no fault {number}")
-        rows_by_sentence = {}
+        rows_by_sentence: dict[str, Cause] = {}
         for row in [row for row in rows if row.status != "-"] or rows:
             rows_by_sentence.setdefault(row.sentence, row)
         return list(rows_by_sentence.values())
@@ -285,21 +286,20 @@ def first_actions(texts: list[str]) -> list[str]:
     return [*lines, f"and {left} more"] if left > 0 else lines
 
 
-def texts_at(op: dict, place: Place) -> list[str]:
+def texts_at(op: Op, place: Place) -> list[str]:
     """Describes the input that the place names, and what the op does."""
     inputs = [] if place.input is None else one("input", definition.inputs_of(op), place.input)
     return [*inputs, *done_by(op, place)]
 
 
-def done_by(op: dict, place: Place) -> list[str]:
+def done_by(op: Op, place: Place) -> list[str]:
     """Describes what an op does: the action or the command that the place names, else everything."""
-    kind = op.get("kind")
-    if kind == "source":
-        return [f"identifier: {op['source'].get('identifier', '')}"]
-    if kind == "file":
+    if op.source:
+        return [f"identifier: {op.source.identifier}"]
+    if op.file:
         actions = definition.actions_of(op)
         return first_actions(actions) if place.action is None else one("action", actions, place.action)
-    if kind != "exec":
+    if not op.exec:
         return []
     commands = [] if place.command is None else one("command", definition.commands_of(op), place.command)
     return [*commands, f"script: {definition.script_of(op)}"]
@@ -318,7 +318,7 @@ class Entries:
         if self.rows is None:
             self.rows = definition.graph_of(self.entries).rows
         if vertex >= len(self.rows):
-            raise definition.Unreadable(f"it has no vertex {vertex}")
+            raise Unreadable(f"it has no vertex {vertex}")
         return self.rows[vertex]
 
     def texts(self, place: Place) -> list[str]:
@@ -331,14 +331,14 @@ class Entries:
     def entry(self, prefix: str, row: int, place: Place) -> list[str]:
         """Describes an entry: its digest, its kind, its name if it has one, and what the place names in it."""
         if row >= len(self.entries):
-            raise definition.Unreadable(f"it has no row {row}")
+            raise Unreadable(f"it has no row {row}")
         prefix = f"{prefix}: {definition.digest_of(self.entries[row])}"
         named = [f"named: {self.shown[row]}"] if self.shown[row] else []
         try:
-            op = definition.read("Op", self.entries[row])
-        except definition.Unreadable as fault:
+            op = op_reading.read_op(self.entries[row])
+        except Unreadable as fault:
             return [f"{prefix}, not an op: {fault}", *named]
-        return [f"{prefix}, {op.get('kind', 'no kind')}", *named, *map(printable, texts_at(op, place))]
+        return [f"{prefix}, {op.kind or 'no kind'}", *named, *map(printable, texts_at(op, place))]
 
 
 class Explainer:
@@ -355,7 +355,7 @@ class Explainer:
         """Reads the definition in a file; if it is not one, stores why."""
         try:
             self.entries = Entries(data_in(file))
-        except definition.Unreadable as fault:
+        except Unreadable as fault:
             self.cause = str(fault)
 
     def lines(self, line: str) -> list[str]:
@@ -367,5 +367,5 @@ class Explainer:
             return answer.texts
         try:
             return answer.texts + self.entries.texts(answer.place)
-        except definition.Unreadable as fault:
+        except Unreadable as fault:
             return [*answer.texts, f"the definition: {fault}"]

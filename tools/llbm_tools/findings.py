@@ -8,6 +8,8 @@ separate finding, and the index of an input is checked if the outputs of the ent
 from typing import NamedTuple
 
 from llbm_tools import definition, op_reading, op_rules
+from llbm_tools.ops import Input, Op
+from llbm_tools.wire import Faulty, Unreadable
 
 DEFINITION, ENTRY, TOO_FEW, COLLISION, NO_RESULT, UNKNOWN, CYCLE, FEATURE, RULE, INDEX = range(81, 91)
 
@@ -31,7 +33,7 @@ class Rows:
         self.found: list[Finding] = []
         self.named: dict[str, int] = {}
         self.bytes: list[bytes] = []
-        self.ops: dict[int, dict] = {}
+        self.ops: dict[int, Op] = {}
         self.terminal = -1
         self.sure: set[int] = set()
         self.is_known = True
@@ -48,17 +50,17 @@ class Rows:
             self.found.append(Finding(COLLISION, row))
         try:
             self.ops[row] = op_reading.read_op(entry)
-        except op_reading.Faulty as fault:
+        except Faulty as fault:
             self.found.append(Finding(ENTRY, row, str(fault.number)))
 
-    def row_of(self, edge: dict) -> int | None:
+    def row_of(self, edge: Input) -> int | None:
         """Returns the row that an input names, which is never the terminal, or None."""
-        row = self.named.get(edge["digest"])
+        row = self.named.get(edge.digest)
         return None if row == self.terminal else row
 
     def links(self, row: int) -> list[int | None]:
         """Returns the rows that the inputs of a row name."""
-        return [self.row_of(edge) for edge in self.ops[row]["inputs"]]
+        return [self.row_of(edge) for edge in self.ops[row].inputs]
 
     def start(self) -> int | None:
         """Returns the row of the result, or None if it is not known."""
@@ -96,10 +98,10 @@ class Rows:
 
     def check_indexes(self, row: int, most: int | None = None) -> None:
         """Checks the indexes of a row's inputs, or of its first ones."""
-        for number, edge in enumerate(self.ops[row]["inputs"][:most]):
+        for number, edge in enumerate(self.ops[row].inputs[:most]):
             named = self.row_of(edge)
-            count = op_rules.count_of(self.ops[named]) if named in self.ops else None
-            if count is not None and not 0 <= edge["index"] < count:
+            count = op_rules.count_of(self.ops[named]) if named is not None and named in self.ops else None
+            if count is not None and not 0 <= edge.index < count:
                 self.found.append(Finding(INDEX, row, str(number)))
 
     def check_for_cycle(self, rows: list[int]) -> None:
@@ -108,7 +110,7 @@ class Rows:
         links = {row: [named for named in named_rows if named in links] for row, named_rows in links.items()}
         try:
             definition.order_of(links)
-        except definition.Unreadable:
+        except Unreadable:
             self.found.append(Finding(CYCLE))
 
     def check(self) -> None:
@@ -141,7 +143,7 @@ def findings_of(data: bytes) -> list[Finding]:
     """Returns all findings of a definition, the program's own fault first; empty if the program accepts it."""
     try:
         entries = op_reading.entries_in(op_reading.read_definition(data))
-    except op_reading.Faulty as fault:
+    except Faulty as fault:
         return [Finding(DEFINITION, None, str(fault.number))]
     rows = Rows(entries)
     if any(finding.number == COLLISION for finding in rows.found):

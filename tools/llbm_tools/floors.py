@@ -121,7 +121,8 @@ def wrong_proofs(repository: pathlib.Path, crate: str) -> Iterator[tuple[pathlib
     """Yields the proofs of a crate that cite those of a crate that does not lend them, with that crate."""
     for path, text in sources(repository, crate, "proofs"):
         for other in sorted(set(CITED.findall(text))):
-            lends = other in LENDERS and (LENDERS[other] is None or crate in LENDERS[other])
+            borrowers = LENDERS.get(other, set())
+            lends = borrowers is None or crate in borrowers
             if other.startswith("llb") and other != crate and not lends and path.name != "Crossing.antt":
                 yield path, f"cites proofs of {other}, which lends none to {crate}"
 

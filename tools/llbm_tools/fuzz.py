@@ -33,7 +33,7 @@ import signal
 import sys
 import tempfile
 import time
-from collections.abc import Iterator
+from collections.abc import Callable, Iterator
 
 from llbm_tools import fuzz_cases, limited
 from llbm_tools.common import check_open, discard_output, os_error_text, printable, program_named, say
@@ -111,7 +111,8 @@ def collect(options: argparse.Namespace, findings: Findings) -> int:
     with jobs_of(options) as receivers:
         left = list(receivers)
         while left:
-            for receiver in multiprocessing.connection.wait(left):
+            ready = multiprocessing.connection.wait(left)
+            for receiver in [one for one in left if one in ready]:
                 try:
                     got = receiver.recv()
                 except EOFError as fault:
@@ -145,7 +146,7 @@ def fuzz(options: argparse.Namespace) -> int:
     return 1 if findings.count else 0
 
 
-def number_from(least: int, most: int) -> object:
+def number_from(least: int, most: int) -> Callable[[str], int]:
     """Returns a parser of numbers between two limits."""
 
     def read(word: str) -> int:

@@ -10,10 +10,10 @@ import re
 from typing import NamedTuple
 
 from llbm_tools import definition, faults, fuzz_changed, fuzz_made, messages
-from llbm_tools.definition import Unreadable
 from llbm_tools.fuzz_checks import Broken, Graph, Rules, Session, caches_in, need, tree_fault
 from llbm_tools.fuzz_made import one_in
 from llbm_tools.limited import Ran, Runner
+from llbm_tools.wire import Unreadable
 
 FAULTY_LINE = re.compile(rb"fault 16[12] ([1-9][0-9]*)[ \n]")
 POOL = 40

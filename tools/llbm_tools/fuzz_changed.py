@@ -6,9 +6,9 @@ All randomness comes from the generator that is passed in, so equal seeds make e
 import random
 
 from llbm_tools import definition, fuzz_made, messages
-from llbm_tools.definition import Unreadable
 from llbm_tools.fuzz_made import one_in
-from llbm_tools.messages import NUMBER, TABLE, TRUTH, Message, Raw
+from llbm_tools.messages import NUMBER, TABLE, TRUTH, Message, Raw, Value
+from llbm_tools.wire import Unreadable
 
 NUMBERS = [
     0, 1, 2, 3, 4, 5, 7, 63, 64, 127, 128, 255, 256, 420, 493, 1023, 1024, 4095, 4096, 65535, 65536, -1, -2, -128,
@@ -114,7 +114,7 @@ def some_text(dice: random.Random) -> bytes:
     return maker(dice).encode()
 
 
-def some_value(dice: random.Random, kind: str, value: object) -> object:
+def some_value(dice: random.Random, kind: str, value: Value | None) -> Value:
     """Returns another value for a field of this kind."""
     if kind == TRUTH:
         return dice.choice([0, 1, 2])
@@ -127,7 +127,7 @@ def some_value(dice: random.Random, kind: str, value: object) -> object:
 
 def some_message(dice: random.Random, name: str) -> Message:
     """Returns a random message of this type."""
-    message = []
+    message: Message = []
     for number, (_, kind) in sorted(TABLE[name].items()):
         if one_in(dice, 2):
             message.append((number, some_message(dice, kind) if kind in TABLE else some_value(dice, kind, None)))

@@ -5,9 +5,9 @@ The rules are those of docs/FORMATS.md and docs/FAULTS.md. A broken rule raises 
 
 import re
 
-from llbm_tools import common, definition, faults, messages
-from llbm_tools.definition import Unreadable
+from llbm_tools import common, definition, faults, messages, wire
 from llbm_tools.limited import Ran
+from llbm_tools.wire import Unreadable
 
 LAST_STATUS = 3
 MOST_OF_A_NUMBER = 1 << 32
@@ -44,9 +44,10 @@ class Graph:
 
     def __init__(self, text: bytes) -> None:
         *lines, last = text.split(b"\n")[:-1] or [b""]
-        found = [VERTEX.fullmatch(line) for line in lines]
+        found = [one for line in lines if (one := VERTEX.fullmatch(line))]
         result = RESULT.fullmatch(last)
-        need(all(found) and result is not None and text.endswith(b"\n"), "the text of the graph is invalid")
+        if len(found) < len(lines) or result is None or not text.endswith(b"\n"):
+            raise Broken("the text of the graph is invalid")
         need([int(one[1]) for one in found] == list(range(len(found))), "the graph's vertices are not numbered from 0")
         self.steps = [int(one[3]) for one in found]
         self.inputs = [edges_of(one[5]) for one in found]
@@ -59,7 +60,8 @@ class Graph:
 
 def edges_of(text: bytes) -> list[tuple[int, int]]:
     """Returns the inputs of a vertex."""
-    return [] if text == b"-" else [tuple(map(int, one.split(b"."))) for one in text.split(b" ")]
+    pairs = [one.split(b".") for one in text.split(b" ") if text != b"-"]
+    return [(int(vertex), int(output)) for vertex, output in pairs]
 
 
 def entry_at(line: bytes) -> tuple[bytes, ...] | None:
@@ -101,7 +103,8 @@ class Rules:
 
     def check(self, ran: Ran) -> None:
         """Checks that the run ended in an allowed way."""
-        need(ran.status is not None, "it does not end in time")
+        if ran.status is None:
+            raise Broken("it does not end in time")
         need(ran.status >= 0, f"signal {-ran.status}")
         need(ran.status <= LAST_STATUS, f"status {ran.status}")
         is_session = ran.words[:1] == ("step",)
@@ -148,9 +151,9 @@ def caches_in(data: bytes) -> list[bytes] | None:
     found = []
     try:
         for entry in definition.entries_of(data):
-            for kind, _, exec_op in definition.records(entry):
-                if kind == messages.NUMBERS["Op"]["exec"] and isinstance(exec_op, bytes):
-                    found += ids_in(messages.parsed("ExecOp", exec_op))
+            for record in wire.records(entry):
+                if record.field == messages.NUMBERS["Op"]["exec"] and record.form == wire.LENGTH:
+                    found += ids_in(messages.parsed("ExecOp", record.data))
     except Unreadable:
         return None
     return found
@@ -214,8 +217,8 @@ class Session:
     def status(self) -> list[bytes]:
         """Returns the status of all vertices, which depends on the record alone."""
         lines = self.lines[self.place : self.place + self.vertices]
-        found = [STATUS.fullmatch(line) for line in lines]
-        need(len(lines) == self.vertices and all(found), "a status is missing")
+        found = [one for line in lines if (one := STATUS.fullmatch(line))]
+        need(len(lines) == len(found) == self.vertices, "a status is missing")
         need([int(one[1]) for one in found] == list(range(self.vertices)), "a status is not one of all vertices")
         self.place += self.vertices
         before = self.known.setdefault(self.count, lines)

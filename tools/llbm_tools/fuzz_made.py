@@ -6,7 +6,7 @@ All randomness comes from the generator that is passed in, so equal seeds make e
 import random
 
 from llbm_tools import messages
-from llbm_tools.messages import Message, made
+from llbm_tools.messages import Givens, Message, made
 
 ALPHA, OMEGA = "\N{GREEK SMALL LETTER ALPHA}", "\N{GREEK SMALL LETTER OMEGA}"
 
@@ -70,7 +70,7 @@ def owner(dice: random.Random) -> Message | None:
 def copy(dice: random.Random) -> Message:
     """Returns a copy."""
     wild = one_in(dice, 3)
-    values = {
+    values: dict[str, Givens] = {
         "src": pattern(dice) if wild else path(dice),
         "dest": path(dice) + dice.choice(["", "", "/"]),
         "owner": owner(dice),
@@ -125,7 +125,8 @@ def file_op(dice: random.Random, inputs: tuple[Message, ...]) -> tuple[Message, 
         kind = dice.choice(["copy", "mkfile", "mkdir", "mkdir", "rm"])
         makers = {"copy": copy, "mkfile": mkfile, "mkdir": mkdir, "rm": rm}
         most = len(inputs) + place - 1
-        action = {"input": dice.randint(max(-1, most - 2), most), "output": output, kind: makers[kind](dice)}
+        action: dict[str, Givens] = {"input": dice.randint(max(-1, most - 2), most), "output": output}
+        action[kind] = makers[kind](dice)
         action["secondaryInput"] = dice.randint(-1, most) if kind == "copy" else -1
         actions.append(made("FileAction", **action))
     return made("Op", inputs=inputs, file=made("FileOp", actions=tuple(actions))), sum(one >= 0 for one in numbers)
@@ -169,8 +170,8 @@ def args(dice: random.Random) -> tuple[str, ...]:
 def cache_mount(dice: random.Random, dest: str, most: int) -> Message:
     """Returns a cache mount."""
     options = made("CacheOpt", ID=dice.choice(IDS), sharing=dice.randrange(3))
-    values = {"input": dice.randint(-1, most), "selector": dice.choice(["", "", "/a"]), "dest": dest, "output": -1}
-    return made("Mount", **values, mountType=3, cacheOpt=options)
+    shown, selector = dice.randint(-1, most), dice.choice(["", "", "/a"])
+    return made("Mount", input=shown, selector=selector, dest=dest, output=-1, mountType=3, cacheOpt=options)
 
 
 def mounts(dice: random.Random, count: int) -> tuple[tuple[Message, ...], int]:
@@ -188,8 +189,10 @@ def mounts(dice: random.Random, count: int) -> tuple[tuple[Message, ...], int]:
             made_mounts.append(made("Mount", input=-1, dest=dest, output=-1, mountType=4, TmpfsOpt=size))
         else:
             selector = dice.choice(["", "", "", "/a", "/src", "/none"])
-            values = {"input": dice.randint(-1, count - 1), "selector": selector}
-            made_mounts.append(made("Mount", **values, dest=dest, output=output, readonly=one_in(dice, 4)))
+            shown, readonly = dice.randint(-1, count - 1), one_in(dice, 4)
+            made_mounts.append(
+                made("Mount", input=shown, selector=selector, dest=dest, output=output, readonly=readonly)
+            )
     if one_in(dice, 4):
         dice.shuffle(made_mounts)
     return tuple(made_mounts), output_count
@@ -215,7 +218,7 @@ def source_op(dice: random.Random) -> tuple[Message, int]:
     identifier = "local://" + dice.choice(SOURCES)
     if one_in(dice, 60):
         identifier = dice.choice(["docker-image://a", "local://", "local://missing", "git://a", "", "local:///"])
-    attrs = (made("Attribute", key="local.unique", value="a"),) if one_in(dice, 8) else ()
+    attrs = (made("AttributeEntry", key="local.unique", value="a"),) if one_in(dice, 8) else ()
     return made("Op", source=made("SourceOp", identifier=identifier, attrs=attrs)), 1
 
 

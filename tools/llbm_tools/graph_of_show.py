@@ -20,8 +20,10 @@ import re
 import sys
 
 from llbm_tools import common, definition, names
+from llbm_tools.ops import Op
 from llbm_tools.shows import Edge, Show, Vertex, show_of
 from llbm_tools.streams import Refused
+from llbm_tools.wire import Unreadable
 
 SHAPES = {"source": "folder", "file": "note", "merge": "trapezium", "exec": "box"}
 MOST_CHARACTERS = 60
@@ -35,7 +37,7 @@ def counts_of(vertex: Vertex) -> list[str]:
     return [f"steps {vertex.steps}", f"outputs {vertex.outputs}"]
 
 
-def texts_of(op: dict) -> list[str]:
+def texts_of(op: Op) -> list[str]:
     """Returns what a label has from an op, shortened."""
     texts = [common.shortened(common.printable(text), MOST_CHARACTERS) for text in definition.texts_of(op)]
     left = len(texts) - MOST_TEXTS
@@ -47,12 +49,12 @@ def named_by(name: str) -> list[str]:
     return [common.shortened(name, MOST_CHARACTERS)] if name else []
 
 
-def check(show: Show, graph: definition.Graph, ops: list[dict]) -> None:
+def check(show: Show, graph: definition.Graph, ops: list[Op]) -> None:
     """Checks that the lines are those of the definition's graph."""
     if len(ops) != len(show.vertices) or graph.result != show.result:
         raise Refused("the definition has another graph than the lines")
     for vertex, inputs, op in zip(show.vertices, graph.inputs, ops):
-        if vertex.kind != op.get("kind") or vertex.inputs != inputs:
+        if vertex.kind != op.kind or vertex.inputs != inputs:
             raise Refused(f"vertex {vertex.number} is another one in the definition")
 
 
@@ -66,7 +68,7 @@ def labels_of(show: Show, file: str | None) -> list[list[str]]:
         graph = definition.graph_of(entries)
         ops = [definition.op_of(row, entries[row]) for row in graph.rows]
         shown = [name.shown() for name in names.names_of_vertices(names.names_of(data))]
-    except definition.Unreadable as fault:
+    except Unreadable as fault:
         raise Refused(f"the definition: {fault}") from fault
     check(show, graph, ops)
     return [[*named_by(name), *texts_of(op)] for name, op in zip(shown, ops)]

@@ -31,13 +31,15 @@ from llbm_tools.shows import KINDS, NUMBER
 from llbm_tools.streams import Refused, exit_status, input_lines, write_output
 from llbm_tools.trees import entry_of, path_of
 
+Members = dict[str, object]
+
 
 class Form(NamedTuple):
     """A form of lines: its kind, its pattern, whose groups are the object's members, and further members."""
 
     kind: str
-    pattern: re.Pattern
-    besides: dict = {}
+    pattern: re.Pattern[str]
+    besides: dict[str, str]
 
 
 def form(kind: str, text: str, **besides: str) -> Form:
@@ -80,7 +82,7 @@ OTHERS = [
 ]
 
 
-def object_in(text: str, forms: list[Form]) -> dict | None:
+def object_in(text: str, forms: list[Form]) -> Members | None:
     """Returns the object of a text by the first form that matches, or None."""
     for one in forms:
         match = one.pattern.fullmatch(text)
@@ -91,16 +93,16 @@ def object_in(text: str, forms: list[Form]) -> dict | None:
     return None
 
 
-def event_object(event: str, reply: str) -> dict:
+def event_object(event: str, reply: str) -> Members:
     """Returns the object of a record's line."""
     members = object_in(event, EVENTS)
-    answer = object_in(reply, REPLIES[members["kind"]]) if members else None
+    answer = object_in(reply, REPLIES[str(members["kind"])]) if members else None
     if not members or not answer:
         raise Refused("not a line of a record: not a claim, step, settle or cancel with its reply")
     return {**members, "reply": answer}
 
 
-def entry_object(line: bytes) -> dict:
+def entry_object(line: bytes) -> Members:
     """Returns the object of a tree text's line."""
     entry = entry_of(line)
     kind = "directory" if entry.content is None else "file"
@@ -109,7 +111,7 @@ def entry_object(line: bytes) -> dict:
     return {**members, **content, "path": path_of(entry.names).decode("utf-8")}
 
 
-def line_object(line: bytes) -> dict:
+def line_object(line: bytes) -> Members:
     """Returns the object of a line."""
     if not line.endswith(b"\n"):
         raise Refused("the line does not end with a newline")

@@ -17,13 +17,13 @@ from llbm_tools.shows import Edge, Show, Vertex, show_of
 from llbm_tools.streams import exit_status, input_lines, write_output
 
 
-def edge_object(edge: Edge) -> dict:
+def edge_object(edge: Edge) -> dict[str, object]:
     """Returns the object of an edge."""
     vertex, output = edge
     return {"vertex": vertex, "output": output}
 
 
-def vertex_object(vertex: Vertex) -> dict:
+def vertex_object(vertex: Vertex) -> dict[str, object]:
     """Returns the object of a vertex."""
     return {**vertex._asdict(), "inputs": [edge_object(edge) for edge in vertex.inputs]}
 

@@ -17,14 +17,15 @@ refused; 3 a read or a write failed.
 import argparse
 import sys
 
-from llbm_tools import common, definition, findings, names
+from llbm_tools import common, findings, names
+from llbm_tools.wire import Unreadable
 
 
 def names_in(data: bytes) -> list[str]:
     """Returns the names of the entries for a person; an empty list if the definition cannot be parsed."""
     try:
         return [name.shown() for name in names.names_of(data)]
-    except definition.Unreadable:
+    except Unreadable:
         return []
 
 

@@ -5,81 +5,38 @@ value: a number, bytes (also for a string), a message, or a Raw, which is a whol
 """
 
 import re
+from typing import Union
 
-from llbm_tools import definition
-from llbm_tools.definition import EIGHT, FOUR, LENGTH, VARINT, Unreadable
+from llbm_tools import definition, wire
+from llbm_tools.ops import MESSAGES, Field, fields_of
+from llbm_tools.wire import EIGHT, FOUR, LENGTH, VARINT, Unreadable, part, varint
 
 NUMBER, TRUTH, TEXT, BYTES = "number", "truth", "text", "bytes"
+KINDS = {"string": TEXT, "bytes": BYTES, "bool": TRUTH}
 
 DIGEST = re.compile(rb"sha256:[0-9a-f]{64}")
 
-INPUT = {1: ("digest", TEXT), 2: ("index", NUMBER)}
-PATH_AND_MODE = {1: ("path", TEXT), 2: ("mode", NUMBER)}
+
+def kind_of(field: Field) -> str:
+    """Returns the kind of a field's values, or the name of its message."""
+    return field.kind.__name__ if isinstance(field.kind, type) else KINDS.get(field.kind, NUMBER)
+
 
 TABLE = {
-    "Op": {
-        1: ("inputs", "Input"), 2: ("exec", "ExecOp"), 3: ("source", "SourceOp"), 4: ("file", "FileOp"),
-        5: ("build", BYTES), 6: ("merge", "MergeOp"), 7: ("diff", BYTES),
-    },
-    "Input": INPUT,
-    "SourceOp": {1: ("identifier", TEXT), 2: ("attrs", "Attribute")},
-    "Attribute": {1: ("key", TEXT), 2: ("value", TEXT)},
-    "FileOp": {2: ("actions", "FileAction")},
-    "FileAction": {
-        1: ("input", NUMBER), 2: ("secondaryInput", NUMBER), 3: ("output", NUMBER), 4: ("copy", "FileActionCopy"),
-        5: ("mkfile", "FileActionMkFile"), 6: ("mkdir", "FileActionMkDir"), 7: ("rm", "FileActionRm"),
-    },
-    "FileActionCopy": {
-        1: ("src", TEXT), 2: ("dest", TEXT), 3: ("owner", "ChownOpt"), 4: ("mode", NUMBER), 5: ("followSymlink", TRUTH),
-        6: ("dirCopyContents", TRUTH), 7: ("attemptUnpackDockerCompatibility", TRUTH), 8: ("createDestPath", TRUTH),
-        9: ("allowWildcard", TRUTH), 10: ("allowEmptyWildcard", TRUTH), 11: ("timestamp", NUMBER),
-        12: ("include_patterns", TEXT), 13: ("exclude_patterns", TEXT),
-    },
-    "FileActionMkFile": {**PATH_AND_MODE, 3: ("data", BYTES), 4: ("owner", "ChownOpt"), 5: ("timestamp", NUMBER)},
-    "FileActionMkDir": {**PATH_AND_MODE, 3: ("makeParents", TRUTH), 4: ("owner", "ChownOpt"), 5: ("timestamp", NUMBER)},
-    "FileActionRm": {1: ("path", TEXT), 2: ("allowNotFound", TRUTH), 3: ("allowWildcard", TRUTH)},
-    "ChownOpt": {1: ("user", "UserOpt"), 2: ("group", "UserOpt")},
-    "UserOpt": {1: ("byName", BYTES), 2: ("byID", NUMBER)},
-    "ExecOp": {
-        1: ("meta", "Meta"), 2: ("mounts", "Mount"), 3: ("network", NUMBER), 4: ("security", NUMBER),
-        5: ("secretenv", BYTES),
-    },
-    "Meta": {1: ("args", TEXT), 2: ("env", TEXT), 3: ("cwd", TEXT), 4: ("user", TEXT)},
-    "Mount": {
-        1: ("input", NUMBER), 2: ("selector", TEXT), 3: ("dest", TEXT), 4: ("output", NUMBER), 5: ("readonly", TRUTH),
-        6: ("mountType", NUMBER), 19: ("TmpfsOpt", "TmpfsOpt"), 20: ("cacheOpt", "CacheOpt"),
-    },
-    "TmpfsOpt": {1: ("size", NUMBER)},
-    "CacheOpt": {1: ("ID", TEXT), 2: ("sharing", NUMBER)},
-    "MergeOp": {1: ("inputs", "MergeInput")},
-    "MergeInput": {1: ("input", NUMBER)},
+    name: {number: (field.name, kind_of(field)) for number, field in fields_of(message).items()}
+    for name, message in MESSAGES.items()
 }
-
 NUMBERS = {message: {name: number for number, (name, _) in fields.items()} for message, fields in TABLE.items()}
 ALWAYS_WRITTEN = {("Op", "build"), ("Op", "diff"), ("UserOpt", "byName"), ("UserOpt", "byID")}
 
-Value = object
+Value = Union[int, bytes, "Message"]
 Message = list[tuple[int, Value]]
+Given = Union[Value, str, None]
+Givens = Union[Given, tuple[Given, ...]]
 
 
 class Raw(bytes):
     """A whole encoded record, with its tag."""
-
-
-def varint(number: int) -> bytes:
-    """Returns the varint of a 64-bit number; a negative one in two's complement."""
-    number &= (1 << 64) - 1
-    found = bytearray()
-    while number > 127:
-        found.append(number & 127 | 128)
-        number >>= 7
-    found.append(number)
-    return bytes(found)
-
-
-def part(field: int, value: bytes) -> bytes:
-    """Returns the record of a string, of bytes or of a message."""
-    return varint(field << 3 | LENGTH) + varint(len(value)) + value
 
 
 def record(field: int, value: Value) -> bytes:
@@ -87,7 +44,7 @@ def record(field: int, value: Value) -> bytes:
     if isinstance(value, Raw):
         return value
     if isinstance(value, int):
-        return varint(field << 3) + varint(value)
+        return varint(field << 3 | VARINT) + varint(value)
     return part(field, value if isinstance(value, bytes) else encoded(value))
 
 
@@ -96,28 +53,29 @@ def encoded(message: Message) -> bytes:
     return b"".join([record(field, value) for field, value in message])
 
 
-def is_default(value: Value) -> bool:
+def is_default(value: Given) -> bool:
     """Returns whether a value is left out as a default; a message never is."""
     return not isinstance(value, list) and not value
 
 
-def given(kind: str, value: Value) -> Value:
+def given(value: Given) -> Value:
     """Returns a value as a record holds it: a text as bytes, a boolean as a number."""
-    if kind in (NUMBER, TRUTH):
+    if isinstance(value, int):
         return int(value)
-    return value.encode("utf-8", "surrogateescape") if isinstance(value, str) else value
+    if isinstance(value, str):
+        return value.encode("utf-8", "surrogateescape")
+    return b"" if value is None else value
 
 
-def made(name: str, **values: Value) -> Message:
+def made(name: str, **values: Givens) -> Message:
     """Returns a message in canonical order: defaults are left out, and a tuple is a repeated field."""
-    message = []
-    for number, (field, kind) in sorted(TABLE[name].items()):
-        if field not in values or values[field] is None:
-            continue
-        several = isinstance(values[field], tuple)
-        for value in values[field] if several else (values[field],):
-            if several or (name, field) in ALWAYS_WRITTEN or not is_default(value):
-                message.append((number, given(kind, value)))
+    message: Message = []
+    for number, (field, _) in sorted(TABLE[name].items()):
+        value = values.get(field)
+        if isinstance(value, tuple):
+            message += [(number, given(one)) for one in value]
+        elif value is not None and ((name, field) in ALWAYS_WRITTEN or not is_default(value)):
+            message.append((number, given(value)))
     return message
 
 
@@ -136,25 +94,22 @@ def definition_of(entries: list[bytes]) -> bytes:
     return b"".join([part(1, entry) for entry in entries])
 
 
-def spelled(field: int, form: int, held: Value) -> Raw:
-    """Returns a record of eight or of four bytes."""
-    return Raw(varint(field << 3 | form) + held)
+def value_in(name: str, record: wire.Record) -> Value:
+    """Returns the value of a record: a message as far as it can be parsed, or else what the record holds."""
+    kind = TABLE[name].get(record.field, ("", BYTES))[1]
+    if record.form in (EIGHT, FOUR):
+        return Raw(varint(record.field << 3 | record.form) + record.data)
+    if record.form != LENGTH or kind not in TABLE:
+        return record.held
+    try:
+        return parsed(kind, record.data)
+    except Unreadable:
+        return record.data
 
 
 def parsed(name: str, data: bytes) -> Message:
     """Parses a message, and the messages inside it as far as possible; raises Unreadable."""
-    message = []
-    for field, form, held in definition.records(data):
-        kind = TABLE[name].get(field, ("", BYTES))[1]
-        if form in (EIGHT, FOUR):
-            held = spelled(field, form, held)
-        elif form != VARINT and kind in TABLE:
-            try:
-                held = parsed(kind, held)
-            except Unreadable:
-                pass
-        message.append((field, held))
-    return message
+    return [(record.field, value_in(name, record)) for record in wire.records(data)]
 
 
 def with_new_digests(before: list[bytes], after: list[bytes]) -> list[bytes]:
@@ -162,17 +117,15 @@ def with_new_digests(before: list[bytes], after: list[bytes]) -> list[bytes]:
 
     Both lists have the same length. An entry that would name itself keeps the old digest.
     """
-    places = {}
+    places: dict[bytes, int] = {}
     for place, entry in enumerate(before):
         places.setdefault(digest_of(entry), place)
     found: dict[int, bytes] = {}
     under_way: list[int] = []
 
-    def renamed(match: re.Match) -> bytes:
+    def renamed(match: re.Match[bytes]) -> bytes:
         place = places.get(match[0])
-        if place is None or place in under_way:
-            return match[0]
-        return digest_of(entry_at(place))
+        return match[0] if place is None or place in under_way else digest_of(entry_at(place))
 
     def entry_at(place: int) -> bytes:
         if place not in found:
@@ -201,7 +154,7 @@ def value_text(name: str, kind: str, value: Value, labels: dict[bytes, int]) -> 
     """Returns the text of a value that is not a message."""
     if kind == TRUTH:
         return "true" if value else "false"
-    if kind == NUMBER:
+    if not isinstance(value, bytes):
         return str(value)
     if kind == BYTES:
         return value.hex() or "-"
@@ -215,7 +168,7 @@ def lines_of(message: Message, name: str, labels: dict[bytes, int], level: int) 
     lines = []
     for number, value in message:
         field, kind = TABLE[name][number]
-        if kind in TABLE:
+        if isinstance(value, list):
             lines += ["  " * level + field + " {", *lines_of(value, kind, labels, level + 1), "  " * level + "}"]
         else:
             lines.append("  " * level + f"{field} {value_text(field, kind, value, labels)}")
@@ -224,7 +177,8 @@ def lines_of(message: Message, name: str, labels: dict[bytes, int], level: int) 
 
 def text_of(ops: list[Message]) -> bytes:
     """Returns the text of entries for canonical ops."""
-    lines, labels = [], {}
+    lines: list[str] = []
+    labels: dict[bytes, int] = {}
     for number, op in enumerate(ops):
         lines += ["op {", *lines_of(op, "Op", labels, 1), "}"]
         labels.setdefault(digest_of(encoded(op)), number)

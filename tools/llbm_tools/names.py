@@ -9,7 +9,7 @@ digests to places, and `infos` (2), the files of these. What cannot be parsed is
 
 from typing import NamedTuple
 
-from llbm_tools import definition
+from llbm_tools import definition, wire
 from llbm_tools.common import printable
 
 CUSTOM_NAME = "llb.customname"
@@ -40,9 +40,9 @@ def fields_of(data: bytes) -> Fields:
     """Returns the values of the records of a message, by field; empty if it cannot be parsed."""
     found: Fields = {}
     try:
-        for field, _, held in definition.records(data):
-            found.setdefault(field, []).append(held)
-    except definition.Unreadable:
+        for record in wire.records(data):
+            found.setdefault(record.field, []).append(record.held)
+    except wire.Unreadable:
         return {}
     return found
 
@@ -78,7 +78,7 @@ def map_of(fields: Fields, number: int) -> dict[str, Fields]:
 def texts_of(metadata: Fields) -> tuple[str, str]:
     """Returns the name and the group in the metadata of an entry."""
     description = {key: text_of(entry, 2) for key, entry in map_of(metadata, 2).items()}
-    name = description.get(CUSTOM_NAME) or description.get(COMMAND, "")
+    name = description.get(CUSTOM_NAME) or description.get(COMMAND) or ""
     return name, description.get(CUSTOM_GROUP) or text_of(message_of(metadata, 6), 2)
 
 
@@ -99,7 +99,7 @@ def vertices_of(entries: list[bytes]) -> dict[int, int]:
     """Returns the vertex of each row that has one; empty if the entries are not a graph."""
     try:
         return {row: vertex for vertex, row in enumerate(definition.graph_of(entries).rows)}
-    except definition.Unreadable:
+    except wire.Unreadable:
         return {}
 
 
@@ -123,4 +123,5 @@ def names_of(data: bytes) -> list[Name]:
 
 def names_of_vertices(names: list[Name]) -> list[Name]:
     """Returns the names of the vertices, by number."""
-    return sorted((name for name in names if name.vertex is not None), key=lambda name: name.vertex)
+    found = {name.vertex: name for name in names if name.vertex is not None}
+    return [found[vertex] for vertex in sorted(found)]

@@ -7,9 +7,10 @@ import contextlib
 import re
 import subprocess
 from collections.abc import Iterator
-from typing import BinaryIO, NamedTuple
+from typing import BinaryIO, NamedTuple, cast
 
-from llbm_tools import definition, names
+from llbm_tools import names
+from llbm_tools.wire import Unreadable
 
 CLAIM = re.compile(r"[0-9]+ claim [0-9]+ ([0-9]+) -> (\w+) [0-9]+")
 SETTLE = re.compile(r"[0-9]+ settle [0-9]+ -> ([0-9]+) (done|failed)")
@@ -37,17 +38,17 @@ def names_in(data: bytes) -> dict[int, str]:
     """Returns the names of a definition's vertices that have one in its metadata."""
     try:
         found = names.names_of_vertices(names.names_of(data))
-    except definition.Unreadable:
+    except Unreadable:
         return {}
-    return {name.vertex: name.text for name in found if name.text}
+    return {name.vertex: name.text for name in found if name.vertex is not None and name.text}
 
 
 class Session:
     """A session whose two streams are pipes."""
 
-    def __init__(self, child: subprocess.Popen) -> None:
-        self.commands = child.stdin
-        self.answers = child.stdout
+    def __init__(self, child: subprocess.Popen[bytes]) -> None:
+        self.commands = cast(BinaryIO, child.stdin)
+        self.answers = cast(BinaryIO, child.stdout)
 
     def ask(self, *commands: str) -> None:
         """Sends commands; if the session has ended, reading its answer reports that."""

@@ -59,7 +59,9 @@ def exported(crate: pathlib.Path) -> set[str]:
 
 def head_of(lines: list[str], at: int) -> tuple[str, list[str], list[str], int]:
     """Returns the signature that begins on a line, its clauses of both kinds, and the line after it."""
-    signature, clauses, depth = [], {"ensures": [], "requires": []}, 0
+    signature: list[str] = []
+    clauses: dict[str, list[str]] = {"ensures": [], "requires": []}
+    depth = 0
     while at < len(lines):
         line = lines[at]
         found = None if depth else CLAUSE.match(line)
@@ -157,7 +159,7 @@ def with_lists(page: str, lists: dict[str, list[str]]) -> tuple[str, list[str]]:
     for crate, items in lists.items():
         section = re.search(rf"^## `{crate}`\n.*?(?=^## |\Z)", page, re.M | re.S)
         head = HEAD.search(section[0]) if section else None
-        if not head:
+        if not section or not head:
             differing += [crate] if items else []
             continue
         made = section[0][: head.end()] + "\n" + "\n".join(items) + "\n"

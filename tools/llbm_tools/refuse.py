@@ -81,8 +81,10 @@ def run(tests: str, name: str, library: str, folder: str) -> Ran:
     with open(counted, "wb") as counts:
         to = counts.fileno()
         given = {**os.environ, "LD_PRELOAD": library, "REFUSED": str(to)}
-        streams = {"stdin": subprocess.DEVNULL, "stdout": subprocess.PIPE, "stderr": subprocess.STDOUT}
-        with subprocess.Popen([tests, name], env=given, pass_fds=[to], **streams) as child:
+        with subprocess.Popen(
+            [tests, name], env=given, pass_fds=[to],
+            stdin=subprocess.DEVNULL, stdout=subprocess.PIPE, stderr=subprocess.STDOUT,
+        ) as child:
             try:
                 text, status = child.communicate(timeout=PATIENCE)[0], child.returncode
             except subprocess.TimeoutExpired:

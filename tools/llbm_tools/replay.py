@@ -83,7 +83,8 @@ def parts_of(text: str) -> list[Part]:
 
 def pieces_of(text: str) -> Iterator[Part]:
     """Yields the paragraphs of a page, the blocks between fences, and indented lines."""
-    lines, is_fenced, number = [], False, 1
+    lines: list[str] = []
+    is_fenced, number = False, 1
     for place, line in enumerate([*text.split("\n"), ""], 1):
         is_fence = line.startswith("```")
         if is_fence or (not is_fenced and not line.strip()):
@@ -114,7 +115,9 @@ def is_command(line: str) -> bool:
 
 def prompted(part: Part) -> Iterator[Shown]:
     """Yields the commands of a block whose lines begin with `$ `, each with the output below it."""
-    command, output, number = None, [], 0
+    command: str | None = None
+    output: list[str] = []
+    number = 0
     for place, line in enumerate([*part.lines, "$ "], part.number):
         if not line.startswith("$ "):
             output.append(line + "\n")

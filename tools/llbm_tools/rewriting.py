@@ -1,23 +1,10 @@
 """Writes a message with some of its records changed; all others keep their bytes and their order."""
 
-from collections.abc import Callable
+from collections.abc import Callable, Sequence
 
-from llbm_tools.definition import LENGTH
-from llbm_tools.op_reading import Record, counted, joined, records_in
-
-
-def spelled(number: int) -> bytes:
-    """Returns the shortest varint of a number."""
-    found = bytearray()
-    while number > 127:
-        found.append(number & 127 | 128)
-        number >>= 7
-    return bytes(found) + bytes([number])
-
-
-def record_of(field: int, held: bytes) -> Record:
-    """Returns the record of a string, of bytes or of a message."""
-    return Record(field, LENGTH, held, spelled(field << 3 | LENGTH) + spelled(len(held)) + held)
+from llbm_tools import wire
+from llbm_tools.op_reading import counted, joined
+from llbm_tools.wire import LENGTH, Record, record_of
 
 
 def written(records: list[Record]) -> bytes:
@@ -47,9 +34,10 @@ def with_each(records: list[Record], field: int, change: Callable[[bytes], bytes
     """Changes each message of a repeated field; those for which `change` returns None are removed."""
     result = []
     for record in records:
-        new = change(record.held) if record.field == field else record.held
+        is_message = record.field == field and record.form == LENGTH
+        new = change(record.data) if is_message else record.data
         if new is not None:
-            result.append(record if new == record.held else record_of(field, new))
+            result.append(record if new == record.data else record_of(field, new))
     return result
 
 
@@ -59,7 +47,7 @@ def with_text(records: list[Record], field: int, text: str) -> list[Record]:
     return replaced(records, old, [record_of(field, text.encode("utf-8"))])
 
 
-def with_texts(records: list[Record], field: int, texts: list[str]) -> list[Record]:
+def with_texts(records: list[Record], field: int, texts: Sequence[str]) -> list[Record]:
     """Replaces a repeated string."""
     old = [record for record in records if record.field == field]
     return replaced(records, old, [record_of(field, text.encode("utf-8")) for text in texts])
@@ -72,4 +60,4 @@ def without(records: list[Record], field: int) -> list[Record]:
 
 def changed(data: bytes, change: Callable[[list[Record]], list[Record]]) -> bytes:
     """Returns the bytes of a message with changed records."""
-    return written(change(records_in(data)))
+    return written(change(list(wire.records(data))))

@@ -1,9 +1,9 @@
 """The small shell language of docs/FORMATS.md: checks whether words are a script, and finds their first fault."""
 
 import re
-from collections.abc import Callable
+from collections.abc import Callable, Sequence
 
-SHELL = ["/bin/sh", "-c"]
+SHELL = ("/bin/sh", "-c")
 SEPARATORS = (b";", b"&&", b"||")
 NO_WORD = re.compile(rb"[^0-9A-Za-z_\-./,:+@%=\x80-\xff]")
 MODE = re.compile(rb"[0-7]{1,4}")
@@ -79,10 +79,10 @@ def fault_of_call(number: int, call: list[bytes]) -> str | None:
     return None if FORMS[name](call[1:]) else f"72 {number}"
 
 
-def fault_of(args: list[str]) -> str | None:
+def fault_of(args: Sequence[str]) -> str | None:
     """Returns the first fault of words as a script, as the program prints it, or None if they are one."""
     calls = [[arg.encode("utf-8") for arg in args]]
-    if len(args) == 3 and args[:2] == SHELL:
+    if len(args) == 3 and tuple(args[:2]) == SHELL:
         place = bad_place(calls[0][2])
         if place is not None:
             return f"73 {place}"

@@ -6,7 +6,7 @@ import shutil
 import sys
 import tempfile
 from collections.abc import Callable, Iterator
-from typing import BinaryIO
+from typing import BinaryIO, cast
 
 from llbm_tools.common import discard_output, say
 
@@ -61,7 +61,7 @@ def temporary_file(what: str) -> Iterator[BinaryIO]:
     """Yields an unnamed temporary file (under TMPDIR); an OSError becomes Failed."""
     try:
         with tempfile.TemporaryFile() as stored:
-            yield stored
+            yield cast(BinaryIO, stored)
     except OSError as fault:
         raise Failed(f"{what} could not be stored: {fault.strerror}") from fault
 

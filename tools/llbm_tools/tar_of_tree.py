@@ -41,7 +41,7 @@ def write(text: BinaryIO, output: BinaryIO, time: int) -> None:
             content = binascii.unhexlify(entry.content or b"")
             header.size = len(content)
             archive.addfile(header, io.BytesIO(content))
-            archive.members.clear()
+            archive.members.clear()  # type: ignore[attr-defined]
 
 
 def write_checked(options: argparse.Namespace) -> None:

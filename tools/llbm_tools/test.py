@@ -24,7 +24,7 @@ import sys
 import time
 import unittest
 from collections.abc import Iterator
-from typing import NamedTuple
+from typing import NamedTuple, TextIO, cast
 
 from llbm_tools import common
 from tests import base
@@ -61,8 +61,8 @@ MODULES = [
 class Timed(unittest.TextTestResult):
     """A result that measures how long each test takes."""
 
-    def __init__(self, *words: object) -> None:
-        super().__init__(*words)
+    def __init__(self, stream: TextIO, descriptions: bool, verbosity: int) -> None:
+        super().__init__(stream, descriptions, verbosity)
         self.seconds: list[tuple[float, str]] = []
         self.start = 0.0
 
@@ -83,8 +83,8 @@ class GroupResult(NamedTuple):
     output: str
     tests: int
     runs: int
-    wrong: collections.Counter
-    left_out: collections.Counter
+    wrong: collections.Counter[str]
+    left_out: collections.Counter[str]
     seconds: list[tuple[float, str]]
 
 
@@ -120,7 +120,7 @@ def run_group(number: int) -> GroupResult:
     """Runs a group of tests."""
     base.runs = 0
     out = io.StringIO()
-    result = unittest.TextTestRunner(out, verbosity=0, resultclass=Timed).run(groups[number])
+    result = cast(Timed, unittest.TextTestRunner(out, verbosity=0, resultclass=Timed).run(groups[number]))
     wrong = collections.Counter(
         {
             "failures": len(result.failures),
@@ -177,7 +177,10 @@ def test_all(options: argparse.Namespace) -> int:
     """Runs all tests, prints the results, and returns the exit status."""
     groups.extend(grouped(unittest.defaultTestLoader.loadTestsFromNames([f"tests.{name}" for name in options.name])))
     start = time.monotonic()
-    tests, runs, wrong, left_out, seconds = 0, 0, collections.Counter(), collections.Counter(), []
+    tests, runs = 0, 0
+    wrong: collections.Counter[str] = collections.Counter()
+    left_out: collections.Counter[str] = collections.Counter()
+    seconds: list[tuple[float, str]] = []
     for one in run_groups(options.jobs):
         sys.stderr.write(one.output)
         tests, runs, seconds = tests + one.tests, runs + one.runs, seconds + one.seconds

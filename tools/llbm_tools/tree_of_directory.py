@@ -20,6 +20,7 @@ import contextlib
 import os
 import stat
 import sys
+from typing import BinaryIO
 
 from llbm_tools.common import discard_output, say
 from llbm_tools.leftout import DEVICE, LINK, PIPE, Exclusion, LeftOut, exclusion_of_names, say_of
@@ -54,7 +55,7 @@ class CutOff(Exception):
 class Walk:
     """Walks down a directory and writes its text."""
 
-    def __init__(self, output, owner: Owner | None) -> None:
+    def __init__(self, output: BinaryIO, owner: Owner | None) -> None:
         self.output = output
         self.owner = owner
         self.failed = False
@@ -155,7 +156,7 @@ class Walk:
             self.content(content, piece, names)
             self.write(b" " + path_of(names) + b"\n")
 
-    def content(self, content, piece: bytes, names: Names) -> None:
+    def content(self, content: BinaryIO, piece: bytes, names: Names) -> None:
         """Writes a file's content, beginning with its first piece."""
         if not piece:
             self.write(b"-")

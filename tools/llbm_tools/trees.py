@@ -93,7 +93,8 @@ def check_place(entry: Entry, before: Names | None, inside: Names) -> None:
 
 def checked(lines: Iterable[bytes]) -> Iterator[tuple[bytes, Entry]]:
     """Yields the valid lines of a tree's text with their entries; the first faulty line is refused by its number."""
-    before, inside = None, []
+    before: Names | None = None
+    inside: Names = []
     for number, line in enumerate(lines, 1):
         try:
             entry = entry_of(line)

@@ -241,23 +241,22 @@ def close_some(one: Try) -> None:
 
 def difference(one: Try) -> str | None:
     """Returns how the result of a try differs from what is expected, or None."""
-    streams_given: dict[str, object] = {"input": one.given} if isinstance(one.given, bytes) else {}
-    if not streams_given:
-        streams_given["stdin"] = os.open(FOLDER, os.O_RDONLY) if one.given == FOLDER else subprocess.DEVNULL
+    given = one.given if isinstance(one.given, bytes) else None
+    stdin = os.open(FOLDER, os.O_RDONLY) if one.given == FOLDER else subprocess.DEVNULL if given is None else None
     out = os.open(one.to, os.O_WRONLY) if one.to == FULL else subprocess.PIPE
     try:
         done = subprocess.run(
-            [program, *one.words], **streams_given, stdout=out, stderr=subprocess.PIPE, timeout=PATIENCE,
+            [program, *one.words], input=given, stdin=stdin, stdout=out, stderr=subprocess.PIPE, timeout=PATIENCE,
             preexec_fn=lambda: close_some(one),
         )
     except subprocess.TimeoutExpired:
         return f"no end within {PATIENCE} seconds"
     finally:
-        for descriptor in (out, streams_given.get("stdin")):
-            if isinstance(descriptor, int) and descriptor >= 0:
+        for descriptor in (out, stdin):
+            if descriptor is not None and descriptor >= 0:
                 os.close(descriptor)
-    got = (done.returncode, done.stdout or b"", done.stderr)
-    wanted = (one.status, one.out, one.err)
+    got: tuple[int | bytes, ...] = (done.returncode, done.stdout or b"", done.stderr)
+    wanted: tuple[int | bytes, ...] = (one.status, one.out, one.err)
     for name, have, want in zip(("status", "output", "standard error"), got, wanted):
         if have != want:
             return f"{name} {text(have)}, not {text(want)}"

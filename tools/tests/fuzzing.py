@@ -63,11 +63,6 @@ class Messages(unittest.TestCase):
         own = encoded(made("Op", inputs=(messages.edge(below),)))
         self.assertEqual(messages.with_new_digests([below], [own]), [own])
 
-    def test_the_table_agrees_with_the_parser(self):
-        for name, fields in definition.MESSAGES.items():
-            for number, field in fields.items() if name != "Definition" else ():
-                self.assertEqual(messages.TABLE[name][number][0], field.name)
-
 
 class RandomInputs(unittest.TestCase):
     """Random inputs and changes."""
