@@ -2,8 +2,8 @@
 
 In: the file DEFINITION, and for each local source NAME=DIRECTORY or NAME=ARCHIVE, split at its first `=`; if a name is
 given twice the later one is used. A path that is not a directory and ends in .tar, .tar.gz, .tgz, .tar.bz2, .tar.xz or
-.tar.zst is read as an archive, by `tree-of-tar`. The program is --llbm PROGRAM, or else ../crates/llbm/out/llbm beside
-this folder, or else ../out/llbm-unproved, which is named on standard error as not proved; --workers N sets its number
+.tar.zst is read as an archive, by `tree-of-tar`. The program is --llbm PROGRAM, or else crates/llbm/out/llbm of the
+repository, or else its out/llbm-unproved, which is named on standard error as not proved; --workers N sets its number
 of workers. All entries of sources get the owner 0:0, as with `tree-of-directory --owner 0:0`.
 
 Out: RESULT, which must not exist yet: an archive by `tar-of-tree` if its name ends in .tar, else a new directory with

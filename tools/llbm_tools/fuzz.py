@@ -1,8 +1,7 @@
 """Runs the program llbm on random inputs, and prints which rule an input breaks.
 
 In: SECONDS, the duration; --cases N ends after N cases if that is sooner. The program is --llbm PROGRAM, or else
-../crates/llbm/out/llbm beside this folder, or else ../out/llbm-unproved, which is named on standard error as not
-proved. The inputs are the examples beside this folder and random definitions, texts of entries, texts of trees and
+crates/llbm/out/llbm of the repository, or else its out/llbm-unproved, which is named on standard error as not proved. The inputs are the examples beside this folder and random definitions, texts of entries, texts of trees and
 sessions; half of the definitions are changed at random, in most cases so that digests and inputs match again. --seed N
 makes the same cases in the same order; without it a random seed is used. With --jobs N the cases are shared by N
 processes. Each run has limits on memory (--memory MEGABYTES, 4096 by default, 0 for none; none for a program that is

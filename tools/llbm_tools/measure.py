@@ -1,8 +1,8 @@
 """Measures the program llbm: pairs of runs in the same minutes, and their ratios.
 
 In: the measurements in the table in this file, or only those named NAME .. . The program is --llbm PROGRAM, or else
-../crates/llbm/out/llbm beside this folder, or else ../out/llbm-unproved, which is named on standard error as not proved
-(it is slower, and takes more memory). Inputs are made by `bigdef` and `bigtree`, in a temporary folder that is removed
+crates/llbm/out/llbm of the repository, or else its out/llbm-unproved, which is named on standard error as not proved
+(it is much slower). Inputs are made by `bigdef` and `bigtree`, in a temporary folder that is removed
 at the end. Each pair runs --runs N times (5 by default), the two runs one after the other; --part N makes all counts N
 times smaller, for a quick look or a slow machine. --list prints the names and runs nothing.
 

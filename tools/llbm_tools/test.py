@@ -1,8 +1,8 @@
 """Tests the tools of this folder by examples, in temporary folders that are removed at the end.
 
 In: the tools beside this file, with their tests in tests/; names of test cases on the command line, as in `test
-trees.RoundTrip`, or none for all. Some tests need the program: it is --llbm PROGRAM, or else ../crates/llbm/out/llbm
-beside this folder, or else ../out/llbm-unproved, which is named on standard error as not proved; without one they are
+trees.RoundTrip`, or none for all. Some tests need the program: it is --llbm PROGRAM, or else crates/llbm/out/llbm of
+the repository, or else its out/llbm-unproved, which is named on standard error as not proved; without one they are
 skipped. It can run as root, who can set owners, or as another user, who cannot: the number of examples is the same.
 Test cases run in parallel, in --jobs N processes, or in one for each processor.
 
