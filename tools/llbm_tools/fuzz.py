@@ -1,11 +1,12 @@
 """Runs the program llbm on random inputs, and prints which rule an input breaks.
 
 In: SECONDS, the duration; --cases N ends after N cases if that is sooner. The program is --llbm PROGRAM, or else
-crates/llbm/out/llbm of the repository, or else its out/llbm-unproved, which is named on standard error as not proved. The inputs are the examples beside this folder and random definitions, texts of entries, texts of trees and
-sessions; half of the definitions are changed at random, in most cases so that digests and inputs match again. --seed N
-makes the same cases in the same order; without it a random seed is used. With --jobs N the cases are shared by N
-processes. Each run has limits on memory (--memory MEGABYTES, 4096 by default, 0 for none; none for a program that is
-built with an address sanitizer), on processor time and on file sizes, and may take --patience SECONDS, 60 by default.
+crates/llbm/out/llbm of the repository, or else its out/llbm-unproved, which is named on standard error as not proved.
+The inputs are the examples of the repository and random definitions, texts of entries, texts of trees and sessions;
+half of the definitions are changed at random, in most cases so that digests and inputs match again. --seed N makes the
+same cases in the same order; without it a random seed is used. With --jobs N the cases are shared by N processes. Each
+run has limits on memory (--memory MEGABYTES, 4096 by default, 0 for none; none for a program that is built with an
+address sanitizer), on processor time and on file sizes, and may take --patience SECONDS, 60 by default.
 
 These rules must hold: each run exits with a status of 0 to 3; if the input is refused, nothing is printed except the
 answers of a session; docs/FAULTS.md has each line on standard error, with that status; `dis` and then `asm` return the
