@@ -8,13 +8,14 @@ import resource
 import subprocess
 import unittest
 
-from llbm_tools import faults
+from llbm_tools import faults, limited
 from tests import base
 from tests.base import ROOT, Folder, run
 
 EXAMPLES = ROOT / "examples"
 DEEPEST = 65_535
 STACK = 256 << 10
+DOUBLINGS = 20
 
 
 def narrow():
@@ -233,6 +234,20 @@ class WithProgram(Folder):
         done = self.build(base.ending(base.source("local://src")), f"src={self.at / 'in'}")
         self.assertEqual(done.returncode, 2)
         self.assertRegex(done.stderr, rb"\nthe text has [0-9,]+ bytes: .*\n(.*\n)*fault 185\n  185: ")
+
+    def with_little_memory(self):
+        """Returns the settings of a run that is refused more than a gigabyte, or more than a megabyte at once."""
+        if limited.SANITIZER in pathlib.Path(base.llbm).read_bytes():
+            return {"env": {**os.environ, "ASAN_OPTIONS": "allocator_may_return_null=1:max_allocation_size_mb=1"}}
+        return {"preexec_fn": lambda: limited.limit(resource.RLIMIT_AS, 1 << 30)}
+
+    def test_a_script_that_doubles_a_file_without_end_is_refused_memory(self):
+        doubles = [f"concat {to} {at} {at}" for at, to in [("/a", "/b"), ("/b", "/a")] * DOUBLINGS]
+        script = " && ".join(["write /a x", *doubles])
+        given = base.ending(base.exec_op("/bin/sh", "-c", script))
+        done = self.llbm("run", given=given, **self.with_little_memory())
+        self.assertEqual((done.returncode, done.stdout), (3, b""))
+        self.assertEqual(done.stderr.splitlines()[-1], b"fault 151")
 
     def narrow_lines(self, *words, given):
         """Returns the lines that the program prints with a small stack; it has to succeed."""
