@@ -2,9 +2,9 @@
 
 In: the file DEFINITION, and for each local source NAME=DIRECTORY or NAME=ARCHIVE, split at its first `=`; if a name is
 given twice the later one is used. A path that is not a directory and ends in .tar, .tar.gz, .tgz, .tar.bz2, .tar.xz or
-.tar.zst is read as an archive, by `tree-of-tar`. The program is ../crates/llbm/out/llbm beside this folder, or --llbm
-PROGRAM; --workers N sets its number of workers. All entries of sources get the owner 0:0, as with `tree-of-directory
---owner 0:0`.
+.tar.zst is read as an archive, by `tree-of-tar`. The program is --llbm PROGRAM, or else crates/llbm/out/llbm of the
+repository, or else its out/llbm-unproved, which is named on standard error as not proved; --workers N sets its number
+of workers. All entries of sources get the owner 0:0, as with `tree-of-directory --owner 0:0`.
 
 Out: RESULT, which must not exist yet: an archive by `tar-of-tree` if its name ends in .tar, else a new directory with
 owners and modes as `directory-of-tree` sets them. On standard error there is a line for each phase, the messages of the
@@ -38,8 +38,8 @@ from typing import BinaryIO, NamedTuple
 
 from llbm_tools import faults, progress, shows
 from llbm_tools.archives import is_archive
-from llbm_tools.common import MOST_BYTES, os_error_text, say, shortened
-from llbm_tools.paths import PROGRAM, TOOLS
+from llbm_tools.common import MOST_BYTES, os_error_text, program_named, say, shortened
+from llbm_tools.paths import TOOLS
 from llbm_tools.streams import Refused
 
 SIGNALS = {signal.SIGINT, signal.SIGTERM, signal.SIGHUP}
@@ -327,7 +327,7 @@ def parse_options() -> argparse.Namespace:
         description="Runs a definition on directories or archives, and writes its result as a new one.",
         allow_abbrev=False,
     )
-    parser.add_argument("--llbm", metavar="PROGRAM", default=str(PROGRAM), help="the program llbm")
+    parser.add_argument("--llbm", metavar="PROGRAM", help="the program llbm")
     parser.add_argument("--workers", metavar="N", help="the number of workers")
     parser.add_argument("--progress", action="store_true", help="print a line for each vertex as it settles")
     parser.add_argument("definition", metavar="DEFINITION", help="the file of the definition")
@@ -335,7 +335,9 @@ def parse_options() -> argparse.Namespace:
     parser.add_argument(
         "source", metavar="NAME=DIRECTORY", nargs="*", type=source_of, help="a local source: a directory or an archive"
     )
-    return parser.parse_args()
+    options = parser.parse_args()
+    options.llbm = program_named(options.llbm)
+    return options
 
 
 def main() -> int:
