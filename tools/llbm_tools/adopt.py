@@ -26,6 +26,7 @@ import sys
 from collections.abc import Iterator
 
 from llbm_tools import adopting, adoption_rules, common, findings
+from llbm_tools.streams import Refused, exit_status
 from llbm_tools.wire import Faulty, Unreadable
 
 HINTS = {
@@ -38,17 +39,13 @@ HINTS = {
 }
 
 
-class Refused(Exception):
-    """The definition is refused and nothing is written; the message says why."""
-
-
 def settings_from(options: argparse.Namespace) -> adopting.Settings:
     """Returns the changes that the command line asks for."""
     rules: list[adoption_rules.Rule] = []
     if options.rules is not None:
         try:
             rules = adoption_rules.rules_in(common.data_in(options.rules))
-        except adoption_rules.BadRules as fault:
+        except Refused as fault:
             raise Refused(f"{options.rules}: {fault}") from fault
     dropped = [kind for kind in adopting.DROPPED if options.all or getattr(options, f"without_{kind}")]
     return adopting.Settings(frozenset(dropped), tuple(rules), options.all or options.run_nothing)
@@ -123,7 +120,7 @@ def adopt(options: argparse.Namespace) -> None:
         raise Refused(f"not adopted: {fault}") from fault
     left = list(map(left_text, adopted.left))
     if left and not options.leave:
-        raise Refused("\n".join([*left, "nothing is written"]))
+        raise Refused(*left, "nothing is written")
     write(options, adopted)
     for text in [*(f"entry {row}: {text}" for row, text in adopted.changes), *adopted.others, *left]:
         common.say(text)
@@ -155,14 +152,4 @@ def parse_options() -> argparse.Namespace:
 def main() -> int:
     """Runs the tool, and returns its exit status."""
     options = parse_options()
-    try:
-        adopt(options)
-    except Refused as fault:
-        for line in str(fault).split("\n"):
-            common.say(line)
-        return 2
-    except OSError as fault:
-        common.say(common.os_error_text(fault))
-        common.discard_output()
-        return 3
-    return 0
+    return exit_status(lambda: adopt(options))

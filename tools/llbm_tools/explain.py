@@ -17,6 +17,7 @@ import sys
 from collections.abc import Iterable
 
 from llbm_tools import common, faults
+from llbm_tools.streams import Refused, exit_status
 
 
 def write(text: str) -> None:
@@ -49,7 +50,11 @@ def explain(options: argparse.Namespace) -> int:
     if not options.word:
         common.check_open(sys.stdin, "standard input")
         return explain_all(explainer, sys.stdin.buffer)
-    for meaning in explainer.lines(" ".join(options.word)):
+    try:
+        meanings = explainer.lines(" ".join(options.word))
+    except faults.NoLine as fault:
+        raise Refused(str(fault)) from fault
+    for meaning in meanings:
         write(meaning)
     sys.stdout.flush()
     return 0
@@ -69,12 +74,4 @@ def parse_options() -> argparse.Namespace:
 def main() -> int:
     """Runs the tool, and returns its exit status."""
     options = parse_options()
-    try:
-        return explain(options)
-    except (faults.NoLine, faults.NoPage) as fault:
-        common.say(str(fault))
-        return 2
-    except OSError as fault:
-        common.say(common.os_error_text(fault))
-        common.discard_output()
-        return 3
+    return exit_status(lambda: explain(options))
