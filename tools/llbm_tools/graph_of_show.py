@@ -22,7 +22,7 @@ import sys
 from llbm_tools import common, definition, names
 from llbm_tools.ops import Op
 from llbm_tools.shows import Edge, Show, Vertex, show_of
-from llbm_tools.streams import Refused, exit_status
+from llbm_tools.streams import Refused, check_inputs, exit_status
 from llbm_tools.wire import Unreadable
 
 SHAPES = {"source": "folder", "file": "note", "merge": "trapezium", "exec": "box"}
@@ -109,6 +109,8 @@ def parse_options() -> argparse.Namespace:
 
 def draw(file: str | None) -> None:
     """Reads standard input, and writes the digraph."""
+    if file is not None:
+        check_inputs(None, file)
     common.check_open(sys.stdin, "standard input")
     common.check_open(sys.stdout, "standard output")
     show = show_of(sys.stdin.buffer.read().decode("ascii", "backslashreplace"))

@@ -52,6 +52,7 @@ MODULES = [
     "jsons",
     "sessions",
     "naming",
+    "running",
 ]
 
 
