@@ -1,13 +1,13 @@
 """Changes a foreign definition, as a client of BuildKit marshals it, into one that llbm accepts.
 
 In: a definition, on standard input or in the file DEFINITION (`-` is standard input). Sources that are images, git
-repositories, files from HTTP or OCI layouts become local sources; their names are made from their identifiers, and no two sources get the same
-name. --without-secrets drops mounts of secrets and secret environment variables, --without-ssh mounts of SSH agents,
---without-unpack the unpacking of copies, --without-owners users and groups that are given by name. With --run-nothing
-the words of executions become `true`. --rules FILE replaces the words of the executions that a rule names; each line of
-the file is a rule, `digest DIGEST => NEW ..`, `name NAME => NEW ..` or `words OLD .. => NEW ..`, quoted as for a shell,
-and a rule without new words keeps the old ones. --all means all of these options except --rules, which takes precedence
-over --run-nothing.
+repositories, files from HTTP or OCI layouts become local sources; their names are made from their identifiers, and no
+two sources get the same name. --without-secrets drops mounts of secrets and secret environment variables, --without-ssh
+mounts of SSH agents, --without-unpack the unpacking of copies, --without-owners users and groups that are given by
+name. With --run-nothing the words of executions become `true`. --rules FILE replaces the words of the executions that a
+rule names; each line of the file is a rule, `digest DIGEST => NEW ..`, `name NAME => NEW ..` or `words OLD .. => NEW
+..`, quoted as for a shell, and a rule without new words keeps the old ones. --all means all of these options except
+--rules, which takes precedence over --run-nothing.
 
 Out: the definition, on standard output, or in FILE with -o FILE. Digests change, and with them the inputs that name
 them and the keys of the metadata and of the locations in `Source`; all other bytes and the order of the entries stay

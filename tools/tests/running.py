@@ -79,8 +79,8 @@ class Run(Folder):
     def test_the_faulty_line_of_a_tree_is_shown(self):
         good, tree = self.file(b"good", b"d 0755 0 0 /\n"), self.file(b"tree", TREE)
         words = [f"a={os.fsdecode(good)}", f"b={os.fsdecode(tree)}"]
-        cause = "the content is neither lower-case hexadecimal nor -"
-        self.assertEqual(self.added("fault 31 2", "run", *words)[-1], f"the local source b: line 2: {cause}: f 0644 0 0 6 /a")
+        cause = "line 2: the content is neither lower-case hexadecimal nor -: f 0644 0 0 6 /a"
+        self.assertEqual(self.added("fault 31 2", "run", *words)[-1], f"the local source b: {cause}")
 
     def test_the_faulty_line_of_a_text_is_shown(self):
         self.assertEqual(self.added("fault 161 2 Syntax", "asm", text=b"op {\n}}\n")[-1], "line 2: }}")
