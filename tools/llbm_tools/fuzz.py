@@ -36,8 +36,9 @@ import time
 from collections.abc import Callable, Iterator
 
 from llbm_tools import fuzz_cases, limited
-from llbm_tools.common import check_open, discard_output, os_error_text, printable, program_named, say
+from llbm_tools.common import check_open, printable, program_named, say
 from llbm_tools.paths import ROOT
+from llbm_tools.streams import INTERRUPTED, Refused, exit_status
 
 EXAMPLES = ROOT / "examples"
 
@@ -45,10 +46,6 @@ MOST_STORED = 100
 MOST_JOBS = 64
 PATIENCE = 60
 FOREVER = 1 << 62
-
-
-class Refused(Exception):
-    """Something that the command line names is missing or can't be used."""
 
 
 def work(options: argparse.Namespace, job: int, folder: str, sender: multiprocessing.connection.Connection) -> None:
@@ -177,15 +174,8 @@ def parse_options() -> argparse.Namespace:
 def main() -> int:
     """Runs the tool, and returns its exit status."""
     signal.signal(signal.SIGTERM, signal.default_int_handler)
-    try:
-        return fuzz(parse_options())
-    except Refused as fault:
-        say(str(fault))
-        return 2
-    except OSError as fault:
-        say(os_error_text(fault))
-        discard_output()
-        return 3
-    except KeyboardInterrupt:
+    options = parse_options()
+    status = exit_status(lambda: fuzz(options))
+    if status == INTERRUPTED:
         say("interrupted")
-        return 130
+    return status

@@ -10,7 +10,7 @@ import re
 from typing import NamedTuple
 
 from llbm_tools import definition, faults, fuzz_changed, fuzz_made, messages
-from llbm_tools.fuzz_checks import Broken, Graph, Rules, Session, caches_in, need, tree_fault
+from llbm_tools.fuzz_checks import Broken, Graph, Rules, Session, caches_in, check_findings, need, tree_fault
 from llbm_tools.fuzz_made import one_in
 from llbm_tools.limited import Ran, Runner
 from llbm_tools.wire import Unreadable
@@ -77,6 +77,7 @@ class Case:
         ran = self.tried.runner.run(*words, given=given)
         self.runs.append(ran)
         self.tried.rules.check(ran)
+        check_findings(ran)
         return ran
 
     def file(self, name: str, content: bytes) -> str:

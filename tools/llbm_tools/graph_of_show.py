@@ -22,7 +22,7 @@ import sys
 from llbm_tools import common, definition, names
 from llbm_tools.ops import Op
 from llbm_tools.shows import Edge, Show, Vertex, show_of
-from llbm_tools.streams import Refused
+from llbm_tools.streams import Refused, check_inputs, exit_status
 from llbm_tools.wire import Unreadable
 
 SHAPES = {"source": "folder", "file": "note", "merge": "trapezium", "exec": "box"}
@@ -109,6 +109,8 @@ def parse_options() -> argparse.Namespace:
 
 def draw(file: str | None) -> None:
     """Reads standard input, and writes the digraph."""
+    if file is not None:
+        check_inputs(None, file)
     common.check_open(sys.stdin, "standard input")
     common.check_open(sys.stdout, "standard output")
     show = show_of(sys.stdin.buffer.read().decode("ascii", "backslashreplace"))
@@ -119,13 +121,4 @@ def draw(file: str | None) -> None:
 def main() -> int:
     """Runs the tool, and returns its exit status."""
     options = parse_options()
-    try:
-        draw(options.definition)
-    except Refused as fault:
-        common.say(str(fault))
-        return 2
-    except OSError as fault:
-        common.say(common.os_error_text(fault))
-        common.discard_output()
-        return 3
-    return 0
+    return exit_status(lambda: draw(options.definition))
