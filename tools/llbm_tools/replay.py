@@ -31,7 +31,7 @@ import tempfile
 from collections.abc import Iterator
 from typing import NamedTuple
 
-from llbm_tools.common import check_open, printable, program_named, say, shortened
+from llbm_tools.common import check_open, printable, program_named, shortened
 from llbm_tools.paths import ROOT
 from llbm_tools.streams import Refused, exit_status
 
