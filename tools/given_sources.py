@@ -19,6 +19,11 @@ class Source(NamedTuple):
     place: str
 
 
+def too_long(source: Source, cause: str) -> str:
+    """Returns the refusal of a source that is given by value."""
+    return f"{source.name} is too long to be given by value, over {MOST_BYTES:,} bytes: {cause}"
+
+
 class Given:
     """The sources of a build, and the table of their contents."""
 
@@ -47,7 +52,7 @@ class Given:
             except HasMark as path:
                 return f"{cause}, and {path} of {source.name}, which is before it, has the byte 255"
             except TooLong as fault:
-                raise Refused(f"{source.name} is too long to be given by value, over {MOST_BYTES:,} bytes: {cause}") from fault
+                raise Refused(too_long(source, cause)) from fault
         return ""
 
     def read(self, number: int, place: str, is_value: bool) -> None:

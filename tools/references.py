@@ -75,7 +75,7 @@ class Below:
         self.last: int | None = None
 
     def open(self, path: bytes) -> int:
-        """Returns the descriptor of the directory at a path like `/a/b`, or at the empty one; it is not to be closed."""
+        """Returns the descriptor of the directory at `/a/b` or the like, or at an empty path; it stays open."""
         if not path:
             return self.root
         if self.last is not None and path == self.path:

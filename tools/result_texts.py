@@ -16,7 +16,7 @@ LINES_OF_A_PART = 500
 
 
 class Line(NamedTuple):
-    """An entry: its mode, its owner, its content in hexadecimal or None for a directory, and its path, empty for `/`."""
+    """An entry: mode, owner, content in hexadecimal or None for a directory, and its path, which is empty for `/`."""
 
     mode: int
     user: int

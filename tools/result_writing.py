@@ -2,17 +2,17 @@
 
 import binascii
 import multiprocessing
-import multiprocessing.connection
 import os
+import select
 import signal
 import tarfile
 from collections.abc import Iterator
-from typing import BinaryIO
+from typing import BinaryIO, NamedTuple
 
 from references import Below, Copier, Table, write_all
 from result_texts import Checked, Line, Part, lines_in
 from scripts import script
-from streams import Failed, Refused
+from streams import FAILED, PIECE, REFUSED, Failed, Refused
 from trees import Entry
 
 MOST_WORKERS = 8
@@ -20,6 +20,7 @@ FILES_OF_A_WORKER = 1000
 NEW_FILE = os.O_WRONLY | os.O_CLOEXEC | os.O_NOFOLLOW | os.O_CREAT | os.O_EXCL
 SIGNALS = (signal.SIGINT, signal.SIGTERM, signal.SIGHUP)
 BLOCK = 512
+END = b"\n"
 
 finish = script("directory-of-tree").finish
 header_of = script("tar-of-tree").header_of
@@ -71,6 +72,11 @@ class Files:
             except OSError as fault:
                 raise not_written(line.path, fault) from fault
 
+    def close(self) -> None:
+        """Closes the directories."""
+        self.below.close()
+        self.copier.close()
+
     def put(self, line: Line) -> None:
         """Writes a file."""
         parent, name = line.path.rsplit(b"/", 1)
@@ -87,6 +93,13 @@ def workers_for(files: int) -> int:
     return max(1, min(len(os.sched_getaffinity(0)), MOST_WORKERS, files // FILES_OF_A_WORKER))
 
 
+class Worker(NamedTuple):
+    """A process that writes files, and the pipe on which it says why it ended: an empty text if all is well."""
+
+    process: int
+    report: int
+
+
 class Crew:
     """Processes that write the parts of a text; each takes the next part that none has taken."""
 
@@ -96,8 +109,7 @@ class Crew:
         self.table = table
         self.parts = parts
         self.next = multiprocessing.Value("q", 0)
-        self.workers: list[multiprocessing.Process] = []
-        self.results: list[multiprocessing.connection.Connection] = []
+        self.workers: list[Worker] = []
 
     def taken(self) -> Iterator[Part]:
         """Yields the parts that this process takes."""
@@ -115,50 +127,67 @@ class Crew:
             files = Files(text, self.root, self.table)
             for part in self.taken():
                 files.write(part)
+            files.close()
 
-    def work_and_report(self, sender: multiprocessing.connection.Connection) -> None:
-        """Does the work of a process, and sends how it ended."""
-        signal.signal(signal.SIGINT, signal.SIG_IGN)
-        signal.signal(signal.SIGHUP, signal.SIG_IGN)
-        signal.signal(signal.SIGTERM, signal.SIG_DFL)
-        signal.pthread_sigmask(signal.SIG_UNBLOCK, SIGNALS)
+    def ended(self) -> str:
+        """Does the work, and returns why it ended: the digit of a status and a message, or nothing."""
         try:
             self.work()
-            sender.send(None)
-        except (Refused, Failed) as fault:
-            sender.send(fault)
+            return ""
+        except Refused as fault:
+            return f"{REFUSED}{fault}"
+        except Failed as fault:
+            return f"{FAILED}{fault}"
         except MemoryError:
-            sender.send(Failed("out of memory"))
+            return f"{FAILED}out of memory"
 
     def start(self) -> None:
-        """Starts a process; signals are blocked meanwhile."""
-        context = multiprocessing.get_context("fork")
-        receiver, sender = context.Pipe(duplex=False)
-        worker = context.Process(target=self.work_and_report, args=(sender,), daemon=True)
-        worker.start()
-        self.workers.append(worker)
-        self.results.append(receiver)
-        sender.close()
+        """Starts a process. Signals are blocked meanwhile, and it ends by SIGTERM alone."""
+        report, sender = os.pipe()
+        process = os.fork()
+        if process:
+            os.close(sender)
+            self.workers.append(Worker(process, report))
+            return
+        status = 1
+        try:
+            for number in SIGNALS:
+                signal.signal(number, signal.SIG_DFL if number == signal.SIGTERM else signal.SIG_IGN)
+            signal.pthread_sigmask(signal.SIG_UNBLOCK, SIGNALS)
+            write_all(sender, self.ended().encode("utf-8", "surrogateescape") + END)
+            status = 0
+        finally:
+            os._exit(status)
 
     def wait(self) -> None:
         """Waits for all processes; the first refusal or failure is raised."""
-        left = list(self.results)
+        reports = {worker.report: b"" for worker in self.workers}
+        left = set(reports)
         while left:
-            for receiver in multiprocessing.connection.wait(left):
-                left.remove(receiver)
-                try:
-                    fault = receiver.recv()
-                except EOFError as ended:
-                    raise Failed("a process that writes files ended early") from ended
-                if fault:
-                    raise fault
+            for report in select.select(left, [], [])[0]:
+                piece = os.read(report, PIECE)
+                reports[report] += piece
+                if not piece:
+                    left.remove(report)
+                    check_report(reports[report])
 
     def end(self) -> None:
         """Stops the processes that are still running."""
-        for worker in self.workers:
-            worker.terminate()
-        for worker in self.workers:
-            worker.join()
+        while self.workers:
+            process, report = self.workers[-1]
+            os.kill(process, signal.SIGTERM)
+            os.waitpid(process, 0)
+            os.close(report)
+            self.workers.pop()
+
+
+def check_report(report: bytes) -> None:
+    """Raises what the report of a process says."""
+    text = report.decode("utf-8", "surrogateescape")
+    if not report.endswith(END):
+        raise Failed("a process that writes files ended early")
+    if text[:-1]:
+        raise (Refused if text[0] == str(REFUSED) else Failed)(text[1:-1])
 
 
 class DirectoryWriter:

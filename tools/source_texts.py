@@ -173,7 +173,9 @@ class DirectoryText:
 class ArchiveText(script("tree-of-tar").Text):
     """The text of an archive; `values` is there if the contents are given by value."""
 
-    def __init__(self, archive: tarfile.TarFile, output: BinaryIO, number: int, table: Table, values: Values | None) -> None:
+    def __init__(
+        self, archive: tarfile.TarFile, output: BinaryIO, number: int, table: Table, values: Values | None
+    ) -> None:
         super().__init__(archive, output, OWNER)
         self.number = number
         self.table = table
