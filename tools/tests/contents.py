@@ -215,11 +215,14 @@ class References(Builds):
 
     def test_tokens_that_no_source_has_are_refused(self):
         none, cut = "a content has a token that is none of a source", "a content ends inside a token"
+        self.make(b"a")
         for text, cause in [("ff00000000", none), ("ff", cut)]:
             self.set_behavior(f'sys.stdout.write("d 0755 0 0 /\\nf 0644 0 0 {text} /a\\n")')
             for result in ["out", "out.tar"]:
-                lines = ["running definition", f"writing {result}", cause, "nothing is written"]
-                self.check_end(self.build("definition", result), 2, *lines)
+                lines = ["reading src from in", "left out: nothing", "running definition", f"writing {result}", cause]
+                self.check_end(self.build("definition", result, "src=in"), 2, *lines, "nothing is written")
+        self.assertEqual(self.build("definition", "out").returncode, 0)
+        self.assertEqual((self.at / "out/a").read_bytes(), b"\xff")
 
     def test_a_source_that_holds_the_result_does_not_have_the_folders_of_the_build(self):
         self.make(b"x", b"x")

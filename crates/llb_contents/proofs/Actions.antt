@@ -31,7 +31,8 @@ use Rattle.llb_fileop.proofs.Passing.{Pair}
 use Rattle.llb_fileop.proofs.Laid.{get-laid_on}
 use Rattle.llb_contents.specs.Alike.{RelatesBody, BothOptions, BothResults, BothLists, AreLike, AreAlike}
 use Rattle.llb_contents.proofs.Alike.{carry_options, after_same, after_both, by_likeness, unread, both_map, both_filter}
-use Rattle.llb_contents.proofs.Trees.{same_keys, ArePairs, both_entries, find_both, walk_same, alike_put_file, alike_put_dir, alike_without, alike_retain, found_same}
+use Rattle.llb_contents.proofs.Trees.{same_keys, ArePairs, both_entries, find_both, walk_same, alike_put_file, alike_put_dir, alike_without, alike_retain}
+use Rattle.llb_contents.proofs.Trees.{found_same}
 use Rattle.llb_contents.proofs.Trees.{is_dir_same}
 
 both_on_tree : {A : Type 0} (P : A → A → Type 0) (x y : Result A TreeFault) → BothResults P x y → BothResults P (on_tree x) (on_tree y)
@@ -76,7 +77,8 @@ module _ (R : List ℕ → List ℕ → Type 0) where
 
   alike_mkfile : (m : file.MkFile) → R m.body m.body → (t u : TreeMap) → AreAlike R t u → BothResults (AreAlike R) (mkfile m t) (mkfile m u)
   alike_mkfile m body t u h =
-      after_same (AreAlike R) (path_of m.path) (path_of m.path) (λ p. put_file t p (made m.mode m.owner) m.body) (λ p. put_file u p (made m.mode m.owner) m.body) refl
+      after_same (AreAlike R) (path_of m.path) (path_of m.path) (λ p. put_file t p (made m.mode m.owner) m.body)
+          (λ p. put_file u p (made m.mode m.owner) m.body) refl
       (λ p. alike_put_file R t u h p (made m.mode m.owner) m.body m.body body)
 
   -- ---- removing
@@ -115,9 +117,11 @@ module _ (R : List ℕ → List ℕ → Type 0) where
           (cond b (on_pattern (pattern_of r.path) >>= λ pattern. on_tree (rm_pattern r.allow_not_found u pattern))
           (on_tree (path_of r.path) >>= λ p. on_tree (rm_path r.allow_not_found u p)))
       by_way true =
-          after_same (AreAlike R) (on_pattern (pattern_of r.path)) (on_pattern (pattern_of r.path)) (λ pattern. on_tree (rm_pattern r.allow_not_found t pattern))
+          after_same (AreAlike R) (on_pattern (pattern_of r.path)) (on_pattern (pattern_of r.path))
+              (λ pattern. on_tree (rm_pattern r.allow_not_found t pattern))
           (λ pattern. on_tree (rm_pattern r.allow_not_found u pattern)) refl (λ pattern.
-          both_on_tree (AreAlike R) (rm_pattern r.allow_not_found t pattern) (rm_pattern r.allow_not_found u pattern) (alike_rm_pattern r.allow_not_found t u h pattern))
+          both_on_tree (AreAlike R) (rm_pattern r.allow_not_found t pattern) (rm_pattern r.allow_not_found u pattern)
+              (alike_rm_pattern r.allow_not_found t u h pattern))
       by_way false =
           after_same (AreAlike R) (on_tree (path_of r.path)) (on_tree (path_of r.path)) (λ p. on_tree (rm_path r.allow_not_found t p))
           (λ p. on_tree (rm_path r.allow_not_found u p)) refl (λ p.
@@ -200,7 +204,8 @@ module _ (R : List ℕ → List ℕ → Type 0) where
       after_same (AreAlike R) (all_land t es) (all_land u fs) (λ _. Ok (laid_on given t es)) (λ _. Ok (laid_on given u fs)) (all_land_same t u h es fs k)
       (λ _. alike_laid_on given t u h es fs k)
 
-  alike_parents_for : (make : Bool) (p : List (List ℕ)) (t u : TreeMap) → AreAlike R t u → BothResults (AreAlike R) (parents_for make p t) (parents_for make p u)
+  alike_parents_for : (make : Bool) (p : List (List ℕ)) (t u : TreeMap) → AreAlike R t u
+      → BothResults (AreAlike R) (parents_for make p t) (parents_for make p u)
   alike_parents_for true p t u h = alike_make_all new_dir_meta (parents p) t u h
   alike_parents_for false p t u h =
       after_same (AreAlike R) (walk (finite.get t) p) (walk (finite.get u) p) (λ _. Ok t) (λ _. Ok u) (walk_same R t u h p) (λ _. h)
@@ -211,7 +216,8 @@ module _ (R : List ℕ → List ℕ → Type 0) where
         after_same (AreAlike R) (fits goal) (fits goal) (λ _. parents_for c.create_dest_path goal t >>= land (copied c.mode c.owner) (at_target v s goal))
         (λ _. parents_for c.create_dest_path goal u >>= land (copied c.mode c.owner) (at_target w s goal)) refl (λ _.
         after_both (AreAlike R) (AreAlike R) (parents_for c.create_dest_path goal t) (parents_for c.create_dest_path goal u)
-        (land (copied c.mode c.owner) (at_target v s goal)) (land (copied c.mode c.owner) (at_target w s goal)) (alike_parents_for c.create_dest_path goal t u h)
+        (land (copied c.mode c.owner) (at_target v s goal)) (land (copied c.mode c.owner) (at_target w s goal))
+        (alike_parents_for c.create_dest_path goal t u h)
         (alike_land (copied c.mode c.owner) (at_target v s goal) (at_target w s goal) (both_at_target v w k s goal)))
 
     alike_copy_one : (dest : List (List ℕ) × Bool) (s : List (List ℕ)) (t u : TreeMap) → AreAlike R t u
@@ -242,7 +248,8 @@ module _ (R : List ℕ → List ℕ → Type 0) where
         both_on_tree (AreAlike R) (copy_chosen c dest t v chosen) (copy_chosen c dest u w chosen) (alike_copy_chosen dest t u h chosen)))
 
   -- an action on alike bases and alike second trees
-  pub alike_act : (a : Option ActionKind) → RelatesBody R a → (t u v w : TreeMap) → AreAlike R t u → AreAlike R v w → BothResults (AreAlike R) (act a t v) (act a u w)
+  pub alike_act : (a : Option ActionKind) → RelatesBody R a → (t u v w : TreeMap) → AreAlike R t u → AreAlike R v w
+      → BothResults (AreAlike R) (act a t v) (act a u w)
   alike_act (Some (kind.MkFile m)) body t u v w h k = both_on_tree (AreAlike R) (mkfile m t) (mkfile m u) (alike_mkfile m body t u h)
   alike_act (Some (kind.MkDir m)) body t u v w h k = both_on_tree (AreAlike R) (mkdir m t) (mkdir m u) (alike_mkdir m t u h)
   alike_act (Some (kind.Copy c)) body t u v w h k = alike_copy c v w k t u h

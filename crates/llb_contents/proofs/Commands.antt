@@ -34,7 +34,8 @@ module _ (R : List ℕ → List ℕ → Type 0) (kept : IsKept R) where
   pub alike_mount_at : (v w : Mounts) → AreAlikeViews R v w → (i : ℕ) → AreAlikeMounts R (mount_at v i) (mount_at w i)
   alike_mount_at v w h i = both_get_or (AreAlikeMounts R) v w i no_mount no_mount_alike h
 
-  pub alike_with_tree_of : (v w : Mounts) → AreAlikeViews R v w → (i : ℕ) (t u : TreeMap) → AreAlike R t u → AreAlikeViews R (with_tree_of v i t) (with_tree_of w i u)
+  pub alike_with_tree_of : (v w : Mounts) → AreAlikeViews R v w → (i : ℕ) (t u : TreeMap) → AreAlike R t u
+      → AreAlikeViews R (with_tree_of v i t) (with_tree_of w i u)
   alike_with_tree_of v w h i t u k =
       let at = alike_mount_at v w h i in
       both_set (AreAlikeMounts R) v w i (record (mount_at v i) { tree = t }) (record (mount_at w i) { tree = u })
@@ -56,7 +57,8 @@ module _ (R : List ℕ → List ℕ → Type 0) (kept : IsKept R) where
     where
       spot_with : List (List ℕ) → ℕ × ℕ → List (List ℕ) → Option Spot
       spot_with path to selector =
-          cond (nat_lt 128 (length (place_in selector to.1 path))) None (Some (record { mount = to.0; base = length selector; place = place_in selector to.1 path }))
+          cond (nat_lt 128 (length (place_in selector to.1 path))) None
+              (Some (record { mount = to.0; base = length selector; place = place_in selector to.1 path }))
 
   spot_by_same : (s : Setting) (v w : Mounts) → AreAlikeViews R v w → (word : List ℕ) → spot_by s v word ≡ spot_by s w word
   spot_by_same s v w h word = by_path (path_by s word)
@@ -118,7 +120,8 @@ module _ (R : List ℕ → List ℕ → Type 0) (kept : IsKept R) where
   alike_with_new_dir : (v w : Mounts) → AreAlikeViews R v w → (spot : Spot) → BothOptions (AreAlikeViews R) (with_new_dir v spot) (with_new_dir w spot)
   alike_with_new_dir v w h spot =
       cond_options (AreAlikeViews R) (is_dest spot || is_some (entry_at v spot)) (is_dest spot || is_some (entry_at w spot)) None None
-      (with_dir v spot new_dir_meta) (with_dir w spot new_dir_meta) (ap (λ t. is_dest spot || t) (there_same v w h spot)) tt (alike_with_dir v w h spot new_dir_meta)
+      (with_dir v spot new_dir_meta) (with_dir w spot new_dir_meta) (ap (λ t. is_dest spot || t) (there_same v w h spot)) tt
+      (alike_with_dir v w h spot new_dir_meta)
 
   alike_dir_at : (t u : TreeMap) → AreAlike R t u → (p : List (List ℕ)) → BothResults (AreAlike R) (dir_at t p) (dir_at u p)
   alike_dir_at t u h p =
@@ -154,7 +157,8 @@ module _ (R : List ℕ → List ℕ → Type 0) (kept : IsKept R) where
       then_same (AreLikeFiles R) (spot_by s v word) (spot_by s w word) (λ spot. file_in (entry_at v spot)) (λ spot. file_in (entry_at w spot))
       (spot_by_same s v w h word) (λ spot. like_file_in (entry_at v spot) (entry_at w spot) (like_entry_at v w h spot))
 
-  alike_written : (v w : Mounts) → AreAlikeViews R v w → (spot : Spot) (a b : List ℕ) → R a b → BothOptions (AreAlikeViews R) (written v spot a) (written w spot b)
+  alike_written : (v w : Mounts) → AreAlikeViews R v w → (spot : Spot) (a b : List ℕ) → R a b
+      → BothOptions (AreAlikeViews R) (written v spot a) (written w spot b)
   alike_written v w h spot a b r =
       alike_with_like_file v w h spot (meta_there (entry_at v spot)) (meta_there (entry_at w spot))
       (unread R meta_there (λ m a b. refl) (entry_at v spot) (entry_at w spot) (like_entry_at v w h spot)) a b r
@@ -204,14 +208,16 @@ module _ (R : List ℕ → List ℕ → Type 0) (kept : IsKept R) where
           let lower = by_name (last_name source) in
           λ i. cond (test i) (lower i) (Some spot)
 
-  alike_copied : (s : Setting) (v w : Mounts) → AreAlikeViews R v w → (from to : List ℕ) → BothOptions (AreAlikeViews R) (copied s v from to) (copied s w from to)
+  alike_copied : (s : Setting) (v w : Mounts) → AreAlikeViews R v w → (from to : List ℕ)
+      → BothOptions (AreAlikeViews R) (copied s v from to) (copied s w from to)
   alike_copied s v w h from to =
       then_same (AreAlikeViews R) (path_by s from) (path_by s from) (whole v) (whole w) refl (λ source.
       then_same (AreAlikeViews R) (spot_of v source) (spot_of w source) (with_spot v source) (with_spot w source) (spot_same v w h source) (λ spot.
       then_both (AreLikeFiles R) (AreAlikeViews R) (file_in (entry_at v spot)) (file_in (entry_at w spot)) (with_file_in v source) (with_file_in w source)
       (like_file_in (entry_at v spot) (entry_at w spot) (like_entry_at v w h spot)) (λ f g k.
       then_same (AreAlikeViews R) (path_by s to) (path_by s to) (with_path v source f) (with_path w source g) refl (λ path.
-      then_same (AreAlikeViews R) (target_of v source path) (target_of w source path) (λ target. with_file v target f.0 f.1) (λ target. with_file w target g.0 g.1)
+      then_same (AreAlikeViews R) (target_of v source path) (target_of w source path) (λ target. with_file v target f.0 f.1)
+          (λ target. with_file w target g.0 g.1)
       (target_same v w h source path) (λ target. alike_with_like_file v w h target f.0 g.0 k.0 f.1 g.1 k.1)))))
     where
       with_path : Mounts → List (List ℕ) → MetaValue × List ℕ → List (List ℕ) → Option Mounts
@@ -262,7 +268,8 @@ module _ (R : List ℕ → List ℕ → Type 0) (kept : IsKept R) where
       list_at x spot = option_and_then (λ names. Some (listed (tree_at x spot) spot.place names)) (result_ok (list (tree_at x spot) spot.place))
 
   -- a command on alike views
-  pub alike_run : (s : Setting) (v w : Mounts) → AreAlikeViews R v w → (c : Command) → RelatesTexts R s c → BothOptions (AreAlikeViews R) (run s v c) (run s w c)
+  pub alike_run : (s : Setting) (v w : Mounts) → AreAlikeViews R v w → (c : Command) → RelatesTexts R s c
+      → BothOptions (AreAlikeViews R) (run s v c) (run s w c)
   alike_run s v w h command.True e = h
   alike_run s v w h command.False e = tt
   alike_run s v w h (command.Mkdir false path) e =
@@ -277,9 +284,11 @@ module _ (R : List ℕ → List ℕ → Type 0) (kept : IsKept R) where
       (spot_by_same s v w h path) (λ spot. alike_appended v w h spot word e)
   alike_run s v w h (command.Cp from to) e = alike_copied s v w h from to
   alike_run s v w h (command.Concat out parts) e =
-      then_both R (AreAlikeViews R) (joined s v parts) (joined s w parts) (writes s v out) (writes s w out) (joined_both s v w h parts) (alike_writes s v w h out)
+      then_both R (AreAlikeViews R) (joined s v parts) (joined s w parts) (writes s v out) (writes s w out) (joined_both s v w h parts)
+          (alike_writes s v w h out)
   alike_run s v w h (command.Chmod mode path) e =
-      then_same (AreAlikeViews R) (spot_by s v path) (spot_by s w path) (λ spot. with_mode v spot mode (entry_at v spot)) (λ spot. with_mode w spot mode (entry_at w spot))
+      then_same (AreAlikeViews R) (spot_by s v path) (spot_by s w path) (λ spot. with_mode v spot mode (entry_at v spot))
+          (λ spot. with_mode w spot mode (entry_at w spot))
       (spot_by_same s v w h path) (λ spot. alike_with_mode v w h spot mode (entry_at v spot) (entry_at w spot) (like_entry_at v w h spot))
   alike_run s v w h (command.Test kind path) e =
       then_same (AreAlikeViews R) (spot_by s v path) (spot_by s w path) (λ spot. cond (is_kind kind (entry_at v spot)) (Some v) None)
@@ -287,7 +296,8 @@ module _ (R : List ℕ → List ℕ → Type 0) (kept : IsKept R) where
       cond_options (AreAlikeViews R) (is_kind kind (entry_at v spot)) (is_kind kind (entry_at w spot)) (Some v) (Some w) None None
       (kind_same kind (entry_at v spot) (entry_at w spot) (like_entry_at v w h spot)) h tt)
   alike_run s v w h (command.Listing path out) e =
-      then_both R (AreAlikeViews R) (listing_by s v path) (listing_by s w path) (writes s v out) (writes s w out) (listing_both s v w h path e) (alike_writes s v w h out)
+      then_both R (AreAlikeViews R) (listing_by s v path) (listing_by s w path) (writes s v out) (writes s w out) (listing_both s v w h path e)
+          (alike_writes s v w h out)
   alike_run s v w h (command.Envfile out) e = alike_writes s v w h out (flat_map line s.env) (flat_map line s.env) e
   alike_run s v w h (command.Sha256 path out) e =
       then_both (AreLikeFiles R) (AreAlikeViews R) (file_by s v path) (file_by s w path) (λ f. writes s v out (line (digits_of f.1)))

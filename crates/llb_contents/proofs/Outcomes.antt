@@ -57,7 +57,8 @@ module _ (R : List ℕ → List ℕ → Type 0) (kept : IsKept R) where
         let name : unwrap_or (local_name v.op) [] ≡ of.name = ap (λ (o : Option (List ℕ)). unwrap_or o []) named in
         alike_or_empty R kept (tree_of_local ls (unwrap_or (local_name v.op) [])) (tree_of_local ms (unwrap_or (local_name v.op) []))
         (carry_options (AreAlike R) (tree_of_local ls (unwrap_or (local_name v.op) [])) (tree_of_local ls of.name)
-        (tree_of_local ms (unwrap_or (local_name v.op) [])) (tree_of_local ms of.name) (ap (tree_of_local ls) name) (ap (tree_of_local ms) name) (sources of.name named))
+        (tree_of_local ms (unwrap_or (local_name v.op) [])) (tree_of_local ms of.name) (ap (tree_of_local ls) name) (ap (tree_of_local ms) name)
+        (sources of.name named))
     alike_workspace (Some (kind.File f)) is of ts us h = (h, tt)
     alike_workspace (Some (kind.Merge m)) is of ts us h = (h, alike_empty R)
     alike_workspace (Some (kind.Exec x)) is of ts us h =
@@ -66,7 +67,8 @@ module _ (R : List ℕ → List ℕ → Type 0) (kept : IsKept R) where
     alike_workspace (Some (kind.Diff d)) is of ts us h = (h, tt)
     alike_workspace None is of ts us h = (h, tt)
 
-    alike_outcome_on : (g : Numbered) → IsVertexOf v v.op.kind → All (RelatesStep R) (program_of v).steps → (o p : Option (List TreeMap)) → BothOptions (BothLists (AreAlike R)) o p
+    alike_outcome_on : (g : Numbered) → IsVertexOf v v.op.kind → All (RelatesStep R) (program_of v).steps → (o p : Option (List TreeMap))
+        → BothOptions (BothLists (AreAlike R)) o p
         → AreAlikeOutcomes R (outcome_on (record { graph = g; locals = ls }) v o) (outcome_on (record { graph = g; locals = ms }) v p)
     alike_outcome_on g of own None None h = tt
     alike_outcome_on g of own (Some ts) (Some us) h =
@@ -142,7 +144,8 @@ module _ (R : List ℕ → List ℕ → Type 0) (kept : IsKept R) where
         let within = got_within g.vertices v x there in
         let leads : All (LeadsBelow g.vertices v) x.inputs =
         subst (λ (z : Vertex). All (LeadsBelow g.vertices v) z.inputs) (get_or_from_slice_get g.vertices v x x there) (graph.down v x within) in
-        let of : IsVertexOf x x.op.kind = subst (λ (z : Vertex). IsVertexOf z z.op.kind) (get_or_from_slice_get g.vertices v x x there) (graph.kind v x within) in
+        let of : IsVertexOf x x.op.kind = subst (λ (z : Vertex). IsVertexOf z z.op.kind) (get_or_from_slice_get g.vertices v x x there)
+            (graph.kind v x within) in
         let each : Each_of (λ (e : Edge). BothOptions (AreAlikeEndings R) (plain first e.vertex) (plain second e.vertex)) x.inputs =
         each_by_place (λ (e : Edge). BothOptions (AreAlikeEndings R) (plain first e.vertex) (plain second e.vertex)) x.inputs (λ i d l.
         let j = (get_or x.inputs i d).vertex in

@@ -117,7 +117,8 @@ module _ (R : List ℕ → List ℕ → Type 0) (kept : IsKept R) where
   alike_ran c ends v w h cs ts us k None (Some y) l = absurd l
 
   -- the same with equal numbers of caches and equal last statuses
-  alike_mounted : (c : ℕ) (s : Setting) (j : Joined) (ends : Bool) → RelatesTexts R s j.command → (v w : List Shown) → AreAlikeViews R v w → (cs : List ℕ) (l : ℕ)
+  alike_mounted : (c : ℕ) (s : Setting) (j : Joined) (ends : Bool) → RelatesTexts R s j.command → (v w : List Shown) → AreAlikeViews R v w
+      → (cs : List ℕ) (l : ℕ)
       → (ts us : List TreeMap) → BothLists (AreAlike R) ts us
       → AreAlikeLefts R (run_on c s j ends (Mounted v cs l) ts) (run_on c s j ends (Mounted w cs l) us)
   alike_mounted c s j ends own v w h cs l ts us k =
@@ -173,7 +174,8 @@ module _ (R : List ℕ → List ℕ → Type 0) (kept : IsKept R) where
   alike_part steps own x y h zero = alike_no_fault x y h
   alike_part steps own x y h (suc k) =
       let before = alike_part steps own x y h k in
-      alike_unless (part steps x k).fault (part steps y k).fault before.fault (part steps x k) (part steps y k) (step_on k (slice_get steps k) (part steps x k).work)
+      alike_unless (part steps x k).fault (part steps y k).fault before.fault (part steps x k) (part steps y k)
+          (step_on k (slice_get steps k) (part steps x k).work)
       (step_on k (slice_get steps k) (part steps y k).work) before
       (alike_step_on k (slice_get steps k) (own k) (part steps x k).work (part steps y k).work before.work)
 
@@ -187,7 +189,8 @@ module _ (R : List ℕ → List ℕ → Type 0) (kept : IsKept R) where
   alike_cond true t u v w h k = h
   alike_cond false t u v w h k = k
 
-  alike_result_for : (i : ℕ) (steps : List MicroStep) (ts us : List TreeMap) → BothLists (AreAlike R) ts us → AreAlike R (result_for i steps ts) (result_for i steps us)
+  alike_result_for : (i : ℕ) (steps : List MicroStep) (ts us : List TreeMap) → BothLists (AreAlike R) ts us
+      → AreAlike R (result_for i steps ts) (result_for i steps us)
   alike_result_for i [] ts us h = alike_empty R
   alike_result_for i (m ∷ steps) [] [] h = alike_empty R
   alike_result_for i (Act a ∷ steps) (t ∷ ts) (u ∷ us) h =

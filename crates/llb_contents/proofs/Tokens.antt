@@ -1,6 +1,7 @@
--- Tokens are spelled part by part; what writes no token is related to itself; and a tree stands for one tree at most.
+-- Tokens are spelled part by part; what writes no token is related to itself; and a tree expands to one tree at most.
 use Rattle.std.specs.List.{All, flat_map, list_any}
-use Rattle.std.proofs.Common.{arith, zero, suc, ◌+◌, ◌*◌, ◌≡◌, ℕ, Bool, true, false, cond, ◌||◌, ◌==◌, List, [], ◌∷◌, ◌++◌, Option, Some, None, refl, sym, ap, ◌∙◌}
+use Rattle.std.proofs.Common.{arith, zero, suc, ◌+◌, ◌*◌, ◌≡◌, ℕ, Bool, true, false, cond, ◌||◌, ◌==◌, List, [], ◌∷◌, ◌++◌, Option, Some, None, refl, sym, ap}
+use Rattle.std.proofs.Common.{◌∙◌}
 use Rattle.std.proofs.Common.{append_assoc}
 use Rattle.std.specs.Prelude.{option_map}
 use Rattle.std.specs.FinMap as finite
@@ -16,7 +17,7 @@ use Rattle.llb_tree.specs.PathOrder.{path_cmp-IsTotalOrder, path_cmp-IsAntisymme
 use Rattle.llb_tree.specs.Meta.{MetaValue}
 use Rattle.llb_tree.specs.Tree.{TreeMap, Entry, Dir, File}
 use Rattle.llb_contents.specs.Alike.{IsKept, BothOptions, AreLike, AreAlike, RelatesTexts, RelatesBody, RelatesStep}
-use Rattle.llb_contents.specs.Laws.{StandsFor, spelled_from, spelled, has_mark, marks, body_marks, step_marks, HandsTokensOn}
+use Rattle.llb_contents.specs.Laws.{ExpandsTo, spelled_from, spelled, has_mark, marks, body_marks, step_marks, HandsTokensOn}
 use Rattle.llb_contents.proofs.Outcomes.{hands_on}
 
 abbrev some_bytes : List ℕ → Option (List ℕ)
@@ -61,7 +62,8 @@ module _ (table : ℕ → List ℕ) where
   spelled_both [] zero n b c d first second = let same : [] ≡ b = cc in between n c ∙ second ∙ ap (λ z. some_bytes (z ++ d)) same
   spelled_both [] (suc left) n b c d first second = absurd cc
   spelled_both (x ∷ a) (suc zero) n b c d first second =
-      behind (λ rest. table (n * 256 + x) ++ rest) (λ p q. append_assoc (table (n * 256 + x)) p q) (spelled_from table a 0 0) (spelled_from table (a ++ c) 0 0) d
+      behind (λ rest. table (n * 256 + x) ++ rest) (λ p q. append_assoc (table (n * 256 + x)) p q) (spelled_from table a 0 0)
+          (spelled_from table (a ++ c) 0 0) d
       (λ y h. spelled_both a 0 0 y c d h second) b first
   spelled_both (x ∷ a) (suc (suc left)) n b c d first second = spelled_both a (suc left) (n * 256 + x) b c d first second
   spelled_both (x ∷ a) zero n b c d first second = by_first (x == 255) refl (spelled_both a)
@@ -76,19 +78,19 @@ module _ (table : ℕ → List ℕ) where
           ∙ behind (λ rest. x ∷ rest) (λ p q. refl) (spelled_from table a 0 0) (spelled_from table (a ++ c) 0 0) d (λ y h. rest 0 0 y c d h second) b
           (sym (literal x n a is) ∙ first)
 
-  pub spelled_kept : IsKept (StandsFor (spelled table))
+  pub spelled_kept : IsKept (ExpandsTo (spelled table))
   spelled_kept = record { empty = refl; appended = λ a b c d first second. spelled_both a 0 0 b c d first second }
 
   -- ---- what writes no token
 
-  -- a content without the byte that begins tokens stands for itself
+  -- a content without the byte that begins tokens expands to itself
   unmarked : (a : List ℕ) → has_mark a ≡ false → spelled table a ≡ Some a
   unmarked [] none = refl
   unmarked (b ∷ a) none =
       literal b 0 a (first_of (b == 255) (has_mark a) none)
       ∙ ap (option_map (λ rest. b ∷ rest)) (unmarked a (second_of (b == 255) (has_mark a) none))
 
-  relates_texts : (s : Setting) (c : Command) → marks s c ≡ false → RelatesTexts (StandsFor (spelled table)) s c
+  relates_texts : (s : Setting) (c : Command) → marks s c ≡ false → RelatesTexts (ExpandsTo (spelled table)) s c
   relates_texts s (command.Write path word) none = unmarked (line word) none
   relates_texts s (command.Append path word) none = unmarked (line word) none
   relates_texts s (command.Envfile out) none = unmarked (flat_map line s.env) none
@@ -103,20 +105,20 @@ module _ (table : ℕ → List ℕ) where
   relates_texts s (command.Chmod mode path) none = tt
   relates_texts s (command.Test kind path) none = tt
 
-  relates_body : (a : Option ActionKind) → body_marks a ≡ false → RelatesBody (StandsFor (spelled table)) a
+  relates_body : (a : Option ActionKind) → body_marks a ≡ false → RelatesBody (ExpandsTo (spelled table)) a
   relates_body (Some (kind.MkFile m)) none = unmarked m.body none
   relates_body (Some (kind.MkDir m)) none = tt
   relates_body (Some (kind.Copy c)) none = tt
   relates_body (Some (kind.Rm r)) none = tt
   relates_body None none = tt
 
-  relates_step : (m : MicroStep) → step_marks m ≡ false → RelatesStep (StandsFor (spelled table)) m
+  relates_step : (m : MicroStep) → step_marks m ≡ false → RelatesStep (ExpandsTo (spelled table)) m
   relates_step ReadLocal none = tt
   relates_step (Act a) none = relates_body a.kind none
   relates_step (LayInput i) none = tt
   relates_step (Run s c ends) none = relates_texts s c.command none
 
-  relates_steps : (steps : List MicroStep) → list_any step_marks steps ≡ false → All (RelatesStep (StandsFor (spelled table))) steps
+  relates_steps : (steps : List MicroStep) → list_any step_marks steps ≡ false → All (RelatesStep (ExpandsTo (spelled table))) steps
   relates_steps [] none k d l = absurd (omega (arith, l))
   relates_steps (m ∷ steps) none zero d l = relates_step m (first_of (step_marks m) (list_any step_marks steps) none)
   relates_steps (m ∷ steps) none (suc k) d l =
@@ -125,13 +127,13 @@ module _ (table : ℕ → List ℕ) where
 -- with tokens for contents in local trees, the outcome is the one with the contents
 pub hands_tokens_on : (g : Numbered) → IsGraph g → HandsTokensOn g
 hands_tokens_on g graph table ls ms v none sources =
-    hands_on (StandsFor (spelled table)) (spelled_kept table) g graph ls ms v
+    hands_on (ExpandsTo (spelled table)) (spelled_kept table) g graph ls ms v
     (λ k x before there. relates_steps table (program_of x).steps (none k x before there)) sources
 
 -- ---- one tree for each
 
 module _ (expand : List ℕ → Option (List ℕ)) where
-  one_of : (o p q : Option Entry) → BothOptions (AreLike (StandsFor expand)) o p → BothOptions (AreLike (StandsFor expand)) o q → p ≡ q
+  one_of : (o p q : Option Entry) → BothOptions (AreLike (ExpandsTo expand)) o p → BothOptions (AreLike (ExpandsTo expand)) o q → p ≡ q
   one_of None None None h k = refl
   one_of (Some (Dir m)) (Some (Dir n)) (Some (Dir l)) h k = ap some_dir (sym h ∙ k)
     where
@@ -151,6 +153,6 @@ module _ (expand : List ℕ → Option (List ℕ)) where
   one_of (Some (Dir m)) (Some (Dir n)) (Some (File l c)) h k = absurd k
   one_of (Some (File m a)) (Some (File n b)) (Some (Dir l)) h k = absurd k
 
-  pub stands_for_one : (t u w : TreeMap) → AreAlike (StandsFor expand) t u → AreAlike (StandsFor expand) t w → u ≡ w
-  stands_for_one t u w h k =
+  pub expands_to_one : (t u w : TreeMap) → AreAlike (ExpandsTo expand) t u → AreAlike (ExpandsTo expand) t w → u ≡ w
+  expands_to_one t u w h k =
       finite.same_map path_cmp-IsTotalOrder path_cmp-IsAntisymmetric u w (λ q. one_of (finite.get t q) (finite.get u q) (finite.get w q) (h q) (k q))

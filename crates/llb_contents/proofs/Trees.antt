@@ -11,7 +11,8 @@ use Rattle.llb_wire.specs.Answer.{◌>>=◌}
 use Rattle.llb_tree.specs.Path.{path_cmp, is_within}
 use Rattle.llb_tree.specs.PathOrder.{path_cmp-IsTotalOrder, path_cmp-IsAntisymmetric}
 use Rattle.llb_tree.specs.Meta.{MetaValue, new_dir_meta}
-use Rattle.llb_tree.specs.Tree.{TreeMap, Entry, Dir, File, Look, parents, all_dirs, walk, file_fits, dir_fits, not_root, put_file, put_dir, found, without, remove}
+use Rattle.llb_tree.specs.Tree.{TreeMap, Entry, Dir, File, Look, parents, all_dirs, walk, file_fits, dir_fits, not_root, put_file, put_dir, found, without}
+use Rattle.llb_tree.specs.Tree.{remove}
 use Rattle.llb_tree.specs.Tree.{list, name_below, is_dir, empty_tree}
 use Rattle.llb_tree.specs.Overlay.{is_file, below_file}
 use Rattle.llb_merge.specs.Laying.{or_else, lay_at, lay}
@@ -66,19 +67,21 @@ module _ (R : List ℕ → List ℕ → Type 0) where
       ∙ ap (option_map mark_of) (finite.get-entries u q) ∙ sym (find_marks q (finite.entries u)) in
       sym (paths_of_marks (finite.entries t))
       ∙ ap (map (λ e. e.0)) (same_entries path_cmp path_cmp-IsTotalOrder path_cmp-IsAntisymmetric (marks (finite.entries t)) (marks (finite.entries u))
-      (subst T (sym (sorted_marks (finite.entries t))) (finite.entries_sorted t)) (subst T (sym (sorted_marks (finite.entries u))) (finite.entries_sorted u)) there)
+      (subst T (sym (sorted_marks (finite.entries t))) (finite.entries_sorted t))
+      (subst T (sym (sorted_marks (finite.entries u))) (finite.entries_sorted u)) there)
       ∙ paths_of_marks (finite.entries u)
 
   -- the entries of a list are those of a tree
-  Stands : TreeMap → List Pair → Type 0
-  Stands t es = (i : ℕ) (k : List (List ℕ)) (e : Entry) → slice_get es i ≡ Some (k, e) → finite.get t k ≡ Some e
+  HasEach : TreeMap → List Pair → Type 0
+  HasEach t es = (i : ℕ) (k : List (List ℕ)) (e : Entry) → slice_get es i ≡ Some (k, e) → finite.get t k ≡ Some e
 
-  stands : (t : TreeMap) → Stands t (finite.entries t)
-  unfolding Stands
-  stands t i k e there = finite.get-entries t k ∙ found_at (finite.entries t) i k e (finite.entries_sorted t) there
+  has_each : (t : TreeMap) → HasEach t (finite.entries t)
+  unfolding HasEach
+  has_each t i k e there = finite.get-entries t k ∙ found_at (finite.entries t) i k e (finite.entries_sorted t) there
 
-  pairs : (t u : TreeMap) → AreAlike R t u → (es fs : List Pair) → Stands t es → Stands u fs → map (λ e. e.0) es ≡ map (λ e. e.0) fs → BothLists (ArePairs R) es fs
-  unfolding Stands
+  pairs : (t u : TreeMap) → AreAlike R t u → (es fs : List Pair) → HasEach t es → HasEach u fs → map (λ e. e.0) es ≡ map (λ e. e.0) fs
+      → BothLists (ArePairs R) es fs
+  unfolding HasEach
   pairs t u h [] [] first second same = tt
   pairs t u h (e ∷ es) (f ∷ fs) first second same =
       let key : e.0 ≡ f.0 = ap (λ ks. get_or ks 0 e.0) same in
@@ -91,14 +94,15 @@ module _ (R : List ℕ → List ℕ → Type 0) where
 
   -- alike trees have like entries, in the same order
   pub both_entries : (t u : TreeMap) → AreAlike R t u → BothLists (ArePairs R) (finite.entries t) (finite.entries u)
-  both_entries t u h = pairs t u h (finite.entries t) (finite.entries u) (stands t) (stands u) (same_keys t u h)
+  both_entries t u h = pairs t u h (finite.entries t) (finite.entries u) (has_each t) (has_each u) (same_keys t u h)
 
   -- what is found among like entries is like
   pub find_both : (es fs : List Pair) → BothLists (ArePairs R) es fs → (q : List (List ℕ))
       → BothOptions (AreLike R) (finite.find path_cmp q es) (finite.find path_cmp q fs)
   find_both [] [] h q = tt
   find_both (e ∷ es) (f ∷ fs) h q =
-      cond_options (AreLike R) (eq_by_cmp path_cmp q e.0) (eq_by_cmp path_cmp q f.0) (Some e.1) (Some f.1) (finite.find path_cmp q es) (finite.find path_cmp q fs)
+      cond_options (AreLike R) (eq_by_cmp path_cmp q e.0) (eq_by_cmp path_cmp q f.0) (Some e.1) (Some f.1) (finite.find path_cmp q es)
+          (finite.find path_cmp q fs)
       (ap (eq_by_cmp path_cmp q) h.0.0) h.0.1 (find_both es fs h.1 q)
   find_both [] (f ∷ fs) h q = absurd h
   find_both (e ∷ es) [] h q = absurd h
@@ -127,7 +131,8 @@ module _ (R : List ℕ → List ℕ → Type 0) where
 
   -- ---- edits
 
-  pub alike_insert : (t u : TreeMap) → AreAlike R t u → (p : List (List ℕ)) (e f : Entry) → AreLike R e f → AreAlike R (finite.insert t p e) (finite.insert u p f)
+  pub alike_insert : (t u : TreeMap) → AreAlike R t u → (p : List (List ℕ)) (e f : Entry) → AreLike R e f
+      → AreAlike R (finite.insert t p e) (finite.insert u p f)
   alike_insert t u h p e f like q =
       carry_options (AreLike R) (finite.get (finite.insert t p e) q) (cond (eq_by_cmp path_cmp q p) (Some e) (finite.get t q))
       (finite.get (finite.insert u p f) q) (cond (eq_by_cmp path_cmp q p) (Some f) (finite.get u q))
@@ -145,7 +150,8 @@ module _ (R : List ℕ → List ℕ → Type 0) where
   pub alike_put_file : (t u : TreeMap) → AreAlike R t u → (p : List (List ℕ)) (m : MetaValue) (a b : List ℕ) → R a b
       → BothResults (AreAlike R) (put_file t p m a) (put_file u p m b)
   alike_put_file t u h p m a b r =
-      after_same (AreAlike R) (not_root p) (not_root p) (λ _. walk (finite.get t) p >>= λ _. file_fits (finite.get t p) >>= λ _. Ok (finite.insert t p (File m a)))
+      after_same (AreAlike R) (not_root p) (not_root p) (λ _. walk (finite.get t) p >>= λ _. file_fits (finite.get t p) >>= λ _. Ok (finite.insert t p
+          (File m a)))
       (λ _. walk (finite.get u) p >>= λ _. file_fits (finite.get u p) >>= λ _. Ok (finite.insert u p (File m b))) refl (λ _.
       after_same (AreAlike R) (walk (finite.get t) p) (walk (finite.get u) p) (λ _. file_fits (finite.get t p) >>= λ _. Ok (finite.insert t p (File m a)))
       (λ _. file_fits (finite.get u p) >>= λ _. Ok (finite.insert u p (File m b))) (walk_same t u h p) (λ _.
@@ -157,7 +163,8 @@ module _ (R : List ℕ → List ℕ → Type 0) where
   alike_put_dir t u h p m =
       after_same (AreAlike R) (walk (finite.get t) p) (walk (finite.get u) p) (λ _. dir_fits (finite.get t p) >>= λ _. Ok (finite.insert t p (Dir m)))
       (λ _. dir_fits (finite.get u p) >>= λ _. Ok (finite.insert u p (Dir m))) (walk_same t u h p) (λ _.
-      after_same (AreAlike R) (dir_fits (finite.get t p)) (dir_fits (finite.get u p)) (λ _. Ok (finite.insert t p (Dir m))) (λ _. Ok (finite.insert u p (Dir m)))
+      after_same (AreAlike R) (dir_fits (finite.get t p)) (dir_fits (finite.get u p)) (λ _. Ok (finite.insert t p (Dir m)))
+          (λ _. Ok (finite.insert u p (Dir m)))
       (unread R dir_fits (λ m a b. refl) (finite.get t p) (finite.get u p) (h p)) (λ _. alike_insert t u h p (Dir m) (Dir m) refl))
 
   pub alike_without : (t u : TreeMap) → AreAlike R t u → (p : List (List ℕ)) → AreAlike R (without t p) (without u p)
@@ -171,7 +178,8 @@ module _ (R : List ℕ → List ℕ → Type 0) where
 
   pub alike_remove : (t u : TreeMap) → AreAlike R t u → (p : List (List ℕ)) → BothResults (AreAlike R) (remove t p) (remove u p)
   alike_remove t u h p =
-      after_same (AreAlike R) (not_root p) (not_root p) (λ _. found (finite.get t p) >>= λ _. Ok (without t p)) (λ _. found (finite.get u p) >>= λ _. Ok (without u p)) refl (λ _.
+      after_same (AreAlike R) (not_root p) (not_root p) (λ _. found (finite.get t p) >>= λ _. Ok (without t p))
+          (λ _. found (finite.get u p) >>= λ _. Ok (without u p)) refl (λ _.
       after_same (AreAlike R) (found (finite.get t p)) (found (finite.get u p)) (λ _. Ok (without t p)) (λ _. Ok (without u p)) (found_same t u h p) (λ _.
       alike_without t u h p))
 
@@ -195,10 +203,13 @@ module _ (R : List ℕ → List ℕ → Type 0) where
   -- alike trees laid over alike trees are alike
   pub alike_lay : (t u v w : TreeMap) → AreAlike R t u → AreAlike R v w → AreAlike R (lay t v) (lay u w)
   alike_lay t u v w h k q =
-      carry_options (AreLike R) (finite.get (lay t v) q) (lay_at (finite.get t) (finite.get v) q) (finite.get (lay u w) q) (lay_at (finite.get u) (finite.get w) q)
+      carry_options (AreLike R) (finite.get (lay t v) q) (lay_at (finite.get t) (finite.get v) q) (finite.get (lay u w) q)
+          (lay_at (finite.get u) (finite.get w) q)
       (get-lay t v q) (get-lay u w q)
-      (or_else_both (finite.get v q) (finite.get w q) (cond (below_file (finite.get v) q) None (finite.get t q)) (cond (below_file (finite.get w) q) None (finite.get u q)) (k q)
-      (cond_options (AreLike R) (below_file (finite.get v) q) (below_file (finite.get w) q) None None (finite.get t q) (finite.get u q) (below_file_same v w k q) tt (h q)))
+      (or_else_both (finite.get v q) (finite.get w q) (cond (below_file (finite.get v) q) None (finite.get t q))
+      (cond (below_file (finite.get w) q) None (finite.get u q)) (k q)
+      (cond_options (AreLike R) (below_file (finite.get v) q) (below_file (finite.get w) q) None None (finite.get t q) (finite.get u q)
+      (below_file_same v w k q) tt (h q)))
 
   none_alike : AreAlike R finite.empty finite.empty
   none_alike q =

@@ -1,5 +1,6 @@
 -- What contents a graph hands on from its local sources to its outcomes.
-use Rattle.std.specs.Prelude.{◌≡◌, ◌⊎◌, ℕ, zero, suc, ◌+◌, ◌*◌, ◌==◌, Bool, true, false, if◌then◌else◌, List, [], ◌∷◌, ◌++◌, Option, Some, None, option_map, slice_get}
+use Rattle.std.specs.Prelude.{◌≡◌, ◌⊎◌, ℕ, zero, suc, ◌+◌, ◌*◌, ◌==◌, Bool, true, false, if◌then◌else◌, List, [], ◌∷◌, ◌++◌, Option, Some, None, option_map}
+use Rattle.std.specs.Prelude.{slice_get}
 use Rattle.std.specs.List.{All, Contains, flat_map, list_any}
 use Rattle.llb_ops.specs.declared.file.ActionKind.{ActionKind}
 use Rattle.llb_ops.specs.declared.file.ActionKind.TheVariants as kind
@@ -70,22 +71,23 @@ HandsOn R g = (ls ms : List Local) (v : ℕ) → RelatesWritten R g v → HaveAl
 abbrev pub HandsRelationsOn : Numbered → Type 0
 HandsRelationsOn g = (test : List ℕ → List ℕ → Bool) → IsKept (By test) → HandsOn (By test) g
 
--- ---- by the contents for which others stand
+-- ---- by what contents expand to
 
--- a content stands for another: what it is expanded to
-abbrev pub StandsFor : (List ℕ → Option (List ℕ)) → List ℕ → List ℕ → Type 0
-StandsFor expand a b = expand a ≡ Some b
+-- the second content is what the first one expands to
+abbrev pub ExpandsTo : (List ℕ → Option (List ℕ)) → List ℕ → List ℕ → Type 0
+ExpandsTo expand a b = expand a ≡ Some b
 
 -- if contents that are expanded by parts are put in local trees, the outcome with the expanded contents is the expanded outcome
 abbrev pub HandsExpansionsOn : Numbered → Type 0
-HandsExpansionsOn g = (expand : List ℕ → Option (List ℕ)) → IsKept (StandsFor expand) → HandsOn (StandsFor expand) g
+HandsExpansionsOn g = (expand : List ℕ → Option (List ℕ)) → IsKept (ExpandsTo expand) → HandsOn (ExpandsTo expand) g
 
--- a tree stands for one tree at most: so the outcome on short contents says which one the long contents have
-abbrev pub StandsForOne : TreeMap → Type 0
-StandsForOne t = (expand : List ℕ → Option (List ℕ)) (u w : TreeMap) → AreAlike (StandsFor expand) t u → AreAlike (StandsFor expand) t w → u ≡ w
+-- a tree expands to one tree at most: so the outcome on short contents determines the one on long contents
+abbrev pub ExpandsToOne : TreeMap → Type 0
+ExpandsToOne t = (expand : List ℕ → Option (List ℕ)) (u w : TreeMap) → AreAlike (ExpandsTo expand) t u → AreAlike (ExpandsTo expand) t w → u ≡ w
 
--- what the rest of a content stands for, where `left` bytes of a token are still to be read and n is its number so far. The byte 255, which UTF-8 does not have,
--- begins a token; the four bytes after it are its number, the most significant first; each other byte stands for itself
+-- what the rest of a content expands to, where `left` bytes of a token are still to be read and n is its number so far. The byte 255, which UTF-8 does not
+-- have,
+-- begins a token; the four bytes after it are its number, the most significant first; each other byte expands to itself
 abbrev pub spelled_from : (ℕ → List ℕ) → List ℕ → ℕ → ℕ → Option (List ℕ)
 spelled_from table [] zero n = Some []
 spelled_from table [] (suc left) n = None
@@ -94,7 +96,7 @@ spelled_from table (b ∷ bytes) zero n =
 spelled_from table (b ∷ bytes) (suc zero) n = option_map (λ rest. table (n * 256 + b) ++ rest) (spelled_from table bytes 0 0)
 spelled_from table (b ∷ bytes) (suc (suc left)) n = spelled_from table bytes (suc left) (n * 256 + b)
 
--- what a content with tokens stands for
+-- what a content with tokens expands to
 abbrev pub spelled : (ℕ → List ℕ) → List ℕ → Option (List ℕ)
 spelled table bytes = spelled_from table bytes 0 0
 
@@ -139,8 +141,8 @@ WritesNoTokens g v = (k : ℕ) (x : Vertex) → Reached (links g.vertices) v k �
 
 -- with tokens for contents in local trees, the outcome is the one with the contents, with tokens for them
 abbrev pub HandsTokensOn : Numbered → Type 0
-HandsTokensOn g = (table : ℕ → List ℕ) (ls ms : List Local) (v : ℕ) → WritesNoTokens g v → HaveAlikeSources (StandsFor (spelled table)) g v ls ms
-    → HasAlikeOutcomes (StandsFor (spelled table)) g ls ms v
+HandsTokensOn g = (table : ℕ → List ℕ) (ls ms : List Local) (v : ℕ) → WritesNoTokens g v → HaveAlikeSources (ExpandsTo (spelled table)) g v ls ms
+    → HasAlikeOutcomes (ExpandsTo (spelled table)) g ls ms v
 
 -- ---- where no digest is made
 

@@ -1,7 +1,7 @@
 //! Laws of contents: where other contents are put into local trees in the place of theirs, the outcomes have those in the same places. There is no code.
 #![tactic(auto)]
 
-ghost use Rattle.llb_contents.specs.Laws.{ActsAlike, LaysAlike, RunsAlike, StandsForOne};
+ghost use Rattle.llb_contents.specs.Laws.{ActsAlike, LaysAlike, RunsAlike, ExpandsToOne};
 ghost use Rattle.llb_contents.specs.Laws.{HandsContentsOn, HandsExpansionsOn, HandsRelationsOn, HandsTokensOn, HandsUndigestedOn};
 ghost use Rattle.llb_contents.specs.Boards.{SettleAlike, SettleExchanged};
 
@@ -40,7 +40,7 @@ pub fn runs_alike(setting: &Setting, view: &View, command: &Command)
 /// A law: where local trees differ in contents alone, so do the plain outcomes of a vertex: it is blocked in both, failed in both with the same
 /// fault, or done in both with as many outputs.
 /// `relations`: the contents are in any relation that is kept by appending, if what the ops write of their own is related to itself, and the
-/// digests of related contents are related. `expansions`: one is what the other stands for. `tokens`: the same for tokens, the byte 255 and a number of
+/// digests of related contents are related. `expansions`: one is what the other expands to. `tokens`: the same for tokens, the byte 255 and a number of
 /// four bytes, if no exec at or before the vertex makes a digest or a listing and no action writes the byte 255.
 /// `undigested`: the relation relates each content to itself, and no exec at or before the vertex makes a digest. `contents`: the same where
 /// pieces of the contents are exchanged for their partners.
@@ -54,9 +54,9 @@ pub fn contents_are_handed_on(graph: &Graph)
     graph.is_graph();
 }
 
-/// A law: by what contents stand for, a tree stands for one tree at most.
-pub fn stands_for_one(tree: &Tree)
-    ensures { StandsForOne tree.now }
+/// A law: by what contents expand to, a tree expands to one tree at most.
+pub fn expands_to_one(tree: &Tree)
+    ensures { ExpandsToOne tree.now }
 {
     let _ = tree;
 }
