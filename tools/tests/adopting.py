@@ -6,10 +6,7 @@ import random
 import subprocess
 import unittest
 
-import adopting
-import adoption_rules
-import findings
-import local_names
+from llbm_tools import adopting, adoption_rules, findings, local_names
 from tests import base, linting
 from tests.base import Folder, number, part, run, run_closed, run_into
 from tests.linting import EXAMPLES, ROOT_MOUNT, action, exec_of, mount

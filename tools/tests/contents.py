@@ -5,9 +5,7 @@ import os
 import pathlib
 import stat
 
-import by_value
-import references
-import result_writing
+from llbm_tools import by_value, references, result_writing
 from tests import base
 from tests.archives import entry, tar
 from tests.base import run

@@ -6,15 +6,10 @@ import random
 import re
 import unittest
 
-import definition
-import faults
-import fuzz_changed
-import fuzz_checks
-import fuzz_made
-import messages
-from fuzz_checks import Broken, Rules, Session, tree_fault
-from limited import Ran
-from messages import Raw, encoded, made
+from llbm_tools import definition, faults, fuzz_changed, fuzz_checks, fuzz_made, messages
+from llbm_tools.fuzz_checks import Broken, Rules, Session, tree_fault
+from llbm_tools.limited import Ran
+from llbm_tools.messages import Raw, encoded, made
 from tests import base
 from tests.base import ROOT, Folder, run, run_closed
 
@@ -67,11 +62,6 @@ class Messages(unittest.TestCase):
         below = encoded(first_op())
         own = encoded(made("Op", inputs=(messages.edge(below),)))
         self.assertEqual(messages.with_new_digests([below], [own]), [own])
-
-    def test_the_table_agrees_with_the_parser(self):
-        for name, fields in definition.MESSAGES.items():
-            for number, field in fields.items() if name != "Definition" else ():
-                self.assertEqual(messages.TABLE[name][number][0], field.name)
 
 
 class RandomInputs(unittest.TestCase):
