@@ -42,6 +42,7 @@ MODULES = [
     "graphs",
     "explaining",
     "building",
+    "contents",
     "repository",
     "floors",
     "buildkit",

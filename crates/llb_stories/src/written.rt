@@ -7,7 +7,7 @@
 
 use super::definitions::ENTRIES;
 use super::execution_definitions::EXECUTIONS;
-use super::local_trees::{EMPTY_AND_SUB, EMPTY_P, OLD_AND_F, SOURCE_TREE};
+use super::local_trees::{EMPTY_AND_SUB, EMPTY_P, OLD_AND_F, SOURCE_TREE, SUB_BY_A_TOKEN};
 use llb_asm::assemble;
 use llb_board::Board;
 use llb_cache::{Caches, Key, Mode, Need, Seed};
@@ -163,6 +163,7 @@ pub(crate) fn locals_named(name: &str) -> &'static str {
         "EMPTY_P" => EMPTY_P,
         "OLD_AND_F" => OLD_AND_F,
         "EMPTY_AND_SUB" => EMPTY_AND_SUB,
+        "SUB_BY_A_TOKEN" => SUB_BY_A_TOKEN,
         "SOURCE_TREE" => SOURCE_TREE,
         _ => "",
     }
