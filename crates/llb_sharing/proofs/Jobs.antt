@@ -62,10 +62,10 @@ count_same : (steps : List MicroStep) (k : ℕ) (left : Left) (n m : ℕ) → Ar
 count_same steps k left zero zero one two = refl
 count_same steps k left zero (suc m) one two =
     let over : is_over steps k left ≡ true = subst (λ j. is_over steps j left ≡ true) (omega arith) one.over in
-    let z : true ≡ false = sym over ∙ two.there.0 in cc
+    absurd (let z : true ≡ false = sym over ∙ two.there.0 in cc)
 count_same steps k left (suc n) zero one two =
     let over : is_over steps k left ≡ true = subst (λ j. is_over steps j left ≡ true) (omega arith) two.over in
-    let z : true ≡ false = sym over ∙ one.there.0 in cc
+    absurd (let z : true ≡ false = sym over ∙ one.there.0 in cc)
 count_same steps k left (suc n) (suc m) one two =
     let next = go_on steps k left in
     ap suc (count_same steps (k + 1) next n m
