@@ -57,6 +57,7 @@ MODULES = [
     "installing",
     "words",
     "running",
+    "impacting",
 ]
 
 
