@@ -35,10 +35,9 @@ LENDERS = {
     "llb_model": None,
     "llb_state": {"llb_board"},
     "llb_ops": {"llb_asm", "llb_loader"},
-    "llb_loader": {"llb_sharing"},
     "llb_execution": {"llb_state", "llb_board"},
     "llb_fileop": {"llb_contents"},
-    "llb_loader": {"llb_contents"},
+    "llb_loader": {"llb_contents", "llb_sharing"},
     "llb_board": {"llb_contents"},
     "llb_stepper": {"llb_session"},
 }

@@ -3,24 +3,22 @@
 import contextlib
 import hashlib
 import os
-import pathlib
 import subprocess
 import sys
 from collections.abc import Iterator
 from typing import BinaryIO
 
 from llbm_tools.archives import is_archive
+from llbm_tools.paths import TOOLS
 from llbm_tools.streams import REFUSED, Failed, Refused, temporary_file
 from llbm_tools.trees import checked
-
-HERE = pathlib.Path(__file__).resolve().parent
 
 
 @contextlib.contextmanager
 def text_by(reader: str, place: str) -> Iterator[BinaryIO]:
     """Yields the text that a tool makes of a directory or an archive."""
     with temporary_file("a text") as stored:
-        command = [sys.executable, str(HERE / reader), "--owner", "0:0", "--", place]
+        command = [sys.executable, str(TOOLS / reader), "--owner", "0:0", "--", place]
         status = subprocess.run(command, stdin=subprocess.DEVNULL, stdout=stored).returncode
         if status:
             raise (Refused if status == REFUSED else Failed)(f"{place}: could not be read as a tree")
