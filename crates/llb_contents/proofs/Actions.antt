@@ -78,7 +78,7 @@ module _ (R : List ℕ → List ℕ → Type 0) where
   alike_mkfile : (m : file.MkFile) → R m.body m.body → (t u : TreeMap) → AreAlike R t u → BothResults (AreAlike R) (mkfile m t) (mkfile m u)
   alike_mkfile m body t u h =
       after_same (AreAlike R) (path_of m.path) (path_of m.path) (λ p. put_file t p (made m.mode m.owner) m.body)
-          (λ p. put_file u p (made m.mode m.owner) m.body) refl
+      (λ p. put_file u p (made m.mode m.owner) m.body) refl
       (λ p. alike_put_file R t u h p (made m.mode m.owner) m.body m.body body)
 
   -- ---- removing
@@ -118,10 +118,10 @@ module _ (R : List ℕ → List ℕ → Type 0) where
           (on_tree (path_of r.path) >>= λ p. on_tree (rm_path r.allow_not_found u p)))
       by_way true =
           after_same (AreAlike R) (on_pattern (pattern_of r.path)) (on_pattern (pattern_of r.path))
-              (λ pattern. on_tree (rm_pattern r.allow_not_found t pattern))
+          (λ pattern. on_tree (rm_pattern r.allow_not_found t pattern))
           (λ pattern. on_tree (rm_pattern r.allow_not_found u pattern)) refl (λ pattern.
           both_on_tree (AreAlike R) (rm_pattern r.allow_not_found t pattern) (rm_pattern r.allow_not_found u pattern)
-              (alike_rm_pattern r.allow_not_found t u h pattern))
+          (alike_rm_pattern r.allow_not_found t u h pattern))
       by_way false =
           after_same (AreAlike R) (on_tree (path_of r.path)) (on_tree (path_of r.path)) (λ p. on_tree (rm_path r.allow_not_found t p))
           (λ p. on_tree (rm_path r.allow_not_found u p)) refl (λ p.

@@ -17,12 +17,12 @@ module _ (b c : BoardValue) (graph : IsGraph b.build.graph) (stands : StandsByOu
       → HasAlikeOutcomes R b.build.graph b.build.locals c.build.locals v → AreAlikeEndings R d e
   ended_alike R v d e settled alike =
       let plain : is_plain c.build v ≡ true = ap (λ (g : Numbered). is_plain (record { graph = g; locals = c.build.locals }) v)
-          (sym settled.graph) ∙ settled.plain in
+      (sym settled.graph) ∙ settled.plain in
       let there : outcome (record { graph = b.build.graph; locals = c.build.locals }) v ≡ Some (Ended e) =
       ap (λ (g : Numbered). outcome (record { graph = g; locals = c.build.locals }) v) settled.graph ∙ also.settled v e plain settled.second in
       let ends : BothOptions (AreAlikeOutcomes R) (Some (Ended d)) (Some (Ended e)) =
       carry_options (AreAlikeOutcomes R) (Some (Ended d)) (outcome b.build v) (Some (Ended e))
-          (outcome (record { graph = b.build.graph; locals = c.build.locals }) v)
+      (outcome (record { graph = b.build.graph; locals = c.build.locals }) v)
       (sym (stands.settled v d settled.plain settled.first)) (sym there) alike in
       ends
 

@@ -58,7 +58,7 @@ module _ (R : List ℕ → List ℕ → Type 0) (kept : IsKept R) where
       spot_with : List (List ℕ) → ℕ × ℕ → List (List ℕ) → Option Spot
       spot_with path to selector =
           cond (nat_lt 128 (length (place_in selector to.1 path))) None
-              (Some (record { mount = to.0; base = length selector; place = place_in selector to.1 path }))
+          (Some (record { mount = to.0; base = length selector; place = place_in selector to.1 path }))
 
   spot_by_same : (s : Setting) (v w : Mounts) → AreAlikeViews R v w → (word : List ℕ) → spot_by s v word ≡ spot_by s w word
   spot_by_same s v w h word = by_path (path_by s word)
@@ -217,7 +217,7 @@ module _ (R : List ℕ → List ℕ → Type 0) (kept : IsKept R) where
       (like_file_in (entry_at v spot) (entry_at w spot) (like_entry_at v w h spot)) (λ f g k.
       then_same (AreAlikeViews R) (path_by s to) (path_by s to) (with_path v source f) (with_path w source g) refl (λ path.
       then_same (AreAlikeViews R) (target_of v source path) (target_of w source path) (λ target. with_file v target f.0 f.1)
-          (λ target. with_file w target g.0 g.1)
+      (λ target. with_file w target g.0 g.1)
       (target_same v w h source path) (λ target. alike_with_like_file v w h target f.0 g.0 k.0 f.1 g.1 k.1)))))
     where
       with_path : Mounts → List (List ℕ) → MetaValue × List ℕ → List (List ℕ) → Option Mounts
@@ -285,10 +285,10 @@ module _ (R : List ℕ → List ℕ → Type 0) (kept : IsKept R) where
   alike_run s v w h (command.Cp from to) e = alike_copied s v w h from to
   alike_run s v w h (command.Concat out parts) e =
       then_both R (AreAlikeViews R) (joined s v parts) (joined s w parts) (writes s v out) (writes s w out) (joined_both s v w h parts)
-          (alike_writes s v w h out)
+      (alike_writes s v w h out)
   alike_run s v w h (command.Chmod mode path) e =
       then_same (AreAlikeViews R) (spot_by s v path) (spot_by s w path) (λ spot. with_mode v spot mode (entry_at v spot))
-          (λ spot. with_mode w spot mode (entry_at w spot))
+      (λ spot. with_mode w spot mode (entry_at w spot))
       (spot_by_same s v w h path) (λ spot. alike_with_mode v w h spot mode (entry_at v spot) (entry_at w spot) (like_entry_at v w h spot))
   alike_run s v w h (command.Test kind path) e =
       then_same (AreAlikeViews R) (spot_by s v path) (spot_by s w path) (λ spot. cond (is_kind kind (entry_at v spot)) (Some v) None)
@@ -297,7 +297,7 @@ module _ (R : List ℕ → List ℕ → Type 0) (kept : IsKept R) where
       (kind_same kind (entry_at v spot) (entry_at w spot) (like_entry_at v w h spot)) h tt)
   alike_run s v w h (command.Listing path out) e =
       then_both R (AreAlikeViews R) (listing_by s v path) (listing_by s w path) (writes s v out) (writes s w out) (listing_both s v w h path e)
-          (alike_writes s v w h out)
+      (alike_writes s v w h out)
   alike_run s v w h (command.Envfile out) e = alike_writes s v w h out (flat_map line s.env) (flat_map line s.env) e
   alike_run s v w h (command.Sha256 path out) e =
       then_both (AreLikeFiles R) (AreAlikeViews R) (file_by s v path) (file_by s w path) (λ f. writes s v out (line (digits_of f.1)))

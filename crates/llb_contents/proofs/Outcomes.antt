@@ -145,7 +145,7 @@ module _ (R : List ℕ → List ℕ → Type 0) (kept : IsKept R) where
         let leads : All (LeadsBelow g.vertices v) x.inputs =
         subst (λ (z : Vertex). All (LeadsBelow g.vertices v) z.inputs) (get_or_from_slice_get g.vertices v x x there) (graph.down v x within) in
         let of : IsVertexOf x x.op.kind = subst (λ (z : Vertex). IsVertexOf z z.op.kind) (get_or_from_slice_get g.vertices v x x there)
-            (graph.kind v x within) in
+        (graph.kind v x within) in
         let each : Each_of (λ (e : Edge). BothOptions (AreAlikeEndings R) (plain first e.vertex) (plain second e.vertex)) x.inputs =
         each_by_place (λ (e : Edge). BothOptions (AreAlikeEndings R) (plain first e.vertex) (plain second e.vertex)) x.inputs (λ i d l.
         let j = (get_or x.inputs i d).vertex in

@@ -175,7 +175,7 @@ module _ (R : List ℕ → List ℕ → Type 0) (kept : IsKept R) where
   alike_part steps own x y h (suc k) =
       let before = alike_part steps own x y h k in
       alike_unless (part steps x k).fault (part steps y k).fault before.fault (part steps x k) (part steps y k)
-          (step_on k (slice_get steps k) (part steps x k).work)
+      (step_on k (slice_get steps k) (part steps x k).work)
       (step_on k (slice_get steps k) (part steps y k).work) before
       (alike_step_on k (slice_get steps k) (own k) (part steps x k).work (part steps y k).work before.work)
 

@@ -63,14 +63,14 @@ module _ (table : ℕ → List ℕ) where
   spelled_both [] (suc left) n b c d first second = absurd cc
   spelled_both (x ∷ a) (suc zero) n b c d first second =
       behind (λ rest. table (n * 256 + x) ++ rest) (λ p q. append_assoc (table (n * 256 + x)) p q) (spelled_from table a 0 0)
-          (spelled_from table (a ++ c) 0 0) d
+      (spelled_from table (a ++ c) 0 0) d
       (λ y h. spelled_both a 0 0 y c d h second) b first
   spelled_both (x ∷ a) (suc (suc left)) n b c d first second = spelled_both a (suc left) (n * 256 + x) b c d first second
   spelled_both (x ∷ a) zero n b c d first second = by_first (x == 255) refl (spelled_both a)
     where
       by_first : (t : Bool) → (x == 255) ≡ t
           → ((left n : ℕ) (b c d : List ℕ) → spelled_from table a left n ≡ Some b → spelled_from table c 0 0 ≡ Some d
-              → spelled_from table (a ++ c) left n ≡ Some (b ++ d))
+          → spelled_from table (a ++ c) left n ≡ Some (b ++ d))
           → spelled_from table (x ∷ (a ++ c)) 0 n ≡ Some (b ++ d)
       by_first true is rest = token x n (a ++ c) is ∙ rest 4 0 b c d (sym (token x n a is) ∙ first) second
       by_first false is rest =

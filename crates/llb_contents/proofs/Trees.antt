@@ -102,7 +102,7 @@ module _ (R : List ℕ → List ℕ → Type 0) where
   find_both [] [] h q = tt
   find_both (e ∷ es) (f ∷ fs) h q =
       cond_options (AreLike R) (eq_by_cmp path_cmp q e.0) (eq_by_cmp path_cmp q f.0) (Some e.1) (Some f.1) (finite.find path_cmp q es)
-          (finite.find path_cmp q fs)
+      (finite.find path_cmp q fs)
       (ap (eq_by_cmp path_cmp q) h.0.0) h.0.1 (find_both es fs h.1 q)
   find_both [] (f ∷ fs) h q = absurd h
   find_both (e ∷ es) [] h q = absurd h
@@ -151,7 +151,7 @@ module _ (R : List ℕ → List ℕ → Type 0) where
       → BothResults (AreAlike R) (put_file t p m a) (put_file u p m b)
   alike_put_file t u h p m a b r =
       after_same (AreAlike R) (not_root p) (not_root p) (λ _. walk (finite.get t) p >>= λ _. file_fits (finite.get t p) >>= λ _. Ok (finite.insert t p
-          (File m a)))
+      (File m a)))
       (λ _. walk (finite.get u) p >>= λ _. file_fits (finite.get u p) >>= λ _. Ok (finite.insert u p (File m b))) refl (λ _.
       after_same (AreAlike R) (walk (finite.get t) p) (walk (finite.get u) p) (λ _. file_fits (finite.get t p) >>= λ _. Ok (finite.insert t p (File m a)))
       (λ _. file_fits (finite.get u p) >>= λ _. Ok (finite.insert u p (File m b))) (walk_same t u h p) (λ _.
@@ -164,7 +164,7 @@ module _ (R : List ℕ → List ℕ → Type 0) where
       after_same (AreAlike R) (walk (finite.get t) p) (walk (finite.get u) p) (λ _. dir_fits (finite.get t p) >>= λ _. Ok (finite.insert t p (Dir m)))
       (λ _. dir_fits (finite.get u p) >>= λ _. Ok (finite.insert u p (Dir m))) (walk_same t u h p) (λ _.
       after_same (AreAlike R) (dir_fits (finite.get t p)) (dir_fits (finite.get u p)) (λ _. Ok (finite.insert t p (Dir m)))
-          (λ _. Ok (finite.insert u p (Dir m)))
+      (λ _. Ok (finite.insert u p (Dir m)))
       (unread R dir_fits (λ m a b. refl) (finite.get t p) (finite.get u p) (h p)) (λ _. alike_insert t u h p (Dir m) (Dir m) refl))
 
   pub alike_without : (t u : TreeMap) → AreAlike R t u → (p : List (List ℕ)) → AreAlike R (without t p) (without u p)
@@ -179,7 +179,7 @@ module _ (R : List ℕ → List ℕ → Type 0) where
   pub alike_remove : (t u : TreeMap) → AreAlike R t u → (p : List (List ℕ)) → BothResults (AreAlike R) (remove t p) (remove u p)
   alike_remove t u h p =
       after_same (AreAlike R) (not_root p) (not_root p) (λ _. found (finite.get t p) >>= λ _. Ok (without t p))
-          (λ _. found (finite.get u p) >>= λ _. Ok (without u p)) refl (λ _.
+      (λ _. found (finite.get u p) >>= λ _. Ok (without u p)) refl (λ _.
       after_same (AreAlike R) (found (finite.get t p)) (found (finite.get u p)) (λ _. Ok (without t p)) (λ _. Ok (without u p)) (found_same t u h p) (λ _.
       alike_without t u h p))
 
@@ -204,7 +204,7 @@ module _ (R : List ℕ → List ℕ → Type 0) where
   pub alike_lay : (t u v w : TreeMap) → AreAlike R t u → AreAlike R v w → AreAlike R (lay t v) (lay u w)
   alike_lay t u v w h k q =
       carry_options (AreLike R) (finite.get (lay t v) q) (lay_at (finite.get t) (finite.get v) q) (finite.get (lay u w) q)
-          (lay_at (finite.get u) (finite.get w) q)
+      (lay_at (finite.get u) (finite.get w) q)
       (get-lay t v q) (get-lay u w q)
       (or_else_both (finite.get v q) (finite.get w q) (cond (below_file (finite.get v) q) None (finite.get t q))
       (cond (below_file (finite.get w) q) None (finite.get u q)) (k q)
