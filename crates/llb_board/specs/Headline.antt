@@ -42,7 +42,7 @@ StandsInClaimOrder b = StandsIn b.state (order b.build (at_first b.build b.openi
 
 -- what stands of every board
 pub record Headline (b : BoardValue) : Type 0 where
-  -- after every interleaving of events the state and the replies are the written table's on the recorded events
+  -- after every interleaving of events the record is a run of the written table from the opening state to this one, with a reply for each event
   pub replays : Replays b
   -- no two executions hold one locked cache at once, nor one instance of a private one
   pub locked_once : LockedOnce b

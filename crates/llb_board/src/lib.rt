@@ -24,3 +24,6 @@ pub use llb_execution::{Gate, Job, Outcome, Program, Stopped, WorkFault, Workspa
 pub use llb_state::{Memory, Status, Undo, WalkFault, WorkerStatus};
 pub use llb_wire::{Bytes, Text};
 pub use walk::{Reply, Walked};
+
+/// What a worker does, by a shorter name.
+pub type At = WorkerStatus;

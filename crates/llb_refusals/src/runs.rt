@@ -142,7 +142,7 @@ fn are_idle(board: &Board) -> bool {
     board.caches().leases() == 0
 }
 
-fn alone_told(rt: &impl Abort, alloc: Global, board: Board) -> String {
+pub(crate) fn alone_told(rt: &impl Abort, alloc: Global, board: Board) -> String {
     end_told(rt, alloc, &alone(board))
 }
 
