@@ -1,13 +1,13 @@
 """Changes a foreign definition, as a client of BuildKit marshals it, into one that llbm accepts.
 
-In: a definition, on standard input or in the file DEFINITION. Sources that are images, git repositories, files from
-HTTP or OCI layouts become local sources; their names are made from their identifiers, and no two sources get the same
-name. --without-secrets drops mounts of secrets and secret environment variables, --without-ssh mounts of SSH agents,
---without-unpack the unpacking of copies, --without-owners users and groups that are given by name. With --run-nothing
-the words of executions become `true`. --rules FILE replaces the words of the executions that a rule names; each line of
-the file is a rule, `digest DIGEST => NEW ..`, `name NAME => NEW ..` or `words OLD .. => NEW ..`, quoted as for a shell,
-and a rule without new words keeps the old ones. --all means all of these options except --rules, which takes precedence
-over --run-nothing.
+In: a definition, on standard input or in the file DEFINITION (`-` is standard input). Sources that are images, git
+repositories, files from HTTP or OCI layouts become local sources; their names are made from their identifiers, and no
+two sources get the same name. --without-secrets drops mounts of secrets and secret environment variables, --without-ssh
+mounts of SSH agents, --without-unpack the unpacking of copies, --without-owners users and groups that are given by
+name. With --run-nothing the words of executions become `true`. --rules FILE replaces the words of the executions that a
+rule names; each line of the file is a rule, `digest DIGEST => NEW ..`, `name NAME => NEW ..` or `words OLD .. => NEW
+..`, quoted as for a shell, and a rule without new words keeps the old ones. --all means all of these options except
+--rules, which takes precedence over --run-nothing.
 
 Out: the definition, on standard output, or in FILE with -o FILE. Digests change, and with them the inputs that name
 them and the keys of the metadata and of the locations in `Source`; all other bytes and the order of the entries stay
@@ -26,6 +26,7 @@ import sys
 from collections.abc import Iterator
 
 from llbm_tools import adopting, adoption_rules, common, findings
+from llbm_tools.streams import Refused, check_inputs, exit_status
 from llbm_tools.wire import Faulty, Unreadable
 
 HINTS = {
@@ -38,17 +39,13 @@ HINTS = {
 }
 
 
-class Refused(Exception):
-    """The definition is refused and nothing is written; the message says why."""
-
-
 def settings_from(options: argparse.Namespace) -> adopting.Settings:
     """Returns the changes that the command line asks for."""
     rules: list[adoption_rules.Rule] = []
     if options.rules is not None:
         try:
             rules = adoption_rules.rules_in(common.data_in(options.rules))
-        except adoption_rules.BadRules as fault:
+        except Refused as fault:
             raise Refused(f"{options.rules}: {fault}") from fault
     dropped = [kind for kind in adopting.DROPPED if options.all or getattr(options, f"without_{kind}")]
     return adopting.Settings(frozenset(dropped), tuple(rules), options.all or options.run_nothing)
@@ -101,12 +98,13 @@ def files_written(texts: dict[str, bytes]) -> Iterator[None]:
 
 def write(options: argparse.Namespace, adopted: adopting.Adopted) -> None:
     """Writes the definition and, if a file is named for it, the list of its sources."""
-    texts = {} if options.output is None else {options.output: adopted.data}
+    to_output = options.output in (None, "-")
+    texts = {} if to_output else {options.output: adopted.data}
     if options.sources is not None:
         lines = "".join(f"{line}\n" for line in lines_of(adopted.sources))
         texts[options.sources] = lines.encode("utf-8", "backslashreplace")
     with files_written(texts):
-        if options.output is None:
+        if to_output:
             common.check_open(sys.stdout, "standard output")
             sys.stdout.buffer.write(adopted.data)
             sys.stdout.flush()
@@ -114,6 +112,8 @@ def write(options: argparse.Namespace, adopted: adopting.Adopted) -> None:
 
 def adopt(options: argparse.Namespace) -> None:
     """Adopts the definition that the command line names, and writes it."""
+    if options.rules is not None:
+        check_inputs(options.definition, options.rules)
     settings = settings_from(options)
     try:
         adopted = adopting.adopt(common.data_in(options.definition), settings)
@@ -123,7 +123,7 @@ def adopt(options: argparse.Namespace) -> None:
         raise Refused(f"not adopted: {fault}") from fault
     left = list(map(left_text, adopted.left))
     if left and not options.leave:
-        raise Refused("\n".join([*left, "nothing is written"]))
+        raise Refused(*left, "nothing is written")
     write(options, adopted)
     for text in [*(f"entry {row}: {text}" for row, text in adopted.changes), *adopted.others, *left]:
         common.say(text)
@@ -155,14 +155,4 @@ def parse_options() -> argparse.Namespace:
 def main() -> int:
     """Runs the tool, and returns its exit status."""
     options = parse_options()
-    try:
-        adopt(options)
-    except Refused as fault:
-        for line in str(fault).split("\n"):
-            common.say(line)
-        return 2
-    except OSError as fault:
-        common.say(common.os_error_text(fault))
-        common.discard_output()
-        return 3
-    return 0
+    return exit_status(lambda: adopt(options))

@@ -17,13 +17,10 @@ from collections.abc import Sequence
 from typing import NamedTuple
 
 from llbm_tools import script_faults
+from llbm_tools.streams import Refused
 
 ARROW = "=>"
 KINDS = ("digest", "name", "words")
-
-
-class BadRules(Exception):
-    """A line is not a rule; the message says which and why."""
 
 
 class Rule(NamedTuple):
@@ -44,19 +41,19 @@ def rule_of(number: int, line: str) -> Rule:
     try:
         words = shlex.split(line)
     except ValueError as fault:
-        raise BadRules(f"line {number}: {str(fault).lower()}") from fault
+        raise Refused(f"line {number}: {str(fault).lower()}") from fault
     kind, *rest = words
     if kind not in KINDS:
-        raise BadRules(f"line {number}: a rule begins with digest, name or words")
+        raise Refused(f"line {number}: a rule begins with digest, name or words")
     if ARROW not in rest:
-        raise BadRules(f"line {number}: there is no {ARROW}")
+        raise Refused(f"line {number}: there is no {ARROW}")
     place = rest.index(ARROW)
     wanted, new = tuple(rest[:place]), tuple(rest[place + 1 :])
     if len(wanted) != 1 and kind != "words":
-        raise BadRules(f"line {number}: exactly one word goes between {kind} and {ARROW}")
+        raise Refused(f"line {number}: exactly one word goes between {kind} and {ARROW}")
     cause = script_faults.fault_of(new) if new else None
     if cause:
-        raise BadRules(f"line {number}: the new words are not a script: fault {cause}")
+        raise Refused(f"line {number}: the new words are not a script: fault {cause}")
     return Rule(number, kind, wanted, new)
 
 
@@ -65,7 +62,7 @@ def rules_in(data: bytes) -> list[Rule]:
     try:
         lines = data.decode("utf-8").split("\n")
     except UnicodeDecodeError as fault:
-        raise BadRules("not UTF-8") from fault
+        raise Refused("not UTF-8") from fault
     stripped = [(number, line.strip(" \t\r")) for number, line in enumerate(lines, 1)]
     return [rule_of(number, line) for number, line in stripped if line and not line.startswith("#")]
 

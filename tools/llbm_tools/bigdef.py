@@ -41,8 +41,9 @@ import argparse
 import sys
 
 from llbm_tools import messages
-from llbm_tools.common import check_open, discard_output, os_error_text, say
+from llbm_tools.common import check_open
 from llbm_tools.messages import edge, encoded, made
+from llbm_tools.streams import exit_status
 
 MOST_INPUTS = 1024
 MOST_ACTIONS = 512
@@ -329,17 +330,16 @@ def parse_options() -> argparse.Namespace:
     return parser.parse_args()
 
 
+def write(options: argparse.Namespace) -> None:
+    """Writes the definition."""
+    check_open(sys.stdout, "standard output")
+    entries = KINDS[options.kind](options.count)
+    terminal = encoded(made("Op", inputs=(edge(entries[-1]),)))
+    sys.stdout.buffer.write(messages.definition_of([*entries, terminal]))
+    sys.stdout.flush()
+
+
 def main() -> int:
     """Runs the tool, and returns its exit status."""
     options = parse_options()
-    try:
-        check_open(sys.stdout, "standard output")
-        entries = KINDS[options.kind](options.count)
-        terminal = encoded(made("Op", inputs=(edge(entries[-1]),)))
-        sys.stdout.buffer.write(messages.definition_of([*entries, terminal]))
-        sys.stdout.flush()
-    except OSError as fault:
-        say(os_error_text(fault))
-        discard_output()
-        return 3
-    return 0
+    return exit_status(lambda: write(options))

@@ -15,7 +15,8 @@ import os
 import sys
 from collections.abc import Callable, Iterator
 
-from llbm_tools.common import check_open, discard_output, is_name, os_error_text, say
+from llbm_tools.common import check_open, is_name
+from llbm_tools.streams import exit_status
 
 MOST_FILES = 100_000_000
 MOST_SIZE = 1 << 30
@@ -79,16 +80,15 @@ def parse_options() -> argparse.Namespace:
     return options
 
 
+def write(options: argparse.Namespace) -> None:
+    """Writes the text."""
+    check_open(sys.stdout, "standard output")
+    places = directories(options.directories, options.prefix)
+    sys.stdout.buffer.write("".join(lines(options.files, places, options.bytes, options.suffix)).encode())
+    sys.stdout.flush()
+
+
 def main() -> int:
     """Runs the tool, and returns its exit status."""
     options = parse_options()
-    try:
-        check_open(sys.stdout, "standard output")
-        places = directories(options.directories, options.prefix)
-        sys.stdout.buffer.write("".join(lines(options.files, places, options.bytes, options.suffix)).encode())
-        sys.stdout.flush()
-    except OSError as fault:
-        say(os_error_text(fault))
-        discard_output()
-        return 3
-    return 0
+    return exit_status(lambda: write(options))

@@ -17,9 +17,9 @@ import pathlib
 import re
 import sys
 
-from llbm_tools.common import discard_output, os_error_text, say
 from llbm_tools.definitions import Definition, Library, contract
 from llbm_tools.paths import ROOT
+from llbm_tools.streams import exit_status
 
 PAGE = ROOT / "docs" / "CLAIMS.md"
 FUNCTION = re.compile(r"\s*(?:pub(?:\(\w+\))? )?(?:const |unsafe )?fn (\w+)")
@@ -142,16 +142,16 @@ def parse_options() -> argparse.Namespace:
     return parser.parse_args()
 
 
+def work(library: Library, options: argparse.Namespace) -> int:
+    """Does what the command line asks for, and returns the exit status."""
+    if not options.statement:
+        return write_or_check(library, options.write)
+    show(library, options.statement)
+    sys.stdout.flush()
+    return 0
+
+
 def main() -> int:
     """Runs the tool, and returns its exit status."""
     options, library = parse_options(), Library()
-    try:
-        if options.statement:
-            show(library, options.statement)
-            sys.stdout.flush()
-            return 0
-        return write_or_check(library, options.write)
-    except OSError as fault:
-        say(os_error_text(fault))
-        discard_output()
-        return 3
+    return exit_status(lambda: work(library, options))

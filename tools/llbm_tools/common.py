@@ -51,11 +51,11 @@ def check_open(stream: object, name: str) -> None:
 
 
 def data_in(file: str | None) -> bytes:
-    """Returns the bytes of a file, or of standard input for None; at most one byte more than the limit."""
-    if file is None:
+    """Returns the bytes of a file, or of standard input for `-` or None; at most one byte more than the limit."""
+    if file in (None, "-"):
         check_open(sys.stdin, "standard input")
         return sys.stdin.buffer.read(MOST_BYTES + 1)
-    with open(file, "rb") as opened:
+    with open(file or "-", "rb") as opened:
         return opened.read(MOST_BYTES + 1)
 
 

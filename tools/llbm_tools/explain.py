@@ -17,6 +17,7 @@ import sys
 from collections.abc import Iterable
 
 from llbm_tools import common, faults
+from llbm_tools.streams import Refused, check_inputs, exit_status
 
 
 def write(text: str) -> None:
@@ -44,12 +45,18 @@ def explain_all(explainer: faults.Explainer, lines: Iterable[bytes]) -> int:
 
 def explain(options: argparse.Namespace) -> int:
     """Explains what the command line asks for, and returns the exit status."""
+    if not options.word and options.definition is not None:
+        check_inputs(None, options.definition)
     explainer = faults.Explainer(faults.read_page(), options.definition)
     common.check_open(sys.stdout, "standard output")
     if not options.word:
         common.check_open(sys.stdin, "standard input")
         return explain_all(explainer, sys.stdin.buffer)
-    for meaning in explainer.lines(" ".join(options.word)):
+    try:
+        meanings = explainer.lines(" ".join(options.word))
+    except faults.NoLine as fault:
+        raise Refused(str(fault)) from fault
+    for meaning in meanings:
         write(meaning)
     sys.stdout.flush()
     return 0
@@ -69,12 +76,4 @@ def parse_options() -> argparse.Namespace:
 def main() -> int:
     """Runs the tool, and returns its exit status."""
     options = parse_options()
-    try:
-        return explain(options)
-    except (faults.NoLine, faults.NoPage) as fault:
-        common.say(str(fault))
-        return 2
-    except OSError as fault:
-        common.say(common.os_error_text(fault))
-        common.discard_output()
-        return 3
+    return exit_status(lambda: explain(options))

@@ -11,6 +11,7 @@ from llbm_tools import definition, names, op_reading
 from llbm_tools.common import data_in, printable
 from llbm_tools.ops import Op
 from llbm_tools.paths import ROOT
+from llbm_tools.streams import Refused
 from llbm_tools.wire import Unreadable
 
 PAGE = ROOT / "docs" / "FAULTS.md"
@@ -28,7 +29,7 @@ MOST_FAULTS = 8
 MOST_ACTIONS = 16
 
 
-class NoPage(Exception):
+class NoPage(Refused):
     """The page is missing, or a table of it is."""
 
 
@@ -349,12 +350,12 @@ class Explainer:
         self.entries: Entries | None = None
         self.cause = ""
         if file is not None:
-            self.read(file)
+            self.take(data_in(file))
 
-    def read(self, file: str) -> None:
-        """Reads the definition in a file; if it is not one, stores why."""
+    def take(self, data: bytes) -> None:
+        """Reads a definition; if it is not one, stores why."""
         try:
-            self.entries = Entries(data_in(file))
+            self.entries = Entries(data)
         except Unreadable as fault:
             self.cause = str(fault)
 

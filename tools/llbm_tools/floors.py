@@ -25,8 +25,9 @@ import re
 import sys
 from collections.abc import Iterator
 
-from llbm_tools.common import check_open, discard_output, os_error_text, say
+from llbm_tools.common import check_open
 from llbm_tools.paths import ROOT
+from llbm_tools.streams import exit_status
 
 
 # The crates whose proofs others may cite, and which others; None for any.
@@ -35,6 +36,9 @@ LENDERS = {
     "llb_state": {"llb_board"},
     "llb_ops": {"llb_asm", "llb_loader"},
     "llb_execution": {"llb_state", "llb_board"},
+    "llb_fileop": {"llb_contents"},
+    "llb_loader": {"llb_contents", "llb_sharing"},
+    "llb_board": {"llb_contents"},
     "llb_stepper": {"llb_session"},
 }
 # The crate of what a head says that it does not know.
@@ -161,17 +165,17 @@ def parse_options() -> argparse.Namespace:
     return parser.parse_args()
 
 
+def check(repository: pathlib.Path) -> int:
+    """Prints what is wrong, and returns the exit status."""
+    check_open(sys.stdout, "standard output")
+    lines = [f"{path.relative_to(repository)}: {wrong}" for path, wrong in findings(repository)]
+    for line in lines:
+        print(line)
+    sys.stdout.flush()
+    return int(bool(lines))
+
+
 def main() -> int:
     """Runs the tool, and returns its exit status."""
     repository = parse_options().repository
-    try:
-        check_open(sys.stdout, "standard output")
-        lines = [f"{path.relative_to(repository)}: {wrong}" for path, wrong in findings(repository)]
-        for line in lines:
-            print(line)
-        sys.stdout.flush()
-    except OSError as fault:
-        say(os_error_text(fault))
-        discard_output()
-        return 3
-    return int(bool(lines))
+    return exit_status(lambda: check(repository))

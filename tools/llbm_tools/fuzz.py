@@ -11,7 +11,8 @@ address sanitizer), on processor time and on file sizes, and may take --patience
 These rules must hold: each run exits with a status of 0 to 3; if the input is refused, nothing is printed except the
 answers of a session; docs/FAULTS.md has each line on standard error, with that status; `dis` and then `asm` return the
 same entries; a text of a tree comes back or is refused at its first faulty line; several workers print the same as one
-if no cache is mounted; a session ends where `run` ends, and the same record always has the same status.
+if no cache is mounted; a session ends where `run` ends, and the same record always has the same status; a run on tokens
+in the place of contents prints the same with the contents put back.
 
 Out: on standard output the seed, a line for each finding, and at the end how many cases ran and how many failed. The
 files of a finding and the commands that repeat it are stored in their own folder in --keep FOLDER, by default a new
@@ -36,8 +37,9 @@ import time
 from collections.abc import Callable, Iterator
 
 from llbm_tools import fuzz_cases, limited
-from llbm_tools.common import check_open, discard_output, os_error_text, printable, program_named, say
+from llbm_tools.common import check_open, printable, program_named, say
 from llbm_tools.paths import ROOT
+from llbm_tools.streams import INTERRUPTED, Refused, exit_status
 
 EXAMPLES = ROOT / "examples"
 
@@ -45,10 +47,6 @@ MOST_STORED = 100
 MOST_JOBS = 64
 PATIENCE = 60
 FOREVER = 1 << 62
-
-
-class Refused(Exception):
-    """Something that the command line names is missing or can't be used."""
 
 
 def work(options: argparse.Namespace, job: int, folder: str, sender: multiprocessing.connection.Connection) -> None:
@@ -177,15 +175,8 @@ def parse_options() -> argparse.Namespace:
 def main() -> int:
     """Runs the tool, and returns its exit status."""
     signal.signal(signal.SIGTERM, signal.default_int_handler)
-    try:
-        return fuzz(parse_options())
-    except Refused as fault:
-        say(str(fault))
-        return 2
-    except OSError as fault:
-        say(os_error_text(fault))
-        discard_output()
-        return 3
-    except KeyboardInterrupt:
+    options = parse_options()
+    status = exit_status(lambda: fuzz(options))
+    if status == INTERRUPTED:
         say("interrupted")
-        return 130
+    return status

@@ -5,7 +5,7 @@ The rules are those of docs/FORMATS.md and docs/FAULTS.md. A broken rule raises 
 
 import re
 
-from llbm_tools import common, definition, faults, messages, wire
+from llbm_tools import common, definition, faults, findings, messages, wire
 from llbm_tools.limited import Ran
 from llbm_tools.wire import Unreadable
 
@@ -144,6 +144,15 @@ class Rules:
                 self.check_line(line.decode("utf-8", "replace"), "0")
             elif not (RECORD.fullmatch(line) or STATUS.fullmatch(line) or OTHER_ANSWER.fullmatch(line)):
                 raise Broken(f"an unexpected answer of a session: {line[:60]!r}")
+
+
+def check_findings(ran: Ran) -> None:
+    """Checks that `lint` finds first what the program refuses a definition for, and nothing in one that it accepts."""
+    is_refused = ran.status == 2 and ran.words == ("show",)
+    is_accepted = ran.status in (0, 1) and ran.words[:1] in (("show",), ("run",))
+    if is_refused or is_accepted:
+        first = [f"fault {finding.words()}\n" for finding in findings.findings_of(ran.given)[:1]]
+        need("".join(first).encode() == (ran.err if is_refused else b""), "lint finds something else first")
 
 
 def caches_in(data: bytes) -> list[bytes] | None:

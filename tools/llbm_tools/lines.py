@@ -18,8 +18,9 @@ import subprocess
 import sys
 from collections.abc import Iterator
 
-from llbm_tools.common import check_open, discard_output, os_error_text, say
+from llbm_tools.common import check_open
 from llbm_tools.paths import ROOT
+from llbm_tools.streams import Refused, exit_status
 
 MOST_COLUMNS = 160
 PASSED_OVER = [
@@ -29,10 +30,6 @@ PASSED_OVER = [
 ]
 
 
-class NoRepository(Exception):
-    """There is no repository, or no git."""
-
-
 def files_in(repository: pathlib.Path) -> Iterator[str]:
     """Yields the paths of the repository's files that are checked."""
     try:
@@ -40,7 +37,7 @@ def files_in(repository: pathlib.Path) -> Iterator[str]:
             ["git", "-C", repository, "ls-files", "-z"], stdout=subprocess.PIPE, check=True
         ).stdout
     except (OSError, subprocess.CalledProcessError) as fault:
-        raise NoRepository(f"the files of {repository} cannot be listed: {fault}") from fault
+        raise Refused(f"the files of {repository} cannot be listed: {fault}") from fault
     for path in map(os.fsdecode, listed.split(b"\0")):
         if path and not any(fnmatch.fnmatchcase(path, pattern) for pattern in PASSED_OVER):
             yield path
@@ -83,12 +80,4 @@ def parse_options() -> argparse.Namespace:
 def main() -> int:
     """Runs the tool, and returns its exit status."""
     repository = parse_options().repository
-    try:
-        return check_files(repository)
-    except NoRepository as fault:
-        say(str(fault))
-        return 2
-    except OSError as fault:
-        say(os_error_text(fault))
-        discard_output()
-        return 3
+    return exit_status(lambda: check_files(repository))

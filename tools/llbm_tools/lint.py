@@ -18,6 +18,7 @@ import argparse
 import sys
 
 from llbm_tools import common, findings, names
+from llbm_tools.streams import exit_status
 from llbm_tools.wire import Unreadable
 
 
@@ -49,16 +50,16 @@ def parse_options() -> argparse.Namespace:
     return parser.parse_args()
 
 
+def lint(options: argparse.Namespace) -> int:
+    """Prints the findings, and returns the exit status."""
+    lines = lines_of(common.data_in(options.definition))
+    common.check_open(sys.stdout, "standard output")
+    sys.stdout.buffer.write("".join(f"{line}\n" for line in lines).encode("utf-8", "backslashreplace"))
+    sys.stdout.flush()
+    return 1 if lines else 0
+
+
 def main() -> int:
     """Runs the tool, and returns its exit status."""
     options = parse_options()
-    try:
-        lines = lines_of(common.data_in(options.definition))
-        common.check_open(sys.stdout, "standard output")
-        sys.stdout.buffer.write("".join(f"{line}\n" for line in lines).encode("utf-8", "backslashreplace"))
-        sys.stdout.flush()
-    except OSError as fault:
-        common.say(common.os_error_text(fault))
-        common.discard_output()
-        return 3
-    return 1 if lines else 0
+    return exit_status(lambda: lint(options))

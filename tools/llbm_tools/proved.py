@@ -19,8 +19,8 @@ import re
 import sys
 import textwrap
 
-from llbm_tools.common import discard_output, os_error_text, say
 from llbm_tools.paths import ROOT
+from llbm_tools.streams import exit_status
 
 PAGE = ROOT / "docs" / "PROVED.md"
 OUTSIDE = {"llb_examples", "llb_stories", "llb_refusals"}
@@ -199,14 +199,14 @@ def write_or_check(options: argparse.Namespace) -> int:
     return 1 if wrong else 0
 
 
+def work(options: argparse.Namespace) -> int:
+    """Writes or checks the lists, and returns the exit status."""
+    status = write_or_check(options)
+    sys.stdout.flush()
+    return status
+
+
 def main() -> int:
     """Runs the tool, and returns its exit status."""
     options = parse_options()
-    try:
-        status = write_or_check(options)
-        sys.stdout.flush()
-        return status
-    except OSError as fault:
-        say(os_error_text(fault))
-        discard_output()
-        return 3
+    return exit_status(lambda: work(options))

@@ -31,8 +31,9 @@ import tempfile
 from collections.abc import Iterator
 from typing import NamedTuple
 
-from llbm_tools.common import check_open, discard_output, os_error_text, printable, program_named, say, shortened
+from llbm_tools.common import check_open, printable, program_named, shortened
 from llbm_tools.paths import ROOT
+from llbm_tools.streams import Refused, exit_status
 
 PROGRAMS = ("crates/llbm/out/llbm", "out/llbm-unproved")
 PATIENCE = 120
@@ -43,10 +44,6 @@ CHANGE = re.compile(r"\(cd ([\w./-]+) && ")
 PRINTS = re.compile(r"(?:which )?prints\b(?: `([^`]+)`)?")
 STATUS = re.compile(r"\bstatus ([0-9]+)\b")
 LEFT_OUT = re.compile(r"(?:^|[\s(;&|])(?:rt|tools/unproved-program|\./gate|\.ci/run)(?![^\s);&|])", re.MULTILINE)
-
-
-class NoCommands(Exception):
-    """A page is missing, or shows no command."""
 
 
 class Part(NamedTuple):
@@ -181,10 +178,10 @@ def shown_on(page: pathlib.Path) -> list[Shown]:
     try:
         text = page.read_text("utf-8")
     except (OSError, UnicodeDecodeError) as fault:
-        raise NoCommands(f"{page}: is not there, or no text") from fault
+        raise Refused(f"{page}: is not there, or no text") from fault
     found = list(shown_by(parts_of(text)))
     if not found:
-        raise NoCommands(f"{page}: shows no command")
+        raise Refused(f"{page}: shows no command")
     return found
 
 
@@ -224,12 +221,5 @@ def parse_options() -> argparse.Namespace:
 
 def main() -> int:
     """Runs the tool, and returns its exit status."""
-    try:
-        return replay(parse_options())
-    except NoCommands as fault:
-        say(str(fault))
-        return 2
-    except OSError as fault:
-        say(os_error_text(fault))
-        discard_output()
-        return 3
+    options = parse_options()
+    return exit_status(lambda: replay(options))

@@ -1,6 +1,7 @@
 """Standard input, standard output and exit statuses for the tools of trees and archives."""
 
 import contextlib
+import errno
 import os
 import shutil
 import sys
@@ -8,19 +9,29 @@ import tempfile
 from collections.abc import Callable, Iterator
 from typing import BinaryIO, cast
 
-from llbm_tools.common import discard_output, say
+from llbm_tools.common import discard_output, os_error_text, say
 
 REFUSED, FAILED, INTERRUPTED = 2, 3, 130
 
 PIECE = 1 << 20
 
 
+WRONGLY_NAMED = (
+    errno.ENOENT, errno.ENOTDIR, errno.EISDIR, errno.EACCES, errno.EPERM, errno.ELOOP, errno.ENAMETOOLONG
+)  # fmt: skip
+
+
 class Refused(Exception):
-    """The input is refused; the message says why."""
+    """What the caller gave is wrong; each argument is a line that says why."""
 
 
 class Failed(Exception):
     """A read or a write failed; the message says which."""
+
+
+def status_of(fault: OSError) -> int:
+    """Returns the exit status for a failed call: a file that was named wrongly is refused, all else is a failure."""
+    return REFUSED if fault.filename is not None and fault.errno in WRONGLY_NAMED else FAILED
 
 
 def exit_status(work: Callable[[], int | None]) -> int:
@@ -28,16 +39,32 @@ def exit_status(work: Callable[[], int | None]) -> int:
     try:
         return work() or 0
     except Refused as fault:
-        say(str(fault))
+        for line in fault.args:
+            say(str(line))
         return REFUSED
     except Failed as fault:
         say(str(fault))
         return FAILED
+    except OSError as fault:
+        say(os_error_text(fault))
+        discard_output()
+        return status_of(fault)
     except MemoryError:
         say("out of memory")
         return FAILED
     except KeyboardInterrupt:
         return INTERRUPTED
+
+
+def is_standard_input(file: str | None) -> bool:
+    """Returns whether a file of the command line is standard input: none is given, or `-`, or /dev/stdin."""
+    return file in (None, "-", "/dev/stdin")
+
+
+def check_inputs(*files: str | None) -> None:
+    """Checks that at most one of these inputs is standard input."""
+    if sum(map(is_standard_input, files)) > 1:
+        raise Refused("only one input can come from standard input")
 
 
 def standard_input() -> BinaryIO:
@@ -111,4 +138,5 @@ def write_new_file(stored: BinaryIO, place: str) -> None:
     try:
         write_and_rename(stored, place)
     except OSError as fault:
-        raise Failed(f"{place}: {fault.strerror}") from fault
+        kind = Refused if fault.errno in WRONGLY_NAMED else Failed
+        raise kind(f"{place}: {fault.strerror}") from fault

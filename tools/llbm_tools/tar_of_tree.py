@@ -50,7 +50,7 @@ def write_checked(options: argparse.Namespace) -> None:
         check_into(text, input_lines())
         text.seek(0)
         write(text, archive, options.mtime)
-        if options.archive is None:
+        if options.archive in (None, "-"):
             write_output(archive, "the archive")
         else:
             write_new_file(archive, options.archive)

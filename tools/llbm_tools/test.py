@@ -42,6 +42,7 @@ MODULES = [
     "graphs",
     "explaining",
     "building",
+    "contents",
     "repository",
     "floors",
     "buildkit",
@@ -55,6 +56,8 @@ MODULES = [
     "compiling",
     "installing",
     "words",
+    "running",
+    "impacting",
 ]
 
 
@@ -66,12 +69,12 @@ class Timed(unittest.TextTestResult):
         self.seconds: list[tuple[float, str]] = []
         self.start = 0.0
 
-    def startTest(self, test: unittest.TestCase) -> None:  # noqa: N802
+    def startTest(self, test: unittest.TestCase) -> None:
         """Starts the clock of a test."""
         super().startTest(test)
         self.start = time.monotonic()
 
-    def stopTest(self, test: unittest.TestCase) -> None:  # noqa: N802
+    def stopTest(self, test: unittest.TestCase) -> None:
         """Stops the clock of a test."""
         super().stopTest(test)
         self.seconds.append((time.monotonic() - self.start, test.id()))

@@ -17,8 +17,9 @@ import subprocess
 import sys
 from typing import NamedTuple
 
-from llbm_tools.common import NOT_PROVED, check_open, discard_output, os_error_text, printable, say, shortened
+from llbm_tools.common import NOT_PROVED, check_open, printable, say, shortened
 from llbm_tools.paths import ROOT
+from llbm_tools.streams import exit_status
 
 EXAMPLES = ROOT / "examples"
 VERSION = "1.0, proved with rattle-kit-13f logic dac8208d650f15bf"
@@ -298,16 +299,9 @@ def main() -> int:
     parser.add_argument("--unproved", action="store_true", help="the version has to say that it is not proved")
     options = parser.parse_args()
     word, is_unproved = options.program, options.unproved
-    if not shutil.which(word):
+    found = shutil.which(word)
+    if not found:
         say(f"{word}: there is no such program")
         return 2
-    program = str(pathlib.Path(shutil.which(word)).absolute())
-    try:
-        return try_all()
-    except FileNotFoundError as fault:
-        say(os_error_text(fault))
-        return 2
-    except OSError as fault:
-        say(os_error_text(fault))
-        discard_output()
-        return 3
+    program = str(pathlib.Path(found).absolute())
+    return exit_status(try_all)

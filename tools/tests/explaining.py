@@ -295,7 +295,7 @@ class ExplainWithDefinition(Folder):
         wanted = ["the definition: row 1 is not an op: the bytes end inside a record"]
         self.assertEqual(self.explained("failed 0 action 0 fault 21", given), wanted)
         done = run("explain", "--definition", self.place(b"none"), "fault", "1")
-        self.check_run(done, 3, b"", self.place(b"none") + b": No such file or directory\n")
+        self.check_run(done, 2, b"", self.place(b"none") + b": No such file or directory\n")
 
     def test_at_most_sixteen_actions_are_shown(self):
         files = base.file_op(*(base.rm(f"/{place}") for place in range(18)))

@@ -126,6 +126,21 @@ class RunRules(unittest.TestCase):
             with self.assertRaisesRegex(Broken, cause):
                 rules.check(Ran(("run",), b"", status, out, err))
 
+    def test_the_findings_of_lint_are_the_faults_of_the_program(self):
+        known = base.ending(base.source("local://a"))
+        unknown = base.ending(base.merge(base.source("local://a")))
+        for words, given, status, err in [
+            (("show",), unknown, 2, b"fault 86 0 0\n"), (("show",), known, 0, b""), (("run",), known, 1, b"failed 0"),
+            (("run",), known, 2, b"fault 121 a\n"), (("show",), known, 3, b"fault 182\n"),
+        ]:
+            fuzz_checks.check_findings(Ran(words, given, status, b"", err))
+        for words, given, status, err in [
+            (("show",), unknown, 2, b"fault 86 0 1\n"), (("show",), known, 2, b"fault 84 0\n"),
+            (("show",), unknown, 0, b""), (("run",), unknown, 0, b""),
+        ]:
+            with self.assertRaisesRegex(Broken, "lint"):
+                fuzz_checks.check_findings(Ran(words, given, status, b"", err))
+
     def test_a_consistent_session_passes(self):
         text = b"0 ready\n1 claim 0 0 -> file 1\n0 running 0\nback 0\n0 ready\nfault 172\n0 ready\n"
         session = Session(1, text)

@@ -347,7 +347,7 @@ class Lint(Folder):
     def test_command_lines_and_closed_streams_are_refused(self):
         self.assertEqual(run("lint", "a", "b").returncode, 2)
         self.assertEqual(run("lint", "--none").returncode, 2)
-        self.check_run(run("lint", self.place(b"none")), 3, b"", self.place(b"none") + b": No such file or directory\n")
+        self.check_run(run("lint", self.place(b"none")), 2, b"", self.place(b"none") + b": No such file or directory\n")
         self.check_run(run_closed(0, "lint"), 3, b"", b"a read or a write failed: standard input is closed\n")
         with open("/dev/full", "wb") as output:
             done = run_into(output, "lint", self.file(b"definition", b"\x0a"))

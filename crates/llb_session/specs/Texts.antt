@@ -1,5 +1,5 @@
 -- What a session prints: how vertices look, lines of the record, trees, what workers work on, caches, and refusals.
-use Rattle.std.specs.Prelude.{ℕ, zero, suc, ◌+◌, List, [], ◌++◌, codes, length, Option, Some, None, option_map, slice_get}
+use Rattle.std.specs.Prelude.{ℕ, zero, suc, ◌+◌, ◌==◌, if◌then◌else◌, List, [], ◌++◌, codes, length, Option, Some, None, option_map, slice_get}
 use Rattle.std.specs.Map.{keys_of}
 use Rattle.std.specs.Fmt.{decimal}
 use Rattle.llb_tree.specs.Tree.{TreeMap}
@@ -85,10 +85,14 @@ unfoldable pub role_lines : List Role → ℕ → List ℕ
 role_lines roles zero = []
 role_lines roles (suc i) = role_lines roles i ++ role_line_of i (slice_get roles i)
 
--- a line for each tree of what a worker runs, or that it runs nothing
+-- a line for each of these trees, or that there is none
+abbrev pub part_lines : List Role → List ℕ
+part_lines roles = if length roles == 0 then codes "none\n" else role_lines roles (length roles)
+
+-- a line for each tree of what a worker runs, or that there is none
 abbrev pub work_lines : Option Workspace → List ℕ
 work_lines None = codes "none\n"
-work_lines (Some own) = role_lines (roles_of own) (length (roles_of own))
+work_lines (Some own) = part_lines (roles_of own)
 
 -- the word of a mode
 abbrev pub mode_word : Mode → List ℕ
