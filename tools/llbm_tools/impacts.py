@@ -55,10 +55,10 @@ class Impact(NamedTuple):
 def vertex_of(entry: bytes, inputs: list[tuple[int, int]]) -> Vertex:
     """Returns the vertex of an entry."""
     op = op_reading.read_op(entry)
-    source = op["source"]["identifier"].removeprefix(op_rules.LOCAL) if op["kind"] == "source" else None
+    source = op.source.identifier.removeprefix(op_rules.LOCAL) if op.source else None
     below = [number for number, _ in inputs]
     has_cache = op_rules.has_mount(op, op_rules.CACHE)
-    return Vertex(entry, definition.digest_of(entry), op["kind"], below, source, has_cache)
+    return Vertex(entry, definition.digest_of(entry), op.kind, below, source, has_cache)
 
 
 def vertices_of(data: bytes, place: str) -> list[Vertex]:
