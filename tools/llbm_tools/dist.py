@@ -38,13 +38,12 @@ def member_of(name: str, item: Item) -> tarfile.TarInfo:
 
 def packed(name: str, items: list[Item]) -> bytes:
     """Returns the archive of some items."""
-    out = io.BytesIO()
-    with (
-        gzip.GzipFile(filename="", mode="wb", compresslevel=9, fileobj=out, mtime=0) as zipped,
-        tarfile.open(fileobj=zipped, mode="w", format=tarfile.PAX_FORMAT) as archive,
-    ):
+    plain, out = io.BytesIO(), io.BytesIO()
+    with tarfile.open(fileobj=plain, mode="w", format=tarfile.PAX_FORMAT) as archive:
         for item in items:
             archive.addfile(member_of(name, item), io.BytesIO(item.content))
+    with gzip.GzipFile(filename="", mode="wb", compresslevel=9, fileobj=out, mtime=0) as zipped:
+        zipped.write(plain.getvalue())
     return out.getvalue()
 
 

@@ -18,7 +18,7 @@ from llbm_tools import command_words, common, paths
 # The tools that test or prove the repository, or install it, and their tests.
 OF_THE_REPOSITORY = {
     "claims", "dist", "floors", "fuzz", "install", "lines", "measure", "more-edits", "proved", "refuse", "replay",
-    "test", "tests", "tries", "unproved-program",
+    "style", "test", "tests", "tries", "unproved-program",
 }
 LIBRARY = "lib/llbm"
 PAGES = ("README.md", "CHANGELOG.md")
