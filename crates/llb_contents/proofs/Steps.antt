@@ -11,8 +11,8 @@ use Rattle.llb_mount.specs.View.{with_tree_of}
 use Rattle.llb_applet.specs.declared.setting.Setting.{Setting}
 use Rattle.llb_applet.specs.declared.join.Joined.{Joined}
 use Rattle.llb_applet.specs.Commands.{run}
-use Rattle.llb_model.specs.declared.fault.VertexFault.{VertexFault}
-use Rattle.llb_model.specs.declared.fault.VertexFault.TheVariants as fault
+use Rattle.llb_events.specs.declared.fault.VertexFault.{VertexFault}
+use Rattle.llb_events.specs.declared.fault.VertexFault.TheVariants as fault
 use Rattle.llb_model.specs.Program.{MicroStep, ReadLocal, Act, LayInput, Run, Workspace, LocalTree, Files, Layers, Mounted, Work, Left, Program}
 use Rattle.llb_model.specs.Program.{base_in, fault_number, trees_in, with_tree, with_result, act_among, lay_on, filled, taken, parted, is_run}
 use Rattle.llb_model.specs.Program.{no_fault, ran, run_on, tried, micro_step, step_on, unless_faulted, part, whole, is_output}
