@@ -162,14 +162,15 @@ class Table:
 
     def add_copy(self, pieces: Iterator[bytes]) -> int:
         """Stores a content in a temporary file, and returns its number."""
-        if not self.copies:
-            self.copies = tempfile.TemporaryFile()
-            self.number_of_copies = self.add_archive(self.copies.fileno(), "a temporary file", None)
-        start = self.copies.tell()
+        copies = self.copies
+        if copies is None:
+            copies = self.copies = tempfile.TemporaryFile()
+            self.number_of_copies = self.add_archive(copies.fileno(), "a temporary file", None)
+        start = copies.tell()
         for piece in pieces:
-            self.copies.write(piece)
-        self.copies.flush()
-        return self.add_part(self.number_of_copies, start, self.copies.tell() - start)
+            copies.write(piece)
+        copies.flush()
+        return self.add_part(self.number_of_copies, start, copies.tell() - start)
 
     def close(self) -> None:
         """Closes the directories of the sources."""
