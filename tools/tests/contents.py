@@ -297,7 +297,8 @@ class BothWays(base.Folder):
     """Builds of the program by reference and by value leave the same."""
 
     llbm, output = program.WithProgram.llbm, program.WithProgram.output
-    definitions, build, text_of = program.WithProgram.definitions, program.WithProgram.build, program.WithProgram.text_of
+    definitions, build = program.WithProgram.definitions, program.WithProgram.build
+    text_of = program.WithProgram.text_of
 
     def setUp(self):
         if base.llbm is None:
