@@ -47,6 +47,7 @@ from llbm_tools.archives import is_archive
 from llbm_tools.common import MOST_BYTES, os_error_text, program_named, say, shortened
 from llbm_tools.given_sources import Given, Source, too_long
 from llbm_tools.paths import TOOLS
+from llbm_tools.references import Table
 from llbm_tools.result_writing import DirectoryWriter, write_archive
 from llbm_tools.streams import Failed, Refused
 
@@ -320,7 +321,7 @@ class Build:
         say(f"writing {self.result}")
         place = os.path.join(self.directory, "result.tar") if self.is_archive else self.directory
         if self.given:
-            self.write_contents(result, place)
+            self.write_contents(result, place, self.given.table)
         else:
             with open(result, "rb") as text:
                 tool = "tar-of-tree" if self.is_archive else "directory-of-tree"
@@ -335,14 +336,14 @@ class Build:
                 self.directory = ""
             ignore_signals()
 
-    def write_contents(self, result: str, place: str) -> None:
+    def write_contents(self, result: str, place: str, table: Table) -> None:
         """Writes the result from its text and the contents of the sources."""
         if self.is_archive:
-            write_archive(result, place, self.given.table)
+            write_archive(result, place, table)
         else:
-            self.writer = DirectoryWriter(result, place, self.given.table)
+            self.writer = DirectoryWriter(result, place, table)
             self.writer.write()
-        self.given.table.check_archives()
+        table.check_archives()
 
     def whole(self) -> int:
         """Does the whole build, and returns the exit status."""

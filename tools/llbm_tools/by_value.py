@@ -92,7 +92,7 @@ def plan_of(data: bytes) -> Plan | None:
         first = min(causes)
         cached = (number for number, vertex in enumerate(vertices) if mounts_cache(vertex.op))
         causes = {**{number: f"{causes[first]}, and vertex {number} mounts a cache" for number in cached}, **causes}
-    sources = {}
+    sources: dict[str, str] = {}
     for number, cause in sorted(causes_before(vertices, causes).items()):
         op = vertices[number].op
         if op.source and op.source.identifier.startswith(op_rules.LOCAL):

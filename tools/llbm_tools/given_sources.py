@@ -63,4 +63,3 @@ class Given:
                 read_archive(place, output, self.table, values, self.kept)
             elif not read_directory(place, output, self.table, values, self.hidden):
                 self.is_whole = False
-

@@ -10,7 +10,7 @@ import errno
 import os
 import tempfile
 from collections.abc import Iterator
-from typing import BinaryIO, NamedTuple
+from typing import IO, NamedTuple
 
 from llbm_tools.streams import Failed, Refused
 
@@ -113,7 +113,7 @@ class Table:
         self.roots: list[tuple[int, str]] = []
         self.directories: list[tuple[int, bytes]] = []
         self.archives: list[Archive] = []
-        self.copies: BinaryIO | None = None
+        self.copies: IO[bytes] | None = None
         self.number_of_copies = 0
         self.names: list[bytes] = []
         self.holders = array.array("q")
@@ -162,14 +162,15 @@ class Table:
 
     def add_copy(self, pieces: Iterator[bytes]) -> int:
         """Stores a content in a temporary file, and returns its number."""
-        if not self.copies:
-            self.copies = tempfile.TemporaryFile()
-            self.number_of_copies = self.add_archive(self.copies.fileno(), "a temporary file", None)
-        start = self.copies.tell()
+        copies = self.copies or tempfile.TemporaryFile()
+        if self.copies is None:
+            self.copies = copies
+            self.number_of_copies = self.add_archive(copies.fileno(), "a temporary file", None)
+        start = copies.tell()
         for piece in pieces:
-            self.copies.write(piece)
-        self.copies.flush()
-        return self.add_part(self.number_of_copies, start, self.copies.tell() - start)
+            copies.write(piece)
+        copies.flush()
+        return self.add_part(self.number_of_copies, start, copies.tell() - start)
 
     def close(self) -> None:
         """Closes the directories of the sources."""

@@ -1,6 +1,7 @@
 """Writes a result whose contents are tokens: as a directory, whose files several processes write, or as an archive."""
 
 import binascii
+import mmap
 import multiprocessing
 import os
 import select
@@ -80,7 +81,7 @@ class Files:
         parent, name = line.path.rsplit(b"/", 1)
         descriptor = os.open(name, NEW_FILE, 0o600, dir_fd=self.below.open(parent))
         try:
-            self.copier.copy(binascii.unhexlify(line.content), descriptor)
+            self.copier.copy(binascii.unhexlify(line.content or b""), descriptor)
             finish(descriptor, entry_at(line))
         finally:
             os.close(descriptor)
@@ -106,15 +107,16 @@ class Crew:
         self.root = root
         self.table = table
         self.parts = parts
-        self.next = multiprocessing.Value("q", 0)
+        self.next = mmap.mmap(-1, mmap.PAGESIZE)
+        self.lock = multiprocessing.Lock()
         self.workers: list[Worker] = []
 
     def taken(self) -> Iterator[Part]:
         """Yields the parts that this process takes."""
         while True:
-            with self.next.get_lock():
-                number = self.next.value
-                self.next.value += 1
+            with self.lock:
+                number = int.from_bytes(self.next[:8], "little")
+                self.next[:8] = (number + 1).to_bytes(8, "little")
             if number >= len(self.parts):
                 return
             yield self.parts[number]

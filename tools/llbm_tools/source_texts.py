@@ -107,7 +107,7 @@ class DirectoryText:
         finally:
             os.close(descriptor)
 
-    def entry(self, parent: int, number: int, above: bytes, name: bytes, entry: os.DirEntry, depth: int) -> None:
+    def entry(self, parent: int, number: int, above: bytes, name: bytes, entry: os.DirEntry[str], depth: int) -> None:
         """Writes the lines of an entry of an open directory, or says why there are none."""
         path = b"%b/%b" % (above, name)
         try:
@@ -154,9 +154,8 @@ class DirectoryText:
             piece = content.read(PIECE)
             if piece and not self.values:
                 raise OSError(None, "it has a content, but its size is 0; give it with --by-value")
-            self.write(b"f %04o 0 0 " % stat.S_IMODE(found.st_mode))
-            self.write(b"" if piece else b"-")
-            while piece:
+            self.write(b"f %04o 0 0 %b" % (stat.S_IMODE(found.st_mode), b"" if piece else b"-"))
+            while piece and self.values:
                 self.values.add(piece, os.fsdecode(path))
                 piece = self.next_piece(content, path)
             self.write(b" %b\n" % path)

@@ -6,11 +6,10 @@ import pathlib
 import stat
 
 from llbm_tools import by_value, references, result_writing
-from tests import base
+from tests import base, program
 from tests.archives import entry, tar
 from tests.base import run
 from tests.building import Builds
-from tests.program import WithProgram
 
 PRINTS_SOURCE = """
 sys.stdout.write(open(given[0][2]).read())
@@ -297,8 +296,9 @@ class Forced(Builds):
 class BothWays(base.Folder):
     """Builds of the program by reference and by value leave the same."""
 
-    llbm, output, definitions = WithProgram.llbm, WithProgram.output, WithProgram.definitions
-    build, text_of = WithProgram.build, WithProgram.text_of
+    llbm, output = program.WithProgram.llbm, program.WithProgram.output
+    definitions, build = program.WithProgram.definitions, program.WithProgram.build
+    text_of = program.WithProgram.text_of
 
     def setUp(self):
         if base.llbm is None:

@@ -1,6 +1,6 @@
 use Rattle.llb_board.proofs.Sound.{plain}
 use Rattle.llb_contents.proofs.Boards.{settle_alike, settle_exchanged}
-use Rattle.llb_contents.proofs.boards_settle_alike.Goals as goal
+use Rattle.llb_contents.proofs.laws.boards_settle_alike.Goals as goal
 
 pub returns : goal.returns
 returns c =

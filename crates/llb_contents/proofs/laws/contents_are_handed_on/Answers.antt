@@ -2,7 +2,7 @@ use Rattle.llb_contents.specs.Laws.{By, ExpandsTo}
 use Rattle.llb_contents.proofs.Exchanges.{hands_on_undigested, hands_contents_on}
 use Rattle.llb_contents.proofs.Outcomes.{hands_on}
 use Rattle.llb_contents.proofs.Tokens.{hands_tokens_on}
-use Rattle.llb_contents.proofs.contents_are_handed_on.Goals as goal
+use Rattle.llb_contents.proofs.laws.contents_are_handed_on.Goals as goal
 
 pub returns : goal.returns
 returns c =
