@@ -14,7 +14,6 @@ Exit status: 0 they are written; 2 the command line is refused, or there is no p
 import argparse
 import gzip
 import io
-import os
 import pathlib
 import sys
 import tarfile

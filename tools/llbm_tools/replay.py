@@ -21,6 +21,7 @@ no command; 3 a read or a write failed.
 """
 
 import argparse
+import contextlib
 import os
 import pathlib
 import re
@@ -31,9 +32,9 @@ import tempfile
 from collections.abc import Iterator
 from typing import NamedTuple
 
-from llbm_tools.common import check_open, printable, program_named, say, shortened
+from llbm_tools.common import check_open, printable, shortened
 from llbm_tools.paths import ROOT
-from llbm_tools.streams import Refused, exit_status
+from llbm_tools.streams import Refused, exit_status, program_at
 
 PROGRAMS = ("crates/llbm/out/llbm", "out/llbm-unproved")
 PATIENCE = 120
@@ -185,16 +186,26 @@ def shown_on(page: pathlib.Path) -> list[Shown]:
     return found
 
 
+def names_to_link() -> list[str]:
+    """Returns the names at the top of the repository that git has files of; without git all names."""
+    listed = None
+    with contextlib.suppress(OSError):
+        listed = subprocess.run(["git", "-C", ROOT, "ls-files", "-z"], stdin=subprocess.DEVNULL, capture_output=True)
+    if listed is None or listed.returncode:
+        return sorted(os.listdir(ROOT))
+    return sorted({os.fsdecode(path).partition("/")[0] for path in listed.stdout.split(b"\0") if path})
+
+
 def replay(options: argparse.Namespace) -> int:
     """Replays all pages, and returns the exit status."""
     check_open(sys.stdout, "standard output")
     pages = [(page, shown_on(page)) for page in options.page]
-    program = os.path.abspath(program_named(options.llbm))
+    program = program_at(options.llbm)
     passed = failed = 0
     for page, all_shown in pages:
         with tempfile.TemporaryDirectory(prefix="replay-") as folder:
-            for place in ROOT.iterdir():
-                os.symlink(place, os.path.join(folder, place.name))
+            for name in names_to_link():
+                os.symlink(ROOT / name, os.path.join(folder, name))
             for shown in all_shown:
                 if LEFT_OUT.search(shown.commands):
                     print(f"{page}:{shown.number}: left out, since it compiles or runs the gate")

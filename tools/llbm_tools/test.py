@@ -56,6 +56,7 @@ MODULES = [
     "installing",
     "words",
     "running",
+    "statuses",
 ]
 
 
