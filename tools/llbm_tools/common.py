@@ -69,7 +69,7 @@ def os_error_text(fault: OSError) -> str:
     return f"{fault.filename or 'a read or a write failed'}: {fault.strerror}"
 
 
-def is_unproved(program: str | os.PathLike) -> bool:
+def is_unproved(program: str | os.PathLike[str]) -> bool:
     """Returns whether a program says of itself, by `--version`, that it is not proved."""
     try:
         said = subprocess.run([program, "--version"], stdin=subprocess.DEVNULL, capture_output=True, timeout=60).stderr

@@ -4,8 +4,7 @@ In: pages in Markdown. A command is a line of a block (lines indented by four sp
 begins with the path of a program of this repository, such as `tools/lines` or `crates/llbm/out/llbm`, or with such a
 path after `(cd DIRECTORY && `. The output of a block of commands is shown below it, by a paragraph that begins with
 `prints` or `which prints`: the text between backquotes right after that word, or else the block below the paragraph,
-which may also say `on standard error`, and `status N`. If no output is shown, the commands have to exit with status 0
-and print nothing on standard error. In a block whose first line begins with `$ `, each such line is a command, with its
+which may also say `on standard error`, and `status N`. If no output is shown, the commands have to exit with status 0. In a block whose first line begins with `$ `, each such line is a command, with its
 output below it.
 
 The commands are run by bash, one block after another, in a temporary folder that has a link to each file and directory
@@ -167,8 +166,6 @@ def run(shown: Shown, folder: str, program: str) -> str | None:
     printed = (done.stderr if shown.is_error else done.stdout).decode("utf-8", "backslashreplace")
     if done.returncode != shown.status:
         return f"status {done.returncode}, not {shown.status}"
-    if shown.output is None and done.stderr:
-        return f"prints on standard error {shortened(repr(done.stderr.decode('utf-8', 'replace')), MOST_SHOWN)}"
     if shown.output is not None and printed != shown.output:
         return f"prints {shortened(repr(printed), MOST_SHOWN)}, not {shortened(repr(shown.output), MOST_SHOWN)}"
     return None
