@@ -4,8 +4,8 @@ In: pages in Markdown. A command is a line of a block (lines indented by four sp
 begins with the path of a program of this repository, such as `tools/lines` or `crates/llbm/out/llbm`, or with such a
 path after `(cd DIRECTORY && `. The output of a block of commands is shown below it, by a paragraph that begins with
 `prints` or `which prints`: the text between backquotes right after that word, or else the block below the paragraph,
-which may also say `on standard error`, and `status N`. If no output is shown, the commands have to exit with status 0. In a block whose first line begins with `$ `, each such line is a command, with its
-output below it.
+which may also say `on standard error`, and `status N`. If no output is shown, the commands have to exit with status 0.
+In a block whose first line begins with `$ `, each such line is a command, with its output below it.
 
 The commands are run by bash, one block after another, in a temporary folder that has a link to each file and directory
 at the top of the repository. In them the program that is replayed replaces `crates/llbm/out/llbm` and

@@ -57,6 +57,7 @@ MODULES = [
     "words",
     "running",
     "statuses",
+    "properties",
 ]
 
 
