@@ -42,6 +42,7 @@ MODULES = [
     "graphs",
     "explaining",
     "building",
+    "contents",
     "repository",
     "floors",
     "buildkit",
@@ -58,6 +59,7 @@ MODULES = [
     "running",
     "statuses",
     "properties",
+    "impacting",
 ]
 
 
