@@ -29,7 +29,6 @@ import multiprocessing.connection
 import os
 import pathlib
 import random
-import shutil
 import signal
 import sys
 import tempfile
@@ -37,9 +36,9 @@ import time
 from collections.abc import Callable, Iterator
 
 from llbm_tools import fuzz_cases, limited
-from llbm_tools.common import check_open, printable, program_named, say
+from llbm_tools.common import check_open, printable, say
 from llbm_tools.paths import ROOT
-from llbm_tools.streams import INTERRUPTED, Refused, exit_status
+from llbm_tools.streams import INTERRUPTED, Refused, exit_status, program_at
 
 EXAMPLES = ROOT / "examples"
 
@@ -126,10 +125,7 @@ def collect(options: argparse.Namespace, findings: Findings) -> int:
 def fuzz(options: argparse.Namespace) -> int:
     """Runs all cases, and returns the exit status."""
     check_open(sys.stdout, "standard output")
-    options.llbm = program_named(options.llbm)
-    if not shutil.which(options.llbm):
-        raise Refused(f"{options.llbm}: there is no such program; --llbm PROGRAM names another one")
-    options.llbm = str(pathlib.Path(shutil.which(options.llbm)).absolute())
+    options.llbm = program_at(options.llbm)
     if not EXAMPLES.is_dir():
         raise Refused(f"{EXAMPLES}: there are no examples")
     if options.memory is None:

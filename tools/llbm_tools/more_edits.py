@@ -7,8 +7,8 @@ What `rt ci` has passed on this host is not proved again: so after the gate it c
 
 Out: what `rt ci` prints. Its last line is `N passed, M failed (..)`.
 
-Exit status: that of `rt ci`: 0 all were refused; 1 one or more were not; 2 the command line is refused, or a crate has no
-such folder; 3 the copy failed.
+Exit status: that of `rt ci`: 0 all were refused; 1 one or more were not; 2 the command line is refused, or a crate has
+no such folder; 3 the copy failed.
 """
 
 import argparse

@@ -4,9 +4,8 @@ In: pages in Markdown. A command is a line of a block (lines indented by four sp
 begins with the path of a program of this repository, such as `tools/lines` or `crates/llbm/out/llbm`, or with such a
 path after `(cd DIRECTORY && `. The output of a block of commands is shown below it, by a paragraph that begins with
 `prints` or `which prints`: the text between backquotes right after that word, or else the block below the paragraph,
-which may also say `on standard error`, and `status N`. If no output is shown, the commands have to exit with status 0
-and print nothing on standard error. In a block whose first line begins with `$ `, each such line is a command, with its
-output below it.
+which may also say `on standard error`, and `status N`. If no output is shown, the commands have to exit with status 0.
+In a block whose first line begins with `$ `, each such line is a command, with its output below it.
 
 The commands are run by bash, one block after another, in a temporary folder that has a link to each file and directory
 at the top of the repository. In them the program that is replayed replaces `crates/llbm/out/llbm` and
@@ -21,6 +20,7 @@ no command; 3 a read or a write failed.
 """
 
 import argparse
+import contextlib
 import os
 import pathlib
 import re
@@ -31,9 +31,9 @@ import tempfile
 from collections.abc import Iterator
 from typing import NamedTuple
 
-from llbm_tools.common import check_open, printable, program_named, shortened
+from llbm_tools.common import check_open, printable, shortened
 from llbm_tools.paths import ROOT
-from llbm_tools.streams import Refused, exit_status
+from llbm_tools.streams import Refused, exit_status, program_at
 
 PROGRAMS = ("crates/llbm/out/llbm", "out/llbm-unproved")
 PATIENCE = 120
@@ -166,8 +166,6 @@ def run(shown: Shown, folder: str, program: str) -> str | None:
     printed = (done.stderr if shown.is_error else done.stdout).decode("utf-8", "backslashreplace")
     if done.returncode != shown.status:
         return f"status {done.returncode}, not {shown.status}"
-    if shown.output is None and done.stderr:
-        return f"prints on standard error {shortened(repr(done.stderr.decode('utf-8', 'replace')), MOST_SHOWN)}"
     if shown.output is not None and printed != shown.output:
         return f"prints {shortened(repr(printed), MOST_SHOWN)}, not {shortened(repr(shown.output), MOST_SHOWN)}"
     return None
@@ -185,16 +183,26 @@ def shown_on(page: pathlib.Path) -> list[Shown]:
     return found
 
 
+def names_to_link() -> list[str]:
+    """Returns the names at the top of the repository that git has files of; without git all names."""
+    listed = None
+    with contextlib.suppress(OSError):
+        listed = subprocess.run(["git", "-C", ROOT, "ls-files", "-z"], stdin=subprocess.DEVNULL, capture_output=True)
+    if listed is None or listed.returncode:
+        return sorted(os.listdir(ROOT))
+    return sorted({os.fsdecode(path).partition("/")[0] for path in listed.stdout.split(b"\0") if path})
+
+
 def replay(options: argparse.Namespace) -> int:
     """Replays all pages, and returns the exit status."""
     check_open(sys.stdout, "standard output")
     pages = [(page, shown_on(page)) for page in options.page]
-    program = os.path.abspath(program_named(options.llbm))
+    program = program_at(options.llbm)
     passed = failed = 0
     for page, all_shown in pages:
         with tempfile.TemporaryDirectory(prefix="replay-") as folder:
-            for place in ROOT.iterdir():
-                os.symlink(place, os.path.join(folder, place.name))
+            for name in names_to_link():
+                os.symlink(ROOT / name, os.path.join(folder, name))
             for shown in all_shown:
                 if LEFT_OUT.search(shown.commands):
                     print(f"{page}:{shown.number}: left out, since it compiles or runs the gate")

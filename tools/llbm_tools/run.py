@@ -1,8 +1,7 @@
 """Runs the program llbm with the same words, and explains below each fault or failure line what is known of it.
 
 In: the words of the program's command line, with what it reads from standard input. `--llbm PROGRAM` before them names
-another program than crates/llbm/out/llbm of this repository, or else its out/llbm-unproved, which is named on standard
-error as not proved.
+another program than that of the repository or the installation around this folder.
 
 Out: what the program writes, unchanged; on standard error, below a line `fault ..` or `failed ..` of the program, lines
 that begin with two spaces: what `explain` says of it, with the entry that it names; and the word that is refused and
@@ -13,7 +12,6 @@ Exit status: that of the program, or 128 and the number of the signal that ended
 """
 
 import os
-import shutil
 import stat
 import subprocess
 import sys
@@ -21,27 +19,22 @@ import tempfile
 from typing import BinaryIO, cast
 
 from llbm_tools import faults
-from llbm_tools.common import MOST_BYTES, program_named, say
+from llbm_tools.common import MOST_BYTES, say
 from llbm_tools.program_words import read_words
 from llbm_tools.run_causes import Run, causes_of, data_of
-from llbm_tools.streams import PIECE, Refused, exit_status
+from llbm_tools.streams import PIECE, exit_status, program_at
 
 OPTION = "--llbm"
 
 
 def program_and_words(words: list[str]) -> tuple[str, list[str]]:
     """Splits the command line into the program and its words."""
-    named = None
+    program = None
     if words[:1] == [OPTION] and len(words) > 1:
-        named, words = words[1], words[2:]
+        program, words = words[1], words[2:]
     elif words and words[0].startswith(f"{OPTION}="):
-        named, words = words[0].partition("=")[2], words[1:]
-    program = program_named(named)
-    found = shutil.which(program)
-    if found:
-        return found, words
-    there = "is not a program" if os.path.exists(program) else "there is no such program"
-    raise Refused(f"{program}: {there}; {OPTION} PROGRAM before the other words names another one")
+        program, words = words[0].partition("=")[2], words[1:]
+    return program_at(program, f"{OPTION} PROGRAM before the other words names another one"), words
 
 
 def stored_input(file: BinaryIO) -> BinaryIO | None:

@@ -9,7 +9,7 @@ import tempfile
 from collections.abc import Callable, Iterator
 from typing import BinaryIO, cast
 
-from llbm_tools.common import discard_output, os_error_text, say
+from llbm_tools.common import discard_output, os_error_text, program_named, say
 
 REFUSED, FAILED, INTERRUPTED = 2, 3, 130
 
@@ -54,6 +54,16 @@ def exit_status(work: Callable[[], int | None]) -> int:
         return FAILED
     except KeyboardInterrupt:
         return INTERRUPTED
+
+
+def program_at(word: str | None, others: str = "--llbm PROGRAM names another one") -> str:
+    """Returns the path of the program: the given one, or else that of the repository or the installation."""
+    named = program_named(word)
+    found = shutil.which(named)
+    if found is None:
+        cause = "is not a program" if os.path.exists(named) else "there is no such program"
+        raise Refused(f"{named}: {cause}; {others}")
+    return os.path.abspath(found)
 
 
 def is_standard_input(file: str | None) -> bool:

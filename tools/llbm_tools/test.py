@@ -57,6 +57,8 @@ MODULES = [
     "installing",
     "words",
     "running",
+    "statuses",
+    "properties",
     "impacting",
 ]
 

@@ -14,7 +14,7 @@ from tests.base import ROOT, TOOLS, Folder, run
 CRATES = ROOT / "crates"
 MOST_OF_A_TOOL = 120
 
-# The wrong bodies that the prover is always asked to refuse, by the crate of the body: whatever a gate costs, none goes.
+# The wrong bodies that the prover always has to refuse, by the crate of the body: whatever a gate costs, none goes.
 KEPT_EDITS = {
     "llb_ops": ["takes_the_first_of_two_scalars", "replaces_a_split_message"],
     "llb_tree": ["file_hides_only_its_own_path"],
