@@ -296,7 +296,7 @@ class Machine(Folder):
         """Runs both definitions, some sources on other trees, and compares the vertices that are kept."""
         comparison = Comparison(old, new)
         before = {name: dice.choice(pool) for name in sorted(comparison.sources())}
-        after = {name: dice.choice([text, text, dice.choice(pool)]) for name, text in before.items()}
+        after = {name: dice.choice([text, *dice.choices(pool, k=2)]) for name, text in before.items()}
         changed = frozenset(name for name, text in before.items() if after[name] != text)
         first = Ran(old, before, self.at, dice.choice([1, 2, 3]))
         second = Ran(new, after, self.at, dice.choice([1, 2, 3]))
