@@ -14,6 +14,8 @@ from typing import BinaryIO
 from packing import ENDINGS
 from streams import PIECE, Refused
 
+NAME, MAGIC = slice(0, 100), slice(257, 265)
+GNU_MAGIC = b"ustar  \0"
 DUMPED = b"D"
 DUMPED_HEADER = "GNU.dumpdir"
 NOT_HERE = b"N"
@@ -30,8 +32,16 @@ class Member(tarfile.TarInfo):
     """An entry of an archive. A header that cannot be parsed is an error; it does not end the archive.
 
     A directory of an incremental archive of GNU tar is a directory. Its content, or that of its extended header, lists
-    what was in it.
+    what was in it. A header of GNU's own form has times where others have the begin of a long path.
     """
+
+    @classmethod
+    def frombuf(cls, buf: bytes, encoding: str, errors: str) -> "Member":
+        """Returns the entry of a header."""
+        member = super().frombuf(buf, encoding, errors)
+        if buf[MAGIC] == GNU_MAGIC:
+            member.name = buf[NAME].partition(b"\0")[0].decode(encoding, errors)
+        return member
 
     def isdir(self) -> bool:
         """Returns whether the entry is a directory."""

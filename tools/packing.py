@@ -30,15 +30,21 @@ FORMS = (
     Form("zstd", b"\x28\xb5\x2f\xfd", "compression.zstd", (".tar.zst",)),
 )
 
+NAMES = tuple(form.name for form in FORMS)
 PLAIN = ".tar"
 ENDINGS = (PLAIN, *(ending for form in FORMS for ending in form.endings))
 MOST_OF_MAGIC = max(len(form.magic) for form in FORMS)
-PACKER = "zstd"
+PACKER, UNPACKING = "zstd", "-d"
 
 
 def form_of_start(start: bytes) -> Form | None:
     """Returns the form of a stream that begins like this, or None if it is not packed."""
     return next((form for form in FORMS if start.startswith(form.magic)), None)
+
+
+def form_named(name: str) -> Form:
+    """Returns the form with a name."""
+    return next(form for form in FORMS if form.name == name)
 
 
 def form_of_name(place: str) -> Form | None:
@@ -73,7 +79,7 @@ def by_program(words: list[str], given: BinaryIO, stored: BinaryIO) -> None:
     done = subprocess.run([PACKER, "-q", "-T1", "-c", *words], stdin=given, stdout=stored, stderr=subprocess.PIPE)
     if done.returncode:
         lines = done.stderr.decode("utf-8", "backslashreplace").strip().splitlines() or ["it failed"]
-        raise Refused(f"the archive could not be unpacked: {lines[0]}")
+        raise Refused(f"the archive could not be {'unpacked' if UNPACKING in words else 'packed'}: {lines[0]}")
 
 
 def by_module(form: Form, packed: BinaryIO, stored: BinaryIO) -> None:
@@ -101,7 +107,7 @@ def unpack(form: Form | None, packed: BinaryIO, stored: BinaryIO) -> None:
     if has_module(form):
         by_module(form, packed, stored)
     else:
-        by_program(["-d"], packed, stored)
+        by_program([UNPACKING], packed, stored)
 
 
 def pack(form: Form, plain: BinaryIO, stored: BinaryIO) -> None:
