@@ -97,7 +97,7 @@ def content_of(archive: tarfile.TarFile, member: Member) -> Iterator[bytes]:
 
 
 def names_not_here(archive: tarfile.TarFile, member: Member) -> list[bytes]:
-    """Returns the names that an incremental archive lists in a directory, but has no entries for: an earlier one does."""
+    """Returns the names in a directory for which only an earlier incremental archive has entries."""
     listed = member.pax_headers.get(DUMPED_HEADER, "").encode("utf-8", "surrogateescape")
     if member.type == DUMPED:
         listed = b"".join(content_of(archive, member))

@@ -50,7 +50,7 @@ class Layer(NamedTuple):
 
 
 class Image(NamedTuple):
-    """An image: its names, its platform, its configuration and the files of its layers; of an OCI layout its manifest."""
+    """An image: its names, its platform, its manifest in a layout, its configuration and the files of its layers."""
 
     names: tuple[str, ...]
     platform: str

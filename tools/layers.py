@@ -115,7 +115,7 @@ class Layers:
         return None if node is None or node.is_directory() else node.placed
 
     def directory(self, names: Path, is_made: bool = False) -> Node | None:
-        """Returns the directory that a path leads to, by symbolic links too; one that is missing is None, or is made."""
+        """Returns the directory that a path leads to, also by symbolic links; if there is none it is None, or made."""
         opened, left, links = [self.root], list(reversed(names)), 0
         while left:
             name = left.pop()

@@ -1,7 +1,7 @@
 """Packs and unpacks streams by gzip, bzip2, xz and zstd.
 
-The modules are those of the standard library; where it has none for zstd, the program `zstd` does it. The same bytes are
-always packed to the same bytes by one version of these, since no time and no name goes into the packed stream.
+The modules are those of the standard library; where it has none for zstd, the program `zstd` does it. One version of
+these always packs the same bytes to the same bytes, since no time and no name goes into the packed stream.
 """
 
 import gzip
