@@ -88,9 +88,7 @@ class Layers:
     def keeps(self, node: Node) -> bool:
         """Removes what lower layers have below a node, and returns whether this layer has the node or any below it."""
         node.below = {name: below for name, below in node.below.items() if self.keeps(below)}
-        if node.layer != self.layer and node.below:
-            node.placed, node.layer = implied(self.archive), self.layer
-        return node.layer == self.layer
+        return node.layer == self.layer or bool(node.below)
 
     def add(self, names: Path, member: Member) -> None:
         """Puts an entry at its path."""

@@ -258,7 +258,7 @@ class Adopt(Folder):
             for words in [["--run-nothing"], ["--all"]]:
                 self.entry(old, self.words(self.local, *args), [], *words)
             changes = [f"runs true in place of {shlex.join(args)}"]
-            for words in [["--run-nothing=all"], ["--all", "--run-nothing=all"], ["--run-nothing", "--run-nothing=all"]]:
+            for words in [["--run-nothing=all"], ["--all", "--run-nothing=all"]]:
                 self.entry(old, self.words(self.local, "true"), changes, *words)
 
     def test_entries_that_are_not_reached_stay(self):
@@ -281,7 +281,8 @@ class Adopt(Folder):
         old = [base.source(f"local://{name}") for name in names] + [base.source("local://a=b") + PLATFORM]
         new = [base.source(f"local://{name}") for name in names.values()] + [base.source("local://a-b-2") + PLATFORM]
         pairs = [*names.items(), ("a=b", "a-b-2")]
-        changes = [f"entry {row}: source local://{one} is local://{two}" for row, (one, two) in enumerate(pairs) if one != two]
+        changes = [f"entry {row}: source local://{one} is local://{two}" for row, (one, two) in enumerate(pairs)]
+        del changes[1]
         changes += [f"entry {row}: its inputs have new digests" for row in (5, 6)]
         lines = list(dict.fromkeys(f"{two}\tlocal://{one}" for one, two in pairs))
         given, wanted = base.ending(*old, base.merge(*old)), base.ending(*new, base.merge(*new))
