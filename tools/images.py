@@ -29,7 +29,7 @@ MANIFEST_TYPES = (
     "application/vnd.oci.image.manifest.v1+json",
     "application/vnd.docker.distribution.manifest.v2+json",
 )
-ATTESTATION = "vnd.docker.reference.type"
+ATTESTATION, ARTIFACT = "vnd.docker.reference.type", "artifactType"
 
 Held = TypeVar("Held")
 
@@ -125,7 +125,7 @@ def images_in_index(files: Files, blob: Blob, names: tuple[str, ...] = (), depth
         kind = optional(descriptor, "mediaType", str, MANIFEST_TYPES[0])
         if kind in INDEX_TYPES:
             yield from images_in_index(files, blob_of(descriptor, blob.path), own, depth + 1)
-        elif kind in MANIFEST_TYPES and ATTESTATION not in notes:
+        elif kind in MANIFEST_TYPES and ATTESTATION not in notes and ARTIFACT not in descriptor:
             platform = platform_in(optional(descriptor, "platform", dict, {}))
             yield Image(own, platform, blob_of(descriptor, blob.path))
 

@@ -213,7 +213,8 @@ class Forms(Images):
     def test_an_index_in_an_index_is_read(self):
         made = image(*self.layers, names=("x",))
         notes = {"annotations": {"vnd.docker.reference.type": "attestation-manifest"}}
-        inner = {"manifests": [{**made.descriptor[0], "annotations": {}}, {**made.descriptor[0], **notes}]}
+        first = {**made.descriptor[0], "annotations": {}}
+        inner = {"manifests": [first, {**first, **notes}, {**first, "artifactType": "application/x"}]}
         inner = image_parts.written(inner)
         listed = image_parts.descriptor(inner, image_parts.INDEX, annotations={image_parts.NAME: "one"})
         made = made._replace(blobs={**made.blobs, listed["digest"]: inner}, descriptor=[listed])
