@@ -125,7 +125,7 @@ def images_in_index(files: Files, blob: Blob, names: tuple[str, ...] = (), depth
         kind = optional(descriptor, "mediaType", str, MANIFEST_TYPES[0])
         if kind in INDEX_TYPES:
             yield from images_in_index(files, blob_of(descriptor, blob.path), own, depth + 1)
-        elif kind in MANIFEST_TYPES and ATTESTATION not in notes and ARTIFACT not in descriptor:
+        elif kind in MANIFEST_TYPES and ATTESTATION not in notes and not optional(descriptor, ARTIFACT, str, ""):
             platform = platform_in(optional(descriptor, "platform", dict, {}))
             yield Image(own, platform, blob_of(descriptor, blob.path))
 
