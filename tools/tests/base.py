@@ -13,17 +13,16 @@ ROOT = TOOLS.parent
 IS_ROOT = os.geteuid() == 0
 
 AS_NOBODY = """
-import argparse, os, re, stat, sys
+import argparse, importlib, os, sys
 sys.argv = sys.argv[1:]
-sys.dont_write_bytecode = True
-sys.path.insert(0, os.path.dirname(sys.argv[0]))
-import collections, common, contextlib, leftout, trees, typing
-program = compile(open(sys.argv[0]).read(), sys.argv[0], "exec")
+folder, name = os.path.split(sys.argv[0])
+sys.path.insert(0, folder)
+tool = importlib.import_module("llbm_tools." + name.replace("-", "_"))
 argparse.ArgumentParser().format_help()
 os.setgroups([])
 os.setgid(65534)
 os.setuid(65534)
-exec(program, {"__name__": "__main__", "__file__": sys.argv[0]})
+sys.exit(tool.main())
 """
 
 runs = 0

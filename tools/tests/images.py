@@ -10,7 +10,7 @@ import subprocess
 import tarfile
 import unittest
 
-import sources
+from llbm_tools import sources
 from tests import image_parts
 from tests.archives import entry, other, tar
 from tests.base import IS_ROOT, Folder, run

@@ -8,7 +8,7 @@ import resource
 import subprocess
 import unittest
 
-import faults
+from llbm_tools import faults
 from tests import base
 from tests.base import ROOT, Folder, run
 

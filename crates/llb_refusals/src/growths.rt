@@ -1,4 +1,4 @@
-//! Each growth of a call refused in turn. A test asks `tools/refuse.c`, which is between a test and its memory, by the sizes of requests
+//! Each growth of a call refused in turn. A test asks `tools/llbm_tools/refuse.c`, which is between a test and its memory, by the sizes of requests
 //! that no allocator grants.
 
 use super::told::is_same;
