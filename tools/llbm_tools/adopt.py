@@ -1,14 +1,15 @@
 """Changes a foreign definition, as a client of BuildKit marshals it, into one that llbm accepts.
 
-In: a definition, on standard input or in the file DEFINITION. Sources that are images, git repositories, files from
-HTTP or OCI layouts become local sources; their names are made from their identifiers, and no two sources get the same
-name. A local source whose name no word NAME=FILE can have, since it has a `=` or begins with `-`, gets another one.
---without-secrets drops mounts of secrets and secret environment variables, --without-ssh mounts of SSH agents,
---without-unpack the unpacking of copies, --without-owners users and groups that are given by name. With --run-nothing
-the words of executions that llbm refuses become `true`, and with --run-nothing=all those of all executions. --rules
-FILE replaces the words of the executions that a rule names; each line of the file is a rule, `digest DIGEST => NEW ..`,
-`name NAME => NEW ..` or `words OLD .. => NEW ..`, quoted as for a shell, and a rule without new words keeps the old
-ones. Rules take precedence over --run-nothing. --all means all of these options except --run-nothing=all and --rules.
+In: a definition, on standard input or in the file DEFINITION (`-` is standard input). Sources that are images, git
+repositories, files from HTTP or OCI layouts become local sources; their names are made from their identifiers, and no
+two sources get the same name. A local source whose name no word NAME=FILE can have, since it has a `=` or begins with
+`-`, gets another one. --without-secrets drops mounts of secrets and secret environment variables, --without-ssh mounts
+of SSH agents, --without-unpack the unpacking of copies, --without-owners users and groups that are given by name. With
+--run-nothing the words of executions that llbm refuses become `true`, and with --run-nothing=all those of all
+executions. --rules FILE replaces the words of the executions that a rule names; each line of the file is a rule,
+`digest DIGEST => NEW ..`, `name NAME => NEW ..` or `words OLD .. => NEW ..`, quoted as for a shell, and a rule without
+new words keeps the old ones. Rules take precedence over --run-nothing. --all means all of these options except
+--run-nothing=all and --rules.
 
 Out: the definition, on standard output, or in FILE with -o FILE. Digests change, and with them the inputs that name
 them and the keys of the metadata and of the locations in `Source`; all other bytes and the order of the entries stay
@@ -29,7 +30,7 @@ import sys
 from collections.abc import Iterator
 
 from llbm_tools import adopting, adoption_rules, common, findings
-from llbm_tools.streams import Refused, exit_status
+from llbm_tools.streams import Refused, check_inputs, exit_status
 from llbm_tools.wire import Faulty, Unreadable
 
 OPTIONS = {kind: f"--without-{kind}" for kind in adopting.DROPPED} | {adopting.RUN_NOTHING: "--run-nothing"}
@@ -114,12 +115,13 @@ def files_written(texts: dict[str, bytes]) -> Iterator[None]:
 
 def write(options: argparse.Namespace, adopted: adopting.Adopted) -> None:
     """Writes the definition and, if a file is named for it, the list of its sources."""
-    texts = {} if options.output is None else {options.output: adopted.data}
+    to_output = options.output in (None, "-")
+    texts = {} if to_output else {options.output: adopted.data}
     if options.sources is not None:
         lines = "".join(f"{line}\n" for line in lines_of(adopted.sources))
         texts[options.sources] = lines.encode("utf-8", "backslashreplace")
     with files_written(texts):
-        if options.output is None:
+        if to_output:
             common.check_open(sys.stdout, "standard output")
             sys.stdout.buffer.write(adopted.data)
             sys.stdout.flush()
@@ -127,6 +129,8 @@ def write(options: argparse.Namespace, adopted: adopting.Adopted) -> None:
 
 def adopt(options: argparse.Namespace) -> None:
     """Adopts the definition that the command line names, and writes it."""
+    if options.rules is not None:
+        check_inputs(options.definition, options.rules)
     settings = settings_from(options)
     try:
         data = common.data_in(options.definition)

@@ -76,14 +76,21 @@ def edited(crate: pathlib.Path, edit: pathlib.Path) -> str:
     return f"`{fields['file'].removeprefix('src/')}`" + (f", `{names[-1]}`" if names else "")
 
 
+def edits_of(crate: pathlib.Path) -> list[pathlib.Path]:
+    """Returns the edits of a crate by name, those that only `tools/more-edits` tries too."""
+    folders = (crate / "must-fail", crate / "more-edits")
+    return sorted((edit for folder in folders for edit in folder.glob("*.edit")), key=lambda edit: edit.stem)
+
+
 def edits(library: Library) -> list[str]:
     """Returns the table of wrong bodies."""
-    rows = ["| Crate | Wrong body | Where |", "|---|---|---|"]
+    rows = ["| Crate | Wrong body | Where | Tried by |", "|---|---|---|---|"]
     for line in (library.root / "crates.txt").read_text("utf-8").splitlines():
         crate = library.root / "crates" / line.partition(":")[0].strip()
-        for edit in sorted((crate / "must-fail").glob("*.edit")) if line.strip() else []:
+        for edit in edits_of(crate) if line.strip() else []:
             words = edit.stem.replace("_", " ")
-            rows.append(f"| `{crate.name}` | {words[0].upper()}{words[1:]}. | {edited(crate, edit)} |")
+            by = "the gate" if edit.parent.name == "must-fail" else "`tools/more-edits`"
+            rows.append(f"| `{crate.name}` | {words[0].upper()}{words[1:]}. | {edited(crate, edit)} | {by} |")
     return [f"{len(rows) - 2} wrong bodies.", "", *rows]
 
 

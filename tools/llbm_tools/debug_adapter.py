@@ -4,7 +4,8 @@ In: requests on standard input, each a JSON object after a header with its Conte
 `definition` (a file), or the `text` of its entries (a file with what `llbm dis` prints, or any text that `llbm asm`
 accepts), or both; `sources`, an object with a directory, a tar (both with owner 0:0) or a tree text for each local
 source by its name; `workers`, 2 by default; `stopOnEntry`, to stop before the first event; `stopAtEnd`, to stop after
-the last one; and `llbm`, the program, else the one on PATH, else ../crates/llbm/out/llbm beside this folder.
+the last one; and `llbm`, the program, else the one on PATH, else crates/llbm/out/llbm of the repository, or else its
+out/llbm-unproved, which is named on standard error as not proved.
 
 Out: responses and events on standard output. Threads are the workers of the run; the source is the text of the entries,
 where a vertex is at the lines of its entry. A breakpoint on a line stops after the claim of the vertex, with the

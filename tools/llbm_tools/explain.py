@@ -17,7 +17,7 @@ import sys
 from collections.abc import Iterable
 
 from llbm_tools import common, faults
-from llbm_tools.streams import Refused, exit_status
+from llbm_tools.streams import Refused, check_inputs, exit_status
 
 
 def write(text: str) -> None:
@@ -45,6 +45,8 @@ def explain_all(explainer: faults.Explainer, lines: Iterable[bytes]) -> int:
 
 def explain(options: argparse.Namespace) -> int:
     """Explains what the command line asks for, and returns the exit status."""
+    if not options.word and options.definition is not None:
+        check_inputs(None, options.definition)
     explainer = faults.Explainer(faults.read_page(), options.definition)
     common.check_open(sys.stdout, "standard output")
     if not options.word:

@@ -350,12 +350,12 @@ class Explainer:
         self.entries: Entries | None = None
         self.cause = ""
         if file is not None:
-            self.read(file)
+            self.take(data_in(file))
 
-    def read(self, file: str) -> None:
-        """Reads the definition in a file; if it is not one, stores why."""
+    def take(self, data: bytes) -> None:
+        """Reads a definition; if it is not one, stores why."""
         try:
-            self.entries = Entries(data_in(file))
+            self.entries = Entries(data)
         except Unreadable as fault:
             self.cause = str(fault)
 

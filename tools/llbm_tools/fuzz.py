@@ -1,17 +1,18 @@
 """Runs the program llbm on random inputs, and prints which rule an input breaks.
 
-In: SECONDS, the duration; --cases N ends after N cases if that is sooner. The program is ../crates/llbm/out/llbm beside
-this folder, or --llbm PROGRAM. The inputs are the examples beside this folder and random definitions, texts of entries,
-texts of trees and sessions; half of the definitions are changed at random, in most cases so that digests and inputs
-match again. --seed N makes the same cases in the same order; without it a random seed is used. With --jobs N the cases
-are shared by N processes. Each run has limits on memory (--memory MEGABYTES, 4096 by default, 0 for none; none for a
-program that is built with an address sanitizer), on processor time and on file sizes, and may take --patience SECONDS,
-60 by default.
+In: SECONDS, the duration; --cases N ends after N cases if that is sooner. The program is --llbm PROGRAM, or else
+crates/llbm/out/llbm of the repository, or else its out/llbm-unproved, which is named on standard error as not proved.
+The inputs are the examples of the repository and random definitions, texts of entries, texts of trees and sessions;
+half of the definitions are changed at random, in most cases so that digests and inputs match again. --seed N makes the
+same cases in the same order; without it a random seed is used. With --jobs N the cases are shared by N processes. Each
+run has limits on memory (--memory MEGABYTES, 4096 by default, 0 for none; none for a program that is built with an
+address sanitizer), on processor time and on file sizes, and may take --patience SECONDS, 60 by default.
 
 These rules must hold: each run exits with a status of 0 to 3; if the input is refused, nothing is printed except the
 answers of a session; docs/FAULTS.md has each line on standard error, with that status; `dis` and then `asm` return the
 same entries; a text of a tree comes back or is refused at its first faulty line; several workers print the same as one
-if no cache is mounted; a session ends where `run` ends, and the same record always has the same status.
+if no cache is mounted; a session ends where `run` ends, and the same record always has the same status; a run on tokens
+in the place of contents prints the same with the contents put back.
 
 Out: on standard output the seed, a line for each finding, and at the end how many cases ran and how many failed. The
 files of a finding and the commands that repeat it are stored in their own folder in --keep FOLDER, by default a new
@@ -36,8 +37,8 @@ import time
 from collections.abc import Callable, Iterator
 
 from llbm_tools import fuzz_cases, limited
-from llbm_tools.common import check_open, printable, say
-from llbm_tools.paths import PROGRAM, ROOT
+from llbm_tools.common import check_open, printable, program_named, say
+from llbm_tools.paths import ROOT
 from llbm_tools.streams import INTERRUPTED, Refused, exit_status
 
 EXAMPLES = ROOT / "examples"
@@ -125,6 +126,7 @@ def collect(options: argparse.Namespace, findings: Findings) -> int:
 def fuzz(options: argparse.Namespace) -> int:
     """Runs all cases, and returns the exit status."""
     check_open(sys.stdout, "standard output")
+    options.llbm = program_named(options.llbm)
     if not shutil.which(options.llbm):
         raise Refused(f"{options.llbm}: there is no such program; --llbm PROGRAM names another one")
     options.llbm = str(pathlib.Path(shutil.which(options.llbm)).absolute())
@@ -160,7 +162,7 @@ def parse_options() -> argparse.Namespace:
     )
     add, seed = parser.add_argument, random.randrange(1 << 32)
     add("seconds", metavar="SECONDS", type=number_from(1, 1_000_000), help="the duration")
-    add("--llbm", metavar="PROGRAM", default=str(PROGRAM), help="the program llbm")
+    add("--llbm", metavar="PROGRAM", help="the program llbm")
     add("--seed", metavar="N", type=number_from(0, FOREVER), default=seed, help="the seed of the cases (random)")
     add("--cases", metavar="N", type=number_from(1, FOREVER), default=FOREVER, help="run at most N cases")
     add("--keep", metavar="FOLDER", type=pathlib.Path, help="the folder for findings (a new temporary folder)")

@@ -1,7 +1,8 @@
 """Measures the program llbm: pairs of runs in the same minutes, and their ratios.
 
-In: the measurements in the table in this file, or only those named NAME .. . The program is ../crates/llbm/out/llbm
-beside this folder, or --llbm PROGRAM. Inputs are made by `bigdef` and `bigtree`, in a temporary folder that is removed
+In: the measurements in the table in this file, or only those named NAME .. . The program is --llbm PROGRAM, or else
+crates/llbm/out/llbm of the repository, or else its out/llbm-unproved, which is named on standard error as not proved
+(it is much slower). Inputs are made by `bigdef` and `bigtree`, in a temporary folder that is removed
 at the end. Each pair runs --runs N times (5 by default), the two runs one after the other; --part N makes all counts N
 times smaller, for a quick look or a slow machine. --list prints the names and runs nothing.
 
@@ -24,8 +25,8 @@ import tempfile
 import time
 from typing import NamedTuple
 
-from llbm_tools.common import check_open, discard_output, os_error_text, say
-from llbm_tools.paths import PROGRAM, TOOLS
+from llbm_tools.common import check_open, discard_output, os_error_text, program_named, say
+from llbm_tools.paths import TOOLS
 
 RUNS = 5
 
@@ -229,7 +230,7 @@ def parse_options() -> argparse.Namespace:
     parser = argparse.ArgumentParser(
         description="Measures the program llbm: pairs of runs, and their ratios.", allow_abbrev=False
     )
-    parser.add_argument("--llbm", metavar="PROGRAM", default=str(PROGRAM), help="the program llbm")
+    parser.add_argument("--llbm", metavar="PROGRAM", help="the program llbm")
     parser.add_argument("--runs", metavar="N", type=number, default=RUNS, help="the number of runs of each pair")
     parser.add_argument("--part", metavar="N", type=number, default=1, help="make all counts N times smaller")
     parser.add_argument("--list", action="store_true", help="print the names of the measurements")
@@ -239,7 +240,10 @@ def parse_options() -> argparse.Namespace:
     for name in options.name:
         if name not in known:
             parser.error(f"there is no measurement {name}; --list prints their names")
-    if not options.list and not shutil.which(options.llbm):
+    if options.list:
+        return options
+    options.llbm = program_named(options.llbm)
+    if not shutil.which(options.llbm):
         parser.error(f"{options.llbm}: there is no such program; --llbm PROGRAM names another one")
     return options
 

@@ -75,9 +75,20 @@ def map_of(fields: Fields, number: int) -> dict[str, Fields]:
     return {text_of(entry, 1): entry for entry in entries}
 
 
+def description_in(metadata: Fields) -> dict[str, str]:
+    """Returns the texts in the metadata of an entry, by their keys."""
+    return {key: text_of(entry, 2) for key, entry in map_of(metadata, 2).items()}
+
+
+def descriptions_of(data: bytes) -> dict[str, dict[str, str]]:
+    """Returns the texts in the metadata of a definition, by the digest of their entry."""
+    entries = map_of(fields_of(data), 2).items()
+    return {digest: description_in(message_of(entry, 2)) for digest, entry in entries}
+
+
 def texts_of(metadata: Fields) -> tuple[str, str]:
     """Returns the name and the group in the metadata of an entry."""
-    description = {key: text_of(entry, 2) for key, entry in map_of(metadata, 2).items()}
+    description = description_in(metadata)
     name = description.get(CUSTOM_NAME) or description.get(COMMAND) or ""
     return name, description.get(CUSTOM_GROUP) or text_of(message_of(metadata, 6), 2)
 

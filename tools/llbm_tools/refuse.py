@@ -1,14 +1,14 @@
-"""Refuses each growth of memory of each call in turn: runs the tests of `llb_refusals` with memory that fails on
-demand.
+"""Refuses each growth of memory of each call in turn, and each thread of some runs: runs the tests of `llb_refusals`
+with memory and threads that fail on demand.
 
 In: the program of the tests, crates/llb_refusals/out/llb_refusals_tests, as `rt ci` and `rt test` build it, or TESTS;
 and `refuse.c` beside this file, which the toolchain's clang compiles to a library. The library is preloaded into each
-test, which is run by itself, and refuses the growth that the test asks for.
+test, which is run by itself, and refuses the growth, or the start of the thread, that the test asks for.
 
-Out: on standard output a line for each call: how many of its growths were refused, the number of its memory fault (or
+Out: on standard output a line for each call: how often it was refused a growth or a thread, the number of its fault (or
 `none`), and the call with what it was made on. A test fails if its exit status is not 0, if the library counted another
-number of refused growths than the test, if a call that takes memory was refused none, or if one that takes none was
-refused some. The last line is `N passed, M failed`, over the tests.
+number of refusals than the test, if a call that takes memory or threads was refused none, or if one that takes neither
+was refused some. The last line is `N passed, M failed`, over the tests.
 
 Exit status: 0 all passed; 1 one or more failed; 2 the command line is refused, or the tests or the toolchain do not
 exist; 3 a write failed.
@@ -35,19 +35,19 @@ REFUSED = re.compile(r"refused ([0-9]+) \(([^()]+)\): (.*)")
 
 
 class Call(NamedTuple):
-    """A call: how often it was refused memory, its fault number (`none` if it takes no memory), and its name."""
+    """A call: how often it was refused, its fault number (`none` if nothing of it can be refused), and its name."""
 
     refused: int
     number: str
     call: str
 
     def is_right(self) -> bool:
-        """Returns whether it was refused exactly if it takes memory."""
+        """Returns whether it was refused exactly if it can be."""
         return (self.refused > 0) == (self.number != "none")
 
 
 class Ran(NamedTuple):
-    """The result of a test: its exit status, its output, and how many growths the library refused it."""
+    """The result of a test: its exit status, its output, and how often the library refused it something."""
 
     status: int
     lines: list[str]
@@ -60,7 +60,7 @@ class Ran(NamedTuple):
 
 
 def build_library(folder: str) -> str:
-    """Builds the library that refuses memory."""
+    """Builds the library that refuses memory and threads."""
     page = subprocess.run(["rt", "doc"], capture_output=True, check=True, text=True).stdout.strip()
     clang = pathlib.Path(page).parent / "toolchain" / "bin" / "clang"
     library = os.path.join(folder, "refuse.so")
@@ -106,7 +106,7 @@ def why_wrong(ran: Ran) -> list[str]:
     elif not calls:
         wrong.append("it names no call")
     elif sum(one.refused for one in calls) != ran.refused:
-        wrong.append(f"{ran.refused} growths were refused, but it reports {sum(one.refused for one in calls)}")
+        wrong.append(f"{ran.refused} refusals, but it reports {sum(one.refused for one in calls)}")
     return wrong
 
 
@@ -116,7 +116,7 @@ def run_all(tests: str, library: str, folder: str) -> int:
     for name in names:
         ran = run(tests, name, library, folder)
         wrong = why_wrong(ran)
-        print(f"{name}: {'failed' if wrong else 'passed'}, {ran.refused} growths refused")
+        print(f"{name}: {'failed' if wrong else 'passed'}, {ran.refused} refusals")
         for one in ran.calls():
             print(f"{one.refused:6}  {one.number:<4}  {printable(one.call)}")
         for line in wrong:
@@ -125,7 +125,7 @@ def run_all(tests: str, library: str, folder: str) -> int:
         failed += bool(wrong)
         refused += ran.refused
         calls += len(ran.calls())
-    print(f"{refused} growths of {calls} calls were refused")
+    print(f"{refused} refusals of {calls} calls")
     print(f"{len(names) - failed} passed, {failed} failed")
     return failed + (not names)
 
@@ -133,7 +133,7 @@ def run_all(tests: str, library: str, folder: str) -> int:
 def parse_options() -> argparse.Namespace:
     """Parses the command line."""
     parser = argparse.ArgumentParser(
-        description="Refuses each growth of memory of each call in turn.", allow_abbrev=False
+        description="Refuses each growth of memory of each call in turn, and threads of runs.", allow_abbrev=False
     )
     parser.add_argument("tests", metavar="TESTS", nargs="?", default=str(TESTS), help="the program of the tests")
     return parser.parse_args()

@@ -9,8 +9,10 @@ and print nothing on standard error. In a block whose first line begins with `$ 
 output below it.
 
 The commands are run by bash, one block after another, in a temporary folder that has a link to each file and directory
-at the top of the repository; --llbm PROGRAM replaces `crates/llbm/out/llbm` in them. Commands with the word `rt`, which
-proves, and with `./gate` or `.ci/run`, which replay this page themselves, are left out.
+at the top of the repository. In them the program that is replayed replaces `crates/llbm/out/llbm` and
+`out/llbm-unproved`: it is --llbm PROGRAM, or else the first one of these two that exists. Commands with the word `rt`,
+with `tools/unproved-program`, which compile, and with `./gate` or `.ci/run`, which replay this page themselves, are
+left out.
 
 Out: on standard output a line for each block that differs, those left out, and at the end `N passed, M failed`.
 
@@ -29,18 +31,19 @@ import tempfile
 from collections.abc import Iterator
 from typing import NamedTuple
 
-from llbm_tools.common import check_open, printable, shortened
+from llbm_tools.common import check_open, printable, program_named, shortened
 from llbm_tools.paths import ROOT
 from llbm_tools.streams import Refused, exit_status
 
-PROGRAM = "crates/llbm/out/llbm"
+PROGRAMS = ("crates/llbm/out/llbm", "out/llbm-unproved")
 PATIENCE = 120
 MOST_SHOWN = 200
 
+PROGRAM = re.compile(rf"(?<![\w/.])(?:{'|'.join(map(re.escape, PROGRAMS))})(?![\w/.-])")
 CHANGE = re.compile(r"\(cd ([\w./-]+) && ")
 PRINTS = re.compile(r"(?:which )?prints\b(?: `([^`]+)`)?")
 STATUS = re.compile(r"\bstatus ([0-9]+)\b")
-LEFT_OUT = re.compile(r"(?:^|[\s(;&|])(?:rt|\./gate|\.ci/run)(?![^\s);&|])", re.MULTILINE)
+LEFT_OUT = re.compile(r"(?:^|[\s(;&|])(?:rt|tools/unproved-program|\./gate|\.ci/run)(?![^\s);&|])", re.MULTILINE)
 
 
 class Part(NamedTuple):
@@ -102,7 +105,7 @@ def is_command(line: str) -> bool:
     change = CHANGE.match(line)
     folder = ROOT / change[1] if change else ROOT
     word = line[change.end() if change else 0 :].split(" ", 1)[0]
-    if word in (PROGRAM, "rt"):
+    if word in (*PROGRAMS, "rt"):
         return True
     return "/" in word and not word.startswith("/") and os.access(folder / word, os.X_OK) and (folder / word).is_file()
 
@@ -152,7 +155,7 @@ def with_output(part: Part, below: list[Part]) -> Shown:
 
 def run(shown: Shown, folder: str, program: str) -> str | None:
     """Runs a block of commands, and returns how the result differs from the page, or None."""
-    commands = re.sub(rf"(?<![\w/.]){re.escape(PROGRAM)}(?![\w/.-])", lambda _: shlex.quote(program), shown.commands)
+    commands = PROGRAM.sub(lambda _: shlex.quote(program), shown.commands)
     try:
         done = subprocess.run(
             ["bash", "-c", f"set -o pipefail\n{commands}"], cwd=folder, stdin=subprocess.DEVNULL, capture_output=True,
@@ -186,7 +189,7 @@ def replay(options: argparse.Namespace) -> int:
     """Replays all pages, and returns the exit status."""
     check_open(sys.stdout, "standard output")
     pages = [(page, shown_on(page)) for page in options.page]
-    program = os.path.abspath(options.llbm)
+    program = os.path.abspath(program_named(options.llbm))
     passed = failed = 0
     for page, all_shown in pages:
         with tempfile.TemporaryDirectory(prefix="replay-") as folder:
@@ -194,7 +197,7 @@ def replay(options: argparse.Namespace) -> int:
                 os.symlink(place, os.path.join(folder, place.name))
             for shown in all_shown:
                 if LEFT_OUT.search(shown.commands):
-                    print(f"{page}:{shown.number}: left out, since it runs rt or the gate")
+                    print(f"{page}:{shown.number}: left out, since it compiles or runs the gate")
                     continue
                 cause = run(shown, folder, program)
                 passed, failed = passed + (cause is None), failed + (cause is not None)
@@ -211,7 +214,7 @@ def parse_options() -> argparse.Namespace:
         description="Replays the commands of pages, and compares their output with what is shown.",
         allow_abbrev=False,
     )
-    parser.add_argument("--llbm", metavar="PROGRAM", default=str(ROOT / PROGRAM), help="the program llbm")
+    parser.add_argument("--llbm", metavar="PROGRAM", help="the program llbm")
     parser.add_argument("page", metavar="PAGE", nargs="+", type=pathlib.Path, help="a page in Markdown")
     return parser.parse_args()
 

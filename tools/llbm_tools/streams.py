@@ -56,6 +56,17 @@ def exit_status(work: Callable[[], int | None]) -> int:
         return INTERRUPTED
 
 
+def is_standard_input(file: str | None) -> bool:
+    """Returns whether a file of the command line is standard input: none is given, or `-`, or /dev/stdin."""
+    return file in (None, "-", "/dev/stdin")
+
+
+def check_inputs(*files: str | None) -> None:
+    """Checks that at most one of these inputs is standard input."""
+    if sum(map(is_standard_input, files)) > 1:
+        raise Refused("only one input can come from standard input")
+
+
 def standard_input() -> BinaryIO:
     """Returns standard input, if it is open."""
     if sys.stdin is None:

@@ -64,7 +64,7 @@ def write_checked(options: argparse.Namespace) -> None:
         if form:
             packing.pack(form, plain, packed)
             archive = packed
-        if options.archive is None:
+        if options.archive in (None, "-"):
             write_output(archive, "the archive")
         else:
             write_new_file(archive, options.archive)

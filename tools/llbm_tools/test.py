@@ -1,10 +1,10 @@
 """Tests the tools of this folder by examples, in temporary folders that are removed at the end.
 
 In: the tools beside this file, with their tests in tests/; names of test cases on the command line, as in `test
-trees.RoundTrip`, or none for all. Some tests need the program: it is --llbm PROGRAM, or ../crates/llbm/out/llbm beside
-this folder if it exists; without it they are skipped. It can run as root, who can set owners, or as another user, who
-cannot: the number of examples is the same. Test cases run in parallel, in --jobs N processes, or in one for each
-processor.
+trees.RoundTrip`, or none for all. Some tests need the program: it is --llbm PROGRAM, or else crates/llbm/out/llbm of
+the repository, or else its out/llbm-unproved, which is named on standard error as not proved; without one they are
+skipped. It can run as root, who can set owners, or as another user, who cannot: the number of examples is the same.
+Test cases run in parallel, in --jobs N processes, or in one for each processor.
 
 Out: on standard output the number of tests and of runs of the tools, and how many tests were skipped and why; failures
 are printed on standard error. --slowest N also lists there the N tests that took longest, in seconds.
@@ -26,7 +26,7 @@ import unittest
 from collections.abc import Iterator
 from typing import NamedTuple, TextIO, cast
 
-from llbm_tools.paths import PROGRAM
+from llbm_tools import common
 from tests import base
 
 MODULES = [
@@ -42,6 +42,7 @@ MODULES = [
     "graphs",
     "explaining",
     "building",
+    "contents",
     "repository",
     "floors",
     "buildkit",
@@ -53,6 +54,11 @@ MODULES = [
     "jsons",
     "sessions",
     "naming",
+    "compiling",
+    "installing",
+    "words",
+    "running",
+    "impacting",
 ]
 
 
@@ -163,8 +169,7 @@ def positive(word: str) -> int:
 def parse_options() -> argparse.Namespace:
     """Parses the command line."""
     parser = argparse.ArgumentParser(description="Tests the tools of this folder.", allow_abbrev=False)
-    found = shutil.which(str(PROGRAM))
-    parser.add_argument("--llbm", metavar="PROGRAM", type=program_at, default=found, help="the program llbm")
+    parser.add_argument("--llbm", metavar="PROGRAM", type=program_at, help="the program llbm")
     jobs = len(os.sched_getaffinity(0))
     parser.add_argument("--jobs", metavar="N", type=positive, default=jobs, help="the number of processes")
     parser.add_argument("--slowest", metavar="N", type=positive, default=0, help="list the N tests that took longest")
@@ -201,7 +206,7 @@ def test_all(options: argparse.Namespace) -> int:
 def main() -> int:
     """Runs the tool, and returns its exit status."""
     options = parse_options()
-    base.llbm = options.llbm
+    base.llbm = options.llbm or shutil.which(common.program_named(None))
     os.umask(0o022)
     signal.signal(signal.SIGTERM, signal.default_int_handler)
     try:

@@ -1,7 +1,7 @@
 """Tests the program as a process: its arguments, files and standard streams, its exit status and its output.
 
 In: PROGRAM, and the examples beside this folder. The expected result of each try is that of docs/FORMATS.md, under "The
-command line" and "Faults of the program".
+command line" and "Faults of the program"; with --unproved the version has to say that the program is not proved.
 
 Out: on standard output a line for each try that differs, and at the end `N passed, M failed`.
 
@@ -17,7 +17,7 @@ import subprocess
 import sys
 from typing import NamedTuple
 
-from llbm_tools.common import check_open, printable, say, shortened
+from llbm_tools.common import NOT_PROVED, check_open, printable, say, shortened
 from llbm_tools.paths import ROOT
 from llbm_tools.streams import exit_status
 
@@ -167,6 +167,11 @@ def help_on(command: str) -> str:
     return f"{about}\n\nUsage: llbm {command}{USAGES.get(command, '')}\n{ARGUMENTS.get(command, OPTIONS)}"
 
 
+def version_of(is_without_proof: bool) -> str:
+    """Returns the version of the program, which says whether it is proved."""
+    return VERSION.replace("proved with", NOT_PROVED) if is_without_proof else VERSION
+
+
 def requests() -> list[Try]:
     """Returns words that ask for help or for the version."""
     tries = [asked(word, page=HELP, to=to) for word in ("--help", "-h") for to in ("", CLOSED, FULL)]
@@ -178,7 +183,7 @@ def requests() -> list[Try]:
         asked("run", "-h", "--nosuch", page=help_on("run")),
         asked("step", "run", "--help", page=help_on("step")),
     ]
-    version = f"llbm {VERSION}\n"
+    version = f"llbm {version_of(is_unproved)}\n"
     words = [("--version",), ("-V",), ("-Vh",), ("--version", "run"), ("--version", "--help")]
     return [*tries, *[asked(*one, page=version) for one in words]]
 
@@ -224,6 +229,7 @@ def failing_definition() -> bytes:
 
 
 program = ""
+is_unproved = False
 
 
 def close_some(one: Try) -> None:
@@ -287,10 +293,12 @@ def try_all() -> int:
 
 def main() -> int:
     """Runs the tool, and returns its exit status."""
-    global program
+    global program, is_unproved
     parser = argparse.ArgumentParser(description="Tests the program llbm as a process.", allow_abbrev=False)
     parser.add_argument("program", metavar="PROGRAM", help="the program llbm")
-    word = parser.parse_args().program
+    parser.add_argument("--unproved", action="store_true", help="the version has to say that it is not proved")
+    options = parser.parse_args()
+    word, is_unproved = options.program, options.unproved
     found = shutil.which(word)
     if not found:
         say(f"{word}: there is no such program")

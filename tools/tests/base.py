@@ -8,6 +8,8 @@ import sys
 import tempfile
 import unittest
 
+from llbm_tools import common
+
 TOOLS = pathlib.Path(__file__).resolve().parent.parent
 ROOT = TOOLS.parent
 IS_ROOT = os.geteuid() == 0
@@ -53,6 +55,12 @@ def run_closed(descriptor, tool, *words):
     return subprocess.run(
         command(tool, *words), capture_output=True, timeout=120, preexec_fn=lambda: os.close(descriptor)
     )
+
+
+def skip_if_slow(case):
+    """Skips a test that takes minutes with a program that is compiled without proof, and so without optimization."""
+    if llbm is not None and common.is_unproved(llbm):
+        case.skipTest("a program without proof is too slow")
 
 
 class Folder(unittest.TestCase):

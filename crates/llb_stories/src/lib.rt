@@ -51,6 +51,8 @@ mod runs;
 #[cfg(test)]
 mod sessions;
 #[cfg(test)]
+mod sharing;
+#[cfg(test)]
 mod told;
 #[cfg(test)]
 mod walks;

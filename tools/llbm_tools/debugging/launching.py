@@ -16,11 +16,11 @@ from collections.abc import Callable
 from typing import NamedTuple
 
 from llbm_tools import definition, faults
-from llbm_tools.common import MOST_BYTES, os_error_text
+from llbm_tools.common import MOST_BYTES, os_error_text, program_named
 from llbm_tools.debugging import places
 from llbm_tools.debugging.arguments import Refused, argument, of_kind
 from llbm_tools.debugging.session import Refusal, Session, SessionFailed
-from llbm_tools.paths import PROGRAM, TOOLS
+from llbm_tools.paths import TOOLS
 
 MOST_WORKERS = 64
 USUAL_WORKERS = 2
@@ -69,12 +69,11 @@ def cause_of(words: list[str], otherwise: str, entries: faults.Entries | None = 
 
 
 def program_of(arguments: dict) -> str:
-    """Returns the program: the one that is named, else the one on PATH, else the one that was built here."""
+    """Returns the program: the one that is named, else the one on PATH, else that of this folder."""
     named = argument(arguments, "llbm", str, "")
-    for word in [named] if named else ["llbm", str(PROGRAM)]:
-        found = shutil.which(word)
-        if found:
-            return found
+    found = shutil.which(named or "llbm") or shutil.which(named or program_named(None))
+    if found:
+        return found
     raise Refused(f"{named or 'llbm'}: there is no such program" + ("" if named else "; the argument llbm names one"))
 
 
