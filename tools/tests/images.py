@@ -11,7 +11,7 @@ import tarfile
 import unittest
 
 from llbm_tools import sources
-from tests import image_parts
+from tests import base, image_parts
 from tests.archives import entry, other, tar
 from tests.base import IS_ROOT, Folder, run
 from tests.image_parts import image, layout, saved
@@ -287,6 +287,58 @@ class Readers(Images):
         self.assertEqual(words, wanted)
         other_place = os.fsdecode(self.folder)
         self.assertEqual(sources.words_for(other_place), ["tree-of-directory", *wanted[1:3], "--", other_place])
+
+
+class Builds(Images):
+    """Builds from images and archives, by reference and by value."""
+
+    def setUp(self):
+        super().setUp()
+        if base.llbm is None:
+            raise unittest.SkipTest("the program llbm is needed (--llbm PROGRAM)")
+        origin = base.source("local://a")
+        self.definition = self.file(b"definition", base.ending(origin, base.merge(origin)))
+        self.tree_text = self.text([ROOT, "f 0644 0 0 62 /b", "d 0755 0 0 /d", "f 0644 0 0 646464 /d/d"])
+        layers = [tar(entry("a", b"a"), entry("d/d", b"ddd", owner=(5, 6)), entry("b", b"b")), tar(removed("a"))]
+        self.layout(image(*layers))
+        self.file(b"image.tar", image_parts.archive(saved(*layers)))
+        self.file(b"plain.tar.gz", image_parts.gzipped(tar(entry("b", b"b"), entry("d/d", b"ddd"))))
+
+    def build(self, source, result, *words):
+        """Runs a build with one source."""
+        given = b"a=" + self.place(source)
+        return run("build", "--llbm", base.llbm, *words, self.definition, self.place(result), given)
+
+    def test_images_and_archives_are_sources(self):
+        for number, source in enumerate([b"image", b"image.tar", b"plain.tar.gz"]):
+            for words in [[], ["--by-value"]]:
+                result = b"%d-%d.tar" % (number, len(words))
+                done = self.build(source, result, "--strict", "--mtime", "5", *words)
+                self.assertEqual(done.returncode, 0, done.stderr)
+                self.check_success(run("tree-of-tar", self.place(result)), self.tree_text, f"{LEFT}\n".encode())
+                wanted = run("tar-of-tree", "--mtime", "5", text=self.tree_text).stdout
+                self.assertEqual(pathlib.Path(os.fsdecode(self.place(result))).read_bytes(), wanted)
+
+    def test_the_time_is_that_of_the_result(self):
+        for words in [[], ["--by-value"]]:
+            result = b"out%d" % len(words)
+            self.assertEqual(self.build(b"image.tar", result, "--mtime", "7", *words).returncode, 0)
+            for names in [[], [b"b"], [b"d"], [b"d", b"d"]]:
+                self.assertEqual(os.stat(self.place(result, *names)).st_mtime_ns, 7_000_000_000)
+
+    def test_a_strict_build_refuses_what_is_left_out(self):
+        self.make(b"a", b"a")
+        os.symlink(b"a", self.place(b"in", b"link"))
+        self.file(b"x.tar", tar(entry("a", b"a"), link("link", "a")))
+        self.layout(image(tar(link("link", "a"))), name=b"linked")
+        for source in [b"in", b"x.tar", b"linked"]:
+            for words in [[], ["--by-value"]]:
+                done = self.build(source, b"out.tar", "--strict", *words)
+                lines = ["/link: left out: a symbolic link", "left out: 1 symbolic link"]
+                lines += ["refused: something was left out", "nothing is written"]
+                self.assertEqual((done.returncode, done.stderr.decode().splitlines()[-4:]), (2, lines))
+        self.assertFalse(os.path.lexists(self.place(b"out.tar")))
+        self.assertEqual(self.build(b"in", b"out.tar").returncode, 0)
 
 
 @unittest.skipUnless(shutil.which("umoci") and IS_ROOT, "there is no umoci, or the user is not root")
