@@ -1,8 +1,8 @@
 """Writes the tree text of an image to standard output.
 
 In: IMAGE, a directory with an OCI layout, or an archive of an OCI layout or of `docker save`, which may be packed as
-`tree-of-tar` reads it; standard input if none is named. --name NAME and --platform OS/ARCHITECTURE[/VARIANT] pick one
-of several images: NAME is a tag of `docker save`, or the reference of an index's entry (the annotations
+`tree-of-tar` reads it; standard input if none or `-` is named. --name NAME and --platform OS/ARCHITECTURE[/VARIANT]
+pick one of several images: NAME is a tag of `docker save`, or the reference of an index's entry (the annotations
 `org.opencontainers.image.ref.name` and `io.containerd.image.name`). With --owner every entry gets that owner.
 
 The layers are laid one over another: an entry replaces what has its path, but a directory over a directory keeps what
@@ -21,13 +21,14 @@ interrupted.
 import argparse
 
 from llbm_tools import archive_texts, image_trees
-from llbm_tools.streams import exit_status, standard_input
+from llbm_tools.streams import exit_status, is_standard_input, standard_input
 from llbm_tools.trees import owner_word
 
 
 def read_image(options: argparse.Namespace) -> None:
     """Reads the image that the command line names, and writes its text."""
-    given = image_trees.files_in(standard_input()) if options.image is None else image_trees.files_at(options.image)
+    is_input = is_standard_input(options.image)
+    given = image_trees.files_in(standard_input()) if is_input else image_trees.files_at(options.image)
     with given as files, image_trees.tree_of(files, options.name, options.platform) as entries:
         archive_texts.write_text(entries, options.owner, options.strict)
 

@@ -24,7 +24,7 @@ from typing import BinaryIO
 
 from llbm_tools import archive_texts, archives, packing
 from llbm_tools.archive_entries import entries_of
-from llbm_tools.streams import exit_status, opened_file, standard_input, temporary_file
+from llbm_tools.streams import exit_status, is_standard_input, opened_file, standard_input, temporary_file
 from llbm_tools.trees import owner_word
 
 
@@ -37,7 +37,7 @@ def write_text(given: BinaryIO, options: argparse.Namespace) -> None:
 
 def read_archive(options: argparse.Namespace) -> None:
     """Reads the archive that the command line names, and writes its text."""
-    if options.archive is None:
+    if is_standard_input(options.archive):
         write_text(standard_input(), options)
         return
     with opened_file(options.archive) as file:
