@@ -2,17 +2,21 @@
 
 In: a definition, on standard input or in the file DEFINITION (`-` is standard input). Sources that are images, git
 repositories, files from HTTP or OCI layouts become local sources; their names are made from their identifiers, and no
-two sources get the same name. --without-secrets drops mounts of secrets and secret environment variables, --without-ssh
-mounts of SSH agents, --without-unpack the unpacking of copies, --without-owners users and groups that are given by
-name. With --run-nothing the words of executions become `true`. --rules FILE replaces the words of the executions that a
-rule names; each line of the file is a rule, `digest DIGEST => NEW ..`, `name NAME => NEW ..` or `words OLD .. => NEW
-..`, quoted as for a shell, and a rule without new words keeps the old ones. --all means all of these options except
---rules, which takes precedence over --run-nothing.
+two sources get the same name. A local source whose name no word NAME=FILE can have, since it has a `=` or begins with
+`-`, gets another one. --without-secrets drops mounts of secrets and secret environment variables, --without-ssh mounts
+of SSH agents, --without-unpack the unpacking of copies, --without-owners users and groups that are given by name. With
+--run-nothing the words of executions that llbm refuses become `true`, and with --run-nothing=all those of all
+executions. --rules FILE replaces the words of the executions that a rule names; each line of the file is a rule,
+`digest DIGEST => NEW ..`, `name NAME => NEW ..` or `words OLD .. => NEW ..`, quoted as for a shell, and a rule without
+new words keeps the old ones. Rules take precedence over --run-nothing. --all means all of these options except
+--run-nothing=all and --rules.
 
 Out: the definition, on standard output, or in FILE with -o FILE. Digests change, and with them the inputs that name
 them and the keys of the metadata and of the locations in `Source`; all other bytes and the order of the entries stay
-the same. On standard error there is a line `entry N: ..` for each change; then for each local source its name, a tab,
-and its old identifier. With --sources FILE that list is written to FILE instead.
+the same, and so do all entries that are not reached from the result. On standard error there is a line `entry N: ..`
+for each change; then for each local source that is reached its name, a tab, and its old identifier. With --sources FILE
+that list is written to FILE instead. Where something is left that llbm refuses, a line says which further options would
+mend it, and what would be left with these.
 
 Exit status: 0 the definition is written, and llbm accepts it; 2 something in it cannot be adopted, or the definition, a
 rule or the command line is refused: standard error names it, by its entry and the program's name for it, and nothing is
@@ -29,14 +33,8 @@ from llbm_tools import adopting, adoption_rules, common, findings
 from llbm_tools.streams import Refused, check_inputs, exit_status
 from llbm_tools.wire import Faulty, Unreadable
 
-HINTS = {
-    "SecretMount": "--without-secrets drops it",
-    "SecretEnv": "--without-secrets drops it",
-    "SshMount": "--without-ssh drops it",
-    "Unpack": "--without-unpack drops it",
-    "OwnerByName": "--without-owners drops it",
-    "Script": "--run-nothing or --rules replaces the words",
-}
+OPTIONS = {kind: f"--without-{kind}" for kind in adopting.DROPPED} | {adopting.RUN_NOTHING: "--run-nothing"}
+MENDS = {adopting.RUN_NOTHING: "or --rules replaces the words"}
 
 
 def settings_from(options: argparse.Namespace) -> adopting.Settings:
@@ -48,15 +46,34 @@ def settings_from(options: argparse.Namespace) -> adopting.Settings:
         except Refused as fault:
             raise Refused(f"{options.rules}: {fault}") from fault
     dropped = [kind for kind in adopting.DROPPED if options.all or getattr(options, f"without_{kind}")]
-    return adopting.Settings(frozenset(dropped), tuple(rules), options.all or options.run_nothing)
+    run_nothing = adopting.RunNothing.REFUSED if options.all or options.run_nothing else adopting.RunNothing.NONE
+    if options.run_all:
+        run_nothing = adopting.RunNothing.ALL
+    return adopting.Settings(frozenset(dropped), tuple(rules), run_nothing)
+
+
+def shown(finding: findings.Finding) -> str:
+    """Returns what is left: its entry if it has one, and the program's name for it."""
+    return f"entry {finding.row}: {finding.rest}" if finding.name() else f"fault {finding.words()}"
 
 
 def left_text(finding: findings.Finding) -> str:
-    """Describes what cannot be adopted: its entry, and the program's name for it."""
-    if finding.number not in (findings.FEATURE, findings.RULE):
-        return f"not adopted: fault {finding.words()}"
-    hint = HINTS.get(finding.rest.split(" ")[0])
-    return f"entry {finding.row}: not adopted: {finding.rest}" + (f"; {hint}" if hint else "")
+    """Describes what cannot be adopted, with the option that mends it."""
+    if not finding.name():
+        return f"not adopted: {shown(finding)}"
+    kind = adopting.KIND_OF_FINDING.get(finding.name())
+    hint = f"; {OPTIONS[kind]} {MENDS.get(kind, 'drops it')}" if kind else ""
+    return f"entry {finding.row}: not adopted: {finding.rest}{hint}"
+
+
+def advice(data: bytes, settings: adopting.Settings, left: list[findings.Finding]) -> list[str]:
+    """Returns a line with the options that are missing, and what would be left with them; none if no option helps."""
+    kinds = adopting.missing_kinds(left, settings)
+    if not kinds:
+        return []
+    rest = adopting.adopt(data, adopting.with_kinds(settings, kinds)).left
+    would = f"would leave {'; '.join(map(shown, rest))}" if rest else "would adopt all of it"
+    return [f"{' '.join(OPTIONS[kind] for kind in kinds)} {would}"]
 
 
 def say_line(line: str) -> None:
@@ -116,12 +133,14 @@ def adopt(options: argparse.Namespace) -> None:
         check_inputs(options.definition, options.rules)
     settings = settings_from(options)
     try:
-        adopted = adopting.adopt(common.data_in(options.definition), settings)
+        data = common.data_in(options.definition)
+        adopted = adopting.adopt(data, settings)
     except Faulty as fault:
         raise Refused(f"not adopted: fault {findings.DEFINITION} {fault.number}") from fault
     except Unreadable as fault:
         raise Refused(f"not adopted: {fault}") from fault
     left = list(map(left_text, adopted.left))
+    left += advice(data, settings, adopted.left)
     if left and not options.leave:
         raise Refused(*left, "nothing is written")
     write(options, adopted)
@@ -145,9 +164,10 @@ def parse_options() -> argparse.Namespace:
     add("--without-ssh", action="store_true", help="drop mounts of SSH agents")
     add("--without-unpack", action="store_true", help="drop the unpacking of copies")
     add("--without-owners", action="store_true", help="drop users and groups that are given by name")
-    add("--run-nothing", action="store_true", help="executions that no rule names run `true`")
+    add("--run-nothing", action="store_true", help="executions that are refused run `true` if no rule names them")
+    add("--run-nothing=all", action="store_true", dest="run_all", help="all executions do that no rule names")
     add("--rules", metavar="FILE", help="rules that replace words: digest, name or words, `=>`, and new words")
-    add("--all", action="store_true", help="all of the above except --rules, which takes precedence over --run-nothing")
+    add("--all", action="store_true", help="all of the above except --run-nothing=all and --rules")
     add("--leave", action="store_true", help="leave what cannot be adopted as it is")
     return parser.parse_args()
 

@@ -5,16 +5,17 @@ change of an entry changes all entries downstream. Entries are rewritten inputs 
 inputs.
 """
 
+import enum
 import functools
 import itertools
 import shlex
 from collections.abc import Callable, Sequence
 from typing import NamedTuple
 
-from llbm_tools import definition, findings, names, op_reading, op_rules, wire
+from llbm_tools import definition, findings, names, op_reading, op_rules, script_faults, wire
 from llbm_tools.adoption_rules import Rule, rule_for
 from llbm_tools.common import shortened
-from llbm_tools.local_names import LocalNames, is_known
+from llbm_tools.local_names import LocalNames, can_be_given, is_known
 from llbm_tools.ops import ChownOpt, ExecOp, FileAction, Input, Mount, Op, fields_of
 from llbm_tools.rewriting import changed, with_each, with_message, with_text, with_texts, without, written
 from llbm_tools.wire import Faulty, Record
@@ -26,16 +27,34 @@ OWNERS = {4: 3, 5: 4, 6: 4}
 COPY, UNPACK = 4, 7
 
 DROPPED = SECRETS, SSH, UNPACKS, OWNER_NAMES = "secrets", "ssh", "unpack", "owners"
+RUN_NOTHING = "run-nothing"
 NOTHING = ("true",)
+KIND_OF_FINDING = {
+    "SecretMount": SECRETS,
+    "SecretEnv": SECRETS,
+    "SshMount": SSH,
+    "Unpack": UNPACKS,
+    "OwnerByName": OWNER_NAMES,
+    "Script": RUN_NOTHING,
+    "NoArgs": RUN_NOTHING,
+}
 MOST_CHARACTERS = 60
 
 
+class RunNothing(enum.Enum):
+    """Which executions that no rule names run nothing."""
+
+    NONE = enum.auto()
+    REFUSED = enum.auto()
+    ALL = enum.auto()
+
+
 class Settings(NamedTuple):
-    """What to change besides sources: what to drop, rules for words, and whether all other executions run nothing."""
+    """What to change besides sources: what to drop, rules for words, and which other executions run nothing."""
 
     dropped: frozenset[str] = frozenset()
     rules: tuple[Rule, ...] = ()
-    run_nothing: bool = False
+    run_nothing: RunNothing = RunNothing.NONE
 
 
 class Adopted(NamedTuple):
@@ -98,7 +117,9 @@ class Entry:
             shown = ", ".join(map(name_of_secret, exec_op.secretenv))
             self.changes.append(f"dropped: secret environment {shown}")
             records = without(records, 5)
-        old = exec_op.meta.args if exec_op.meta else ()
+        if not exec_op.meta:
+            return records
+        old = exec_op.meta.args
         new = self.words(digest, old)
         if new == old:
             return records
@@ -110,7 +131,9 @@ class Entry:
         self.used = rule_for(self.settings.rules, digest, self.name, old)
         if self.used:
             return self.used.words or old
-        return NOTHING if self.settings.run_nothing else old
+        is_refused = not old or script_faults.fault_of(old) is not None
+        wanted = self.settings.run_nothing
+        return NOTHING if wanted is RunNothing.ALL or wanted is RunNothing.REFUSED and is_refused else old
 
     def mount(self, held: bytes) -> bytes | None:
         """Returns a mount, or None if it is dropped."""
@@ -164,9 +187,10 @@ class Adoption:
         self.digests = [definition.digest_of(entry) for entry in self.entries]
         self.names = [name.text for name in names.names_of(data)]
         self.settings = settings
-        self.rows: dict[str, int] = {}
-        self.ops: dict[int, Op] = {}
-        self.read()
+        found = findings.Rows(self.entries)
+        self.rows = found.named
+        self.ops = found.ops
+        self.reached = found.reached()
         self.sources: list[tuple[str, str]] = []
         self.local: dict[str, str] = {}
         self.name_sources()
@@ -175,30 +199,27 @@ class Adoption:
         self.changes: dict[int, list[str]] = {}
         self.used: set[int] = set()
 
-    def read(self) -> None:
-        """Reads the op of each row that is one."""
-        for row, (digest, entry) in enumerate(zip(self.digests, self.entries)):
-            if self.rows.setdefault(digest, row) == row:
-                try:
-                    self.ops[row] = op_reading.read_op(entry)
-                except Faulty:
-                    continue
-
     def name_sources(self) -> None:
-        """Chooses a name for each source that becomes a local one, in the order of the rows."""
-        sources = {row: op.source.identifier for row, op in self.ops.items() if op.source}
+        """Chooses names for reached sources, in the order of the rows, and lists all that are local then."""
+        ops = {row: op for row, op in self.ops.items() if row in self.reached}
+        sources = {row: op.source.identifier for row, op in ops.items() if op.source}
         given = LocalNames(list(sources.values()))
+        renamed: dict[str, str] = {}
         for row, identifier in sources.items():
+            name = identifier[len(op_rules.LOCAL) :] if identifier.startswith(op_rules.LOCAL) else None
             if is_known(identifier):
-                self.local[self.digests[row]] = given.new_name(identifier)
-                self.sources.append((self.local[self.digests[row]], identifier))
-            elif identifier.startswith(op_rules.LOCAL):
-                self.sources.append((identifier[len(op_rules.LOCAL) :], identifier))
+                self.local[self.digests[row]] = name = given.new_name(identifier)
+            elif name and not can_be_given(name):
+                name = renamed[identifier] = renamed.get(identifier) or given.new_name(identifier)
+                self.local[self.digests[row]] = name
+            if name is not None:
+                self.sources.append((name, identifier))
 
     def order(self) -> list[int]:
-        """Returns the rows that are ops, inputs first."""
-        named = {row: [self.rows.get(edge.digest) for edge in op.inputs] for row, op in self.ops.items()}
-        return definition.order_of({row: [one for one in rows if one in self.ops] for row, rows in named.items()})
+        """Returns the rows that are reached and are ops, inputs first."""
+        ops = {row: op for row, op in self.ops.items() if row in self.reached}
+        named = {row: [self.rows.get(edge.digest) for edge in op.inputs] for row, op in ops.items()}
+        return definition.order_of({row: [one for one in rows if one in ops] for row, rows in named.items()})
 
     def input(self, held: bytes) -> bytes:
         """Returns an input with the new digest of the entry that it names."""
@@ -259,3 +280,16 @@ def adopt(data: bytes, settings: Settings) -> Adopted:
     result = adoption.result()
     changes = [(row, text) for row in sorted(adoption.changes) for text in adoption.changes[row]]
     return Adopted(result, changes, adoption.others(), adoption.sources, findings.findings_of(result))
+
+
+def with_kinds(settings: Settings, kinds: list[str]) -> Settings:
+    """Returns settings that drop these kinds too; RUN_NOTHING is one of them."""
+    run_nothing = RunNothing.REFUSED if RUN_NOTHING in kinds else settings.run_nothing
+    return settings._replace(dropped=settings.dropped | set(kinds) - {RUN_NOTHING}, run_nothing=run_nothing)
+
+
+def missing_kinds(left: list[findings.Finding], settings: Settings) -> list[str]:
+    """Returns the kinds of changes that are not asked for and would mend some of what is left."""
+    asked = {*settings.dropped, *([] if settings.run_nothing is RunNothing.NONE else [RUN_NOTHING])}
+    kinds = {KIND_OF_FINDING.get(finding.name()) for finding in left}
+    return [kind for kind in (*DROPPED, RUN_NOTHING) if kind in kinds and kind not in asked]

@@ -1,4 +1,4 @@
-"""Tar archives as the tools of this folder read them: unpacked, and entry by entry up to the first damaged header.
+"""Tar archives as the tools of this folder read them, entry by entry up to the first damaged header.
 
 This refuses what Python's tarfile accepts silently: a damaged header after the first entry, and an archive that is cut
 off at the end of an entry.
@@ -6,18 +6,19 @@ off at the end of an entry.
 
 import contextlib
 import errno
-import importlib
 import os
-import shutil
 import tarfile
 from collections.abc import Iterator
 from typing import BinaryIO
 
+from llbm_tools.packing import ENDINGS
 from llbm_tools.streams import PIECE, Refused
 
-PACKED = {b"\x1f\x8b": "gzip", b"BZh": "bz2", b"\xfd7zXZ\x00": "lzma", b"\x28\xb5\x2f\xfd": "compression.zstd"}
-
-ENDINGS = (".tar", ".tar.gz", ".tgz", ".tar.bz2", ".tar.xz", ".tar.zst")
+NAME, MAGIC = slice(0, 100), slice(257, 265)
+GNU_MAGIC = b"ustar  \0"
+DUMPED = b"D"
+DUMPED_HEADER = "GNU.dumpdir"
+NOT_HERE = b"N"
 
 UNREADABLE = (ArithmeticError, AttributeError, LookupError, RecursionError, TypeError, ValueError)
 
@@ -27,42 +28,24 @@ def is_archive(place: str) -> bool:
     return place.endswith(ENDINGS) and not os.path.isdir(place)
 
 
-def unpack(packed: BinaryIO, module: str, stored: BinaryIO) -> None:
-    """Unpacks a stream with a module of the standard library; an error is raised as Refused."""
-    try:
-        opened = importlib.import_module(module).open(packed, "rb")
-    except ImportError as fault:
-        raise Refused(f"the archive is packed by {module}, which this Python does not have") from fault
-    try:
-        shutil.copyfileobj(opened, stored, PIECE)
-    except OSError as fault:
-        if fault.errno is not None:
-            raise
-        raise Refused(f"the archive could not be unpacked: {fault}") from fault
-    except MemoryError:
-        raise
-    except Exception as fault:  # each of these modules raises its own types
-        raise Refused(f"the archive could not be unpacked: {fault}") from fault
-
-
-def open_unpacked(given: BinaryIO, first: BinaryIO, second: BinaryIO) -> BinaryIO:
-    """Returns the unpacked archive: the given stream if it is plain and seekable, else a temporary file."""
-    if not given.seekable() or given.tell():
-        shutil.copyfileobj(given, first, PIECE)
-        given = first
-    given.seek(0)
-    start = given.read(6)
-    given.seek(0)
-    for magic, module in PACKED.items():
-        if start.startswith(magic):
-            unpack(given, module, second)
-            second.seek(0)
-            return second
-    return given
-
-
 class Member(tarfile.TarInfo):
-    """An entry of an archive. A header that cannot be parsed is an error; it does not end the archive."""
+    """An entry of an archive. A header that cannot be parsed is an error; it does not end the archive.
+
+    A directory of an incremental archive of GNU tar is a directory. Its content, or that of its extended header, lists
+    what was in it. A header of GNU's own form has times where others have the begin of a long path.
+    """
+
+    @classmethod
+    def frombuf(cls, buf: bytes, encoding: str, errors: str) -> "Member":
+        """Returns the entry of a header."""
+        member = super().frombuf(buf, encoding, errors)
+        if buf[MAGIC] == GNU_MAGIC:
+            member.name = buf[NAME].partition(b"\0")[0].decode(encoding, errors)
+        return member
+
+    def isdir(self) -> bool:
+        """Returns whether the entry is a directory."""
+        return self.type in (tarfile.DIRTYPE, DUMPED)
 
     @classmethod
     def fromtarfile(cls, archive: tarfile.TarFile) -> "Member":
@@ -111,3 +94,11 @@ def content_of(archive: tarfile.TarFile, member: Member) -> Iterator[bytes]:
     with reading(f"{member.name}: the content could not be read"), archive.extractfile(member) as content:
         while piece := content.read(PIECE):
             yield piece
+
+
+def names_not_here(archive: tarfile.TarFile, member: Member) -> list[bytes]:
+    """Returns the names in a directory for which only an earlier incremental archive has entries."""
+    listed = member.pax_headers.get(DUMPED_HEADER, "").encode("utf-8", "surrogateescape")
+    if member.type == DUMPED:
+        listed = b"".join(content_of(archive, member))
+    return [name[1:] for name in listed.split(b"\0") if name.startswith(NOT_HERE)]

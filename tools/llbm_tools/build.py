@@ -2,7 +2,9 @@
 
 In: the file DEFINITION, and for each local source NAME=DIRECTORY or NAME=ARCHIVE, split at its first `=`; if a name is
 given twice the later one is used. A path that is not a directory and ends in .tar, .tar.gz, .tgz, .tar.bz2, .tar.xz or
-.tar.zst is read as an archive, by `tree-of-tar`. The program is --llbm PROGRAM, or else crates/llbm/out/llbm of the
+.tar.zst is read as an archive, as `tree-of-tar` does it, or as an image if it has one, as `tree-of-image` does it; a
+directory with an OCI layout is an image too. --platform OS/ARCHITECTURE picks one of several images. With --strict a
+source is refused if something of it is left out. The program is --llbm PROGRAM, or else crates/llbm/out/llbm of the
 repository, or else its out/llbm-unproved, which is named on standard error as not proved; --workers N sets its number
 of workers. All entries of sources get the owner 0:0, as with `tree-of-directory --owner 0:0`.
 
@@ -12,9 +14,10 @@ does in any case those of sources at or before an exec that calls `sha256` or `l
 or such a source has the byte 255, with which tokens begin; a source that is too long for that is refused before the
 program runs.
 
-Out: RESULT, which must not exist yet: an archive as `tar-of-tree` makes it if its name ends in .tar, else a new
-directory with owners and modes as `directory-of-tree` sets them. On standard error there is a line for each phase, the
-messages of the tools and the program, and an explanation after a fault or a failure of the program. RESULT appears
+Out: RESULT, which must not exist yet: an archive as `tar-of-tree` makes it if its name ends like one, packed as its
+name says, else a new directory with owners and modes as `directory-of-tree` sets them. The time of all entries is that
+of --mtime, or else, in an archive, that of SOURCE_DATE_EPOCH or 0. On standard error there is a line for each phase,
+the messages of the tools and the program, and an explanation after a fault or a failure of the program. RESULT appears
 complete, at the end: a build that fails or is interrupted leaves nothing, not even temporary files, which are in TMPDIR
 and beside RESULT while it runs.
 
@@ -24,10 +27,10 @@ of `llbm step`, whatever the number of workers. Everything else is the same, exc
 may see each other's writes in another order than with several workers.
 
 Exit status: that of the program. Before the program runs: 2 the command line is refused, DEFINITION, a source, the
-parent of RESULT or the program does not exist, a source is refused, RESULT already exists or ends like a packed
-archive; 3 a source can't be read completely, or a write failed. After the program has run: 2 its output is not a tree,
-a source has changed, or RESULT was created meanwhile; 3 RESULT could not be written, or a session ended too early. 128
-plus the number of a signal that interrupted the build or ended the program.
+parent of RESULT or the program does not exist, a source is refused, RESULT already exists or can't be packed; 3 a
+source can't be read completely, or a write failed. After the program has run: 2 its output is not a tree, a source has
+changed, or RESULT was created meanwhile; 3 RESULT could not be written, or a session ended too early. 128 plus the
+number of a signal that interrupted the build or ended the program.
 """
 
 import argparse
@@ -42,8 +45,7 @@ import tempfile
 from collections.abc import Iterable, Iterator
 from typing import BinaryIO
 
-from llbm_tools import by_value, faults, progress, shows
-from llbm_tools.archives import is_archive
+from llbm_tools import by_value, faults, packing, progress, shows, sources, times
 from llbm_tools.common import MOST_BYTES, os_error_text, program_named, say, shortened
 from llbm_tools.given_sources import Given, Source, too_long
 from llbm_tools.paths import TOOLS
@@ -54,7 +56,6 @@ from llbm_tools.streams import Failed, Refused
 SIGNALS = {signal.SIGINT, signal.SIGTERM, signal.SIGHUP}
 PATIENCE = 5
 
-PACKED = (".tar.gz", ".tgz", ".tar.bz2", ".tar.xz", ".tar.zst")
 MOST_OF_A_NAME = 100
 
 NOT_READ = NOT_DONE = 1
@@ -137,7 +138,8 @@ class Build:
         self.options = options
         self.result = options.result.rstrip("/") or "/"
         self.above = os.path.dirname(self.result) or "."
-        self.is_archive = self.result.endswith(".tar")
+        self.ending = packing.ending_of(self.result)
+        self.reading = sources.Reading(options.strict, options.platform)
         self.texts = ""
         self.directory = ""
         self.child: subprocess.Popen | None = None
@@ -148,8 +150,11 @@ class Build:
         """Refuses at the start what would make the build fail at its end."""
         if os.path.lexists(self.result):
             raise Ended(REFUSED, f"{self.result}: already exists")
-        if self.result.endswith(PACKED):
-            raise Ended(REFUSED, f"{self.result}: a result is a directory or a .tar")
+        form = packing.form_of_name(self.result)
+        if form:
+            packing.check_form(form)
+        if self.ending:
+            times.time_of_archive(self.options.mtime)
         if not os.path.isdir(self.above):
             raise Ended(REFUSED, f"{self.above}: there is no such directory")
         if not os.path.isfile(self.options.definition):
@@ -214,7 +219,7 @@ class Build:
             plan = by_value.plan_of(file.read(MOST_BYTES + 1))
         if not plan or plan.all:
             return plan.all if plan else ""
-        given = Given(self.options.source, self.text, [self.texts, self.directory])
+        given = Given(self.options.source, self.text, [self.texts, self.directory], self.reading)
         self.given = given
         cause = given.give(plan)
         if not given.is_whole:
@@ -227,9 +232,8 @@ class Build:
     def read(self, number: int, source: Source) -> None:
         """Writes the text of a source, by value."""
         say(f"reading {source.name} from {source.place}")
-        reader = "tree-of-tar" if is_archive(source.place) else "tree-of-directory"
         with open(self.text(number), "wb") as text:
-            command = self.tool(reader, "--owner", "0:0", "--", source.place)
+            command = self.tool(*sources.words_for(source.place, self.reading))
             status = ended(self.start(command, stdin=subprocess.DEVNULL, stdout=text))
         if status:
             raise Ended(FAILED if status == NOT_READ else status)
@@ -319,31 +323,41 @@ class Build:
     def write(self, result: str) -> None:
         """Writes the result from its text."""
         say(f"writing {self.result}")
-        place = os.path.join(self.directory, "result.tar") if self.is_archive else self.directory
+        place = os.path.join(self.directory, f"result{self.ending}") if self.ending else self.directory
         if self.given:
             self.write_contents(result, place, self.given.table)
         else:
             with open(result, "rb") as text:
-                tool = "tar-of-tree" if self.is_archive else "directory-of-tree"
-                status = ended(self.start(self.tool(tool, "--", place), stdin=text))
+                tool = "tar-of-tree" if self.ending else "directory-of-tree"
+                time = [] if self.options.mtime is None else ["--mtime", str(self.options.mtime)]
+                status = ended(self.start(self.tool(tool, *time, "--", place), stdin=text))
             if status:
                 raise Ended(status)
         with held_back():
             if os.path.lexists(self.result):
                 raise Ended(REFUSED, f"{self.result}: already exists")
             os.rename(place, self.result)
-            if not self.is_archive:
+            if not self.ending:
                 self.directory = ""
             ignore_signals()
 
     def write_contents(self, result: str, place: str, table: Table) -> None:
         """Writes the result from its text and the contents of the sources."""
-        if self.is_archive:
-            write_archive(result, place, table)
+        if self.ending:
+            self.write_archive(result, place, table)
         else:
-            self.writer = DirectoryWriter(result, place, table)
+            self.writer = DirectoryWriter(result, place, table, self.options.mtime)
             self.writer.write()
         table.check_archives()
+
+    def write_archive(self, result: str, place: str, table: Table) -> None:
+        """Writes the result as an archive, which is packed if its name says so."""
+        form = packing.form_of_name(place)
+        plain = os.path.join(self.directory, "plain") if form else place
+        write_archive(result, plain, table, times.time_of_archive(self.options.mtime))
+        if form:
+            with open(plain, "rb") as archive, open(place, "xb") as packed:
+                packing.pack(form, archive, packed)
 
     def whole(self) -> int:
         """Does the whole build, and returns the exit status."""
@@ -383,9 +397,12 @@ def parse_options() -> argparse.Namespace:
     parser.add_argument("--llbm", metavar="PROGRAM", help="the program llbm")
     parser.add_argument("--workers", metavar="N", help="the number of workers")
     parser.add_argument("--progress", action="store_true", help="print a line for each vertex as it settles")
+    parser.add_argument("--strict", action="store_true", help="refuse a source if something of it is left out")
+    parser.add_argument("--platform", metavar="OS/ARCH", help="the platform of sources that are images with several")
+    parser.add_argument("--mtime", metavar="SECONDS", type=times.seconds_of, help="the time of the result's entries")
     parser.add_argument("--by-value", action="store_true", help="give the program the contents of all sources")
     parser.add_argument("definition", metavar="DEFINITION", help="the file of the definition")
-    parser.add_argument("result", metavar="RESULT", help="the new directory, or a new file that ends in .tar")
+    parser.add_argument("result", metavar="RESULT", help="the new directory, or the new archive")
     parser.add_argument(
         "source", metavar="NAME=DIRECTORY", nargs="*", type=source_of, help="a local source: a directory or an archive"
     )

@@ -2,8 +2,9 @@
 
 In: FIRST and SECOND, each a directory, an archive (a path that is not a directory and ends in .tar, .tar.gz, .tgz,
 .tar.bz2, .tar.xz or .tar.zst), or else a file with the text of a tree; `-` is a text on standard input. Directories and
-archives are read by `tree-of-directory` and `tree-of-tar`, which name on standard error what cannot be in a tree; with
---strict that is refused. With --owner every entry of a directory or an archive gets that owner.
+archives are read by `tree-of-directory` and `tree-of-tar`, or by `tree-of-image` if they are an image; these name on
+standard error what cannot be in a tree, and with --strict that is refused. With --owner every entry of a directory or
+an archive gets that owner.
 
 Out: on standard output a line for each path that differs, in path order, once both trees are read:
 
@@ -30,6 +31,7 @@ import sys
 from collections.abc import Iterator
 from typing import BinaryIO
 
+from llbm_tools import sources
 from llbm_tools.archives import is_archive
 from llbm_tools.paths import TOOLS
 from llbm_tools.streams import Failed, Refused, exit_status, standard_input, temporary_file, write_output
@@ -44,11 +46,9 @@ Traits = dict[str, str]
 
 def reader_of(place: str) -> str | None:
     """Returns the tool that reads a path, or None for a text."""
-    if place == STANDARD_INPUT:
-        return None
-    if os.path.isdir(place):
-        return "tree-of-directory"
-    return "tree-of-tar" if is_archive(place) else None
+    if place != STANDARD_INPUT and (os.path.isdir(place) or is_archive(place)):
+        return sources.reader_of(place)
+    return None
 
 
 def read_by(reader: str, place: str, options: argparse.Namespace, stored: BinaryIO) -> None:
@@ -57,7 +57,7 @@ def read_by(reader: str, place: str, options: argparse.Namespace, stored: Binary
     flags += ["--owner", "{}:{}".format(*options.owner)] if options.owner else []
     command = [sys.executable, str(TOOLS / reader), *flags, "--", place]
     status = subprocess.run(command, stdin=subprocess.DEVNULL, stdout=stored).returncode
-    if status == REFUSED or options.strict and status == 1:
+    if status == REFUSED:
         raise Refused(f"{place}: could not be read as a tree")
     if status:
         raise Failed(f"{place}: could not be read as a tree")

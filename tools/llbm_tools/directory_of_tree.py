@@ -4,9 +4,10 @@ In: a tree text on standard input, and the directory's name on the command line;
 empty directory.
 
 Out: the directory with all entries of the text and their modes; the root's line is the directory itself. Owners are set
-only if the tool runs as root. The whole text is checked before anything is written; its first faulty line is named on
-standard error as `line N: ...`, counted from 1, and nothing after it is read. The text is processed line by line with
-an unnamed temporary file (in TMPDIR), so the memory needed depends only on the longest line.
+only if the tool runs as root. With --mtime every entry has that time, else that of its writing. The whole text is
+checked before anything is written; its first faulty line is named on standard error as `line N: ...`, counted from 1,
+and nothing after it is read. The text is processed line by line with an unnamed temporary file (in TMPDIR), so the
+memory needed depends only on the longest line.
 
 Exit status: 0 the directory is written; 2 the text, the directory or the command line is refused, and nothing is
 written; 3 a read or a write failed (named on standard error), and what was written remains; 130 interrupted, and what
@@ -19,6 +20,7 @@ import contextlib
 import os
 from collections.abc import Iterable, Iterator
 
+from llbm_tools import times
 from llbm_tools.streams import Failed, Refused, exit_status, input_lines, temporary_file
 from llbm_tools.trees import MOST_OF_AN_OWNER, Entry, Names, check_into, entry_of
 
@@ -55,8 +57,10 @@ def check_empty(descriptor: int, directory: bytes) -> None:
             raise Refused(f"{os.fsdecode(directory)}: not empty")
 
 
-def finish(descriptor: int, entry: Entry) -> None:
-    """Sets the owner and then the mode, because a change of the owner may clear mode bits."""
+def finish(descriptor: int, entry: Entry, time: int | None = None) -> None:
+    """Sets the time, the owner, and then the mode, because a change of the owner may clear mode bits."""
+    if time is not None:
+        os.utime(descriptor, (time, time))
     if os.geteuid() == 0:
         if MOST_OF_AN_OWNER in (entry.user, entry.group):
             raise OSError(None, "the system has no such owner")
@@ -67,8 +71,9 @@ def finish(descriptor: int, entry: Entry) -> None:
 class Writer:
     """Writes entries below a directory; holds the open directories, from the root down."""
 
-    def __init__(self, descriptor: int, root: Entry) -> None:
+    def __init__(self, descriptor: int, root: Entry, time: int | None) -> None:
         self.open = [(descriptor, root)]
+        self.time = time
 
     def put(self, entry: Entry) -> None:
         """Makes an entry in its parent; directories that are not above it are finished."""
@@ -91,35 +96,35 @@ class Writer:
         with open(descriptor, "wb") as file:
             file.write(binascii.unhexlify(entry.content or b""))
             file.flush()
-            finish(descriptor, entry)
+            finish(descriptor, entry, self.time)
 
     def end(self, count: int) -> None:
         """Closes all open directories but the first ones, the deepest first, and sets their owners and modes."""
         while len(self.open) > count:
             descriptor, entry = self.open.pop()
             with at(entry.names):
-                finish(descriptor, entry)
+                finish(descriptor, entry, self.time)
                 os.close(descriptor)
 
 
-def write(lines: Iterable[bytes], directory: bytes) -> None:
+def write(lines: Iterable[bytes], directory: bytes, time: int | None) -> None:
     """Writes the directory of valid lines."""
     entries = map(entry_of, lines)
     os.umask(0o077)
     root = open_root(directory)
     check_empty(root, directory)
-    writer = Writer(root, next(entries))
+    writer = Writer(root, next(entries), time)
     for entry in entries:
         writer.put(entry)
     writer.end(0)
 
 
-def write_checked(directory: bytes) -> None:
+def write_checked(directory: bytes, time: int | None) -> None:
     """Writes the directory of the text on standard input, once all of the text is checked."""
     with temporary_file("the text") as stored:
         check_into(stored, input_lines())
         stored.seek(0)
-        write(stored, directory)
+        write(stored, directory, time)
 
 
 def parse_options() -> argparse.Namespace:
@@ -128,10 +133,11 @@ def parse_options() -> argparse.Namespace:
         description="Writes the tree text on standard input as a new directory.", allow_abbrev=False
     )
     parser.add_argument("directory", metavar="DIRECTORY", type=os.fsencode, help="the new directory")
+    parser.add_argument("--mtime", metavar="SECONDS", type=times.seconds_of, help="the time of every entry, since 1970")
     return parser.parse_args()
 
 
 def main() -> int:
     """Runs the tool, and returns its exit status."""
     options = parse_options()
-    return exit_status(lambda: write_checked(options.directory))
+    return exit_status(lambda: write_checked(options.directory, options.mtime))

@@ -25,6 +25,10 @@ class Finding(NamedTuple):
         """Returns the words of the program after `fault`."""
         return " ".join([str(self.number), *([] if self.row is None else [str(self.row)]), *filter(None, [self.rest])])
 
+    def name(self) -> str:
+        """Returns the name of a feature or of a rule, or nothing."""
+        return self.rest.partition(" ")[0] if self.number in (FEATURE, RULE) else ""
+
 
 class Rows:
     """The rows of a definition by digest, and what is found in them."""
@@ -87,6 +91,11 @@ class Rows:
     def rows_to_check(self) -> list[int]:
         """Returns the reachable rows, or all but the terminal if they are not known."""
         return sorted(self.sure if self.is_known else self.ops.keys() - {self.terminal})
+
+    def reached(self) -> set[int]:
+        """Returns the rows that are reached from the result, or all if they are not known, and the terminal."""
+        self.reach(self.start())
+        return {*self.rows_to_check(), self.terminal}
 
     def check_row(self, row: int) -> None:
         """Checks a row: inputs that name no row, features and rules."""

@@ -4,11 +4,11 @@ import contextlib
 from collections.abc import Callable
 from typing import NamedTuple
 
-from llbm_tools.archives import is_archive
 from llbm_tools.by_value import Plan
 from llbm_tools.common import MOST_BYTES, say
 from llbm_tools.references import Table
-from llbm_tools.source_texts import HasMark, TooLong, Values, read_archive, read_directory
+from llbm_tools.source_texts import HasMark, TooLong, Values, read_archive, read_directory, read_image
+from llbm_tools.sources import Reading, reader_of
 from llbm_tools.streams import Refused
 
 
@@ -27,8 +27,11 @@ def too_long(source: Source, cause: str) -> str:
 class Given:
     """The sources of a build, and the table of their contents."""
 
-    def __init__(self, sources: list[Source], text: Callable[[int], str], hidden: list[str]) -> None:
+    def __init__(
+        self, sources: list[Source], text: Callable[[int], str], hidden: list[str], reading: Reading
+    ) -> None:
         self.sources = sources
+        self.reading = reading
         self.text = text
         self.hidden = hidden
         self.table = Table()
@@ -59,7 +62,10 @@ class Given:
         """Writes the text of a source."""
         with open(self.text(number), "wb") as output:
             values = Values(output) if is_value else None
-            if is_archive(place):
-                read_archive(place, output, self.table, values, self.kept)
-            elif not read_directory(place, output, self.table, values, self.hidden):
+            reader = reader_of(place)
+            if reader == "tree-of-image":
+                read_image(place, output, self.table, values, self.kept, self.reading)
+            elif reader == "tree-of-tar":
+                read_archive(place, output, self.table, values, self.kept, self.reading)
+            elif not read_directory(place, output, self.table, values, self.hidden, self.reading.strict):
                 self.is_whole = False

@@ -21,6 +21,7 @@ TOO_DEEP = Exclusion(f"more than {MOST_NAMES} names", "path that is too long", "
 LINK = Exclusion("a symbolic link", "symbolic link", "symbolic links")
 DEVICE = Exclusion("a device", "device", "devices")
 PIPE = Exclusion("a pipe", "pipe", "pipes")
+ATTRIBUTE = Exclusion("an extended attribute", "extended attribute", "extended attributes")
 
 
 def say_of(path: bytes, cause: str) -> None:

@@ -15,6 +15,11 @@ def is_known(identifier: str) -> bool:
     return identifier.partition("://")[0] in SCHEMES and "://" in identifier
 
 
+def can_be_given(name: str) -> bool:
+    """Returns whether a word NAME=FILE can give the local source of this name its tree."""
+    return "=" not in name and not name.startswith("-")
+
+
 def short_name(identifier: str) -> str:
     """Returns the last part of an identifier without tag, digest, fragment and query: at most 32 plain characters."""
     scheme, _, rest = identifier.partition("://")

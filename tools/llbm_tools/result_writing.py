@@ -42,12 +42,12 @@ def make_directories(root: int, lines: list[Line]) -> None:
     below.close()
 
 
-def finish_directories(root: int, lines: list[Line]) -> None:
-    """Sets the owners and modes of directories, those that are deepest first."""
+def finish_directories(root: int, lines: list[Line], time: int | None) -> None:
+    """Sets the times, owners and modes of directories, those that are deepest first."""
     below = Below(root)
     for line in reversed(lines):
         try:
-            finish(below.open(line.path), entry_at(line))
+            finish(below.open(line.path), entry_at(line), time)
         except OSError as fault:
             raise not_written(line.path, fault) from fault
     below.close()
@@ -56,8 +56,9 @@ def finish_directories(root: int, lines: list[Line]) -> None:
 class Files:
     """Writes the files in parts of a checked text below an open directory."""
 
-    def __init__(self, text: BinaryIO, root: int, table: Table) -> None:
+    def __init__(self, text: BinaryIO, root: int, table: Table, time: int | None) -> None:
         self.text = text
+        self.time = time
         self.below = Below(root)
         self.copier = Copier(table)
 
@@ -82,7 +83,7 @@ class Files:
         descriptor = os.open(name, NEW_FILE, 0o600, dir_fd=self.below.open(parent))
         try:
             self.copier.copy(binascii.unhexlify(line.content or b""), descriptor)
-            finish(descriptor, entry_at(line))
+            finish(descriptor, entry_at(line), self.time)
         finally:
             os.close(descriptor)
 
@@ -102,7 +103,8 @@ class Worker(NamedTuple):
 class Crew:
     """Processes that write the parts of a text; each takes the next part that none has taken."""
 
-    def __init__(self, text: str, root: int, table: Table, parts: list[Part]) -> None:
+    def __init__(self, text: str, root: int, table: Table, parts: list[Part], time: int | None) -> None:
+        self.time = time
         self.text = text
         self.root = root
         self.table = table
@@ -124,7 +126,7 @@ class Crew:
     def work(self) -> None:
         """Writes parts until there are no more."""
         with open(self.text, "rb") as text:
-            files = Files(text, self.root, self.table)
+            files = Files(text, self.root, self.table, self.time)
             for part in self.taken():
                 files.write(part)
             files.close()
@@ -193,7 +195,8 @@ def check_report(report: bytes) -> None:
 class DirectoryWriter:
     """Writes the text of a result as a directory that exists and is empty."""
 
-    def __init__(self, text: str, directory: str, table: Table) -> None:
+    def __init__(self, text: str, directory: str, table: Table, time: int | None) -> None:
+        self.time = time
         self.text = text
         self.directory = directory
         self.table = table
@@ -209,14 +212,14 @@ class DirectoryWriter:
         try:
             make_directories(root, checked.directories)
             self.write_files(root, checked)
-            finish_directories(root, checked.directories)
+            finish_directories(root, checked.directories, self.time)
         finally:
             os.umask(mask)
             os.close(root)
 
     def write_files(self, root: int, checked: Checked) -> None:
         """Writes the files, in this process if they are few."""
-        self.crew = Crew(self.text, root, self.table, checked.parts)
+        self.crew = Crew(self.text, root, self.table, checked.parts, self.time)
         count = workers_for(checked.files)
         if count == 1:
             self.crew.work()
@@ -240,8 +243,8 @@ def entry_at(line: Line) -> Entry:
     return Entry(line.mode, line.user, line.group, line.content, line.path[1:].split(b"/") if line.path else [])
 
 
-def write_archive(text: str, place: str, table: Table) -> None:
-    """Writes the text of a result as a new archive, the same one as `tar-of-tree`; the text is checked before."""
+def write_archive(text: str, place: str, table: Table, time: int) -> None:
+    """Writes the text of a result as a new plain archive, the same as `tar-of-tree`; the text is checked before."""
     copier = Copier(table)
     with open(text, "rb") as lines:
         checked = Checked()
@@ -250,7 +253,7 @@ def write_archive(text: str, place: str, table: Table) -> None:
             for part in checked.parts:
                 for line in lines_in(lines, part):
                     try:
-                        write_member(line, archive, copier)
+                        write_member(line, archive, copier, time)
                     except OSError as fault:
                         raise not_written(line.path, fault) from fault
             archive.write(bytes(2 * BLOCK))
@@ -258,9 +261,9 @@ def write_archive(text: str, place: str, table: Table) -> None:
     copier.close()
 
 
-def write_member(line: Line, archive: BinaryIO, copier: Copier) -> None:
+def write_member(line: Line, archive: BinaryIO, copier: Copier, time: int) -> None:
     """Writes an entry of an archive: its header, its content, and zeros up to the next block."""
-    header = header_of(entry_at(line), 0)
+    header = header_of(entry_at(line), time)
     content = binascii.unhexlify(line.content or b"")
     header.size = copier.size(content)
     write_all(archive.fileno(), header.tobuf(tarfile.PAX_FORMAT, "utf-8", "surrogateescape"))

@@ -8,14 +8,17 @@ import contextlib
 import errno
 import os
 import stat
-import tarfile
 from typing import BinaryIO
 
-from llbm_tools import archives, tree_of_tar
+from llbm_tools import archives, image_trees, packing
+from llbm_tools.archive_entries import Placed, entries_of
+from llbm_tools.archive_texts import Entries, Text
+from llbm_tools.attributes import attributes_of, path_in
 from llbm_tools.common import MOST_BYTES, MOST_NAMES, is_name
-from llbm_tools.leftout import DEVICE, LINK, NO_NAME, PIPE, TOO_DEEP, Exclusion, LeftOut, say_of
+from llbm_tools.leftout import ATTRIBUTE, DEVICE, LINK, NO_NAME, PIPE, TOO_DEEP, Exclusion, LeftOut, say_of
 from llbm_tools.references import DIRECTORY, FILE, MARK, Table, stamp_of, token
-from llbm_tools.streams import Failed, Refused, temporary_file
+from llbm_tools.sources import Reading
+from llbm_tools.streams import Failed, Refused, opened_file, temporary_file
 from llbm_tools.trees import warn_of_length
 
 OWNER = (0, 0)
@@ -97,10 +100,12 @@ class DirectoryText:
                 found = os.fstat(descriptor)
                 with os.scandir(descriptor) as entries:
                     below = sorted((os.fsencode(entry.name), entry) for entry in entries)
+                attributes = attributes_of(descriptor)
             except OSError as fault:
                 self.unread(path, fault)
                 return
             self.write(b"d %04o 0 0 %b\n" % (stat.S_IMODE(found.st_mode), path or b"/"))
+            self.leave_attributes(path, attributes)
             number = self.table.add_directory(self.root, path)
             for name, entry in below:
                 self.entry(descriptor, number, path, name, entry, depth + 1)
@@ -117,11 +122,18 @@ class DirectoryText:
             if exclusion:
                 self.left_out.add(path[1:].split(b"/"), exclusion)
             elif kind == stat.S_IFREG:
+                attributes = attributes_of(path_in(parent, name))
                 self.file(parent, number, path, name, found)
+                self.leave_attributes(path, attributes)
             elif (found.st_dev, found.st_ino) not in self.hidden:
                 self.directory(os.open(name, DIRECTORY, dir_fd=parent), path, depth)
         except OSError as fault:
             self.unread(path, fault)
+
+    def leave_attributes(self, path: bytes, attributes: list[str]) -> None:
+        """Names the extended attributes of an entry."""
+        for attribute in attributes:
+            self.left_out.add([name for name in path.split(b"/") if name], ATTRIBUTE, f", {attribute}")
 
     def exclusion_of(self, name: bytes, depth: int, kind: int) -> Exclusion | None:
         """Returns why an entry is left out, or None."""
@@ -168,61 +180,82 @@ class DirectoryText:
             raise Failed(f"{os.fsdecode(path)}: could not be read: {fault.strerror}") from fault
 
 
-class ArchiveText(tree_of_tar.Text):
-    """The text of an archive; `values` is there if the contents are given by value."""
+class ArchiveText(Text):
+    """The text of an archive or of an image; `values` is there if the contents are given by value."""
 
     def __init__(
-        self, archive: tarfile.TarFile, output: BinaryIO, number: int, table: Table, values: Values | None
+        self, given: Entries, output: BinaryIO, numbers: dict[int, int], table: Table, values: Values | None
     ) -> None:
-        super().__init__(archive, output, OWNER)
-        self.number = number
+        super().__init__(given, output, OWNER)
+        self.numbers = numbers
         self.table = table
         self.values = values
 
-    def content(self, member: archives.Member) -> None:
+    def content(self, placed: Placed) -> None:
         """Writes a file's content or its token, and a space after it."""
+        member = placed.member
         if not member.size:
             self.output.write(b"- ")
             return
         if self.values or member.sparse is not None:
-            self.value(member)
+            self.value(placed)
         else:
-            content = self.table.add_part(self.number, member.offset_data, member.size)
+            content = self.table.add_part(self.numbers[id(placed.archive)], member.offset_data, member.size)
             self.output.write(token(content).hex().encode())
         self.output.write(b" ")
 
-    def value(self, member: archives.Member) -> None:
+    def value(self, placed: Placed) -> None:
         """Writes a file's content, or the token of a copy of it."""
-        pieces = archives.content_of(self.archive, member)
         if not self.values:
-            self.output.write(token(self.table.add_copy(pieces)).hex().encode())
+            self.output.write(token(self.table.add_copy(placed.content())).hex().encode())
             return
-        for piece in pieces:
-            self.values.add(piece, member.name)
+        for piece in placed.content():
+            self.values.add(piece, placed.member.name)
 
 
-def read_directory(place: str, output: BinaryIO, table: Table, values: Values | None, hidden: list[str]) -> bool:
+def finish(left_out: LeftOut, output: BinaryIO, strict: bool) -> None:
+    """Prints what was left out of a text, which is refused if `strict`, and a warning if the text is too long."""
+    left_out.print_counts()
+    if strict and left_out.counts:
+        raise Refused("refused: something was left out")
+    warn_of_length(output.tell())
+
+
+def read_directory(
+    place: str, output: BinaryIO, table: Table, values: Values | None, hidden: list[str], strict: bool
+) -> bool:
     """Writes the text of a directory, and returns whether all of it could be read; hidden directories are skipped."""
     text = DirectoryText(table, output, values, hidden)
     text.walk(place)
-    text.left_out.print_counts()
-    warn_of_length(output.tell())
+    finish(text.left_out, output, strict)
     return text.is_whole
 
 
-def read_archive(place: str, output: BinaryIO, table: Table, values: Values | None, kept: contextlib.ExitStack) -> None:
+def read_archive(
+    place: str, output: BinaryIO, table: Table, values: Values | None, kept: contextlib.ExitStack, reading: Reading
+) -> None:
     """Writes the text of an archive; its file, or what it is unpacked into, stays open as long as `kept`."""
-    try:
-        given = kept.enter_context(open(place, "rb"))
-        stamp = stamp_of(os.fstat(given.fileno()))
-    except (FileNotFoundError, IsADirectoryError, NotADirectoryError) as fault:
-        raise Refused(f"{place}: {fault.strerror}") from fault
-    except OSError as fault:
-        raise Failed(f"{place}: {fault.strerror}") from fault
+    given = kept.enter_context(opened_file(place))
+    stamp = stamp_of(os.fstat(given.fileno()))
     stored = [kept.enter_context(temporary_file("the archive")) for _ in range(2)]
-    bare = archives.open_unpacked(given, *stored)
-    number = table.add_archive(bare.fileno(), place, stamp if bare is given else None)
-    text = ArchiveText(archives.open_archive(bare), output, number, table, values)
+    bare = packing.open_unpacked(given, *stored)
+    archive = archives.open_archive(bare)
+    numbers = {id(archive): table.add_archive(bare.fileno(), place, stamp if bare is given else None)}
+    text = ArchiveText(entries_of(archive), output, numbers, table, values)
     text.write()
-    text.left_out.print_counts()
-    warn_of_length(output.tell())
+    finish(text.left_out, output, reading.strict)
+
+
+def read_image(
+    place: str, output: BinaryIO, table: Table, values: Values | None, kept: contextlib.ExitStack, reading: Reading
+) -> None:
+    """Writes the text of an image; the temporary files of its layers stay open as long as `kept`."""
+    files = kept.enter_context(image_trees.files_at(place))
+    entries = kept.enter_context(image_trees.tree_of(files, None, reading.platform))
+    numbers: dict[int, int] = {}
+    for placed in entries.values():
+        if id(placed.archive) not in numbers:
+            numbers[id(placed.archive)] = table.add_archive(placed.archive.fileobj.fileno(), "a temporary file", None)
+    text = ArchiveText(entries, output, numbers, table, values)
+    text.write()
+    finish(text.left_out, output, reading.strict)

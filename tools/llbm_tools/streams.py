@@ -94,6 +94,19 @@ def input_lines() -> Iterator[bytes]:
 
 
 @contextlib.contextmanager
+def opened_file(place: str) -> Iterator[BinaryIO]:
+    """Yields a file that the command line names; one that does not exist is refused."""
+    try:
+        file = open(place, "rb")
+    except (FileNotFoundError, IsADirectoryError, NotADirectoryError) as fault:
+        raise Refused(f"{place}: {fault.strerror}") from fault
+    except OSError as fault:
+        raise Failed(f"{place}: {fault.strerror}") from fault
+    with file:
+        yield file
+
+
+@contextlib.contextmanager
 def temporary_file(what: str) -> Iterator[BinaryIO]:
     """Yields an unnamed temporary file (under TMPDIR); an OSError becomes Failed."""
     try:

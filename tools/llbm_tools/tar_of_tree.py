@@ -6,7 +6,9 @@ named on standard error as `line N: ...`, counted from 1.
 Out: the archive, in the new file ARCHIVE, or on standard output if none is named. It is in the pax format of
 POSIX.1-2001, with an extended header only for a path or a number that needs one. Entries are in path order, the root
 first, as `./`, and the others without a leading `/`. Each has the mode, the user and the group of its line, no user
-names, and the time 0, or that of --mtime. ARCHIVE appears complete, at the end.
+names, and the time of --mtime, or else of the environment variable SOURCE_DATE_EPOCH, or else 0. The archive is packed
+if the name of ARCHIVE ends in .tar.gz, .tgz, .tar.bz2, .tar.xz or .tar.zst, or as --pack says (gzip, bzip2, xz or zstd,
+the last by the program `zstd` if this Python cannot). ARCHIVE appears complete, at the end.
 
 Exit status: 0 the archive is written; 2 the text or the command line is refused, or ARCHIVE already exists; 3 a read or
 a write failed (named on standard error); 130 interrupted. If it is not 0, no ARCHIVE is made.
@@ -15,14 +17,12 @@ a write failed (named on standard error); 130 interrupted. If it is not 0, no AR
 import argparse
 import binascii
 import io
-import re
 import tarfile
 from typing import BinaryIO
 
+from llbm_tools import packing, times
 from llbm_tools.streams import exit_status, input_lines, temporary_file, write_new_file, write_output
 from llbm_tools.trees import Entry, check_into, entry_of
-
-MOST_SECONDS = (1 << 33) - 1
 
 
 def header_of(entry: Entry, time: int) -> tarfile.TarInfo:
@@ -44,23 +44,30 @@ def write(text: BinaryIO, output: BinaryIO, time: int) -> None:
             archive.members.clear()  # type: ignore[attr-defined]
 
 
+def form_of(options: argparse.Namespace) -> packing.Form | None:
+    """Returns how the archive is packed, or None for a plain one."""
+    form = packing.form_named(options.pack) if options.pack else packing.form_of_name(options.archive or "")
+    if form:
+        packing.check_form(form)
+    return form
+
+
 def write_checked(options: argparse.Namespace) -> None:
     """Writes the archive of the text on standard input, once all of the text is checked."""
-    with temporary_file("the text") as text, temporary_file("the archive") as archive:
+    form, time = form_of(options), times.time_of_archive(options.mtime)
+    files = [temporary_file("the text"), temporary_file("the archive"), temporary_file("the archive")]
+    with files[0] as text, files[1] as plain, files[2] as packed:
         check_into(text, input_lines())
         text.seek(0)
-        write(text, archive, options.mtime)
+        write(text, plain, time)
+        archive = plain
+        if form:
+            packing.pack(form, plain, packed)
+            archive = packed
         if options.archive in (None, "-"):
             write_output(archive, "the archive")
         else:
             write_new_file(archive, options.archive)
-
-
-def seconds_of(text: str) -> int:
-    """Parses the time of --mtime."""
-    if not re.fullmatch(r"0|[1-9][0-9]{0,9}", text) or int(text) > MOST_SECONDS:
-        raise argparse.ArgumentTypeError(f"{text!r} is not a decimal of at most {MOST_SECONDS}")
-    return int(text)
 
 
 def parse_options() -> argparse.Namespace:
@@ -69,9 +76,8 @@ def parse_options() -> argparse.Namespace:
         description="Writes the tree text on standard input as a tar archive.", allow_abbrev=False
     )
     parser.add_argument("archive", metavar="ARCHIVE", nargs="?", help="the new file (default: standard output)")
-    parser.add_argument(
-        "--mtime", metavar="SECONDS", type=seconds_of, default=0, help="the time of every entry, since 1970 (0)"
-    )
+    parser.add_argument("--mtime", metavar="SECONDS", type=times.seconds_of, help="the time of every entry, since 1970")
+    parser.add_argument("--pack", metavar="FORM", choices=packing.NAMES, help=f"one of {', '.join(packing.NAMES)}")
     return parser.parse_args()
 
 

@@ -49,6 +49,7 @@ MODULES = [
     "refusing",
     "measuring",
     "archives",
+    "images",
     "differences",
     "jsons",
     "sessions",

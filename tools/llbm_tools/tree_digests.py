@@ -8,6 +8,7 @@ import sys
 from collections.abc import Iterator
 from typing import BinaryIO
 
+from llbm_tools import sources
 from llbm_tools.archives import is_archive
 from llbm_tools.paths import TOOLS
 from llbm_tools.streams import REFUSED, Failed, Refused, temporary_file
@@ -46,5 +47,5 @@ def tree_digest(place: str) -> str:
     """Returns the digest of the tree in a directory, in an archive or in a file with its text."""
     if not os.path.isdir(place) and not is_archive(place):
         return digest_of_text(place)
-    with text_by("tree-of-directory" if os.path.isdir(place) else "tree-of-tar", place) as text:
+    with text_by(sources.reader_of(place), place) as text:
         return f"sha256:{hashlib.file_digest(text, 'sha256').hexdigest()}"

@@ -1,18 +1,20 @@
 """Writes the tree text of a directory to standard output.
 
-In: the directory that the command line names. A file with two names is written as two files; times, extended attributes
-and holes are not in the text. With --owner every entry gets that owner.
+In: the directory that the command line names. A file with two names is written as two files; times and holes are not in
+the text. With --owner every entry gets that owner.
 
 Out: a line for each entry in path order, `d MODE UID GID PATH` or `f MODE UID GID CONTENT PATH`, the first of them for
 the directory itself as `/`. What cannot be in a tree is named on standard error and left out with everything below it:
 symbolic links, devices, pipes, sockets, names that are not UTF-8 or contain a control character, paths of more than 128
-names, and the output file itself. The last line there counts what was left out by cause, or is `left out: nothing`.
-There is a warning for a text of more than 67,108,864 bytes, which the program refuses.
+names, and the output file itself. Extended attributes are named, and their entries are written without them; only the
+label `security.selinux` is passed over, which a system puts on every file. The last line there counts what was left out
+by cause, or is `left out: nothing`. There is a warning for a text of more than 67,108,864 bytes, which the program
+refuses. With --strict the text is written only once all of the directory is read and nothing was left out.
 
 Exit status: 0 the text is written; 1 something could not be read: it is named on standard error, and left out with
-everything below it, but if a file fails after its first bytes the text ends in the middle of its line; 1 also if, with
---strict, something was left out; 2 the command line is refused, or the directory does not exist; 3 the text could not
-be written; 130 interrupted.
+everything below it, but if a file fails after its first bytes the text ends in the middle of its line; with --strict
+nothing is written; 2 the command line is refused, the directory does not exist, or, with --strict, something was left
+out; 3 the text could not be written; 130 interrupted.
 """
 
 import argparse
@@ -22,8 +24,10 @@ import stat
 import sys
 from typing import BinaryIO
 
+from llbm_tools.attributes import attributes_of
 from llbm_tools.common import discard_output, say
-from llbm_tools.leftout import DEVICE, LINK, PIPE, Exclusion, LeftOut, exclusion_of_names, say_of
+from llbm_tools.leftout import ATTRIBUTE, DEVICE, LINK, PIPE, Exclusion, LeftOut, exclusion_of_names, say_of
+from llbm_tools.streams import Failed, Refused, temporary_file, write_output
 from llbm_tools.trees import Names, Owner, line_start, owner_word, path_of, warn_of_length
 
 PIECE = 1 << 20
@@ -55,13 +59,13 @@ class CutOff(Exception):
 class Walk:
     """Walks down a directory and writes its text."""
 
-    def __init__(self, output: BinaryIO, owner: Owner | None) -> None:
+    def __init__(self, output: BinaryIO, goes_to: os.stat_result, owner: Owner | None) -> None:
         self.output = output
         self.owner = owner
         self.failed = False
         self.left_out = LeftOut()
         self.count = 0
-        self.goes_to = os.fstat(output.fileno())
+        self.goes_to = goes_to
 
     def write(self, part: bytes) -> None:
         """Writes a part of the text."""
@@ -104,10 +108,12 @@ class Walk:
             try:
                 found = os.fstat(descriptor)
                 below = sorted(map(os.fsencode, os.listdir(descriptor)))
+                attributes = attributes_of(descriptor)
             except OSError as fault:
                 self.unread(path_of(names), fault)
                 return
             self.write(self.prefix(b"d", found) + path_of(names) + b"\n")
+            self.leave_attributes(names, attributes)
             for name in below:
                 self.entry(descriptor, names, name)
         finally:
@@ -148,6 +154,7 @@ class Walk:
                 found = os.fstat(descriptor)
                 if not stat.S_ISREG(found.st_mode):
                     raise OSError(None, "no longer a file")
+                attributes = attributes_of(descriptor)
                 piece = content.read(PIECE)
             except OSError as fault:
                 self.unread(path_of(names), fault)
@@ -155,6 +162,12 @@ class Walk:
             self.write(self.prefix(b"f", found))
             self.content(content, piece, names)
             self.write(b" " + path_of(names) + b"\n")
+            self.leave_attributes(names, attributes)
+
+    def leave_attributes(self, names: Names, attributes: list[str]) -> None:
+        """Names the extended attributes of an entry."""
+        for attribute in attributes:
+            self.left_out.add(names, ATTRIBUTE, f", {attribute}")
 
     def content(self, content: BinaryIO, piece: bytes, names: Names) -> None:
         """Writes a file's content, beginning with its first piece."""
@@ -181,20 +194,38 @@ def parse_options() -> argparse.Namespace:
     )
     parser.add_argument("directory", metavar="DIRECTORY", type=os.fsencode, help="the directory")
     parser.add_argument("--owner", metavar="UID:GID", type=owner_word, help="the owner of every entry")
-    parser.add_argument("--strict", action="store_true", help="exit with status 1 if something was left out")
+    parser.add_argument("--strict", action="store_true", help="refuse a directory if something is left out")
     return parser.parse_args()
+
+
+def walked(options: argparse.Namespace, output: BinaryIO) -> Walk:
+    """Writes the text to a file, and returns what was found on the way."""
+    walk = Walk(output, os.fstat(sys.stdout.fileno()), options.owner)
+    with contextlib.suppress(CutOff):
+        walk.walk(options.directory)
+    walk.finish()
+    walk.print_summary()
+    return walk
+
+
+def write_strict(options: argparse.Namespace) -> int:
+    """Writes the text if all of the directory is in it, and returns the exit status."""
+    with temporary_file("the text") as stored:
+        walk = walked(options, stored)
+        if walk.left_out.counts:
+            raise Refused("refused: something was left out")
+        if not walk.failed:
+            write_output(stored, "the text")
+    return int(walk.failed)
 
 
 def write_text(options: argparse.Namespace) -> int:
     """Writes the text, and returns the exit status."""
     if sys.stdout is None:
         raise WriteFailed("standard output is closed")
-    walk = Walk(sys.stdout.buffer, options.owner)
-    with contextlib.suppress(CutOff):
-        walk.walk(options.directory)
-    walk.finish()
-    walk.print_summary()
-    return 1 if walk.failed or options.strict and walk.left_out.counts else 0
+    if options.strict:
+        return write_strict(options)
+    return int(walked(options, sys.stdout.buffer).failed)
 
 
 def main() -> int:
@@ -205,6 +236,12 @@ def main() -> int:
     except NoDirectory as fault:
         say_of(options.directory, str(fault))
         return 2
+    except Refused as fault:
+        say(str(fault))
+        return 2
+    except Failed as fault:
+        say(str(fault))
+        return 3
     except WriteFailed as fault:
         say(f"the text could not be written: {fault}")
         discard_output()

@@ -3,6 +3,7 @@
 import os
 import pathlib
 import random
+import shlex
 import subprocess
 import unittest
 
@@ -201,7 +202,8 @@ class Adopt(Folder):
         drops = "--without-secrets drops it"
         self.check_refused(base.ending(self.image, given(self.image, ROOT_MOUNT, secret, agent, more=more)), [
             f"entry 1: not adopted: SecretMount; {drops}", "entry 1: not adopted: SshMount; --without-ssh drops it",
-            f"entry 1: not adopted: SecretEnv; {drops}", "entry 1: not adopted: MountOutput", "nothing is written",
+            f"entry 1: not adopted: SecretEnv; {drops}", "entry 1: not adopted: MountOutput",
+            "--without-secrets --without-ssh would adopt all of it", "nothing is written",
         ])
 
     def test_unpacking_and_owners_by_name_are_dropped(self):
@@ -222,7 +224,8 @@ class Adopt(Folder):
         self.entry(on(self.image, *made), on(self.local, *left), changes, "--all")
         self.check_refused(base.ending(self.local, on(self.local, copy(unpack, NAMED))), [
             "entry 1: not adopted: Unpack; --without-unpack drops it",
-            "entry 1: not adopted: OwnerByName; --without-owners drops it", "nothing is written",
+            "entry 1: not adopted: OwnerByName; --without-owners drops it",
+            "--without-unpack --without-owners would adopt all of it", "nothing is written",
         ])
 
     def words(self, origin, *args):
@@ -233,10 +236,71 @@ class Adopt(Folder):
     def test_executions_can_run_nothing(self):
         old = self.words(self.image, "/bin/sh", "-c", "apk add git")
         changes = ["runs true in place of /bin/sh -c 'apk add git'"]
-        self.entry(old, self.words(self.local, "true"), changes, "--run-nothing")
+        for words in [["--run-nothing"], ["--run-nothing=all"], ["--all"]]:
+            self.entry(old, self.words(self.local, "true"), changes, *words)
         self.check_refused(base.ending(self.local, self.words(self.local, "apk")), [
-            "entry 1: not adopted: Script 71 apk; --run-nothing or --rules replaces the words", "nothing is written",
+            "entry 1: not adopted: Script 71 apk; --run-nothing or --rules replaces the words",
+            "--run-nothing would adopt all of it", "nothing is written",
         ])
+        bare = self.words(self.local)
+        given, wanted = base.ending(self.local, bare), base.ending(self.local, self.words(self.local, "true"))
+        lines = ["entry 1: runs true in place of ", "entry 2: its inputs have new digests"]
+        self.assertEqual([one.rest for one in findings.findings_of(given)], ["NoArgs"])
+        done = run("adopt", "--run-nothing", text=given)
+        self.assertEqual(findings.findings_of(done.stdout), findings.findings_of(wanted))
+        self.assertEqual(done.stderr.decode().splitlines()[:2], lines)
+
+    def test_scripts_run_unless_all_executions_run_nothing(self):
+        for args in [["rm", "/a"], ["/bin/sh", "-c", "true && rm /a"]]:
+            old = self.words(self.image, *args)
+            for words in [["--run-nothing"], ["--all"]]:
+                self.entry(old, self.words(self.local, *args), [], *words)
+            changes = [f"runs true in place of {shlex.join(args)}"]
+            for words in [["--run-nothing=all"], ["--all", "--run-nothing=all"]]:
+                self.entry(old, self.words(self.local, "true"), changes, *words)
+
+    def test_entries_that_are_not_reached_stay(self):
+        aside = base.source("git://h/a.git")
+        above = base.merge(aside, self.image)
+        foreign_words = self.words(self.image, "apk")
+        given = base.ending(aside, above, foreign_words, self.image) + metadata(aside, "a") + metadata(self.image, "i")
+        wanted = base.definition(aside, above, foreign_words, self.local, base.inputs(self.local))
+        wanted += metadata(aside, "a") + metadata(self.local, "i")
+        changes = [f"entry 3: source {IMAGE} is local://alpine", "entry 4: its inputs have new digests"]
+        for words in [[], ["--all"]]:
+            self.check_adopted(given, wanted, changes, *words, sources=[f"alpine\t{IMAGE}"])
+        given = base.ending(base.source("local://other"), self.image)
+        wanted = base.ending(base.source("local://other"), self.local)
+        changes = [f"entry 1: source {IMAGE} is local://alpine", "entry 2: its inputs have new digests"]
+        self.check_adopted(given, wanted, changes, sources=[f"alpine\t{IMAGE}"])
+
+    def test_local_names_that_no_word_can_have_are_changed(self):
+        names = {"a=b": "a-b-2", "a-b": "a-b", "--x": "x", "=": "source"}
+        old = [base.source(f"local://{name}") for name in names] + [base.source("local://a=b") + PLATFORM]
+        new = [base.source(f"local://{name}") for name in names.values()] + [base.source("local://a-b-2") + PLATFORM]
+        pairs = [*names.items(), ("a=b", "a-b-2")]
+        changes = [f"entry {row}: source local://{one} is local://{two}" for row, (one, two) in enumerate(pairs)]
+        del changes[1]
+        changes += [f"entry {row}: its inputs have new digests" for row in (5, 6)]
+        lines = list(dict.fromkeys(f"{two}\tlocal://{one}" for one, two in pairs))
+        given, wanted = base.ending(*old, base.merge(*old)), base.ending(*new, base.merge(*new))
+        self.check_adopted(given, wanted, changes, sources=lines)
+
+    def test_the_missing_options_are_listed(self):
+        diff = base.inputs(self.local) + part(7, b"")
+        words = self.words(self.local, "apk")
+        secret = exec_of(ROOT_MOUNT, mount("/s", kind=1), on=[self.local])
+        done = run("adopt", text=base.ending(self.local, diff, words, secret, base.merge(words, secret)))
+        self.assertEqual(done.stderr.decode().splitlines()[-2:], [
+            "--without-secrets --run-nothing would adopt all of it", "nothing is written",
+        ])
+        given = base.ending(self.local, diff, words, secret, base.merge(diff, words, secret))
+        line = "--without-secrets would leave entry 1: DiffOp"
+        for options in [["--run-nothing"], ["--run-nothing=all", "--leave"]]:
+            lines = run("adopt", *options, text=given).stderr.decode().splitlines()
+            self.assertIn(line, "; ".join(lines))
+        lines = run("adopt", "--all", text=given).stderr.decode()
+        self.assertNotIn("would", lines)
 
     def test_rules_replace_the_words_of_executions(self):
         new, changes = self.words(self.local, "write", "/a", "b c"), ["runs write /a 'b c' in place of apk add git"]
@@ -316,7 +380,7 @@ class RandomDefinitions(Folder):
         return [linting.ops_of_all_kinds(chance) for _ in range(300)]
 
     def test_what_is_left_is_exactly_what_is_found(self):
-        settings = adopting.Settings(frozenset(adopting.DROPPED), (), True)
+        settings = adopting.Settings(frozenset(adopting.DROPPED), (), adopting.RunNothing.ALL)
         taken = 0
         for data in self.definitions():
             done = adopting.adopt(data, settings)

@@ -110,14 +110,15 @@ class TreeOfTar(Folder):
         """Returns an archive with a file and all kinds of other entries, and the messages about those."""
         given = tar(
             entry("a", b"a"), other("link", tarfile.SYMTYPE, linkname="a"),
-            other("hard", tarfile.LNKTYPE, linkname="a"),
+            other("hard", tarfile.LNKTYPE, linkname="none"),
             other("tty", tarfile.CHRTYPE, devmajor=4), other("disk", tarfile.BLKTYPE), other("pipe", tarfile.FIFOTYPE),
             entry("link/below", b"x"), other("volume", b"V"), entry("b"), other("b/link", tarfile.SYMTYPE),
         )
-        errors = ["/b/link: a symbolic link", "/disk: a device", "/hard: a hard link", "/link: a symbolic link"]
+        errors = ["/b/link: a symbolic link", "/disk: a device", "/hard: a hard link to no entry"]
+        errors += ["/link: a symbolic link"]
         errors += ["/link/below: below an entry that is left out", "/pipe: a pipe", "/tty: a device"]
         errors += ["/volume: an entry of another kind"]
-        counts = ["2 devices", "1 hard link", "1 pipe", "2 symbolic links", "1 entry of another kind"]
+        counts = ["2 devices", "1 hard link to no entry", "1 pipe", "2 symbolic links", "1 entry of another kind"]
         counts = ", ".join([*counts, "1 entry below one that is left out"])
         errors = [line.replace(": ", ": left out: ", 1) for line in errors] + [f"left out: {counts}"]
         return given, "".join(f"{line}\n" for line in errors).encode()
@@ -189,10 +190,61 @@ class TreeOfTar(Folder):
                 done = subprocess.run(command("tree-of-tar"), stdin=file, capture_output=True, timeout=120)
             self.check_success(done, self.text(["d 0755 0 0 /", "f 0644 0 0 61 /a"]), NOTHING)
 
+    def test_hard_links_are_files(self):
+        def link(name, target):
+            return other(name, tarfile.LNKTYPE, linkname=target, mode=0o600)
+
+        given = tar(
+            entry("a", b"one", mode=0o4755, owner=(1, 2)), link("d/b", "./a"), entry("a", b"two"), link("c", "d/b"),
+            other("e", tarfile.SYMTYPE, linkname="a"), link("f", "e"), link("g", "none"), link("h", "i"),
+            entry("i", b"i"),
+        )
+        lines = ["d 0755 0 0 /", "f 0644 0 0 74776f /a", "f 4755 1 2 6f6e65 /c", "d 0755 0 0 /d"]
+        errors = ["/e: a symbolic link", "/f: a symbolic link", "/g: a hard link to no entry"]
+        errors.append("/h: a hard link to no entry")
+        errors = "".join(line.replace(": ", ": left out: ", 1) + "\n" for line in errors)
+        errors += "left out: 2 hard links to no entry, 2 symbolic links\n"
+        self.check_text(given, [*lines, "f 4755 1 2 6f6e65 /d/b", "f 0644 0 0 69 /i"], errors.encode())
+
+    @unittest.skipUnless(shutil.which("tar"), "there is no tar")
+    def test_hard_links_of_another_program_are_files(self):
+        self.make(b"a", b"a")
+        self.make(b"b/c", b"c")
+        os.link(self.place(b"in", b"a"), self.place(b"in", b"b", b"d"))
+        wanted = run("tree-of-directory", "--owner", "0:0", self.place(b"in")).stdout
+        for form in ["gnu", "pax", "ustar", "v7"]:
+            words = ["tar", "-C", self.place(b"in"), f"--format={form}", "-cf", "-", "."]
+            made = subprocess.run(words, capture_output=True)
+            self.check_success(self.read_tar(made.stdout, "--owner", "0:0"), wanted, NOTHING)
+
+    @unittest.skipUnless(shutil.which("tar"), "there is no tar")
+    def test_incremental_archives_are_read(self):
+        self.make(b"a/b", b"b")
+        for form in ["gnu", "pax"]:
+            snapshot = "--listed-incremental=" + os.fsdecode(self.place(form.encode()))
+            words = ["tar", "-C", self.place(b"in"), f"--format={form}", snapshot, "-cf", "-", "."]
+            first = subprocess.run(words, capture_output=True)
+            lines = ["d 0755 OWN /", "d 0755 OWN /a", "f 0644 OWN 62 /a/b"]
+            self.check_text(first.stdout, lines)
+            self.make(b"a/c", b"c")
+            second = subprocess.run(words, capture_output=True)
+            lines[2] = "f 0644 OWN 63 /a/c"
+            errors = b"/a/b: left out: only an earlier incremental archive has it\n"
+            self.check_text(second.stdout, lines, errors + b"left out: 1 entry of an earlier archive\n")
+            os.unlink(self.place(b"in", b"a", b"c"))
+
+    @unittest.skipUnless(shutil.which("zstd"), "there is no zstd")
+    def test_archives_that_zstd_packs_are_read(self):
+        packed = subprocess.run(["zstd", "-q", "-c"], input=tar(entry("a", b"a" * 9)), capture_output=True).stdout
+        lines = ["d 0755 0 0 /", f"f 0644 0 0 {'61' * 9} /a"]
+        self.check_text(packed, lines)
+        self.check_success(run("tree-of-tar", self.file(b"x", packed)), self.text(lines), NOTHING)
+        self.check_refused(packed[:-3], "^the archive could not be unpacked: ")
+
     @unittest.skipIf(importlib.util.find_spec("compression"), "this Python has zstd")
     def test_an_unsupported_form_of_packing_is_refused(self):
-        packed = b"\x28\xb5\x2f\xfd" + bytes(100)
-        self.check_refused(packed, "^the archive is packed by compression.zstd, which this Python ")
+        done = run("tree-of-tar", text=b"\x28\xb5\x2f\xfd" + bytes(100), env={**os.environ, "PATH": ""})
+        self.check_run(done, 2, b"", b"zstd: neither this Python nor a program `zstd` packs or unpacks it\n")
 
     @unittest.skipUnless(shutil.which("tar"), "there is no tar")
     def test_archives_of_another_program_are_read(self):
@@ -306,7 +358,7 @@ class TarOfTree(Folder):
     def test_the_same_text_makes_the_same_bytes(self):
         lines = ["d 0755 0 0 /", f"f 0644 3000000000 0 78 /{LONG}"]
         given = self.pack(lines)
-        other_place = {"env": {**os.environ, "TZ": "Asia/Tokyo", "LC_ALL": "C", "SOURCE_DATE_EPOCH": "9"}}
+        other_place = {"env": {**os.environ, "TZ": "Asia/Tokyo", "LC_ALL": "C", "SOURCE_DATE_EPOCH": "0"}}
         self.assertEqual(self.pack(lines, cwd="/", umask=0o077, **other_place), given)
         self.assertEqual(self.pack(lines, self.at / "x.tar"), b"")
         self.assertEqual((self.at / "x.tar").read_bytes(), given)
@@ -319,6 +371,33 @@ class TarOfTree(Folder):
         for word in ["", "-1", "01", "8589934592", "1.5", "x", "1\n"]:
             done = run("tar-of-tree", f"--mtime={word}", text=b"d 0755 0 0 /\n")
             self.assertEqual((done.returncode, done.stdout), (2, b""), word)
+
+    def test_the_time_can_be_that_of_the_environment(self):
+        lines = ["d 0755 0 0 /", "f 0644 0 0 - /a"]
+        settings = {"env": {**os.environ, "SOURCE_DATE_EPOCH": "9"}}
+        self.assertEqual(self.pack(lines, **settings), self.pack(lines, "--mtime", "9"))
+        self.assertEqual(self.pack(lines, "--mtime", "8", **settings), self.pack(lines, "--mtime", "8"))
+        done = run("tar-of-tree", text=self.text(lines), env={**os.environ, "SOURCE_DATE_EPOCH": "1e9"})
+        self.check_run(done, 2, b"", b"SOURCE_DATE_EPOCH: '1e9' is not a decimal of at most 8589934591\n")
+
+    def test_archives_are_packed_by_their_names(self):
+        lines = ["d 0755 0 0 /", f"f 0644 0 0 {'78' * 5000} /a"]
+        plain = self.pack(lines)
+        unpacked = {"gzip": gzip.decompress, "bzip2": bz2.decompress, "xz": lzma.decompress}
+        for name, form in [("a.tar.gz", "gzip"), ("b.tgz", "gzip"), ("c.tar.bz2", "bzip2"), ("d.tar.xz", "xz")]:
+            self.pack(lines, self.at / name)
+            packed = (self.at / name).read_bytes()
+            self.assertEqual((unpacked[form](packed), packed), (plain, self.pack(lines, "--pack", form)))
+        self.assertEqual((self.at / "a.tar.gz").read_bytes()[3:8], bytes(5))
+
+    @unittest.skipUnless(shutil.which("zstd"), "there is no zstd")
+    def test_archives_are_packed_by_zstd(self):
+        lines = ["d 0755 0 0 /", f"f 0644 0 0 {'78' * 5000} /a"]
+        self.pack(lines, self.at / "a.tar.zst")
+        done = subprocess.run(["zstd", "-d", "-q", "-c", self.at / "a.tar.zst"], capture_output=True)
+        self.assertEqual((done.returncode, done.stdout), (0, self.pack(lines)))
+        done = run("tar-of-tree", "--pack", "zstd", text=self.text(lines), env={**os.environ, "PATH": ""})
+        self.assertIn(done.returncode, (0, 2))
 
     def test_a_text_survives_the_round_trip(self):
         longest = [f"d 0755 0 0 /{'/'.join([LONG] * count)}" for count in range(1, 128)]

@@ -218,10 +218,19 @@ class Build(Builds):
         self.assertEqual((self.at / "out.tar").read_bytes(), b"")
         self.check_nothing_is_left({"out.tar"})
 
-    def test_a_packed_result_is_refused(self):
+    def test_a_result_is_packed_by_its_name(self):
         self.set_behavior(PRINTS)
-        for name in ["out.tar.gz", "out.tgz", "out.tar.xz"]:
-            self.check_end(self.build("definition", name), 2, f"{name}: a result is a directory or a .tar")
+        text = b"d 0755 0 0 /\nd 0555 0 0 /b\nf 0640 0 0 6869 /b/a\n"
+        names = ["out.tar.gz", "out.tgz", "out.tar.bz2", "out.tar.xz"]
+        for name in names:
+            self.assertEqual(self.build("--mtime", "7", "definition", name).returncode, 0)
+            self.check_success(run("tree-of-tar", self.at / name), text, b"left out: nothing\n")
+            packed = run("tar-of-tree", "--mtime", "7", self.at / f"wanted-{name}", text=text)
+            self.assertEqual(packed.returncode, 0)
+            self.assertEqual((self.at / name).read_bytes(), (self.at / f"wanted-{name}").read_bytes())
+        self.check_nothing_is_left({*names, *(f"wanted-{name}" for name in names)})
+
+    def test_a_text_that_is_no_tree_is_refused(self):
         self.set_behavior('sys.stdout.write("x\\n")')
         line = "line 1: neither d MODE UID GID PATH nor f MODE UID GID CONTENT PATH"
         lines = ["running definition", "writing out.tar", line, "nothing is written"]

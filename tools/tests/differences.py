@@ -98,7 +98,7 @@ class DiffOfTrees(Folder):
         self.make(b"a", b"a")
         os.symlink(b"a", self.place(b"in", b"link"))
         done = run("diff-of-trees", "--strict", self.place(b"in"), text)
-        errors = b"/link: left out: a symbolic link\nleft out: 1 symbolic link\n"
+        errors = b"/link: left out: a symbolic link\nleft out: 1 symbolic link\nrefused: something was left out\n"
         self.check_run(done, 2, b"", errors + self.place(b"in") + b": could not be read as a tree\n")
 
     def test_faulty_and_missing_trees_are_refused(self):

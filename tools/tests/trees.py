@@ -80,13 +80,35 @@ class TreeOfDirectory(Folder):
         errors = self.make_no_files()
         self.check_success(self.read(b"in"), self.text(["d 0755 OWN /", "f 0644 OWN 61 /a"]), errors)
 
-    def test_a_strict_run_has_status_1_if_something_is_left_out(self):
+    def test_a_strict_run_refuses_a_directory_with_other_kinds(self):
         self.make(b"b/c", b"c")
         lines = ["d 0755 OWN /", "d 0755 OWN /b", "f 0644 OWN 63 /b/c"]
         self.check_success(self.read(b"in", "--strict"), self.text(lines), NOTHING)
-        errors = self.make_no_files()
-        lines.insert(1, "f 0644 OWN 61 /a")
-        self.check_run(self.read(b"in", "--strict"), 1, self.text(lines), errors)
+        errors = self.make_no_files() + b"refused: something was left out\n"
+        self.check_run(self.read(b"in", "--strict"), 2, b"", errors)
+
+    def test_a_strict_text_leaves_no_output_file_out(self):
+        self.make(b"a", b"a")
+        with open(self.place(b"in", b"text"), "wb") as output:
+            done = run_into(output, "tree-of-directory", "--strict", self.place(b"in"))
+        self.assertEqual((done.returncode, os.path.getsize(self.place(b"in", b"text"))), (2, 0))
+        self.assertTrue(done.stderr.startswith(b"/text: left out: the output file itself\n"))
+
+    def test_extended_attributes_are_named(self):
+        self.make(b"a", b"a")
+        self.make(b"b")
+        try:
+            os.setxattr(self.place(b"in", b"a"), "user.z", b"1")
+            os.setxattr(self.place(b"in", b"a"), "user.k", b"")
+            os.setxattr(self.place(b"in", b"b"), "user.k", b"1")
+        except OSError as fault:
+            raise unittest.SkipTest("the file system has no extended attributes") from fault
+        lines = ["d 0755 OWN /", "f 0644 OWN 61 /a", "d 0755 OWN /b"]
+        named = [(b"a", b"k"), (b"a", b"z"), (b"b", b"k")]
+        errors = b"".join(b"/%b: left out: an extended attribute, user.%b\n" % pair for pair in named)
+        errors += b"left out: 3 extended attributes\n"
+        self.check_success(self.read(b"in"), self.text(lines), errors)
+        self.check_run(self.read(b"in", "--strict"), 2, b"", errors + b"refused: something was left out\n")
 
     @unittest.skipUnless(os.path.lexists("/dev/pts/ptmx"), "there is no directory of devices alone")
     def test_a_device_is_named_and_left_out(self):
@@ -262,6 +284,13 @@ class DirectoryOfTree(Folder):
         text = self.text(["d 0711 OWN /", "d 0755 OWN /a"])
         self.check_success(self.write(text))
         self.check_success(self.read(), text, NOTHING)
+
+    def test_every_entry_has_the_given_time(self):
+        text = self.text(["d 0755 OWN /", "d 0555 OWN /a", "f 0444 OWN 61 /a/b", "f 0644 OWN - /c"])
+        self.check_success(run("directory-of-tree", "--mtime", "77", self.place(b"out"), text=text))
+        for names in [[], [b"a"], [b"a", b"b"], [b"c"]]:
+            self.assertEqual(os.stat(self.place(b"out", *names)).st_mtime_ns, 77_000_000_000)
+        self.assertEqual(run("directory-of-tree", "--mtime=-1", self.place(b"none"), text=text).returncode, 2)
 
     def test_other_places_are_refused(self):
         self.make(b"full/a", b"a")
