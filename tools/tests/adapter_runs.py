@@ -56,7 +56,7 @@ class WithRun(WithAdapter):
     def launched(self, given, habits=None, **more):
         """Returns a client that has launched a run."""
         client = self.opened(**(habits or {}))
-        client.ask("launch", llbm=base.llbm, **given, **more)
+        client.ask("launch", **{"llbm": base.llbm, "stopAtEnd": False, **given, **more})
         client.until("initialized")
         self.check_no_file_is_left()
         return client
