@@ -204,13 +204,12 @@ RULES: dict[tuple[str, ...], tuple[Reason, slice]] = {
 def why(view: View, words: list[str]) -> str | None:
     """Says in words why a command ended with status 1, or returns None where no rule is found."""
     if words[:1] == ["false"]:
-        return "false: it always fails"
+        return "it always fails"
     for begin, (rule, places) in RULES.items():
         if tuple(words[: len(begin)]) != begin:
             continue
         for word in words[places]:
             if view.names(word) is None:
-                return f"{words[0]}: {word} is not a path"
-        cause = rule(view, *map(view.names, words[places]))
-        return f"{' '.join(begin)}: {cause}" if cause else None
+                return f"{word} is not a path"
+        return rule(view, *map(view.names, words[places]))
     return None

@@ -4,7 +4,7 @@ from debugging import console
 from debugging.arguments import Refused, argument
 from debugging.holding import FIRST_FILE, TEXT, Holding
 from debugging.moving import Stop
-from debugging.positions import Span, spans_of
+from debugging.positions import Span, spans_of, step_shown
 
 
 class Inspecting(Holding):
@@ -34,8 +34,8 @@ class Inspecting(Holding):
         return {"stackFrames": frames[max(first, 0) :][: most if most > 0 else None], "totalFrames": len(frames)}
 
     def frame(self, worker: int, vertex: int) -> dict:
-        """Returns the frame of a vertex, at its next micro-step in the text of the entries."""
-        span = self.next_span(worker, vertex)
+        """Returns the frame of a vertex, at its micro-step in the text of the entries."""
+        span = self.span(worker, vertex)
         frame = {
             "id": worker + 1,
             "name": f"{self.views.title(vertex)} ({self.views.progress(worker)})",
@@ -46,12 +46,13 @@ class Inspecting(Holding):
         }
         return frame | ({"endColumn": self.column(span.end_column)} if span.end_column else {})
 
-    def next_span(self, worker: int, vertex: int) -> Span:
-        """Returns the place of a worker's next micro-step; that of the entry before the settle and after it."""
-        run, known = self.launched.session.runs[worker], self.launched.graph.vertices[vertex]
-        if run is None or run.steps >= known.steps or known.kind == "source":
+    def span(self, worker: int, vertex: int) -> Span:
+        """Returns the place of a worker's next micro-step, or of the one that failed; else that of the entry."""
+        known = self.launched.graph.vertices[vertex]
+        step = step_shown(self.launched.session, worker, known)
+        if step is None or known.kind == "source":
             return Span(known.first, known.last)
-        return spans_of(self.launched.graph, known)[run.steps]
+        return spans_of(self.launched.graph, known)[step]
 
     def file_frames(self, worker: int, vertex: int) -> list[dict]:
         """Returns the frame of a vertex in the file that it was made from, if that is known."""
@@ -67,9 +68,11 @@ class Inspecting(Holding):
     def scopes(self, arguments: dict) -> dict:
         """Returns the scopes of a frame; both frames of a worker have the same."""
         frame, count = argument(arguments, "frameId", int), len(self.launched.session.runs)
-        if not 1 <= frame <= 2 * count:
+        worker = (frame - 1) % count
+        vertex = self.views.vertex_of(worker) if 1 <= frame <= 2 * count else None
+        if not 1 <= frame <= 2 * count or frame > count and (vertex is None or not self.file_frames(worker, vertex)):
             raise Refused(f"frameId {frame} is not known")
-        return {"scopes": self.views.scopes((frame - 1) % count)}
+        return {"scopes": self.views.scopes(worker)}
 
     def typed(self, variable: dict) -> dict:
         """Removes the type of a variable or a result if the client does not support types."""

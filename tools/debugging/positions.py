@@ -3,8 +3,12 @@
 from typing import NamedTuple
 
 import definition
+from debugging import reasons
 from debugging.places import Graph, Vertex
 from debugging.readable import MARK
+from debugging.session import Session
+
+SEPARATORS = (";", "&&", "||")
 
 # The lines that begin a micro-step, by kind, and how many blocks are open before them.
 BEGINS = {"file": ("actions {", 2), "merge": ("inputs {", 2)}
@@ -58,7 +62,7 @@ def command_spans(script: str, line: str, number: int) -> list[Span]:
     column = line.find('"') + 1
     found, begin, place = [], None, 0
     for word in [*script.split(" "), ";"]:
-        if word in (";", "&&", "||"):
+        if word in SEPARATORS:
             if begin is not None:
                 found.append(Span(number, number, column + begin + 1, column + end + 1))
             begin = None
@@ -83,3 +87,26 @@ def spans_of(graph: Graph, vertex: Vertex) -> list[Span]:
             found = [Span(vertex.first + places[0], vertex.first + places[-1])]
     whole = Span(vertex.first, vertex.last)
     return found if len(found) == vertex.steps else [whole] * vertex.steps
+
+
+def is_finished(session: Session, worker: int, vertex: Vertex) -> bool:
+    """Returns whether what a worker runs has no micro-step left: all are done, or one failed that ends it."""
+    steps = session.runs[worker].steps
+    place = reasons.last_step(session.record, worker, len(session.record))
+    if steps >= vertex.steps:
+        return True
+    if place is None or reasons.failed_part(session.record[place]) is None:
+        return False
+    args = definition.args_of(vertex.op)
+    separators = [word for word in args[-1].split(" ") if word in SEPARATORS] if args[:2] == definition.SHELL else []
+    return all(one == "&&" for one in separators[max(steps - 1, 0) :])
+
+
+def step_shown(session: Session, worker: int, vertex: Vertex) -> int | None:
+    """Returns the micro-step that a worker does next, or the one that failed; None where neither is."""
+    count = len(session.record)
+    run = session.runs[worker]
+    if run is not None and not is_finished(session, worker, vertex):
+        return run.steps
+    place = reasons.last_step(session.record, worker, count if run is not None else count - 1)
+    return None if place is None else reasons.failed_part(session.record[place])

@@ -33,7 +33,8 @@ def record_lines(message: str, record: Record, labels: dict[bytes, int], level: 
     space = "  " * level
     field = MESSAGES[message].get(record.field)
     if field is None:
-        yield f"{space}field {record.field}: {record.held.hex() if isinstance(record.held, bytes) else record.held}"
+        held = record.held.hex() or "-" if isinstance(record.held, bytes) else str(record.held)
+        yield f"{space}field {record.field}: {held}"
     elif field.kind in MESSAGES:
         yield f"{space}{field.name} {{"
         yield from message_lines(field.kind, record.held, labels, level + 1)

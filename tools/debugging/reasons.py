@@ -64,7 +64,7 @@ def why_command(session: Session, worker: int, vertex: Vertex, command: int) -> 
         cause = applets.why(view_of(session, worker, vertex), words)
     except TooLarge:
         cause = None
-    text = f"command {command}, {' '.join(words)}"
+    text = f"command {command} ({' '.join(words)}) failed"
     return printable(f"{text}: {cause}" if cause else text)
 
 
@@ -135,37 +135,43 @@ def why_action(session: Session, worker: int, vertex: Vertex, number: int, fault
         cause = cause_of_action(session, worker, action, fault)
     except TooLarge:
         cause = None
-    text = f"action {number}, {definition.actions_of(vertex.op)[number]}"
+    text = f"action {number} ({definition.actions_of(vertex.op)[number]}) failed"
     return printable(f"{text}: {cause or SENTENCES.get(fault, f'fault {fault}')}")
 
 
 def why_step(session: Session, vertex: Vertex, event: Event) -> str | None:
     """Says why the micro-step of an event failed, if it did; the worker is still as the event left it."""
+    part, faulted = failed_part(event), FAULT.fullmatch(event.reply)
+    if part is None:
+        return None
+    if faulted:
+        return why_action(session, event.worker, vertex, part, int(faulted[2]))
+    return why_command(session, event.worker, vertex, part)
+
+
+def last_step(record: list[Event], worker: int, end: int) -> int | None:
+    """Returns the place of the last micro-step in the first `end` events that a worker did of what it runs then.
+
+    Commands that were skipped do not count.
+    """
+    for place in range(end - 1, -1, -1):
+        event = record[place]
+        if event.worker == worker and not event.reply.startswith("skipped "):
+            return place if event.kind == "step" else None
+    return None
+
+
+def failed_part(event: Event) -> int | None:
+    """Returns the number of the action or the command that failed by the micro-step of an event, or None."""
     ran, faulted = RAN.fullmatch(event.reply), FAULT.fullmatch(event.reply)
     if ran and ran[2] != "0":
-        return why_command(session, event.worker, vertex, int(ran[1]))
-    if faulted:
-        return why_action(session, event.worker, vertex, int(faulted[1]), int(faulted[2]))
-    return None
-
-
-def last_failed_step(record: list[Event], settle: int) -> int | None:
-    """Returns the place in the record of the failed micro-step after which an event settled a vertex as failed."""
-    worker = record[settle].worker
-    for place in range(settle - 1, -1, -1):
-        event = record[place]
-        if event.worker != worker:
-            continue
-        if event.kind != "step":
-            return None
-        if not event.reply.startswith("skipped "):
-            return place
-    return None
+        return int(ran[1])
+    return int(faulted[1]) if faulted else None
 
 
 def why_failed(session: Session, vertex: Vertex, settle: int) -> str | None:
     """Says why an event of the record, by its place there, settled a vertex as failed. It looks before the event."""
-    place = last_failed_step(session.record, settle)
+    place = last_step(session.record, session.record[settle].worker, settle)
     if place is None:
         return None
     event = session.record[place]

@@ -15,7 +15,7 @@ OUTPUT = re.compile(r"\s*([0-9]{1,9})\.([0-9]{1,9})(?:\s*|:(.*))", re.DOTALL)
 VERTEX = re.compile(r"\s*([0-9]{1,9})\s*")
 LABEL = re.compile(r"\s*%([0-9]{1,9})\s*")
 LOOK = re.compile(r"\s*((?:work|cache) [0-9]{1,9} [0-9]{1,9})(?:\s*|:(.*))", re.DOTALL)
-FORMS = "V.I:/path nor V nor %k nor work W I:/path nor cache K I:/path"
+FORMS = "V.I:/path, V, %k, work W I:/path and cache K I:/path"
 
 Variables = list[dict]
 
@@ -26,6 +26,7 @@ class Views:
     def __init__(self, launched: Launched) -> None:
         self.session = launched.session
         self.graph = launched.graph
+        self.origins = launched.origins
         self.known: dict[tuple[int, int], trees.Node] = {}
         self.looked: dict[str, trees.Node | None] = {}
         self.eyes = Eyes(launched.session, launched.graph, self)
@@ -69,6 +70,13 @@ class Views:
         text = vertex.name or "; ".join(definition.texts_of(vertex.op))
         text = shortened(printable(text), MOST_OF_A_NAME)
         return f"{number} {vertex.kind}" + (f": {text}" if text else "")
+
+    def place_of(self, number: int) -> str:
+        """Returns the place of a vertex in a file that the definition was made from, or an empty text."""
+        for one in self.origins.ranges[self.graph.vertices[number].entry]:
+            lines = f"{one.first}" if one.first == one.last else f"{one.first}-{one.last}"
+            return printable(f"{self.origins.files[one.file].name}:{lines}")
+        return ""
 
     def progress(self, worker: int) -> str:
         """Describes how far a worker is with the vertex of its frame."""
@@ -199,7 +207,7 @@ class Views:
             return self.evaluated_vertex(int(vertex[1]))
         if label:
             return self.evaluated_entry(int(label[1]))
-        raise Refused(f"{shortened(expression, MOST_OF_A_NAME)!r} is neither {FORMS}")
+        raise Refused(f"{shortened(expression, MOST_OF_A_NAME)!r} is none of {FORMS}")
 
     def check_vertex(self, number: int) -> None:
         """Checks that there is a vertex with this number."""

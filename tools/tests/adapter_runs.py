@@ -324,20 +324,22 @@ class Failures(WithRun):
     """A vertex that fails: the second command of examples/failure, in its vertex 1."""
 
     LINE = "failed 1 command 1 status 1"
+    WHY = "command 1 (cp /none /b) failed: there is no file /none"
 
     def test_the_run_can_stop_at_a_failure(self):
         client = self.launched(self.example("failure", "empty"))
         client.ask("setExceptionBreakpoints", filters=["failed"])
         client.ask("configurationDone")
         stop = client.stopped()
-        self.assertEqual((stop["reason"], stop["text"], stop["threadId"]), ("exception", self.LINE, 1))
+        self.assertEqual((stop["reason"], stop["threadId"]), ("exception", 1))
+        self.assertEqual(stop["text"], f"{self.LINE}: {self.WHY}")
         answer = client.ask("exceptionInfo", threadId=1)
         self.assertEqual((answer["exceptionId"], answer["description"]), ("failed", self.LINE))
         self.assertIn("command 1: cp /none /b", answer["details"]["stackTrace"])
         self.assertEqual(client.refused("exceptionInfo", threadId=2), "worker 1 has not stopped at a failure")
         self.assertTrue(self.record(client)[-1].endswith(" settle 0 -> 1 failed"))
         answer = client.ask("evaluate", expression="1")["result"]
-        self.assertEqual(answer.splitlines()[0], "1 failed command 1 status 1")
+        self.assertEqual([answer.splitlines()[place] for place in (0, -1)], ["1 failed command 1 status 1", self.WHY])
         answer = client.refused("evaluate", expression="1.0:/a")
         self.assertEqual(answer, "there is no output 1.0: vertex 1 is failed command 1 status 1")
         self.assertEqual([one["value"] for one in self.scope(client, 1, "Outputs")], ["none"])
@@ -355,6 +357,7 @@ class Failures(WithRun):
         lines = client.lines("stderr")
         self.assertEqual(lines[0], self.LINE)
         self.assertIn("  command 1: cp /none /b", lines)
+        self.assertEqual(lines[-1], f"  why: {self.WHY}")
         self.assertEqual(client.leave(), 0)
 
     def test_launches_that_the_program_refuses_are_explained(self):
