@@ -129,6 +129,8 @@ def why_mkdir(view: View, path: Names) -> str | None:
 def why_mkdir_all(view: View, path: Names) -> str | None:
     """Says why `mkdir -p` refuses, or returns None."""
     depth = len(view.mount(path).dest)
+    if view.is_directory(path):
+        return None
     for end in range(depth, len(path) + 1):
         if view.is_file(path[:end]):
             return f"{path_text(path[:end])} is a file"

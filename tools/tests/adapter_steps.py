@@ -319,7 +319,7 @@ class RandomRequests(WithRun):
         }
 
     def test_each_request_has_one_response(self):
-        moves = {"next", "stepIn", "stepOut", "stepBack", "reverseContinue", "continue"}
+        moves = {"next", "stepIn", "stepOut", "stepBack", "reverseContinue", "continue", "restart"}
         names = sorted(set(protocol.RESPONSES) - {"disconnect", "terminate"} | {"attach"})
         for seed in range(4):
             chance = random.Random(seed)
