@@ -96,7 +96,7 @@ class View:
     def no_parent(self, names: Names) -> str | None:
         """Says why nothing can be made at a path for want of its parent, or returns None."""
         if self.is_dest(names):
-            return f"the selector of the mount {path_text(names)} is nothing in its tree" if not self.at(names) else None
+            return None if self.at(names) else f"the selector of the mount {path_text(names)} is nothing in its tree"
         parent = names[:-1]
         if self.is_directory(parent):
             return None

@@ -135,10 +135,13 @@ class Breaking(Holding):
 
     def failures(self) -> list[tuple[int, str]]:
         """Returns the vertices that failed, each with the program's line for it."""
-        statuses = [status.partition(" ") for status in self.launched.session.status()]
-        return [(vertex, f"failed {vertex} {rest}") for vertex, (word, _, rest) in enumerate(statuses) if word == "failed"]
+        found = []
+        for vertex, status in enumerate(self.launched.session.status()):
+            if status.startswith("failed "):
+                found.append((vertex, f"failed {vertex} {status.removeprefix('failed ')}"))
+        return found
 
     def meaning(self, line: str, vertex: int | None = None) -> list[str]:
-        """Returns the explanation of a line of the program, with its entry and, for a vertex that failed, why it did."""
+        """Returns the explanation of a line of the program, with its entry and, for a failed vertex, why it failed."""
         why = self.views.why(vertex) if vertex is not None else None
         return [*launching.explained(line, self.launched.entries), *([f"why: {why}"] if why else [])]

@@ -24,7 +24,7 @@ class Range(NamedTuple):
 
 
 class File(NamedTuple):
-    """A file that entries come from: its name, its text, empty if it is not stored, and its path here if it is known."""
+    """A file that entries come from: its name, its text (empty if it is not stored), and its path if it is known."""
 
     name: str
     text: str

@@ -9,7 +9,7 @@ from collections.abc import Iterator
 import messages
 from common import printable
 from debugging.places import Lines, Text, lines_of
-from op_reading import MESSAGES, SIGNED, Faulty, Field, Record, number_in, records_in, text_in
+from op_reading import MESSAGES, NUMBERS, Faulty, Field, Record, number_in, records_in, text_in
 
 MARK = "# "
 MOST_OF_A_VALUE = 1_000
@@ -18,9 +18,8 @@ MOST_OF_A_VALUE = 1_000
 def value_text(field: Field, record: Record, labels: dict[bytes, int]) -> str:
     """Returns the value of a record of a field that is no message."""
     if isinstance(record.held, int):
-        if field.kind == "bool":
-            return "true" if record.held else "false"
-        return str(number_in(field.kind, record.held) if field.kind in SIGNED or field.kind == "uint32" else record.held)
+        number = number_in(field.kind, record.held) if field.kind in NUMBERS else record.held
+        return str(bool(number)).lower() if field.kind == "bool" else str(number)
     if field.kind != "string":
         return record.held.hex() or "-"
     if field.name == "digest" and record.held in labels:

@@ -197,9 +197,10 @@ class Places(WithRun):
         for _ in range(7):
             self.move(client, "stepIn")
             found.append(self.lines_at(client, text))
-        script = "mkdir -p bin && concat bin/all /src/head /src/tail && sha256 bin/all /tmp/sum && cp /tmp/sum bin/sum " \
-            "&& chmod 0444 bin/all && envfile env"
-        self.assertEqual(found[:6], script.split(" && "))
+        self.assertEqual(found[:6], [
+            "mkdir -p bin", "concat bin/all /src/head /src/tail", "sha256 bin/all /tmp/sum", "cp /tmp/sum bin/sum",
+            "chmod 0444 bin/all", "envfile env",
+        ])
         self.assertEqual(len(found[6]), 33)
 
     def test_the_frame_is_at_the_next_action_and_the_next_input(self):
@@ -275,7 +276,8 @@ class Console(WithRun):
     def test_help_lists_what_the_console_takes(self):
         client = self.entered()
         text = self.say(client, "help")
-        for word in ["V.I:/path", "%k", "status", "tree V I", "work W I", "caches", "cache K I", "claim W V", "cancel W"]:
+        words = ["V.I:/path", "%k", "status", "tree V I", "work W I", "caches", "cache K I", "claim W V", "cancel W"]
+        for word in words:
             self.assertIn(word, text)
         self.assertIn("is none of", client.refused("evaluate", expression="help", context="watch"))
 

@@ -383,29 +383,32 @@ class Failures(WithRun):
 class Documented(WithRun):
     """The session in the documentation, and the launch files of the examples."""
 
-    def transcript(self):
-        """Returns the messages of the documented session, each with its arrow."""
-        lines = (ROOT / "docs" / "TOOLS.md").read_text("utf-8").splitlines()
-        begin = lines.index(next(line for line in lines if line.startswith('-> {"seq": 1,')))
-        block = "\n".join(lines[begin : lines.index("```", begin)]).replace("\n   ", " ")
-        return [line.split(" ", 1) for line in block.split("\n")]
+    def transcripts(self):
+        """Returns the messages of each documented session, each with its arrow."""
+        text = (ROOT / "docs" / "TOOLS.md").read_text("utf-8")
+        blocks = [block for block in text.split("```text\n")[1:] if block.startswith('-> {"seq": 1,')]
+        for block in blocks:
+            joined = block[: block.index("\n```")].replace("\n   ", " ").replace("$ROOT", str(ROOT))
+            yield [line.split(" ", 1) for line in joined.split("\n")]
 
-    def test_the_documented_session_is_what_the_adapter_sends(self):
+    def test_the_documented_sessions_are_what_the_adapter_sends(self):
         programs = self.at / "programs"
         programs.mkdir()
         (programs / "llbm").symlink_to(base.llbm)
         self.environment["PATH"] = f"{programs}:{os.environ['PATH']}"
-        client = protocol.Client(base.command("debug-adapter"), env=self.environment, cwd=ROOT)
-        self.addCleanup(client.close)
-        transcript = self.transcript()
-        self.assertGreater(len(transcript), 40)
-        for arrow, text in transcript:
-            message = json.loads(text)
-            if arrow == "->":
-                self.assertEqual(client.send(message["command"], message.get("arguments")), message["seq"])
-            else:
-                self.assertEqual(client.receive(), message)
-        self.assertEqual(client.child.wait(60), 0)
+        lengths = []
+        for transcript in self.transcripts():
+            lengths.append(len(transcript))
+            client = protocol.Client(base.command("debug-adapter"), env=self.environment, cwd=ROOT)
+            self.addCleanup(client.close)
+            for arrow, text in transcript:
+                message = json.loads(text)
+                if arrow == "->":
+                    self.assertEqual(client.send(message["command"], message.get("arguments")), message["seq"])
+                else:
+                    self.assertEqual(client.receive(), message)
+            self.assertEqual(client.child.wait(60), 0)
+        self.assertEqual(lengths, [69, 32, 30])
 
     def test_the_launch_file_of_vs_code_starts_the_adapter(self):
         launch_file = (EXAMPLES / "launch.json").read_text().replace("${workspaceFolder}", str(ROOT))

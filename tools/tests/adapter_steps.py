@@ -300,7 +300,8 @@ class RandomRequests(WithRun):
 
     VALUES = [
         None, True, 0, 1, 2, -1, 1 << 70, 1.5, "", "0.0:/", "%1", "claim 0 0", "\ud800", "a\0b", [], {}, [None],
-        [{"line": 7}], [{"line": 20, "condition": "settle"}], [{"name": "1", "hitCondition": "1"}], {"sourceReference": 1}, {"path": "a\0b"}, ["failed"],
+        [{"line": 7}], [{"line": 20, "condition": "settle"}], [{"name": "1", "hitCondition": "1"}],
+        {"sourceReference": 1}, {"path": "a\0b"}, ["failed"],
     ]
     NAMES = [
         "threadId", "frameId", "variablesReference", "expression", "context", "source", "breakpoints", "filters",

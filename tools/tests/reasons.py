@@ -54,8 +54,8 @@ FAILURES = [
 
 # What is done there, so that no rule refuses it.
 DONE = [
-    "true", "mkdir x", "mkdir -p /d", "mkdir -p /d/e/g", "mkdir -p /ro", "rm /f", "write x 1", "append /f 1", "cp /f /d",
-    "cp /ro/a /f", "concat x /f /d/f", "chmod 0644 /d", "test -e /", "test -f /f", "test -d /d", "listing /d x",
+    "true", "mkdir x", "mkdir -p /d", "mkdir -p /d/e/g", "mkdir -p /ro", "rm /f", "write x 1", "append /f 1",
+    "cp /f /d", "cp /ro/a /f", "concat x /f /d/f", "chmod 0644 /d", "test -e /", "test -f /f", "test -d /d", "listing /d x",
     "envfile x", "sha256 /d/f x",
 ]
 

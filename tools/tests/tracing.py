@@ -113,7 +113,8 @@ class Traces(Folder):
             "0 file: the first", "mkdir /a (acted 0)", "1 exec: cp a b || true", "cp a b (ran 0 1)", "true (ran 1 0)",
         ])
         more = b"1 claim 0 2 -> file 1\n"
-        self.check_run(run("trace-of-record", "--definition", place, text=more), 2, b"", b"the definition has no vertex 2\n")
+        done = run("trace-of-record", "--definition", place, text=more)
+        self.check_run(done, 2, b"", b"the definition has no vertex 2\n")
         done = run("trace-of-record", "--definition", self.place(b"none"), text=text)
         self.assertEqual(done.returncode, 3)
         done = run("trace-of-record", "--definition", self.file(b"bad", b"\x0b"), text=text)
@@ -183,7 +184,8 @@ class Explained(Folder):
         place = self.file(b"definition", base.ending(source, base.file_op(copy, on=[source])))
         done = self.explain(place, f"src={os.fsdecode(self.file(b'tree', tree))}", "--paths", "3")
         lines = [line for line in done.stdout.decode().splitlines() if line.startswith("    ")]
-        self.assertEqual([line.split(":")[1] for line in lines], [" added /to", " added /to/0", " added /to/1", " and 7 more paths"])
+        shown = [line.split(": ")[1] for line in lines]
+        self.assertEqual(shown, ["added /to", "added /to/0", "added /to/1", "and 7 more paths"])
 
     def test_what_is_refused_is_named(self):
         for words, cause in [

@@ -195,6 +195,12 @@ const ANSWERS: &str =
     "1 claim 0 0 -> file 1\n2 step 0 -> acted 0\n3 settle 0 -> 0 done\nstop\nback 2\n0 running 0\n\
     3 settle 0 -> 0 done\nd 0755 0 0 /\nf 0644 0 0 6869 /a\n";
 
+const LOOKS: &str =
+    "step_over: next; next; work 0; work 0 0; work 0 1; caches; cache 0 0; work 1; quit";
+
+const LOOKED: &str = "1 claim 0 0 -> exec 1\n2 step 0 -> ran 0 0\n0 mount /\n1 mount /c\nd 0755 0 0 /\n\
+    d 0755 0 0 /\nf 0644 0 0 780a /a\n0 locked 1 - k\nd 0755 0 0 /\nf 0644 0 0 780a /a\nnone\n";
+
 const ROWS: &[Row] = &[
     (
         "run_over",
@@ -225,6 +231,12 @@ const ROWS: &[Row] = &[
         ONE_FILE,
         "3 fault 184 and 3 fault 91 and 3 fault 123 and fault 171 141 and fault 174",
         ANSWERS,
+    ),
+    (
+        LOOKS,
+        "locked: write /c/a x; RESULT 0",
+        "3 fault 184 and 3 fault 91 and 3 fault 123 and fault 171 141 and fault 174",
+        LOOKED,
     ),
 ];
 
