@@ -6,7 +6,7 @@ waiting, so that the run can be paused between any two events.
 
 from collections.abc import Callable
 
-from debugging import launching
+from debugging import console, launching
 from debugging.arguments import Refused, argument
 from debugging.breaking import Breaking
 from debugging.capabilities import CAPABILITIES, FAILED
@@ -121,6 +121,8 @@ class Adapter(Inspecting, Breaking):
         self.views.close()
         if line != event.line:
             self.views.forget()
+        elif event.fails():
+            self.views.note_failure(event.vertex)
         place = self.line(self.launched.graph.vertices[event.vertex].first)
         self.output(line, "stdout", source=self.source(), line=place)
 
@@ -281,6 +283,20 @@ class Adapter(Inspecting, Breaking):
         """Undoes events back to the state after one that meets a breakpoint, or to the beginning."""
         self.go_back(arguments, self.mover.backwards)
 
+    def evaluate_or_do(self, arguments: dict) -> dict:
+        """Evaluates an expression; in the console it may be a command of a session that adds an event."""
+        command = argument(arguments, "expression", str).strip()
+        if argument(arguments, "context", str, "") == "repl" and console.EVENT.fullmatch(command):
+            return self.do(command)
+        return self.evaluate(arguments)
+
+    def do(self, command: str) -> dict:
+        """Does a command that adds an event, and stops the run after it."""
+        event = self.mover.do(command)
+        stop = self.mover.met(event) or Stop("step", event.line, event.worker)
+        self.then = [lambda: self.halt(stop)]
+        return {"result": event.line, "variablesReference": 0}
+
     def pause(self, arguments: dict) -> None:
         """Stops a continuing run between two events."""
         worker = self.worker(arguments)
@@ -309,7 +325,7 @@ REQUESTS = {
     "stackTrace": (Adapter.stack_trace, (STOPPED,)),
     "scopes": (Adapter.scopes, (STOPPED,)),
     "variables": (Adapter.variables, (STOPPED,)),
-    "evaluate": (Adapter.evaluate, (STOPPED,)),
+    "evaluate": (Adapter.evaluate_or_do, (STOPPED,)),
     "source": (Adapter.source_text, READY),
     "loadedSources": (Adapter.loaded_sources, READY),
 }

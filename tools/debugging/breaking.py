@@ -50,9 +50,9 @@ class Breaking(Holding):
         first = self.breakpoint_count + 1
         self.breakpoint_count += len(wanted)
         self.asked[name] = [one._replace(number=number) for number, one in enumerate(wanted, first)]
-        return self.set(name)
+        return self.set_named(name)
 
-    def set(self, name: str) -> list[dict]:
+    def set_named(self, name: str) -> list[dict]:
         """Sets the breakpoints that were asked for a source by name, and returns the answers."""
         found: list[Breakpoint] = []
         self.answers[name] = [self.breakpoint(name, wanted, found) for wanted in self.asked[name]]
@@ -63,7 +63,7 @@ class Breaking(Holding):
     def set_again(self) -> None:
         """Sets all breakpoints on another run, and reports those whose answers are different there."""
         for name, before in list(self.answers.items()):
-            for old, new in zip(before, self.set(name)):
+            for old, new in zip(before, self.set_named(name)):
                 if new != old:
                     self.event("breakpoint", {"reason": "changed", "breakpoint": new})
 

@@ -4,7 +4,7 @@ from collections.abc import Callable
 from typing import Protocol
 
 from common import printable, shortened
-from debugging import changes, happened, looks, reasons, trees
+from debugging import changes, happened, looks, trees
 from debugging.changes import Change, Compared
 from debugging.happened import Happened, Tree, Watch
 from debugging.places import Graph
@@ -27,6 +27,9 @@ class Host(Protocol):
 
     def reference(self, opener: Callable[[], Variables]) -> int:
         """Returns a new reference to variables."""
+
+    def why(self, vertex: int) -> str | None:
+        """Says why a vertex failed, or returns None."""
 
 
 def plain(name: str, value: str) -> Variable:
@@ -67,7 +70,7 @@ class Eyes:
         """Returns the variables for why a vertex failed and for the trees that it had when it failed."""
         place = self.settle_of(vertex)
         worker = self.session.record[place].worker
-        why = reasons.why_failed(self.session, self.graph.vertices[vertex], place)
+        why = self.views.why(vertex)
         with self.session.earlier(place):
             parts = looks.parts_of(self.session, worker)
             held = [looks.tree_by(self.session, f"work {worker} {part.number}") for part in parts]

@@ -3,12 +3,11 @@
 from debugging import console
 from debugging.arguments import Refused, argument
 from debugging.holding import FIRST_FILE, TEXT, Holding
-from debugging.moving import Stop
 from debugging.positions import Span, spans_of, step_shown
 
 
 class Inspecting(Holding):
-    """An adapter's answers to requests that look. A command of the console may add an event."""
+    """An adapter's answers to requests that look."""
 
     def worker(self, arguments: dict) -> int:
         """Returns the worker of a thread."""
@@ -89,27 +88,13 @@ class Inspecting(Holding):
         return {"variables": list(map(self.typed, found[:most] if most > 0 else found))}
 
     def evaluate(self, arguments: dict) -> dict:
-        """Evaluates an expression; in the console it may be a command of a session that looks or adds an event."""
+        """Evaluates an expression; in the console it may be a command of a session that looks."""
         expression = argument(arguments, "expression", str)
-        command = expression.strip()
         if argument(arguments, "context", str, "") == "repl":
-            if console.EVENT.fullmatch(command):
-                return self.command(command)
-            result = console.looked(self.launched.session, command)
+            result = console.looked(self.launched.session, expression.strip())
             if result is not None:
                 return {"result": result, "variablesReference": 0}
         return self.typed(self.views.evaluate(expression))
-
-    def command(self, command: str) -> dict:
-        """Does a command that adds an event, and stops the run after it."""
-        event = self.mover.do(command)
-        stop = self.mover.met(event) or Stop("step", event.line, event.worker)
-        self.then = [lambda: self.halt(stop)]
-        return {"result": event.line, "variablesReference": 0}
-
-    def halt(self, stop: Stop) -> None:
-        """Stops the run, and reports why."""
-        raise NotImplementedError
 
     def source_text(self, arguments: dict) -> dict:
         """Returns the text of the entries, or that of a file that the definition was made from."""

@@ -29,6 +29,7 @@ class Views:
         self.origins = launched.origins
         self.known: dict[tuple[int, int], trees.Node] = {}
         self.looked: dict[str, trees.Node | None] = {}
+        self.whys: dict[int, str | None] = {}
         self.eyes = Eyes(launched.session, launched.graph, self)
         self.openers: list[Callable[[], Variables]] = []
         self.first = 1
@@ -41,8 +42,13 @@ class Views:
         self.eyes.close()
 
     def forget(self) -> None:
-        """Forgets all outputs, because an event was undone."""
+        """Forgets all outputs and why later events failed, because an event was undone."""
         self.known = {}
+        self.whys = {place: why for place, why in self.whys.items() if place < len(self.session.record)}
+
+    def note_failure(self, vertex: int) -> None:
+        """Stores why a vertex failed, by the last event: looking now takes one event back, and later it takes more."""
+        self.why(vertex)
 
     def reference(self, opener: Callable[[], Variables]) -> int:
         """Returns a new reference to the variables that a function returns."""
@@ -155,7 +161,10 @@ class Views:
 
     def why(self, vertex: int) -> str | None:
         """Says why a vertex failed, or returns None where that is not known."""
-        return reasons.why_failed(self.session, self.graph.vertices[vertex], self.eyes.settle_of(vertex))
+        place = self.eyes.settle_of(vertex)
+        if place not in self.whys:
+            self.whys[place] = reasons.why_failed(self.session, self.graph.vertices[vertex], place)
+        return self.whys[place]
 
     def graph_variables(self) -> Variables:
         """Returns the variables for all vertices with their status; each expands to its outputs, or to what it left."""
