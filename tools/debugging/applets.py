@@ -203,15 +203,21 @@ RULES: dict[tuple[str, ...], tuple[Reason, slice]] = {
 }
 
 
+def rule_of(words: list[str]) -> tuple[Reason, list[str]] | None:
+    """Returns the rule of a command's applet, and those of its words that are paths; None for an applet without one."""
+    for begin, (rule, places) in RULES.items():
+        if tuple(words[: len(begin)]) == begin:
+            return rule, words[places]
+    return None
+
+
 def why(view: View, words: list[str]) -> str | None:
     """Says in words why a command ended with status 1, or returns None where no rule is found."""
     if words[:1] == ["false"]:
         return "it always fails"
-    for begin, (rule, places) in RULES.items():
-        if tuple(words[: len(begin)]) != begin:
-            continue
-        for word in words[places]:
-            if view.names(word) is None:
-                return f"{word} is not a path"
-        return rule(view, *map(view.names, words[places]))
-    return None
+    found = rule_of(words)
+    if found is None:
+        return None
+    rule, texts = found
+    wrong = [text for text in texts if view.names(text) is None]
+    return f"{wrong[0]} is not a path" if wrong else rule(view, *map(view.names, texts))

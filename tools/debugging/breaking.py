@@ -62,10 +62,10 @@ class Breaking(Holding):
 
     def set_again(self) -> None:
         """Sets all breakpoints on another run, and reports those whose answers are different there."""
-        for name, before in list(self.answers.items()):
-            for old, new in zip(before, self.set_named(name)):
-                if new != old:
-                    self.event("breakpoint", {"reason": "changed", "breakpoint": new})
+        before = [one for answers in self.answers.values() for one in answers]
+        after = [one for name in list(self.answers) for one in self.set_named(name)]
+        for new in [new for old, new in zip(before, after) if new != old]:
+            self.event("breakpoint", {"reason": "changed", "breakpoint": new})
 
     def breakpoint(self, name: str, wanted: Wanted, found: list[Breakpoint]) -> dict:
         """Returns the answer to a breakpoint, and adds it to `found` if it is valid."""

@@ -23,6 +23,12 @@ class Range(NamedTuple):
     last: int
 
 
+def ends_in(path: str, name: str) -> bool:
+    """Returns whether a path ends in the parts of a name."""
+    parts = pathlib.PurePath(name).parts
+    return bool(parts) and pathlib.PurePath(path).parts[-len(parts) :] == parts
+
+
 class File(NamedTuple):
     """A file that entries come from: its name, its text (empty if it is not stored), and its path if it is known."""
 
@@ -48,26 +54,25 @@ class Origins(NamedTuple):
     def file_at(self, path: str) -> int | None:
         """Returns the file with a path: the one that is known by it, or else the first whose name ends it."""
         place = os.path.realpath(path)
-        for number, file in enumerate(self.files):
-            if file.path and os.path.realpath(file.path) == place:
-                return number
-        for number, file in enumerate(self.files):
-            name = pathlib.PurePath(file.name).parts
-            if name and pathlib.PurePath(path).parts[-len(name) :] == name:
-                return number
-        return None
+        known = [bool(file.path) and os.path.realpath(file.path) == place for file in self.files]
+        named = [ends_in(path, file.name) for file in self.files]
+        return known.index(True) if any(known) else named.index(True) if any(named) else None
+
+
+def ranges_at(location: names.Fields) -> list[Range]:
+    """Returns the ranges of a location; one without a first line is left out."""
+    file, found = names.number_of(location, 1), []
+    for one in map(names.fields_of, names.parts_of(location, 2)):
+        first, last = (names.number_of(names.message_of(one, end), 1) for end in (1, 2))
+        if first:
+            found.append(Range(file, first, max(first, last)))
+    return found
 
 
 def ranges_of(locations: names.Fields) -> list[Range]:
     """Returns the ranges of an entry."""
-    found = []
-    for location in map(names.fields_of, names.parts_of(locations, 1)):
-        file = names.number_of(location, 1)
-        for one in map(names.fields_of, names.parts_of(location, 2)):
-            first, last = (names.number_of(names.message_of(one, end), 1) for end in (1, 2))
-            if first:
-                found.append(Range(file, first, max(first, last)))
-    return found
+    places = map(names.fields_of, names.parts_of(locations, 1))
+    return [one for place in places for one in ranges_at(place)]
 
 
 def regular_text(place: str) -> str | None:

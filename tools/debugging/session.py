@@ -168,8 +168,12 @@ class Session:
             yield
         finally:
             if self.child.poll() is None:
-                for event in reversed(undone):
-                    self.redo(event)
+                self.redo_all(undone)
+
+    def redo_all(self, undone: list[Event]) -> None:
+        """Does events again, the last that was undone first."""
+        for event in reversed(undone):
+            self.redo(event)
 
     def redo(self, event: Event) -> None:
         """Does an event that was undone, and checks that its line is the same."""

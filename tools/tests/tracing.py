@@ -146,7 +146,7 @@ class Explained(Folder):
         text = (EXAMPLES / name / "definition.text").read_bytes()
         return self.file(b"definition", subprocess.run([base.llbm, "asm"], input=text, capture_output=True).stdout)
 
-    def test_a_run_is_told_step_by_step(self):
+    def test_a_run_is_explained_step_by_step(self):
         done = self.explain(EXAMPLES / "tour.definition", f"source={EXAMPLES / 'tour.tree'}")
         self.assertEqual((done.returncode, done.stderr), (0, b""))
         lines = done.stdout.decode().splitlines()
@@ -162,13 +162,13 @@ class Explained(Folder):
             self.assertIn(line, lines)
         self.assertEqual(lines[-1], "the run is complete after 14 events, with the result 2.0")
 
-    def test_a_failure_is_told_with_its_rule(self):
+    def test_a_failure_is_explained_by_its_rule(self):
         done = self.explain(self.assembled("failure"), f"empty={EXAMPLES / 'failure' / 'empty.tree'}")
         self.assertEqual((done.returncode, done.stderr), (1, b""))
         lines = done.stdout.decode().splitlines()
         self.assertEqual(lines[-2:], ["  command 1 (cp /none /b) failed: there is no file /none", "  failed"])
 
-    def test_what_was_not_run_is_told(self):
+    def test_what_was_not_run_is_named(self):
         one = base.file_op(base.number(1, -1) + base.rm("/none"))
         place = self.file(b"definition", base.ending(one, base.file_op(base.mkdir("/a"), on=[one])))
         done = self.explain(place)
