@@ -4,10 +4,9 @@ import os
 import pathlib
 import shutil
 
+from llbm_tools.debugging import breakpoints, places, readable
 from tests import base
 from tests.adapter_runs import EXAMPLES, WithRun, stored_record
-
-from debugging import breakpoints, places, readable  # noqa: E402, isort: skip
 
 DOCKERFILE = EXAMPLES / "from-buildkit" / "dockerfile"
 NEWER = EXAMPLES / "from-buildkit" / "newer"

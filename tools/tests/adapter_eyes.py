@@ -1,10 +1,9 @@
 """Tests of what the debug adapter shows of running vertices, of caches and of the last step, with the program llbm."""
 
+from llbm_tools.debugging import happened, looks, places
+from llbm_tools.debugging.session import Session, TooLarge
 from tests import base
 from tests.adapter_runs import EXAMPLES, WithRun
-
-from debugging import happened, looks, places  # noqa: E402, isort: skip
-from debugging.session import Session, TooLarge  # noqa: E402, isort: skip
 
 CHANGED = "Changed by the last step"
 EMPTY = b"d 0755 0 0 /\n"

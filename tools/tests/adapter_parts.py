@@ -7,12 +7,9 @@ import os
 import pathlib
 import sys
 
+from llbm_tools.debugging import launching, places, trees
 from tests import base, protocol
 from tests.base import TOOLS, Folder, command
-
-sys.path.insert(0, str(TOOLS))
-
-from debugging import launching, places, trees  # noqa: E402
 
 FAKE = f"""#!{sys.executable}
 import os, signal, sys

@@ -412,7 +412,7 @@ class Documented(WithRun):
 
     def test_the_launch_file_of_vs_code_starts_the_adapter(self):
         launch_file = (EXAMPLES / "launch.json").read_text().replace("${workspaceFolder}", str(ROOT))
-        extension = TOOLS / "debugging"
+        extension = TOOLS / "llbm_tools" / "debugging"
         known = json.loads((extension / "package.json").read_text())["contributes"]["debuggers"][0]
         self.assertEqual((extension / known["program"]).resolve(), TOOLS / "debug-adapter")
         attributes = set(known["configurationAttributes"]["launch"]["properties"])

@@ -5,7 +5,7 @@ import pathlib
 import random
 
 from tests import base, protocol
-from tests.adapter_runs import ENTRIES, EXAMPLES, WithRun, stored_record
+from tests.adapter_runs import ENTRIES, WithRun, stored_record
 
 PRINTED = "f 0644 0 0 %s /%s"
 NONE = "is none of V.I:/path, V, %k, work W I:/path and cache K I:/path"

@@ -6,10 +6,8 @@ import random
 import subprocess
 import unittest
 
-import adopting
-import adoption_rules
-import findings
-import local_names
+from llbm_tools import adopting, adoption_rules, findings, local_names
+from llbm_tools.streams import Refused
 from tests import base, linting
 from tests.base import Folder, number, part, run, run_closed, run_into
 from tests.linting import EXAMPLES, ROOT_MOUNT, action, exec_of, mount
@@ -103,10 +101,10 @@ class Rules(unittest.TestCase):
             ("name a=>true", "there is no =>"), ("name a => apk", "the new words are not a script: fault 71 apk"),
             ("words a => /bin/sh -c 'rm'", "the new words are not a script: fault 72 0"),
         ]:
-            with self.assertRaises(adoption_rules.BadRules) as caught:
+            with self.assertRaises(Refused) as caught:
                 adoption_rules.rules_in(f"\n{line}\n".encode())
             self.assertEqual(str(caught.exception), f"line 2: {cause}")
-        with self.assertRaises(adoption_rules.BadRules):
+        with self.assertRaises(Refused):
             adoption_rules.rules_in(b"\xff")
 
 
@@ -287,9 +285,9 @@ class Adopt(Folder):
         self.assertEqual(pathlib.Path(os.fsdecode(place)).read_bytes(), base.ending(self.local))
         before = sorted(os.listdir(self.folder))
         none = self.place(b"none", b"out")
-        for words in [["-o", none], ["--sources", none], ["-o", "/dev/full"]]:
+        for words, status in [(["-o", none], 2), (["--sources", none], 2), (["-o", "/dev/full"], 3)]:
             done = run("adopt", given, *words)
-            self.assertEqual((done.returncode, done.stdout), (3, b""))
+            self.assertEqual((done.returncode, done.stdout), (status, b""))
             self.assertEqual(sorted(os.listdir(self.folder)), before)
         self.check_run(run("adopt", "-o", place, text=b"\x0a"), 2, b"", b"not adopted: fault 81 1\n")
         self.assertEqual(pathlib.Path(os.fsdecode(place)).read_bytes(), base.ending(self.local))
@@ -300,7 +298,7 @@ class Adopt(Folder):
         self.assertEqual(run("adopt", "a", "b").returncode, 2)
         self.assertEqual(run("adopt", "--none").returncode, 2)
         missing = self.place(b"none")
-        self.check_run(run("adopt", missing), 3, b"", missing + b": No such file or directory\n")
+        self.check_run(run("adopt", missing), 2, b"", missing + b": No such file or directory\n")
         self.check_run(run_closed(0, "adopt"), 3, b"", b"a read or a write failed: standard input is closed\n")
         given = self.file(b"given", base.ending(self.local))
         with open("/dev/full", "wb") as output:

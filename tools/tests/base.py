@@ -8,22 +8,23 @@ import sys
 import tempfile
 import unittest
 
+from llbm_tools import common
+
 TOOLS = pathlib.Path(__file__).resolve().parent.parent
 ROOT = TOOLS.parent
 IS_ROOT = os.geteuid() == 0
 
 AS_NOBODY = """
-import argparse, os, re, stat, sys
+import argparse, importlib, os, sys
 sys.argv = sys.argv[1:]
-sys.dont_write_bytecode = True
-sys.path.insert(0, os.path.dirname(sys.argv[0]))
-import collections, common, contextlib, leftout, trees, typing
-program = compile(open(sys.argv[0]).read(), sys.argv[0], "exec")
+folder, name = os.path.split(sys.argv[0])
+sys.path.insert(0, folder)
+tool = importlib.import_module("llbm_tools." + name.replace("-", "_"))
 argparse.ArgumentParser().format_help()
 os.setgroups([])
 os.setgid(65534)
 os.setuid(65534)
-exec(program, {"__name__": "__main__", "__file__": sys.argv[0]})
+sys.exit(tool.main())
 """
 
 runs = 0
@@ -54,6 +55,12 @@ def run_closed(descriptor, tool, *words):
     return subprocess.run(
         command(tool, *words), capture_output=True, timeout=120, preexec_fn=lambda: os.close(descriptor)
     )
+
+
+def skip_if_slow(case):
+    """Skips a test that takes minutes with a program that is compiled without proof, and so without optimization."""
+    if llbm is not None and common.is_unproved(llbm):
+        case.skipTest("a program without proof is too slow")
 
 
 class Folder(unittest.TestCase):

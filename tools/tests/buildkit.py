@@ -1,11 +1,13 @@
 """Tests of `examples/check`, and of the definitions in examples/from-buildkit, which BuildKit's own client made."""
 
+import dataclasses
 import os
 import pathlib
 import subprocess
 import unittest
 
-import definition
+from llbm_tools import definition, wire
+from llbm_tools.ops import Input
 from tests import base
 from tests.base import ROOT, Folder
 
@@ -25,7 +27,7 @@ def stored(name):
 
 def held(field, message):
     """Returns the values of the records of a field of a message."""
-    return [value for number, _, value in definition.records(message) if number == field]
+    return [record.held for record in wire.records(message) if record.field == field]
 
 
 class StoredDefinitions(unittest.TestCase):
@@ -56,8 +58,8 @@ class StoredDefinitions(unittest.TestCase):
     def test_the_last_entry_only_names_the_result(self):
         for name in NAMES:
             *entries, last = definition.entries_of(stored(name))
-            self.assertEqual([number for number, _, _ in definition.records(last)], [1], name)
-            self.assertEqual(definition.op_of(0, last)["inputs"], [{"digest": base.digest(entries[-1])}], name)
+            self.assertEqual([record.field for record in wire.records(last)], [1], name)
+            self.assertEqual(definition.op_of(0, last).inputs, (Input(digest=base.digest(entries[-1])),), name)
 
     def test_the_newer_client_makes_the_same_graph_with_other_bytes(self):
         one, two = (definition.entries_of(stored(name)) for name in ("copy", "newer"))
@@ -65,7 +67,8 @@ class StoredDefinitions(unittest.TestCase):
         for row, (older, newer) in enumerate(zip(one[:-1], two[:-1], strict=True)):
             self.assertNotEqual(older, newer)
             ops = [definition.op_of(row, entry) for entry in (older, newer)]
-            self.assertEqual(*[{**op, "inputs": len(op.get("inputs", []))} for op in ops])
+            self.assertEqual(len(ops[0].inputs), len(ops[1].inputs))
+            self.assertEqual(*[dataclasses.replace(op, inputs=()) for op in ops])
 
 
 class Check(Folder):

@@ -131,7 +131,7 @@ class Tool(Repository):
 
     def test_a_folder_without_crates_fails(self):
         done = run("floors", "--repository", self.place(b"none"))
-        self.assertEqual((done.returncode, done.stdout), (3, b""))
+        self.assertEqual((done.returncode, done.stdout), (2, b""))
         self.assertIn(b"crates.txt", done.stderr)
 
     def test_command_lines_are_refused(self):

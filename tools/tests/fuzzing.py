@@ -6,15 +6,10 @@ import random
 import re
 import unittest
 
-import definition
-import faults
-import fuzz_changed
-import fuzz_checks
-import fuzz_made
-import messages
-from fuzz_checks import Broken, Rules, Session, tree_fault
-from limited import Ran
-from messages import Raw, encoded, made
+from llbm_tools import definition, faults, fuzz_changed, fuzz_checks, fuzz_made, messages
+from llbm_tools.fuzz_checks import Broken, Rules, Session, tree_fault
+from llbm_tools.limited import Ran
+from llbm_tools.messages import Raw, encoded, made
 from tests import base
 from tests.base import ROOT, Folder, run, run_closed
 
@@ -67,11 +62,6 @@ class Messages(unittest.TestCase):
         below = encoded(first_op())
         own = encoded(made("Op", inputs=(messages.edge(below),)))
         self.assertEqual(messages.with_new_digests([below], [own]), [own])
-
-    def test_the_table_agrees_with_the_parser(self):
-        for name, fields in definition.MESSAGES.items():
-            for number, field in fields.items() if name != "Definition" else ():
-                self.assertEqual(messages.TABLE[name][number][0], field.name)
 
 
 class RandomInputs(unittest.TestCase):
@@ -135,6 +125,21 @@ class RunRules(unittest.TestCase):
         ]:
             with self.assertRaisesRegex(Broken, cause):
                 rules.check(Ran(("run",), b"", status, out, err))
+
+    def test_the_findings_of_lint_are_the_faults_of_the_program(self):
+        known = base.ending(base.source("local://a"))
+        unknown = base.ending(base.merge(base.source("local://a")))
+        for words, given, status, err in [
+            (("show",), unknown, 2, b"fault 86 0 0\n"), (("show",), known, 0, b""), (("run",), known, 1, b"failed 0"),
+            (("run",), known, 2, b"fault 121 a\n"), (("show",), known, 3, b"fault 182\n"),
+        ]:
+            fuzz_checks.check_findings(Ran(words, given, status, b"", err))
+        for words, given, status, err in [
+            (("show",), unknown, 2, b"fault 86 0 1\n"), (("show",), known, 2, b"fault 84 0\n"),
+            (("show",), unknown, 0, b""), (("run",), unknown, 0, b""),
+        ]:
+            with self.assertRaisesRegex(Broken, "lint"):
+                fuzz_checks.check_findings(Ran(words, given, status, b"", err))
 
     def test_a_consistent_session_passes(self):
         text = b"0 ready\n1 claim 0 0 -> file 1\n0 running 0\nback 0\n0 ready\nfault 172\n0 ready\n"

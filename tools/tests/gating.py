@@ -1,13 +1,18 @@
 """Tests of `gate`, and of `tries` and `replay`, which it runs."""
 
+import contextlib
 import importlib.machinery
 import importlib.util
+import io
 import os
 import pathlib
+import signal
 import subprocess
 import sys
 import unittest
+from unittest import mock
 
+from llbm_tools import common
 from tests import base
 from tests.base import ROOT, Folder, run
 
@@ -21,6 +26,12 @@ def loaded(name):
 
 
 TESTS = "tests, 7 runs of the tools, as root"
+LATE = [
+    "test chain::a_chain_of_65535_vertices_is_evaluated_run_and_walked ... FAILED",
+    "    checked: no-answer: the program did not end within the time limit",
+]
+OTHER = ["test crew::a_worker_is_stopped ... FAILED", "    checked: fault: index out of bounds"]
+RESULT = "test result: {}. {} passed; {} failed; {} ignored; 0 filtered out"
 
 
 class WithPrograms(Folder):
@@ -28,7 +39,8 @@ class WithPrograms(Folder):
 
     def program(self, *lines):
         """Writes a shell program with these lines."""
-        place = self.file(b"program", "\n".join(["#!/bin/sh", *lines, ""]).encode())
+        name = f"program-{len(os.listdir(self.folder))}"
+        place = self.file(name.encode(), "\n".join(["#!/bin/sh", *lines, ""]).encode())
         os.chmod(place, 0o755)
         return os.fsdecode(place)
 
@@ -38,31 +50,85 @@ class Gate(WithPrograms):
 
     def test_the_last_line_with_counts_counts(self):
         counts_in = loaded("gate").counts_in
-        for lines, status, counts in [
-            ([], 0, (1, 0)), ([], 1, (0, 1)), (["190 passed, 0 failed"], 0, (190, 0)),
-            (["3 passed, 2 failed"], 1, (3, 2)), (["3 passed, 0 failed"], 1, (3, 1)),
-            (["5 passed, 0 failed"], 0, (5, 0)), (["190 passed, 0 failed (162 edits refused)"], 0, (190, 0)),
-            (["1 passed, 1 failed", "2 passed, 0 failed"], 0, (2, 0)),
-            (["FAILED (failures=2, errors=1, skipped=4)", f"90 {TESTS}: some failed"], 1, (87, 3)),
-            (["OK", f"90 {TESTS}: all passed"], 0, (90, 0)),
-            (["9 cases in 1 seconds with seed 3: 0 failed"], 0, (1, 0)),
-            (["9 cases in 1 seconds with seed 3: 2 failed"], 1, (0, 2)),
+        for lines, status, *counts in [
+            ([], 0, 1, 0), ([], 1, 0, 1), (["190 passed, 0 failed"], 0, 190, 0),
+            (["3 passed, 2 failed"], 1, 3, 2), (["3 passed, 0 failed"], 1, 3, 1),
+            (["5 passed, 0 failed"], 0, 5, 0), (["190 passed, 0 failed (162 edits refused)"], 0, 190, 0),
+            (["1 passed, 1 failed", "2 passed, 0 failed"], 0, 2, 0),
+            (["FAILED (failures=2, errors=1, skipped=4)", f"90 {TESTS}: some failed"], 1, 87, 3),
+            (["OK", f"90 {TESTS}: all passed"], 0, 90, 0),
+            ([f"90 {TESTS}: all passed", "3 of them skipped: a", "4 of them skipped: b"], 0, 83, 0, 7),
+            (["9 cases in 1 seconds with seed 3: 0 failed"], 0, 1, 0),
+            (["9 cases in 1 seconds with seed 3: 2 failed"], 1, 0, 2),
+            ([RESULT.format("ok", 71, 0, 2), "run=ended status=0 proved=no"], 0, 71, 0, 2),
+            ([RESULT.format("FAILED", 70, 1, 0), "run=ended status=101 proved=no"], 101, 70, 1, 0),
+            (["run=none proved=no"], 6, 0, 1),
+            ([*LATE, RESULT.format("FAILED", 60, 1, 0), "run=no-answer proved=no"], 6, 60, 0, 1),
+            ([*LATE, *OTHER, RESULT.format("FAILED", 59, 2, 0), "run=no-answer proved=no"], 6, 59, 1, 1),
+            ([LATE[0], OTHER[1], RESULT.format("FAILED", 60, 1, 0)], 4, 60, 1),
         ]:
-            self.assertEqual(tuple(counts_in(lines, status)), counts, lines)
+            self.assertEqual(counts_in(lines, status), (*counts, *[0] * (3 - len(counts))), lines)
 
     def test_parts_run_on_one_program_or_on_both(self):
         gate = loaded("gate")
         for given, programs in [("/p", ["/p"]), (None, list(map(str, gate.PROGRAMS)))]:
             words = gate.argparse.Namespace(llbm=given, after=given is not None, fuzz=7, seed="3")
-            commands = [command for command in gate.parts(words)]
+            commands = [part.command for part in gate.parts(words)]
             self.assertEqual(["rt", "ci"] in commands, given is None)
-            self.assertIn(gate.tool("refuse"), commands)
+            self.assertIn(gate.tool("refuse").command, commands)
             self.assertEqual([command[-1] for command in commands if command[0].endswith("check")], programs)
             self.assertEqual(commands[-1][2:], ["7", "--llbm", programs[0], "--seed", "3"])
 
+    def test_the_quick_parts_compile_and_do_not_prove(self):
+        gate = loaded("gate")
+        one, *others = gate.quick_parts()
+        self.assertEqual(one, gate.tool("unproved-program"))
+        self.assertEqual({tuple(part.command) for part in others}, {("rt", "try", "--test")})
+        crates = [part.folder.name for part in others]
+        self.assertEqual(sorted(crates), ["llb_examples", "llb_refusals", "llb_stories", "llbm"])
+        self.assertTrue(all(part.folder.is_dir() for part in others))
+
+    def test_parts_that_run_together_are_all_counted(self):
+        gate = loaded("gate")
+        says = [gate.Part([self.program(f"echo '{number} passed, 0 failed'")]) for number in (3, 4, 5)]
+        parts = [*says, gate.Part([self.program("sleep 0.2", "exit 7")]), gate.Part(["/none"])]
+        with contextlib.redirect_stdout(io.StringIO()) as out:
+            counts = list(gate.run_together(parts, 2))
+        self.assertEqual(sorted(counts), [(0, 1, 0), (0, 1, 0), (3, 0, 0), (4, 0, 0), (5, 0, 0)])
+        lines = out.getvalue().splitlines()
+        self.assertEqual(len([line for line in lines if line.startswith("== ")]), 4)
+        self.assertIn("/none: No such file or directory", lines)
+
+    def run_main(self, *words, quick=(), whole=()):
+        """Runs the gate with these counts in place of its parts; returns its status, its lines, and its receipts."""
+        gate, receipts = loaded("gate"), []
+        gate.run_quick = lambda options: [gate.Counts(*counts) for counts in quick]
+        gate.parts = lambda options: whole
+        gate.run_part = lambda counts: gate.Counts(*counts)
+        gate.keep_receipt = lambda: receipts.append("receipt")
+        handler = signal.getsignal(signal.SIGTERM)
+        with mock.patch.object(sys, "argv", ["gate", *words]), contextlib.redirect_stdout(io.StringIO()) as out:
+            status = gate.main()
+        signal.signal(signal.SIGTERM, handler)
+        return status, out.getvalue().splitlines(), receipts
+
+    def test_the_last_line_has_the_sums(self):
+        self.assertEqual(self.run_main(whole=[(2, 0), (3, 0)]), (0, ["5 passed, 0 failed"], ["receipt"]))
+        self.assertEqual(self.run_main(whole=[(2, 1), (3, 0)]), (1, ["5 passed, 1 failed"], []))
+        self.assertEqual(self.run_main("--after", whole=[(2, 0)]), (0, ["2 passed, 0 failed"], []))
+        self.assertEqual(self.run_main("--llbm", "/p", whole=[(2, 0)]), (0, ["2 passed, 0 failed"], []))
+
+    def test_the_quick_gate_says_what_it_did_not_do(self):
+        status, lines, receipts = self.run_main("--quick", quick=[(2, 0, 1), (3, 0, 0)])
+        self.assertEqual((status, lines[1:], receipts), (0, ["5 passed, 0 failed, 1 skipped"], []))
+        self.assertTrue(lines[0].startswith("not done: proofs, "))
+        status, lines, _ = self.run_main("--quick", quick=[(2, 1, 0)])
+        self.assertEqual((status, lines[1:]), (1, ["2 passed, 1 failed, 0 skipped"]))
+
     def test_command_lines_are_refused(self):
-        done = subprocess.run([sys.executable, ROOT / "gate", "--nosuch"], capture_output=True, timeout=60)
-        self.assertEqual((done.returncode, done.stdout), (2, b""))
+        for words in [("--nosuch",), ("--quick", "--after"), ("--quick", "--llbm", "/p")]:
+            done = subprocess.run([sys.executable, ROOT / "gate", *words], capture_output=True, timeout=60)
+            self.assertEqual((done.returncode, done.stdout), (2, b""), words)
 
 
 class Tries(WithPrograms):
@@ -84,7 +150,7 @@ class Tries(WithPrograms):
     def test_the_program_passes(self):
         if base.llbm is None:
             self.skipTest("the program llbm is needed (--llbm PROGRAM)")
-        done = run("tries", base.llbm)
+        done = run("tries", *["--unproved"] * common.is_unproved(base.llbm), base.llbm)
         self.assertEqual((done.returncode, done.stderr), (0, b""), done.stdout)
         self.assertRegex(done.stdout, b"^[0-9]+ passed, 0 failed\n$")
 
@@ -104,7 +170,7 @@ prints
 and
 
     crates/llbm/out/llbm two
-    crates/llbm/out/llbm three
+    out/llbm-unproved three
 
 which prints `two`
 in any case. The next prints nothing that is shown:
@@ -114,6 +180,10 @@ in any case. The next prints nothing that is shown:
 and not
 
     rt ci
+
+nor
+
+    tools/unproved-program
 
 nor
 
@@ -158,7 +228,7 @@ class Replay(WithPrograms):
         self.assertEqual((done.returncode, done.stderr), (0, b""), done.stdout)
         *lines, last = done.stdout.decode().splitlines()
         self.assertEqual(last, "6 passed, 0 failed")
-        self.assertEqual([line.split(": ", 1)[1].split(",")[0] for line in lines], ["left out", "left out"])
+        self.assertEqual([line.split(": ", 1)[1].split(",")[0] for line in lines], ["left out"] * 3)
         self.assertIn(":25: left out", lines[0])
 
     def test_differences_are_printed(self):

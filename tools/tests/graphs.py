@@ -188,4 +188,4 @@ class Labels(Folder):
         self.assertEqual(done.returncode, 2)
         text = "".join(line + "\n" for line in lines).encode()
         done = run("graph-of-show", "--definition", self.place(b"none"), text=text)
-        self.check_run(done, 3, b"", self.place(b"none") + b": No such file or directory\n")
+        self.check_run(done, 2, b"", self.place(b"none") + b": No such file or directory\n")

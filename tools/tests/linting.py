@@ -1,17 +1,16 @@
 """Tests of `lint`, of its parsing of ops and scripts, and of its first finding compared with the program."""
 
 import random
+import re
 import shutil
 import subprocess
 import unittest
 from unittest import mock
 
-import definition
-import findings
-import op_reading
-import op_rules
-import script_faults
-from common import printable
+from llbm_tools import definition, findings, op_reading, op_rules, script_faults, wire
+from llbm_tools.common import printable
+from llbm_tools.ops import MESSAGES, CacheOpt, Definition, Mount, Op, UserOpt, fields_of
+from llbm_tools.wire import Faulty
 from tests import base
 from tests.base import ROOT, Folder, number, part, run, run_closed, run_into
 
@@ -47,7 +46,7 @@ class Reading(unittest.TestCase):
 
     def check_fault(self, fault, entry):
         """Checks that the entry is not an op, with this fault number."""
-        with self.assertRaises(op_reading.Faulty, msg=entry) as caught:
+        with self.assertRaises(Faulty, msg=entry) as caught:
             op_reading.read_op(entry)
         self.assertEqual(caught.exception.number, fault, entry)
 
@@ -73,24 +72,53 @@ class Reading(unittest.TestCase):
 
     def test_a_member_that_was_replaced_is_not_parsed(self):
         op = op_reading.read_op(part(3, part(1, b"\xff")) + part(4, part(2, MADE)))
-        self.assertEqual((op["kind"], op["file"]["actions"][0]["kind"]), ("file", "mkdir"))
+        self.assertEqual((op.kind, op.file.actions[0].kind), ("file", "mkdir"))
         again = op_reading.read_op(part(4, b"\xff") + part(3, part(1, "a")) + part(4, part(2, MADE)) * 2)
-        self.assertEqual(len(again["file"]["actions"]), 2)
+        self.assertEqual(len(again.file.actions), 2)
 
     def test_values_are_converted_to_their_kinds(self):
-        shown = op_reading.read("Mount", number(1, -1) + number(6, (1 << 33) + 3) + number(5, 7) + part(21, "x"))
-        values = [shown[name] for name in ("input", "mountType", "readonly", "extra")]
-        self.assertEqual(values, [-1, 3, 1, part(21, "x")])
-        self.assertEqual((shown["dest"], shown["output"], shown["cacheOpt"]), ("", 0, None))
-        self.assertEqual(op_reading.read("UserOpt", number(2, -1))["byID"], (1 << 32) - 1)
-        self.assertEqual(op_reading.read("CacheOpt", number(2, (1 << 32) - 1))["sharing"], -1)
+        shown = op_reading.read(Mount, number(1, -1) + number(6, (1 << 33) + 3) + number(5, 7) + part(21, "x"))
+        self.assertEqual((shown.input, shown.mount_type, shown.readonly, shown.extra), (-1, 3, True, part(21, "x")))
+        self.assertEqual((shown.dest, shown.output, shown.cache_opt), ("", 0, None))
+        self.assertEqual(op_reading.read(UserOpt, number(2, -1)).by_id, (1 << 32) - 1)
+        self.assertEqual(op_reading.read(CacheOpt, number(2, (1 << 32) - 1)).sharing, -1)
 
     def test_faults_of_definitions_have_their_numbers(self):
         for fault, data in [(1, b"\x0a"), (11, number(2, 0)), (11, number(3, 0)), (13, b"\x0a\x00" * 65_537)]:
-            with self.assertRaises(op_reading.Faulty) as caught:
+            with self.assertRaises(Faulty) as caught:
                 op_reading.read_definition(data)
             self.assertEqual(caught.exception.number, fault)
         self.assertEqual(len(op_reading.read_definition(b"\x0a\x00" * 65_536)), 65_536)
+
+
+def numbers_in(text):
+    """Returns the numbers of a cell, such as `2 to 4, 6`."""
+    ends = [part.split(" to ") for part in text.split(", ")]
+    return [number for end in ends for number in range(int(end[0]), int(end[-1]) + 1)]
+
+
+def fields_on_the_page():
+    """Returns message, number and name of each field that docs/FORMATS.md does not call extra."""
+    page = (ROOT / "docs" / "FORMATS.md").read_text("utf-8")
+    table = page.partition("| Message | Number | Field | Type |")[2].partition("\n\n")[0].splitlines()[2:]
+    found, message = set(), ""
+    for name, numbers, shown, kind, *_ in ([cell.strip() for cell in row.split("|")[1:]] for row in table):
+        message = name or message
+        if kind != "extra":
+            fields = re.findall("`(.*?)`", re.sub(r"\(.*?\)", "", shown))
+            found |= {(message, *pair) for pair in zip(numbers_in(numbers), fields, strict=True)}
+    return found
+
+
+class Table(unittest.TestCase):
+    """The table of messages."""
+
+    def test_the_fields_are_those_of_the_page(self):
+        inner = {("AttributeEntry", 1, "key"), ("AttributeEntry", 2, "value")}
+        known = set()
+        for name, message in {**MESSAGES, "Definition": Definition}.items():
+            known |= {(name, field.number, field.name) for field in fields_of(message).values()}
+        self.assertEqual(known, fields_on_the_page() | inner)
 
 
 class Scripts(unittest.TestCase):
@@ -319,7 +347,7 @@ class Lint(Folder):
     def test_command_lines_and_closed_streams_are_refused(self):
         self.assertEqual(run("lint", "a", "b").returncode, 2)
         self.assertEqual(run("lint", "--none").returncode, 2)
-        self.check_run(run("lint", self.place(b"none")), 3, b"", self.place(b"none") + b": No such file or directory\n")
+        self.check_run(run("lint", self.place(b"none")), 2, b"", self.place(b"none") + b": No such file or directory\n")
         self.check_run(run_closed(0, "lint"), 3, b"", b"a read or a write failed: standard input is closed\n")
         with open("/dev/full", "wb") as output:
             done = run_into(output, "lint", self.file(b"definition", b"\x0a"))
@@ -358,19 +386,19 @@ def with_bytes_changed(chance, data):
     return bytes(data)
 
 
-def with_field_changed(chance, data, message="Op"):
+def with_field_changed(chance, data, message=Op):
     """Returns a message with a random record removed, doubled or changed, at any depth."""
-    records = op_reading.records_in(data)
+    records = list(wire.records(data))
     if not records:
         return data + number(chance.randint(1, 8), 1)
     place = chance.randrange(len(records))
     field, form, held, text = records[place]
-    named = op_reading.MESSAGES.get(message, {}).get(field)
-    if named and named.kind in op_reading.MESSAGES and chance.random() < 0.8:
+    named = fields_of(message).get(field)
+    if named and isinstance(named.kind, type) and form == wire.LENGTH and chance.random() < 0.8:
         new = part(field, with_field_changed(chance, held, named.kind))
     elif chance.random() < 0.4:
         new = chance.choice([b"", text * 2])
-    elif form == definition.LENGTH:
+    elif form == wire.LENGTH:
         new = part(field, chance.choice([b"", b"/", b"/a", b"local://", b"\xff", b"apk", b";", held + b"/", held[:-1]]))
     else:
         new = number(field, chance.choice([-2, -1, 0, 1, 2, 3, 5, 1 << 40]))

@@ -3,8 +3,8 @@
 import os
 import subprocess
 
-import definition
-from fuzz_checks import tree_fault
+from llbm_tools import definition
+from llbm_tools.fuzz_checks import tree_fault
 from tests import base
 from tests.base import Folder, digest, number, part, run, run_closed, source
 

@@ -2,8 +2,8 @@
 
 import unittest
 
-import definition
-import names
+from llbm_tools import names
+from llbm_tools.wire import Unreadable
 from tests import base
 from tests.base import Folder, number, part, run
 
@@ -81,7 +81,7 @@ class Names(unittest.TestCase):
         for held in [part(2, b"\x0a"), part(3, b"\x0b"), part(3, part(1, b"\x0a")), part(3, number(2, 1))]:
             self.assertEqual(self.shown(held), ["", ""], held)
         self.assertEqual(self.first(texts(2, llb_customname="a") + part(6, b"\x0b")), "a")
-        with self.assertRaises(definition.Unreadable):
+        with self.assertRaises(Unreadable):
             names.names_of(b"\x0a")
 
     def test_each_entry_has_a_name_and_the_first_of_equal_ones_the_vertex(self):

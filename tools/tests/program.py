@@ -8,13 +8,14 @@ import resource
 import subprocess
 import unittest
 
-import faults
+from llbm_tools import faults, limited
 from tests import base
 from tests.base import ROOT, Folder, run
 
 EXAMPLES = ROOT / "examples"
 DEEPEST = 65_535
 STACK = 256 << 10
+DOUBLINGS = 20
 
 
 def narrow():
@@ -227,17 +228,33 @@ class WithProgram(Folder):
         self.assertNotIn(b"fault 173", answers)
 
     def test_a_text_that_is_too_long_is_refused(self):
+        base.skip_if_slow(self)
         self.make(b"a", b"")
         os.truncate(self.place(b"in", b"a"), 1 << 25)
         done = self.build(base.ending(base.source("local://src")), f"src={self.at / 'in'}")
         self.assertEqual(done.returncode, 2)
         self.assertRegex(done.stderr, rb"\nthe text has [0-9,]+ bytes: .*\n(.*\n)*fault 185\n  185: ")
 
+    def with_little_memory(self):
+        """Returns the settings of a run that is refused more than a gigabyte, or more than a megabyte at once."""
+        if limited.SANITIZER in pathlib.Path(base.llbm).read_bytes():
+            return {"env": {**os.environ, "ASAN_OPTIONS": "allocator_may_return_null=1:max_allocation_size_mb=1"}}
+        return {"preexec_fn": lambda: limited.limit(resource.RLIMIT_AS, 1 << 30)}
+
+    def test_a_script_that_doubles_a_file_without_end_is_refused_memory(self):
+        doubles = [f"concat {to} {at} {at}" for at, to in [("/a", "/b"), ("/b", "/a")] * DOUBLINGS]
+        script = " && ".join(["write /a x", *doubles])
+        given = base.ending(base.exec_op("/bin/sh", "-c", script))
+        done = self.llbm("run", given=given, **self.with_little_memory())
+        self.assertEqual((done.returncode, done.stdout), (3, b""))
+        self.assertEqual(done.stderr.splitlines()[-1], b"fault 151")
+
     def narrow_lines(self, *words, given):
         """Returns the lines that the program prints with a small stack; it has to succeed."""
         return self.output(*words, given=given, preexec_fn=narrow).decode().splitlines()
 
     def test_the_deepest_graph_needs_no_deep_stack(self):
+        base.skip_if_slow(self)
         given = run("bigdef", "chain", str(DEEPEST)).stdout
         last = DEEPEST - 1
         inputs = ["-", *(f"{number}.0" for number in range(last))]
@@ -250,6 +267,7 @@ class WithProgram(Folder):
         self.assertTrue(self.output("asm", given=text, preexec_fn=narrow) == given)
 
     def test_the_deepest_graph_is_run_and_undone(self):
+        base.skip_if_slow(self)
         given = run("bigdef", "chain", str(DEEPEST)).stdout
         events = 3 * DEEPEST
         commands = b"go\n" + b"back\n" * (events + 1)

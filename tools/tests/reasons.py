@@ -1,13 +1,8 @@
 """Tests of the words that say why a command failed, by the rules of applets in docs/FORMATS.md."""
 
-import sys
 import unittest
 
-from tests.base import TOOLS
-
-sys.path.insert(0, str(TOOLS))
-
-from debugging import applets, changes, trees  # noqa: E402
+from llbm_tools.debugging import applets, changes, trees
 
 ROOT = [b"d 0755 0 0 /", b"d 0755 0 0 /d", b"f 0644 0 0 31 /d/f", b"f 0644 0 0 - /f", b"d 0755 0 0 /w"]
 INNER = [b"d 0755 0 0 /", b"f 0644 0 0 - /a"]
@@ -55,8 +50,8 @@ FAILURES = [
 # What is done there, so that no rule refuses it.
 DONE = [
     "true", "mkdir x", "mkdir -p /d", "mkdir -p /d/e/g", "mkdir -p /ro", "rm /f", "write x 1", "append /f 1",
-    "cp /f /d", "cp /ro/a /f", "concat x /f /d/f", "chmod 0644 /d", "test -e /", "test -f /f", "test -d /d", "listing /d x",
-    "envfile x", "sha256 /d/f x",
+    "cp /f /d", "cp /ro/a /f", "concat x /f /d/f", "chmod 0644 /d", "test -e /", "test -f /f", "test -d /d",
+    "listing /d x", "envfile x", "sha256 /d/f x",
 ]
 
 

@@ -11,7 +11,7 @@ class Refuse(Folder):
     """The tool `refuse`, on programs that print what tests would."""
 
     def tests(self, *lines, refused=0, status=0, names=("one::calls",)):
-        """Writes a program in place of the tests: it prints these lines, and `refused` growths are refused."""
+        """Writes a program in place of the tests: it prints these lines, and is refused something `refused` times."""
         text = f"""#!{sys.executable}
 import os, sys
 if sys.argv[1:] == ["--list"]:
@@ -36,15 +36,15 @@ else:
     def test_calls_are_counted(self):
         tests = self.tests("refused 2 (27): put /a", "refused 0 (none): copy", refused=2)
         self.assertEqual(self.refuse(tests), (0, [
-            "one::calls: passed, 2 growths refused", "     2  27    put /a", "     0  none  copy",
-            "2 growths of 2 calls were refused", "1 passed, 0 failed",
+            "one::calls: passed, 2 refusals", "     2  27    put /a", "     0  none  copy",
+            "2 refusals of 2 calls", "1 passed, 0 failed",
         ]))
 
     def test_wrong_counts_and_bad_ends_fail(self):
         for lines, refused, status, wrong in [
             (["refused 0 (27): put /a"], 0, 0, "refused 0, which is wrong for 27: put /a"),
             (["refused 1 (none): copy"], 1, 0, "refused 1, which is wrong for none: copy"),
-            (["refused 3 (27): put /a"], 2, 0, "2 growths were refused, but it reports 3"),
+            (["refused 3 (27): put /a"], 2, 0, "2 refusals, but it reports 3"),
             (["a word"], 0, 0, "it names no call"),
             (["refused 1 (27): put /a", "growth 2 of put /a"], 1, 3, "growth 2 of put /a"),
             (["refused 1 (27): put /a"], 1, 3, "it ended with status 3"),
@@ -54,7 +54,7 @@ else:
             self.assertIn(f"    {wrong}", lines_printed)
 
     def test_a_program_without_tests_fails(self):
-        none = ["0 growths of 0 calls were refused", "0 passed, 0 failed"]
+        none = ["0 refusals of 0 calls", "0 passed, 0 failed"]
         self.assertEqual(self.refuse(self.tests(names=())), (1, none))
 
     def test_command_lines_are_refused(self):

@@ -1,4 +1,4 @@
-"""Tests of the repository: docs/FAULTS.md agrees with the code, and no line is too long."""
+"""Tests of the repository: docs/FAULTS.md agrees with the code, no line is too long, and no wrong body is gone."""
 
 import os
 import pathlib
@@ -8,11 +8,39 @@ import subprocess
 import unittest
 from typing import NamedTuple
 
-import faults
+from llbm_tools import faults
 from tests.base import ROOT, TOOLS, Folder, run
 
 CRATES = ROOT / "crates"
 MOST_OF_A_TOOL = 120
+
+# The wrong bodies that the prover is always asked to refuse, by the crate of the body: whatever a gate costs, none goes.
+KEPT_EDITS = {
+    "llb_ops": ["takes_the_first_of_two_scalars", "replaces_a_split_message"],
+    "llb_tree": ["file_hides_only_its_own_path"],
+    "llb_fileop": ["contents_put_under_the_name"],
+    "llb_asm": ["disassembles_raw"],
+    "llb_loader": ["index_one_past", "names_a_later_faulty_row", "unreached_feature"],
+    "llb_cache": [
+        "locked_key_granted_twice",
+        "first_of_two_locked_keys_kept",
+        "private_instance_used_twice",
+        "new_instance_copies_the_first",
+    ],
+    "llb_execution": ["runs_skipped_command", "resets_last_status", "works_on_its_own_copy_of_a_cache"],
+    "llb_state": [
+        "lands_on_another_view",
+        "lands_on_another_program",
+        "failed_vertex_readies_its_users",
+        "failure_takes_its_cache_changes_back",
+        "cancel_takes_cache_changes_back",
+        "cancel_keeps_key",
+    ],
+    "llb_board": ["lands_without_its_steps"],
+    "llb_ready": ["number_that_met_full_is_lost", "number_given_twice"],
+    "llb_work": ["another_graph_comes_back", "opening_board_without_a_fault"],
+    "llb_stepper": ["stops_one_event_late", "back_to_the_opening"],
+}
 
 ERROR = re.compile(r'#\[error\("(.*)"\)\]')
 HEAD = re.compile(r"pub (enum|struct) (\w+)")
@@ -148,7 +176,7 @@ class Kit(unittest.TestCase):
     """The kit that proved the program."""
 
     def test_the_kit_has_the_same_name_everywhere(self):
-        places = [CRATES / "llb_commands" / "src" / "pages.rt", TOOLS / "tries", ROOT / "README.md"]
+        places = [CRATES / "llb_commands" / "src" / "pages.rt", TOOLS / "llbm_tools" / "tries.py", ROOT / "README.md"]
         named = [KIT.findall(place.read_text("utf-8")) for place in places]
         self.assertTrue(all(named))
         if shutil.which("rt"):
@@ -213,7 +241,7 @@ class Widths(unittest.TestCase):
         self.assertEqual((done.returncode, done.stdout, done.stderr), (0, b"", b""))
 
     def test_no_line_of_a_tool_is_too_long(self):
-        for path in [path for path in TOOLS.glob("**/*") if path.is_file()]:
+        for path in [path for path in TOOLS.glob("**/*") if path.is_file() and path.suffix != ".pyc"]:
             longest = max(map(len, path.read_text("utf-8").split("\n")))
             self.assertLessEqual(longest, MOST_OF_A_TOOL, path)
 
@@ -234,6 +262,15 @@ class Claims(unittest.TestCase):
     def test_an_unknown_statement_is_refused(self):
         done = run("claims", "nothing")
         self.assertEqual(done.returncode, 2)
+
+
+class WrongBodies(unittest.TestCase):
+    """The must-fail edits that are always kept."""
+
+    def test_each_is_there(self):
+        for crate, names in KEPT_EDITS.items():
+            there = {path.stem for path in (CRATES / crate / "must-fail").glob("*.edit")}
+            self.assertLessEqual(set(names), there, crate)
 
 
 class Proved(unittest.TestCase):

@@ -5,7 +5,7 @@ import subprocess
 import sys
 import unittest
 
-import progress
+from llbm_tools import progress
 from tests import base
 from tests.base import command, part, run
 from tests.building import Builds

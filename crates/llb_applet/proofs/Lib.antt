@@ -4,3 +4,4 @@ pub mod Exchanged
 pub mod Again
 pub mod Ands
 pub mod Chains
+mod Begins

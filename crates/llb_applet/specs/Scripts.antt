@@ -1,10 +1,11 @@
 -- The script that arguments are: that of the text after `/bin/sh -c`, or else one call.
-use Rattle.std.specs.Prelude.{ℕ, ◌+◌, ◌==◌, Bool, ◌&&◌, if◌then◌else◌, List, [], ◌∷◌, length, slice_index_or, Option, Some, None, Result, Ok, Err, codes}
+use Rattle.std.specs.Prelude.{◌≡◌, ℕ, ◌+◌, ◌==◌, Bool, ◌&&◌, if◌then◌else◌, List, [], ◌∷◌, length, slice_index_or, Option, Some, None, Result, Ok, Err, codes}
 use Rattle.llb_wire.specs.Answer.{◌>>=◌}
 use Rattle.llb_applet.specs.declared.fault.ScriptFault.{ScriptFault}
 use Rattle.llb_applet.specs.declared.fault.ScriptFault.TheVariants.{ShellSyntax}
 use Rattle.llb_applet.specs.declared.command.Command.{Command}
 use Rattle.llb_applet.specs.declared.join.Join.{Join}
+use Rattle.llb_applet.specs.declared.join.Join.TheVariants.{Then}
 use Rattle.llb_applet.specs.declared.join.Joined.{Joined}
 use Rattle.llb_applet.specs.Applets.{spells}
 use Rattle.llb_applet.specs.Words.{Call, first_call, bad_place_of, calls_of}
@@ -36,3 +37,8 @@ is_shell args = (length args == 3) && spells (codes "/bin/sh") (slice_index_or a
 -- the commands that arguments are: those of the text after `/bin/sh -c`, or else the one call that the arguments are
 abbrev pub script_of : List (List ℕ) → Result (List Joined) ScriptFault
 script_of args = if is_shell args then commands_in (slice_index_or args 2 []) else commands_of 0 (first_call args ∷ [])
+
+-- there is a first command, and it always runs
+abbrev pub BeginsWithThen : List Joined → Type 0
+BeginsWithThen [] = ⊥
+BeginsWithThen (first ∷ commands) = first.join ≡ Then

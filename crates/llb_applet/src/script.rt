@@ -3,7 +3,7 @@
 
 ghost use Rattle.std.specs.Prelude.{◌≡◌, ◌+◌, ◌<◌, ◌++◌, ◌∷◌, [], List, ℕ, length, OnOk, IsTrue, slice_index_or, Ok};
 ghost use Rattle.llb_applet.specs.Faults.{Gives, MemoryLast};
-ghost use Rattle.llb_applet.specs.Scripts.{is_shell, script_of, commands_in, commands_of};
+ghost use Rattle.llb_applet.specs.Scripts.{is_shell, script_of, commands_in, commands_of, BeginsWithThen};
 ghost use Rattle.llb_applet.specs.Words.{calls_of, first_call};
 
 use crate::applet::is_word;
@@ -19,8 +19,8 @@ use std::marker::Model;
 use std::mem;
 use std::sync::Arc;
 
-/// A script: commands in the order in which they run, each with its join. Copies of a script share the commands. Contracts
-/// see the list of them.
+/// A script: one or more commands in the order in which they run, each with its join. By the type's invariant the first one always
+/// runs. Copies of a script share the commands. Contracts see the list of them.
 pub struct Script {
     commands: Arc<Vec<Joined>>,
 }
@@ -36,10 +36,13 @@ impl Model for Script {
     ghost use Rattle.std.specs.Prelude.{List};
     ghost use Rattle.std.specs.Arc.{arc_value};
     ghost use Rattle.llb_applet.specs.declared.join.Joined.{Joined};
+    ghost use Rattle.llb_applet.specs.Scripts.{BeginsWithThen};
 
     ghost Value = { List Joined };
 
     ghost view = { λ s. (arc_value s.commands).items };
+
+    ghost invariant = { λ s. BeginsWithThen (arc_value s.commands).items };
 }
 
 impl Script {
@@ -48,6 +51,13 @@ impl Script {
         ensures { result.now ≡ self.now }
     {
         self.commands.as_slice()
+    }
+
+    /// Recalls the type's invariant: there is a first command, and it always runs.
+    pub fn begins_with_then(&self)
+        ensures { BeginsWithThen self.now }
+    {
+        let _ = &self.commands;
     }
 
     /// Returns an equal second owner, which shares the commands. Fails with 74 `Memory` alone.
@@ -180,6 +190,19 @@ fn second(args: &[Text]) -> &str
     args[1].as_str()
 }
 
+// Reads the commands of arguments, or fails with their first fault.
+fn read_commands(alloc: Global, args: &[Text]) -> Result<Vec<Joined>, ScriptFault>
+    requires { 0 < length args.now }
+    ensures gives { Gives (λ c. c.items) result (script_of args.now) }
+    ensures last { MemoryLast result (script_of args.now) }
+{
+    if is_shell(args) {
+        read_shell(alloc, args[2].as_str())
+    } else {
+        read_call(alloc, args)
+    }
+}
+
 /// Reads arguments as a script: `/bin/sh`, `-c` and one text, or else one call, an applet's name and its words. In a text
 /// words are between spaces, and a separator, a word `;`, `&&` or `||`, is between two calls; another word has only ASCII letters
 /// and digits, `_ - . / , : + @ % =` and characters past ASCII. Fails with 73 `ShellSyntax` at the first bad place of the text: a byte
@@ -191,11 +214,7 @@ pub fn read_script(alloc: Global, args: &[Text]) -> Result<Script, ScriptFault>
     ensures gives { Gives (λ s. s) result (script_of args.now) }
     ensures last { MemoryLast result (script_of args.now) }
 {
-    let commands = if is_shell(args) {
-        read_shell(alloc, args[2].as_str())?
-    } else {
-        read_call(alloc, args)?
-    };
+    let commands = read_commands(alloc, args)?;
     let commands = Arc::new(alloc, commands)?;
     Ok(Script { commands })
 }

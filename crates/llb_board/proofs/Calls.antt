@@ -5,13 +5,13 @@ use Rattle.std.specs.Result.{result_ok}
 use Rattle.llb_model.specs.Program.{Build}
 use Rattle.llb_model.specs.Outcome.{Ending}
 use Rattle.llb_model.specs.State.{Status, Settled, Execution, WorkerStatus, Idle, Runs, State, program_in, is_finished, ending_from}
-use Rattle.llb_model.specs.declared.refusal.SettleFault.TheVariants as no_settle
-use Rattle.llb_model.specs.declared.event.Event.TheVariants.{Claim, Step, Settle, Cancel}
+use Rattle.llb_events.specs.declared.refusal.SettleFault.TheVariants as no_settle
+use Rattle.llb_events.specs.declared.event.Event.TheVariants.{Claim, Step, Settle, Cancel}
 use Rattle.llb_model.specs.Table.{claim_grant, step_grant, settle_with, settle_grant, settled, cancel_with, cancel_grant}
 use Rattle.llb_model.specs.Table.{cancelled, table}
 use Rattle.llb_model.proofs.Events.{Answer}
-use Rattle.llb_model.specs.declared.refusal.SettleFault.{SettleFault}
-use Rattle.llb_model.specs.declared.refusal.SettleFault.TheVariants.{NotFinished}
+use Rattle.llb_events.specs.declared.refusal.SettleFault.{SettleFault}
+use Rattle.llb_events.specs.declared.refusal.SettleFault.TheVariants.{NotFinished}
 use Rattle.llb_state.specs.Rules.{left_at, given_up_at}
 
 abbrev ok_of : {A E : Type 0} → A → Result A E

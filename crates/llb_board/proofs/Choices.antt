@@ -5,11 +5,11 @@ use Rattle.std.proofs.lemmas.List.{drop_all}
 use Rattle.std.proofs.lemmas.Option.{slice_get_within, get_or_from_slice_get}
 use Rattle.llb_model.specs.Program.{Build}
 use Rattle.llb_model.specs.State.{WorkerStatus, Idle, Runs, Execution, is_finished, program_in}
-use Rattle.llb_model.specs.declared.event.Event.TheVariants.{Step, Settle}
+use Rattle.llb_events.specs.declared.event.Event.TheVariants.{Step, Settle}
 use Rattle.llb_model.specs.Run.{next_of}
-use Rattle.llb_events.specs.Views.{look_of}
-use Rattle.llb_events.specs.declared.event.WorkerStatus as seen
-use Rattle.llb_events.specs.declared.event.WorkerStatus.TheVariants as at
+use Rattle.llb_state.specs.Statuses.{look_of}
+use Rattle.llb_state.specs.declared.status.WorkerStatus as seen
+use Rattle.llb_state.specs.declared.status.WorkerStatus.TheVariants as at
 
 -- ---- what is seen of a worker
 

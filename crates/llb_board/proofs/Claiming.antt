@@ -7,12 +7,12 @@ use Rattle.llb_loader.specs.declared.graph.Vertex.{Vertex}
 use Rattle.llb_model.specs.Program.{program_at}
 use Rattle.llb_model.specs.Room.{events_of}
 use Rattle.llb_model.specs.State.{Waiting, Running}
-use Rattle.llb_model.specs.declared.event.Event.{Event}
-use Rattle.llb_model.specs.declared.event.Event.TheVariants.{Claim}
+use Rattle.llb_events.specs.declared.event.Event.{Event}
+use Rattle.llb_events.specs.declared.event.Event.TheVariants.{Claim}
 use Rattle.llb_model.specs.Table.{Reply, claim_grant}
 use Rattle.llb_model.proofs.Events.{Answer, claim_is}
-use Rattle.llb_model.specs.Faults.{claim_may_want}
-use Rattle.llb_model.specs.declared.refusal.ClaimFault.{ClaimFault}
+use Rattle.llb_events.specs.Faults.{claim_may_want}
+use Rattle.llb_events.specs.declared.refusal.ClaimFault.{ClaimFault}
 use Rattle.llb_state.specs.Caches.{rows_after}
 use Rattle.llb_state.specs.Vertices.{VerticesValue, with_status}
 use Rattle.llb_state.specs.Workers.{WorkersValue, Fits, state_in, reply_of}

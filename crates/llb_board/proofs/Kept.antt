@@ -8,7 +8,7 @@ use Rattle.llb_loader.specs.declared.graph.Vertex.{Vertex}
 use Rattle.llb_model.specs.Program.{Build}
 use Rattle.llb_model.specs.Kept.{store_of}
 use Rattle.llb_model.specs.State.{Status, Waiting, Running, WorkerStatus, Idle, State, opening}
-use Rattle.llb_model.specs.declared.event.Event.{Event}
+use Rattle.llb_events.specs.declared.event.Event.{Event}
 use Rattle.llb_model.specs.Table.{Reply, worker_of, after_end, table}
 use Rattle.llb_model.specs.Run.{run}
 use Rattle.llb_model.specs.Room.{room_taken}

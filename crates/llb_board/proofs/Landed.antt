@@ -20,9 +20,9 @@ use Rattle.llb_model.specs.State.{work_of, begin_at}
 use Rattle.llb_model.specs.Kept.{store_of}
 use Rattle.llb_model.specs.Leases.{put_each}
 use Rattle.llb_model.specs.Landing.{steps_by, further, AreThere, AreLeft, left_so_far, with_steps, after_steps}
-use Rattle.llb_model.specs.declared.refusal.SettleFault.TheVariants.{NotFinished}
-use Rattle.llb_model.specs.declared.event.Event.{Event}
-use Rattle.llb_model.specs.declared.event.Event.TheVariants.{Claim, Step, Settle, Cancel}
+use Rattle.llb_events.specs.declared.refusal.SettleFault.TheVariants.{NotFinished}
+use Rattle.llb_events.specs.declared.event.Event.{Event}
+use Rattle.llb_events.specs.declared.event.Event.TheVariants.{Claim, Step, Settle, Cancel}
 use Rattle.llb_model.specs.Table.{Reply, Job, settle_with, settled, settle_grant, table, execution_on, with_step}
 use Rattle.llb_model.specs.Run.{run}
 use Rattle.llb_model.specs.Room.{cancels_in}
@@ -37,9 +37,9 @@ use Rattle.llb_model.proofs.Events.{Answer, claim_places, claim_is, step_is, set
 use Rattle.llb_model.proofs.Cancels.{steps_no_cancel, steps_counts, steps_roomy, record_fits}
 use Rattle.llb_model.proofs.Runs.{run_none, run_one, run_on, run_keeps}
 use Rattle.llb_model.proofs.Landing.{first_step, steps_as_block, after_again, further_keeps}
-use Rattle.llb_events.specs.Causes.{GivesSettle}
-use Rattle.llb_model.specs.declared.event.Settled.{Settled}
-use Rattle.llb_model.specs.declared.refusal.SettleFault.{SettleFault}
+use Rattle.llb_events.specs.Faults.{GivesSettle}
+use Rattle.llb_events.specs.declared.event.Settled.{Settled}
+use Rattle.llb_events.specs.declared.refusal.SettleFault.{SettleFault}
 use Rattle.llb_execution.specs.Jobs.{OutcomeValue, IsOutcome, begun_on}
 use Rattle.llb_state.specs.Caches.{written, places_at, rows_after}
 use Rattle.llb_state.specs.Jobs.{job_now, IsRunOf}

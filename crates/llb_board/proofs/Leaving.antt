@@ -3,13 +3,13 @@ use Rattle.std.proofs.Common.{◌≡◌, ℕ, ◌+◌, ◌<◌, ◌≤◌, List,
 use Rattle.std.specs.Prelude.{Ok, slice_get, slice_set, if◌then◌else◌}
 use Rattle.std.proofs.lemmas.Option.{slice_get_within}
 use Rattle.llb_cache.specs.Caches.{Row}
-use Rattle.llb_model.specs.declared.event.Settled.TheVariants as ended
+use Rattle.llb_events.specs.declared.event.Settled.TheVariants as ended
 use Rattle.llb_model.specs.Table as table
 use Rattle.llb_model.specs.Table.{cancel_reply}
 use Rattle.llb_model.specs.Outcome.{Ending, Done, Failed}
 use Rattle.llb_model.specs.State.{Status, Waiting, Running, Idle, Runs, is_failed}
-use Rattle.llb_model.specs.declared.event.Event.{Event}
-use Rattle.llb_model.specs.declared.event.Event.TheVariants.{Settle, Cancel}
+use Rattle.llb_events.specs.declared.event.Event.{Event}
+use Rattle.llb_events.specs.declared.event.Event.TheVariants.{Settle, Cancel}
 use Rattle.llb_model.specs.Table.{settle_reply, settle_grant, cancel_grant, after_end}
 use Rattle.llb_state.specs.Rules.{left_at, given_up_at}
 use Rattle.llb_state.specs.Caches.{rows_after}

@@ -7,7 +7,7 @@ use Rattle.llb_cache.specs.Caches.{CachesValue, Row}
 use Rattle.llb_wire.specs.Answer.{MemoryLast}
 use Rattle.llb_model.specs.Program.{Build}
 use Rattle.llb_model.specs.State as model
-use Rattle.llb_model.specs.declared.event.Event.{Event}
+use Rattle.llb_events.specs.declared.event.Event.{Event}
 use Rattle.llb_model.specs.Room.{most_events}
 use Rattle.llb_model.specs.Run.{run}
 use Rattle.llb_model.proofs.Owing.{IsRoomy, opening_roomy}

@@ -6,8 +6,8 @@ use Rattle.llb_loader.specs.declared.graph.Vertex.{Vertex}
 use Rattle.llb_model.specs.Table.{cancel_reply}
 use Rattle.llb_model.specs.Program.{Build}
 use Rattle.llb_model.specs.State.{Waiting, State}
-use Rattle.llb_model.specs.declared.event.Event.{Event}
-use Rattle.llb_model.specs.declared.event.Event.TheVariants.{Claim, Cancel}
+use Rattle.llb_events.specs.declared.event.Event.{Event}
+use Rattle.llb_events.specs.declared.event.Event.TheVariants.{Claim, Cancel}
 use Rattle.llb_model.specs.Table.{Reply, table}
 use Rattle.llb_model.specs.Room.{events_of, cancels_in, cancel_counts, owed_by, owed_at, room_taken}
 use Rattle.llb_model.proofs.Events.{Answer}

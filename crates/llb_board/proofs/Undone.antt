@@ -18,8 +18,8 @@ use Rattle.llb_model.specs.Program.{Build, key_of, program_at, step_on}
 use Rattle.llb_model.specs.Room.{events_of, cancel_counts}
 use Rattle.llb_model.specs.Run.{run}
 use Rattle.llb_model.specs.State.{State, opening, Status, Running, Execution, WorkerStatus, Idle, Runs, work_of}
-use Rattle.llb_model.specs.declared.event.Event.{Event}
-use Rattle.llb_model.specs.declared.event.Event.TheVariants.{Claim, Step, Settle, Cancel}
+use Rattle.llb_events.specs.declared.event.Event.{Event}
+use Rattle.llb_events.specs.declared.event.Event.TheVariants.{Claim, Step, Settle, Cancel}
 use Rattle.llb_model.specs.Table.{Reply, with_step, table}
 use Rattle.llb_model.proofs.Cancels.{event_returns}
 use Rattle.llb_model.proofs.Events.{Answer, step_is, cancel_is}

@@ -10,14 +10,14 @@ use Rattle.llb_tree.specs.Tree.{empty_tree}
 use Rattle.llb_execution.specs.Marks.{mark_of}
 use Rattle.llb_execution.specs.Parts.{mounts_in}
 use Rattle.llb_execution.proofs.Marks.{puts_back}
-use Rattle.llb_model.specs.declared.fault.VertexFault.{VertexFault}
+use Rattle.llb_events.specs.declared.fault.VertexFault.{VertexFault}
 use Rattle.llb_model.specs.Caches.{Instance, Hold, Distinct, content, put_all, trees_at}
 use Rattle.llb_model.specs.Program.{Build, MicroStep, needs_of, step_on}
 use Rattle.llb_model.specs.State.{Status, Waiting, Running, Settled, Execution, WorkerStatus, Idle, Runs, State, program_in, work_of, next_step, ending_from}
 use Rattle.llb_model.specs.State.{held}
 use Rattle.llb_model.specs.State.{places_for, begin_at, first_trees}
-use Rattle.llb_model.specs.declared.event.Event.{Event}
-use Rattle.llb_model.specs.declared.event.Event.TheVariants.{Claim, Step, Settle, Cancel}
+use Rattle.llb_events.specs.declared.event.Event.{Event}
+use Rattle.llb_events.specs.declared.event.Event.TheVariants.{Claim, Step, Settle, Cancel}
 use Rattle.llb_model.specs.Table.{worker_of, with_step, step_by, after_end, table}
 use Rattle.llb_model.specs.Kept.{store_of}
 use Rattle.llb_model.specs.Leases.{put_each}
@@ -28,9 +28,9 @@ use Rattle.llb_model.proofs.Needs.{graph_distinct}
 use Rattle.llb_model.proofs.Parts.{step_keeps}
 use Rattle.llb_model.proofs.Stores.{hold_all}
 use Rattle.llb_model.proofs.There.{held_are_there}
-use Rattle.llb_events.specs.Causes.{faulted}
-use Rattle.llb_model.specs.declared.refusal.WalkFault.{WalkFault}
-use Rattle.llb_model.specs.declared.refusal.WalkFault.TheVariants as walk
+use Rattle.llb_state.specs.Faults.{faulted}
+use Rattle.llb_state.specs.declared.fault.WalkFault.{WalkFault}
+use Rattle.llb_state.specs.declared.fault.WalkFault.TheVariants as walk
 use Rattle.llb_state.specs.Caches.{written, places_at, rows_after, lent_of}
 use Rattle.llb_state.specs.Room.{needs_at}
 use Rattle.llb_state.specs.Undo.{Back, Unclaim, Unstep, Resume, Displaced, walk_in, end_of, workers_before, with_view_back, step_before, rows_before}

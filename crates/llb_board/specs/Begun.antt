@@ -4,7 +4,7 @@ use Rattle.llb_loader.specs.declared.graph.Vertex.{Vertex}
 use Rattle.llb_model.specs.Program.{Build, Start, start_with, begin}
 use Rattle.llb_model.specs.Outcome.{outcome, ending_in, inputs_from, is_plain}
 use Rattle.llb_model.specs.State.{Execution, Runs, State}
-use Rattle.llb_model.specs.declared.event.Event.TheVariants.{Claim}
+use Rattle.llb_events.specs.declared.event.Event.TheVariants.{Claim}
 use Rattle.llb_model.specs.Table.{Job, Claimed, job_on, table}
 use Rattle.llb_board.specs.Seen.{BoardValue}
 use Rattle.llb_state.specs.Jobs.{job_now}

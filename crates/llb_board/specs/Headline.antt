@@ -5,7 +5,7 @@ use Rattle.llb_tree.specs.Tree.{TreeMap}
 use Rattle.llb_model.specs.Caches.{Instance, content, Has, IsExclusive}
 use Rattle.llb_model.specs.Laws.{with_content, with_content_after}
 use Rattle.llb_model.specs.State.{Execution, Runs, State}
-use Rattle.llb_model.specs.declared.event.Event.{Event}
+use Rattle.llb_events.specs.declared.event.Event.{Event}
 use Rattle.llb_model.specs.Table.{Reply, worker_of, table}
 use Rattle.llb_model.specs.Order.{at_first, order, claims_in, StandsIn}
 use Rattle.llb_board.specs.Seen.{BoardValue, Replays, replies_in}
@@ -42,7 +42,7 @@ StandsInClaimOrder b = StandsIn b.state (order b.build (at_first b.build b.openi
 
 -- what stands of every board
 pub record Headline (b : BoardValue) : Type 0 where
-  -- after every interleaving of events the state and the replies are the written table's on the recorded events
+  -- after every interleaving of events the record is a run of the written table from the opening state to this one, with a reply for each event
   pub replays : Replays b
   -- no two executions hold one locked cache at once, nor one instance of a private one
   pub locked_once : LockedOnce b

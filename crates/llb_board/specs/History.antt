@@ -1,7 +1,7 @@
 -- The record of events, the room for it, and how often each vertex was cancelled, as contracts see them.
 use Rattle.std.specs.Prelude.{ℕ, zero, suc, ◌+◌, ◌-◌, List, length, take, Option, Some, None, get_or, slice_get, slice_set}
-use Rattle.llb_model.specs.declared.event.Event.{Event}
-use Rattle.llb_model.specs.declared.event.Event.TheVariants.{Claim, Step, Settle, Cancel}
+use Rattle.llb_events.specs.declared.event.Event.{Event}
+use Rattle.llb_events.specs.declared.event.Event.TheVariants.{Claim, Step, Settle, Cancel}
 
 -- the events so far, and how many there is room for
 pub record Recorded : Type 0 where

@@ -5,7 +5,7 @@ use Rattle.llb_loader.specs.declared.graph.Edge.{Edge}
 use Rattle.llb_loader.specs.declared.graph.Vertex.{Vertex}
 use Rattle.llb_model.specs.Outcome.{Ending, Ended, outcome, outcome_on, ending_in, inputs_from, is_plain}
 use Rattle.llb_model.specs.State.{State, Execution, Runs, Settled, ending_at, is_done, is_failed, is_waiting, is_ready, is_blocked}
-use Rattle.llb_model.specs.declared.event.Event.{Event}
+use Rattle.llb_events.specs.declared.event.Event.{Event}
 use Rattle.llb_model.specs.Table.{Reply, worker_of, table}
 use Rattle.llb_model.specs.Run.{chosen}
 use Rattle.llb_board.specs.Seen.{BoardValue}

@@ -1,11 +1,11 @@
 -- What each event returns: the table's result with the event at the end of the record, or the first cause of its refusal as a fault.
 use Rattle.std.specs.Prelude.{ℕ, Result}
-use Rattle.llb_model.specs.declared.event.Event.TheVariants.{Claim, Step, Settle, Cancel}
+use Rattle.llb_events.specs.declared.event.Event.TheVariants.{Claim, Step, Settle, Cancel}
 use Rattle.llb_model.specs.Table.{Reply, claim_grant, step_grant, settle_grant, cancel_grant}
-use Rattle.llb_model.specs.declared.refusal.ClaimFault.{ClaimFault}
-use Rattle.llb_model.specs.declared.refusal.StepFault.{StepFault}
-use Rattle.llb_model.specs.declared.refusal.SettleFault.{SettleFault}
-use Rattle.llb_model.specs.declared.refusal.CancelFault.{CancelFault}
+use Rattle.llb_events.specs.declared.refusal.ClaimFault.{ClaimFault}
+use Rattle.llb_events.specs.declared.refusal.StepFault.{StepFault}
+use Rattle.llb_events.specs.declared.refusal.SettleFault.{SettleFault}
+use Rattle.llb_events.specs.declared.refusal.CancelFault.{CancelFault}
 use Rattle.llb_board.specs.Seen.{BoardValue, recorded}
 
 -- the table's answer to a claim, recorded

@@ -4,7 +4,7 @@ use Rattle.llb_model.specs.Program.{Build}
 use Rattle.llb_cache.specs.Caches.{Row}
 use Rattle.llb_model.specs.Kept.{store_of}
 use Rattle.llb_model.specs.State.{State, Opening, opening}
-use Rattle.llb_model.specs.declared.event.Event.{Event}
+use Rattle.llb_events.specs.declared.event.Event.{Event}
 use Rattle.llb_model.specs.Table.{Reply, worker_of, table}
 use Rattle.llb_model.specs.Run.{run}
 use Rattle.llb_state.specs.Caches.{rows_after}

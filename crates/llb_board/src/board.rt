@@ -3,7 +3,7 @@
 //! and each worker has the supplies of its vertex. What its vertices and its workers keep is theirs.
 
 ghost use Rattle.std.specs.Prelude.{◌≡◌, ◌<◌, ◌≤◌, ◌+◌, [], length, replicate, true, is_some, option_map, Some, OnErr, IfErr, IfOk, if◌then◌else◌};
-ghost use Rattle.llb_model.specs.declared.event.Settled.TheVariants as ended;
+ghost use Rattle.llb_events.specs.declared.event.Settled.TheVariants as ended;
 ghost use Rattle.llb_model.specs.Table.{Claimed, HasStepped, HasSettled, HasCancelled};
 ghost use Rattle.llb_model.specs.Outcome.{output_in};
 ghost use Rattle.llb_model.specs.State.{ending_at, is_failed, ending_of};
@@ -18,9 +18,9 @@ ghost use Rattle.llb_cache.specs.Caches.{leases};
 ghost use Rattle.llb_model.specs.Caches.{content, place};
 ghost use Rattle.llb_model.specs.Kept.{store_of};
 ghost use Rattle.llb_model.specs.Leases.{HoldsAs};
-ghost use Rattle.llb_events.specs.Causes.{step_memory, GivesStep, GivesSettle, GivesCancel};
-ghost use Rattle.llb_model.specs.Faults.{GivesClaim, claim_memory, claim_may_want};
-ghost use Rattle.llb_events.specs.Views.{look_at, worker_look};
+ghost use Rattle.llb_events.specs.Faults.{step_memory, GivesStep, GivesSettle, GivesCancel};
+ghost use Rattle.llb_events.specs.Faults.{GivesClaim, claim_memory, claim_may_want};
+ghost use Rattle.llb_state.specs.Statuses.{look_at, worker_look};
 ghost use Rattle.llb_state.specs.Looks.{worked_on, cached_at};
 ghost use Rattle.llb_state.specs.Vertices.{all_waiting, status_of};
 ghost use Rattle.llb_board.specs.Seen.{BoardValue, Replays, opened, replies_in};
@@ -34,12 +34,11 @@ use crate::fault::OpenFault;
 use crate::history::History;
 use llb_cache::{Caches, Key};
 use llb_events::{
-    CancelFault, Cancelled, ClaimFault, Event, Memory, SettleFault, Settled, Status, StepFault,
-    Stepped, WorkerStatus,
+    CancelFault, Cancelled, ClaimFault, Event, SettleFault, Settled, StepFault, Stepped,
 };
 use llb_execution::Job;
 use llb_loader::{Graph, Locals, missing_local};
-use llb_state::{Stage, Vertices, Workers};
+use llb_state::{Memory, Stage, Status, Vertices, WorkerStatus, Workers};
 use llb_tree::Tree;
 use llb_wire::Text;
 use std::alloc::Global;

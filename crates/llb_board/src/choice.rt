@@ -3,8 +3,8 @@
 ghost use Rattle.std.specs.Prelude.{◌≡◌};
 ghost use Rattle.llb_model.specs.Run.{next_of};
 
-use llb_events::{Event, WorkerStatus};
-use llb_state::{Vertices, Workers};
+use llb_events::Event;
+use llb_state::{Vertices, WorkerStatus, Workers};
 
 /// Returns the next event of the lowest running worker: a settle if what it runs is finished, else a step. `None` where no worker runs.
 pub(crate) fn next_event(vertices: &Vertices, workers: &Workers) -> Option<Event>

@@ -3,7 +3,7 @@
 ghost use Rattle.std.specs.Prelude.{◌≡◌, IfOk};
 
 use crate::board::Board;
-use llb_events::Memory;
+use llb_state::Memory;
 
 impl Board {
     /// Returns a second board on which the same has happened. Its record has the same room, since `events` fixes the room by what contracts

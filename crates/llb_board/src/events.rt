@@ -3,7 +3,8 @@
 ghost use Rattle.std.specs.Prelude.{◌≡◌, ◌==◌, ◌≤◌, ◌<◌, ◌∷◌, ◌++◌, [], length, IfOk, OnOk, OnErr, ◌+◌, ◌-◌};
 ghost use Rattle.llb_board.specs.History.{front, last_of};
 
-use llb_events::{Event, Memory};
+use llb_events::Event;
+use llb_state::Memory;
 use std::alloc::{AllocError, Global};
 use std::marker::Model;
 

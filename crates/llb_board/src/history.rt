@@ -2,11 +2,12 @@
 
 ghost use Rattle.std.specs.Prelude.{◌≡◌, ◌+◌, ◌<◌, ◌≤◌, ◌∷◌, ◌++◌, [], length, replicate, get_or, IfOk, OnOk, OnErr};
 ghost use Rattle.llb_model.specs.Landing.{steps_by};
-ghost use Rattle.llb_model.specs.declared.event.Event.TheVariants as own;
+ghost use Rattle.llb_events.specs.declared.event.Event.TheVariants as own;
 ghost use Rattle.llb_board.specs.History.{claimed, unclaimed, cancelled, taken_by, uncancelled, front, last_of, space_back};
 
 use crate::events::Events;
-use llb_events::{Event, Memory};
+use llb_events::Event;
+use llb_state::Memory;
 use std::alloc::{AllocError, Global};
 use std::marker::Model;
 

@@ -14,8 +14,9 @@ use crate::board::Board;
 use crate::fault::LandFault;
 use crate::laws::begun_are_plain;
 use llb_cache::{Instance, Mode};
-use llb_events::{Settled, WorkerStatus};
+use llb_events::Settled;
 use llb_execution::{Job, Outcome, Workspace};
+use llb_state::WorkerStatus;
 
 /// Why an outcome does not land.
 #[derive(Clone, Copy)]

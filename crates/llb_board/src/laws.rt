@@ -13,7 +13,7 @@ ghost use Rattle.llb_board.specs.Headline.{Headline, StandsInClaimOrder};
 
 use crate::board::Board;
 
-/// Proves the promise of the whole machine. The record is a run of the written table from the opening state to the board's, with its replies.
+/// Proves the promise of the whole machine. The record is a run of the written table from the opening state to the board's, which has replies.
 /// No two workers have the same locked cache at once, nor the same instance of a private one; another worker's event neither changes nor
 /// reads an instance that a worker holds exclusively. A settled vertex with no cache mount at or before it has its plain outcome. This holds
 /// at every moment, for any workers and any order of events.

@@ -18,10 +18,12 @@ pub use board::Board;
 pub use events::Events;
 pub use fault::{LandFault, OpenFault};
 pub use llb_events::{
-    CancelFault, Cancelled, ClaimFault, Event, Memory, SettleFault, Settled, Status, StepFault,
-    Stepped, WalkFault, WorkerStatus,
+    CancelFault, Cancelled, ClaimFault, Event, SettleFault, Settled, StepFault, Stepped,
 };
 pub use llb_execution::{Gate, Job, Outcome, Program, Stopped, WorkFault, Workspace, work};
-pub use llb_state::Undo;
+pub use llb_state::{Memory, Status, Undo, WalkFault, WorkerStatus};
 pub use llb_wire::{Bytes, Text};
 pub use walk::{Reply, Walked};
+
+/// What a worker does, by a shorter name.
+pub type At = WorkerStatus;

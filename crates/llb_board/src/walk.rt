@@ -4,8 +4,8 @@ ghost use Rattle.std.specs.Prelude.{◌≡◌, OnErr, IfOk};
 ghost use Rattle.llb_board.specs.Undo.{GivesWalk, walk_of, undone, CanUndo};
 
 use crate::board::Board;
-use llb_events::{Cancelled, Event, Settled, Stepped, WalkFault};
-use llb_state::Undo;
+use llb_events::{Cancelled, Event, Settled, Stepped};
+use llb_state::{Undo, WalkFault};
 
 /// The reply of an event.
 #[derive(Clone, Copy, Debug, PartialEq, Eq)]

@@ -6,7 +6,7 @@ use Rattle.llb_loader.specs.declared.graph.Vertex.{Vertex}
 use Rattle.llb_loader.specs.Graph.{links, IsGraph}
 use Rattle.llb_loader.specs.Rows.{Walk}
 use Rattle.llb_tree.specs.Tree.{TreeMap}
-use Rattle.llb_model.specs.declared.fault.VertexFault.{VertexFault}
+use Rattle.llb_events.specs.declared.fault.VertexFault.{VertexFault}
 use Rattle.llb_model.specs.Program.{Build}
 use Rattle.llb_model.specs.Outcome.{Ending, Done, Failed, output_in, both, inputs_from}
 use Rattle.llb_model.specs.State.{State, ending_at, is_done, is_waiting}

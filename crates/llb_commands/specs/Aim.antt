@@ -38,7 +38,8 @@ pub record Aim (text definition : List ℕ) (entries : List (List ℕ)) (graph :
   -- any number of workers, from 1 to 64
   pub some_workers : 0 < length board.state.workers
   pub few_workers : length board.state.workers ≤ 64
-  -- after every interleaving of atomic steps the machine's state and replies are the written table's on the recorded events
+  -- after every interleaving of atomic steps the machine's state and replies are the written table's on the recorded events: the record is a run of the table
+  -- from the opening state to this one, with a reply for each event; that a call returned this reply is a clause of the call
   pub replays : Replays board
   -- no two executions hold one locked cache at once
   pub locked_once : AfterAll graph LockedOnce

@@ -6,21 +6,21 @@ use Rattle.llb_loader.specs.declared.fault.LoadFault.{LoadFault}
 use Rattle.llb_loader.specs.Graph.{Numbered}
 use Rattle.llb_loader.specs.Load.{IsGraphIn, IsRefusalIn}
 use Rattle.llb_loader.specs.Locals.{Local}
-use Rattle.llb_model.specs.declared.fault.VertexFault.{VertexFault}
+use Rattle.llb_events.specs.declared.fault.VertexFault.{VertexFault}
 use Rattle.llb_model.specs.Caches.{no_instances}
 use Rattle.llb_model.specs.Program.{Build}
 use Rattle.llb_model.specs.Outcome.{Failed, ending_in, outcome, output_in}
 use Rattle.llb_model.specs.State.{State, Opening, opening, ending_at}
 use Rattle.llb_loader.specs.Missing.{missing_local}
-use Rattle.llb_model.specs.declared.event.Event.{Event}
+use Rattle.llb_events.specs.declared.event.Event.{Event}
 use Rattle.llb_model.specs.Table.{Reply}
 use Rattle.llb_model.specs.Run.{run, is_complete, StandsPlainly}
 use Rattle.llb_model.specs.Laws.{HasNoCaches}
 use Rattle.llb_treetext.specs.TreeText.{tree_text}
-use Rattle.llb_model.specs.Failure.{failure_text}
-use Rattle.llb_events.specs.Views.{look_at}
-use Rattle.llb_events.specs.declared.event.Status.{Status}
-use Rattle.llb_events.specs.declared.event.Status.TheVariants as look
+use Rattle.llb_events.specs.Failure.{failure_text}
+use Rattle.llb_state.specs.Statuses.{look_at}
+use Rattle.llb_state.specs.declared.status.Status.{Status}
+use Rattle.llb_state.specs.declared.status.Status.TheVariants as look
 use Rattle.llb_board.specs.Opening.{may_work}
 use Rattle.llb_work.specs.Alone.{EndsInClaimOrder}
 use Rattle.llb_commands.specs.declared.fault.ProgramFault.{ProgramFault}

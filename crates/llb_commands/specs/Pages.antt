@@ -44,7 +44,7 @@ page_for DisplayHelp command = help_page command
 page_for DisplayVersion command = VERSION_PAGE.now
 page_for _ command = []
 
--- what follows the line of a fault: where `clap` refuses, the page for its kind (where two kinds are possible, neither has a page)
+-- what follows the line of a fault: where `clap` refuses, the page for a kind that its refusal can have
 abbrev pub HasPage : Kinds → List Text → WordsFault → Text → Type 0
 HasPage kinds words (Words None) page = (k : ErrorKind) × IsAmong k kinds × (page ≡ page_for k (named_first words))
 HasPage kinds words _ page = page ≡ []

@@ -1,4 +1,3 @@
--- Read first Views (what events and replies represent in the machine's words, and how vertices and workers look), then Causes (the table's causes of
--- refusals as faults) and Faults (the texts of refusals, and what a walk's refusal is by that of its event).
-pub mod Views
-pub mod Causes
+-- Read Faults first (the texts of refusals, and how the results of events are specified), then Failure (the text of a vertex's failure).
+pub mod Faults
+pub mod Failure

@@ -48,8 +48,7 @@ fn prints(rt: &impl Abort, alloc: Global, tree: &Tree, others: &str, of_500: &st
 
 // One file of a tree gets one byte, and the tree goes before its copy of before, or after it. Whether what is looked at then
 // has the text that it should: the tree another one in one line, and its copy the old one.
-fn one_byte(rt: &impl Abort, alloc: Global, first_goes: bool) -> bool {
-    let mut first = many(rt, alloc);
+fn one_byte(rt: &impl Abort, alloc: Global, mut first: Tree, first_goes: bool) -> bool {
     let copied = copied(rt, &first);
     put_file(alloc, &mut first, 500, "!").expect(rt, "memory");
     if first_goes {
@@ -64,8 +63,27 @@ fn one_byte(rt: &impl Abort, alloc: Global, first_goes: bool) -> bool {
 #[test]
 fn one_byte_in_one_of_a_thousand_files_is_not_in_the_copy(rt: HostRuntime) {
     for first_goes in [false, true] {
-        is_so(&rt, one_byte(&rt, rt.alloc(), first_goes));
+        let tree = many(&rt, rt.alloc());
+        is_so(&rt, one_byte(&rt, rt.alloc(), tree, first_goes));
     }
+}
+
+// The same by two threads at once, each on a copy of one tree of its own; one drops its tree first, the other its copy.
+fn one_byte_each<R: Abort + Threads + Sync>(rt: &R, alloc: Global, tree: &Tree) -> (bool, bool) {
+    let (one, other) = (copied(rt, tree), copied(rt, tree));
+    thread::join(
+        rt,
+        move || one_byte(rt, alloc, one, true),
+        move || one_byte(rt, alloc, other, false),
+    )
+}
+
+#[test]
+fn two_threads_put_a_byte_each_into_copies_of_one_tree(rt: HostRuntime) {
+    let tree = many(&rt, rt.alloc());
+    let right = one_byte_each(&rt, rt.alloc(), &tree);
+    is_so(&rt, right == (true, true));
+    is_so(&rt, prints(&rt, rt.alloc(), &tree, "-", "-"));
 }
 
 // The tree where each file has `1`, and where each has `2`, by a thread each.

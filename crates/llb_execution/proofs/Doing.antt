@@ -5,7 +5,7 @@ use Rattle.std.specs.Prelude.{slice_get, nat_le, is_some}
 use Rattle.std.specs.List.{All}
 use Rattle.std.proofs.lemmas.Bool.{leb-true, le-leb}
 use Rattle.std.proofs.lemmas.Option.{slice_get_within}
-use Rattle.llb_model.specs.declared.fault.VertexFault.{VertexFault}
+use Rattle.llb_events.specs.declared.fault.VertexFault.{VertexFault}
 use Rattle.llb_tree.specs.Tree.{TreeMap}
 use Rattle.llb_model.specs.Caches.{Distinct}
 use Rattle.llb_model.specs.Program.{MicroStep, Workspace, Left, step_on, go_on}

@@ -11,8 +11,8 @@ use Rattle.llb_mount.specs.declared.shown.Shown.{Shown}
 use Rattle.llb_applet.specs.declared.setting.Setting.{Setting}
 use Rattle.llb_applet.specs.declared.join.Joined.{Joined}
 use Rattle.llb_applet.specs.Commands.{run, status_of, left as left_of}
-use Rattle.llb_model.specs.declared.fault.VertexFault.{VertexFault}
-use Rattle.llb_model.specs.declared.fault.VertexFault.TheVariants as fault
+use Rattle.llb_events.specs.declared.fault.VertexFault.{VertexFault}
+use Rattle.llb_events.specs.declared.fault.VertexFault.TheVariants as fault
 use Rattle.llb_model.specs.Program.{MicroStep, ReadLocal, Act, LayInput, Run, Workspace, LocalTree, Files, Layers, Mounted, Work, Left, micro_step, tried}
 use Rattle.llb_model.specs.Program.{step_on}
 use Rattle.llb_model.specs.Program.{trees_in, base_in, with_tree, act_among, with_result, fault_number, lay_on, last_of, is_run, no_fault, after_run}

@@ -5,7 +5,7 @@ use Rattle.llb_ops.specs.declared.op.Kind.TheVariants as kind
 use Rattle.llb_tree.specs.Tree.{TreeMap}
 use Rattle.llb_applet.specs.declared.setting.Setting.{Setting}
 use Rattle.llb_model.specs.Program as model
-use Rattle.llb_model.specs.declared.fault.VertexFault.{VertexFault}
+use Rattle.llb_events.specs.declared.fault.VertexFault.{VertexFault}
 use Rattle.llb_execution.specs.declared.micro_step.MicroStep.{MicroStep}
 use Rattle.llb_execution.specs.declared.micro_step.MicroStep.TheVariants as step
 use Rattle.llb_execution.specs.declared.program.Steps.{Steps}

@@ -8,7 +8,7 @@ ghost use Rattle.llb_execution.specs.Parts.{left_with, mounts_in, shown_in};
 
 use crate::program::Program;
 use crate::workspace::Workspace;
-use llb_model::VertexFault;
+use llb_events::VertexFault;
 use llb_tree::Tree;
 use llb_wire::Memory;
 use std::alloc::Global;

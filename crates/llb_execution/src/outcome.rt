@@ -10,7 +10,7 @@ use crate::further::{Further, do_further};
 use crate::gate::Gate;
 use crate::job::Job;
 use crate::workspace::{Workspace, tree_copies};
-use llb_model::VertexFault;
+use llb_events::VertexFault;
 use llb_tree::Tree;
 use llb_wire::Memory;
 use std::alloc::Global;

@@ -15,8 +15,8 @@ use Rattle.llb_model.specs.Program.{Build, Need, Start, needs_of, step_on}
 use Rattle.llb_model.specs.State.{Status, Waiting, Running, Settled, Execution, WorkerStatus, Idle, Runs, State, ending_of, ending_at, ready}
 use Rattle.llb_model.specs.State.{is_ready, is_waiting, is_failed, program_in, work_of, is_finished, ending_from, held, is_locked_and_held, held_key}
 use Rattle.llb_model.specs.State.{is_stopped}
-use Rattle.llb_model.specs.declared.event.Event.{Event}
-use Rattle.llb_model.specs.declared.event.Event.TheVariants.{Claim, Step, Settle, Cancel}
+use Rattle.llb_events.specs.declared.event.Event.{Event}
+use Rattle.llb_events.specs.declared.event.Event.TheVariants.{Claim, Step, Settle, Cancel}
 use Rattle.llb_model.specs.Table.{Reply, claim_at, step_by, settle_with, after_end, table}
 use Rattle.llb_model.specs.Run.{next_of, least, next_claim, or_else, chosen, is_settled, claims_of, AllAbove, AreAscending}
 use Rattle.llb_model.specs.Room.{still_to_come}

@@ -7,8 +7,8 @@ use Rattle.std.specs.Prelude.{cond, Bool, true, false}
 use Rattle.llb_loader.specs.declared.graph.Vertex.{Vertex}
 use Rattle.llb_model.specs.Program.{Build}
 use Rattle.llb_model.specs.State.{Status, Waiting, Running, Settled, State, Opening, opening}
-use Rattle.llb_model.specs.declared.event.Event.{Event}
-use Rattle.llb_model.specs.declared.event.Event.TheVariants.{Step, Cancel}
+use Rattle.llb_events.specs.declared.event.Event.{Event}
+use Rattle.llb_events.specs.declared.event.Event.TheVariants.{Step, Cancel}
 use Rattle.llb_model.specs.Table.{cancel_reply}
 use Rattle.llb_model.specs.Table.{Reply, table}
 use Rattle.llb_model.specs.Run.{run}

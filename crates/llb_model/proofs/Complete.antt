@@ -12,8 +12,8 @@ use Rattle.llb_model.specs.Program.{Build}
 use Rattle.llb_model.specs.Outcome.{Done, Failed, output_in, inputs_from, outcome, is_plain}
 use Rattle.llb_model.specs.State.{Status, Waiting, Running, Settled, Execution, WorkerStatus, Idle, Runs, State, ending_of, ending_at, is_ready}
 use Rattle.llb_model.specs.State.{is_waiting, is_done, is_blocked, is_failed, is_stopped}
-use Rattle.llb_model.specs.declared.event.Event.{Event}
-use Rattle.llb_model.specs.declared.event.Event.TheVariants.{Claim}
+use Rattle.llb_events.specs.declared.event.Event.{Event}
+use Rattle.llb_events.specs.declared.event.Event.TheVariants.{Claim}
 use Rattle.llb_model.specs.Run.{next_of, least, next_claim, or_else, chosen, is_settled, each, is_complete, StandsPlainly}
 use Rattle.llb_model.specs.Consistent.{IsConsistent}
 use Rattle.llb_model.specs.Plain.{StandsByOutcomes}

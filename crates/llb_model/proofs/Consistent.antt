@@ -10,8 +10,8 @@ use Rattle.llb_model.specs.Program.{Build, Work, Left, Start, program_at, step_o
 use Rattle.llb_model.specs.Outcome.{Ending, Done, inputs_from}
 use Rattle.llb_model.specs.State.{Status, Waiting, Running, Settled, Execution, Idle, Runs, State, Opening, opening, ending_of, ending_at}
 use Rattle.llb_model.specs.State.{is_waiting, program_in, work_of, ending_from, begin_at}
-use Rattle.llb_model.specs.declared.event.Event.{Event}
-use Rattle.llb_model.specs.declared.event.Event.TheVariants.{Claim, Step, Settle, Cancel}
+use Rattle.llb_events.specs.declared.event.Event.{Event}
+use Rattle.llb_events.specs.declared.event.Event.TheVariants.{Claim, Step, Settle, Cancel}
 use Rattle.llb_model.specs.Table.{Reply, execution_on, after_claim, with_step, after_step, after_end, table}
 use Rattle.llb_model.specs.Run.{run}
 use Rattle.llb_model.specs.Consistent.{IsConsistent}

@@ -1,7 +1,7 @@
 -- How claims end, by the replies to come, and the claim order after a reply.
 use Rattle.std.proofs.Common.{◌≡◌, ◌≢◌, ℕ, Bool, true, false, List, ◌∷◌, Option, Some, None, refl, sym, ap, cond}
 use Rattle.std.proofs.lemmas.Bool.{ne_eqb, eq-eqb}
-use Rattle.llb_model.specs.declared.fault.VertexFault.{VertexFault}
+use Rattle.llb_events.specs.declared.fault.VertexFault.{VertexFault}
 use Rattle.llb_model.specs.Program.{Build, MicroStep, ReadLocal, Act, LayInput, Run, Workspace, Left, last_of, is_run}
 use Rattle.llb_model.specs.Outcome.{Ending, Done, Failed}
 use Rattle.llb_model.specs.Table.{HasStepped, HasSettled, HasCancelled, cancel_reply}

@@ -12,8 +12,8 @@ use Rattle.llb_model.specs.Caches.{Instance, place, place_cmp, Store, content, p
 use Rattle.llb_model.specs.Program.{Build, Need, needs_of, step_on}
 use Rattle.llb_model.specs.State.{Execution, WorkerStatus, Idle, Runs, State, Opening, opening, work_of, held, above, first_free, number_for}
 use Rattle.llb_model.specs.State.{place_for, places_for, begin_at, places_by}
-use Rattle.llb_model.specs.declared.event.Event.{Event}
-use Rattle.llb_model.specs.declared.event.Event.TheVariants.{Claim, Step, Settle, Cancel}
+use Rattle.llb_events.specs.declared.event.Event.{Event}
+use Rattle.llb_events.specs.declared.event.Event.TheVariants.{Claim, Step, Settle, Cancel}
 use Rattle.llb_model.specs.Table.{Reply, Claimed, execution_on, claim_at, table}
 use Rattle.llb_model.specs.Laws.{IsDense, StaysDense, ClaimsLeast}
 use Rattle.llb_model.proofs.Lists.{inside, got_set, got_replicate}

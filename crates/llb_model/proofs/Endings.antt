@@ -11,14 +11,14 @@ use Rattle.llb_ops.specs.declared.op.Kind.{Kind}
 use Rattle.llb_ops.specs.declared.op.Kind.TheVariants as kind
 use Rattle.llb_loader.specs.declared.graph.Vertex.{Vertex}
 use Rattle.llb_tree.specs.Tree.{TreeMap}
-use Rattle.llb_model.specs.declared.fault.VertexFault.{VertexFault}
-use Rattle.llb_model.specs.declared.fault.VertexFault.TheVariants as fault
+use Rattle.llb_events.specs.declared.fault.VertexFault.{VertexFault}
+use Rattle.llb_events.specs.declared.fault.VertexFault.TheVariants as fault
 use Rattle.llb_model.specs.Caches.{trees_at}
 use Rattle.llb_model.specs.Program.{Build, MicroStep, Run, Workspace, Mounted, Left, all_and, runs_of, setting_of, steps_of, program_at, workspace_on, filled}
 use Rattle.llb_model.specs.Program.{blanked, last_of, is_run, no_fault, ran, micro_step, step_on}
 use Rattle.llb_model.specs.State.{Execution, Idle, Runs, State, opening, program_in, work_of, is_finished, begin_at}
-use Rattle.llb_model.specs.declared.event.Event.{Event}
-use Rattle.llb_model.specs.declared.event.Event.TheVariants.{Claim, Step, Settle, Cancel}
+use Rattle.llb_events.specs.declared.event.Event.{Event}
+use Rattle.llb_events.specs.declared.event.Event.TheVariants.{Claim, Step, Settle, Cancel}
 use Rattle.llb_model.specs.Table.{execution_on, with_step, table}
 use Rattle.llb_model.specs.Laws.{fault_of, ExecsEndByLastStatus}
 use Rattle.llb_model.proofs.Lists.{some_of, inside, got_set, got_replicate}

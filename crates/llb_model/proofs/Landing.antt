@@ -3,12 +3,12 @@ use Rattle.std.proofs.Common.{◌≡◌, ℕ, zero, suc, ◌+◌, false, List, [
 use Rattle.std.proofs.Common.{add-zero}
 use Rattle.std.specs.Prelude.{slice_get, slice_set}
 use Rattle.llb_tree.specs.Tree.{TreeMap}
-use Rattle.llb_model.specs.declared.fault.VertexFault.{VertexFault}
+use Rattle.llb_events.specs.declared.fault.VertexFault.{VertexFault}
 use Rattle.llb_model.specs.Caches.{Instance, Store, put_all, Hold, Distinct}
 use Rattle.llb_model.specs.Program.{Build, MicroStep, Left, step_on, unless_faulted, go_on}
 use Rattle.llb_model.specs.Outcome.{ending}
 use Rattle.llb_model.specs.State.{Execution, WorkerStatus, Idle, Runs, State, program_in}
-use Rattle.llb_model.specs.declared.event.Event.TheVariants.{Step, Settle}
+use Rattle.llb_events.specs.declared.event.Event.TheVariants.{Step, Settle}
 use Rattle.llb_model.specs.Table.{Reply, step_by, settle_reply, settle_with, table}
 use Rattle.llb_model.specs.Run.{run, after}
 use Rattle.llb_model.specs.Landing.{steps_by, further, is_over, AreThere, left_so_far, with_steps, after_steps, landed, StepsAsBlock, LandsAsBlock}

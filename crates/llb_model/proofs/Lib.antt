@@ -32,3 +32,4 @@ pub mod Leasing
 pub mod Vertices
 pub mod Landing
 pub mod Endings
+mod Refused

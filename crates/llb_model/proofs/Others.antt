@@ -7,14 +7,14 @@ use Rattle.llb_cache.specs.declared.key.Mode.{Mode}
 use Rattle.llb_cache.specs.declared.key.Mode.TheVariants.{Shared, Private, Locked}
 use Rattle.llb_tree.specs.Tree.{TreeMap}
 use Rattle.llb_model.specs.Caches.{Instance, Store, content, put, Has, IsExclusive}
-use Rattle.llb_model.specs.declared.refusal.ClaimFault.{ClaimFault}
-use Rattle.llb_model.specs.declared.refusal.SettleFault.{SettleFault}
-use Rattle.llb_model.specs.declared.refusal.SettleFault.TheVariants.{NotFinished}
+use Rattle.llb_events.specs.declared.refusal.ClaimFault.{ClaimFault}
+use Rattle.llb_events.specs.declared.refusal.SettleFault.{SettleFault}
+use Rattle.llb_events.specs.declared.refusal.SettleFault.TheVariants.{NotFinished}
 use Rattle.llb_model.specs.Program.{Build, MicroStep, Need, Work, Left, Start, needs_of, base_in, begin, step_on}
 use Rattle.llb_model.specs.State.{Execution, WorkerStatus, Idle, Runs, State, opening, program_in, work_of, is_finished, next_step, ending_from, held}
 use Rattle.llb_model.specs.State.{number_for, place_for, places_for, held_key, first_trees, begin_at}
-use Rattle.llb_model.specs.declared.event.Event.{Event}
-use Rattle.llb_model.specs.declared.event.Event.TheVariants.{Claim, Step, Settle, Cancel}
+use Rattle.llb_events.specs.declared.event.Event.{Event}
+use Rattle.llb_events.specs.declared.event.Event.TheVariants.{Claim, Step, Settle, Cancel}
 use Rattle.llb_model.specs.Table.{Claimed, claim_start, execution_on, job_on, claim_with, claim_at}
 use Rattle.llb_model.specs.Table.{claim_unless, claimed, with_step, step_reply, step_by, step_with, stepped, settle_with, settled, cancelled, table}
 use Rattle.llb_model.specs.Laws.{IsReached, IsLockedOnce, OthersKeep, with_content, with_content_after, OthersIgnore}

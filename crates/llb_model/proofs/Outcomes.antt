@@ -15,7 +15,7 @@ use Rattle.llb_loader.specs.Rules.{kind_mounts}
 use Rattle.llb_loader.specs.declared.graph.Edge.{Edge}
 use Rattle.llb_loader.specs.declared.graph.Vertex.{Vertex}
 use Rattle.llb_tree.specs.Tree.{TreeMap}
-use Rattle.llb_model.specs.declared.fault.VertexFault.{VertexFault}
+use Rattle.llb_events.specs.declared.fault.VertexFault.{VertexFault}
 use Rattle.llb_model.specs.Program.{Build, Program, Workspace, needs_from, needs_of, with_need, has_cache, outputs_of, output_from}
 use Rattle.llb_model.specs.Outcome.{Ending, Done, Failed, ended, output_in, both, all_there, inputs_from, outcome_on, ending_in}
 use Rattle.llb_model.specs.Outcome.{next_outcome, outcomes, outcome, next_plain, is_plain}

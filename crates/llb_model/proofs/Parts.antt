@@ -8,7 +8,7 @@ use Rattle.llb_applet.specs.declared.join.Joined.{Joined}
 use Rattle.llb_applet.specs.declared.setting.Setting.{Setting}
 use Rattle.llb_mount.specs.declared.shown.Shown.{Shown}
 use Rattle.llb_tree.specs.Tree.{TreeMap}
-use Rattle.llb_model.specs.declared.fault.VertexFault.{VertexFault}
+use Rattle.llb_events.specs.declared.fault.VertexFault.{VertexFault}
 use Rattle.llb_model.specs.Program.{MicroStep, ReadLocal, Act, LayInput, Run, Workspace, LocalTree, Files, Layers, Mounted, Work, Left}
 use Rattle.llb_model.specs.Program.{is_run, no_fault, micro_step, tried, act_on, filled, ran, run_on, step_on, unless_faulted, go_on, part, whole}
 use Rattle.llb_model.specs.State.{Execution, is_finished, next_step}

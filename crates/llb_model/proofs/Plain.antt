@@ -4,15 +4,15 @@ use Rattle.std.specs.Prelude.{slice_get}
 use Rattle.std.proofs.lemmas.List.{nil_from_length}
 use Rattle.llb_loader.specs.Graph.{IsGraph}
 use Rattle.llb_tree.specs.Tree.{TreeMap}
-use Rattle.llb_model.specs.declared.fault.VertexFault.{VertexFault}
+use Rattle.llb_events.specs.declared.fault.VertexFault.{VertexFault}
 use Rattle.llb_model.specs.Caches.{trees_at}
 use Rattle.llb_model.specs.Program.{Build, Program, Workspace, Work, Left, Start, program_of, program_at, start_with, begin, step_on, unless_faulted, go_on}
 use Rattle.llb_model.specs.Program.{part}
 use Rattle.llb_model.specs.Outcome.{Ending, Ended, ending, ending_in, outcome_on, outcome, is_plain}
 use Rattle.llb_model.specs.State.{Status, Waiting, Running, Settled, Execution, Idle, Runs, State, Opening, opening, ending_of, ending_at}
 use Rattle.llb_model.specs.State.{program_in, work_of, is_finished, ending_from, held, places_for, begin_at}
-use Rattle.llb_model.specs.declared.event.Event.{Event}
-use Rattle.llb_model.specs.declared.event.Event.TheVariants.{Claim, Step, Settle, Cancel}
+use Rattle.llb_events.specs.declared.event.Event.{Event}
+use Rattle.llb_events.specs.declared.event.Event.TheVariants.{Claim, Step, Settle, Cancel}
 use Rattle.llb_model.specs.Table.{Reply, execution_on, with_step, table}
 use Rattle.llb_model.specs.Run.{run}
 use Rattle.llb_model.specs.Plain.{left_of, IsUnderWay, StandsByOutcomes}

@@ -13,8 +13,8 @@ use Rattle.llb_applet.specs.declared.join.Joined.{Joined}
 use Rattle.llb_applet.specs.declared.setting.Setting.{Setting}
 use Rattle.llb_mount.specs.declared.shown.Shown.{Shown}
 use Rattle.llb_tree.specs.Tree.{TreeMap}
-use Rattle.llb_model.specs.declared.fault.VertexFault.{VertexFault}
-use Rattle.llb_model.specs.declared.fault.VertexFault.TheVariants as fault
+use Rattle.llb_events.specs.declared.fault.VertexFault.{VertexFault}
+use Rattle.llb_events.specs.declared.fault.VertexFault.TheVariants as fault
 use Rattle.llb_model.specs.Program.{MicroStep, Run, Mounted, Work, Left, is_and, all_and, runs_of, filled, taken, blanked, last_of}
 use Rattle.llb_model.specs.Program.{is_run, no_fault, ran, micro_step, step_on, unless_faulted, go_on, part}
 use Rattle.llb_model.specs.Landing.{is_over}

@@ -4,8 +4,8 @@ use Rattle.std.specs.Prelude.{slice_get, slice_set, replicate}
 use Rattle.llb_model.specs.Caches.{Instance, Has, IsExclusive}
 use Rattle.llb_model.specs.Program.{Build, Left, needs_of, step_on}
 use Rattle.llb_model.specs.State.{Execution, WorkerStatus, Idle, Runs, State, opening, work_of, held, IsFree, begin_at}
-use Rattle.llb_model.specs.declared.event.Event.{Event}
-use Rattle.llb_model.specs.declared.event.Event.TheVariants.{Claim, Step, Settle, Cancel}
+use Rattle.llb_events.specs.declared.event.Event.{Event}
+use Rattle.llb_events.specs.declared.event.Event.TheVariants.{Claim, Step, Settle, Cancel}
 use Rattle.llb_model.specs.Table.{execution_on, with_step, table}
 use Rattle.llb_model.specs.Laws.{IsReached, IsHeldOnce}
 use Rattle.llb_model.proofs.Lists.{got_set, got_replicate}

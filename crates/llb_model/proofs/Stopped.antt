@@ -9,7 +9,7 @@ use Rattle.std.proofs.Math.Bool.{and-false}
 use Rattle.llb_loader.specs.Graph.{LeadsBelow, IsGraph}
 use Rattle.llb_loader.specs.declared.graph.Edge.{Edge}
 use Rattle.llb_loader.specs.declared.graph.Vertex.{Vertex}
-use Rattle.llb_model.specs.declared.fault.VertexFault.{VertexFault}
+use Rattle.llb_events.specs.declared.fault.VertexFault.{VertexFault}
 use Rattle.llb_model.specs.Program.{Build, Start}
 use Rattle.llb_model.specs.Outcome.{Ending, Done, Failed, Blocked, output_in, inputs_from, outcome_on, ending_in, outcome, is_plain}
 use Rattle.llb_model.specs.State.{Status, Waiting, Running, Settled, State, ending_of, ending_at, ready, is_ready, is_waiting, is_failed}

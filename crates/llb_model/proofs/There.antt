@@ -5,8 +5,8 @@ use Rattle.llb_tree.specs.Tree.{TreeMap}
 use Rattle.llb_model.specs.Caches.{Instance, Store, put_all, Hold, Distinct}
 use Rattle.llb_model.specs.Program.{Build, needs_of, step_on}
 use Rattle.llb_model.specs.State.{Execution, WorkerStatus, Idle, Runs, State, opening, work_of, held, begin_at}
-use Rattle.llb_model.specs.declared.event.Event.{Event}
-use Rattle.llb_model.specs.declared.event.Event.TheVariants.{Claim, Step, Settle, Cancel}
+use Rattle.llb_events.specs.declared.event.Event.{Event}
+use Rattle.llb_events.specs.declared.event.Event.TheVariants.{Claim, Step, Settle, Cancel}
 use Rattle.llb_model.specs.Table.{execution_on, with_step, table}
 use Rattle.llb_model.specs.Laws.{HasDistinctNeeds, HeldAreThere}
 use Rattle.llb_model.proofs.Lists.{got_set, got_replicate}

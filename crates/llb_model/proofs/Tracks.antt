@@ -5,15 +5,15 @@ use Rattle.std.proofs.Common.{sym, ap, subst, ◌∙◌, arith}
 use Rattle.std.specs.Prelude.{slice_get, slice_set, replicate}
 use Rattle.llb_loader.specs.declared.graph.Vertex.{Vertex}
 use Rattle.llb_tree.specs.Tree.{TreeMap}
-use Rattle.llb_model.specs.declared.fault.VertexFault.{VertexFault}
+use Rattle.llb_events.specs.declared.fault.VertexFault.{VertexFault}
 use Rattle.llb_model.specs.Caches.{Instance, Store, content, Hold, Has, Distinct}
 use Rattle.llb_model.specs.Program.{Build, MicroStep, Program, Workspace, Need, Work, Left, Start, program_of}
 use Rattle.llb_model.specs.Program.{program_at, needs_of, base_in, step_on, unless_faulted, go_on, part, whole}
 use Rattle.llb_model.specs.Outcome.{Ending, ending}
 use Rattle.llb_model.specs.State.{Status, Waiting, Running, Settled, Execution, Idle, Runs, State, Opening, opening, ending_of, ending_at}
 use Rattle.llb_model.specs.State.{ready, program_in, is_finished, next_step, work_of, ending_from, held, IsFree, first_trees, begin_at}
-use Rattle.llb_model.specs.declared.event.Event.{Event}
-use Rattle.llb_model.specs.declared.event.Event.TheVariants.{Claim, Step, Settle, Cancel}
+use Rattle.llb_events.specs.declared.event.Event.{Event}
+use Rattle.llb_events.specs.declared.event.Event.TheVariants.{Claim, Step, Settle, Cancel}
 use Rattle.llb_model.specs.Table.{cancel_reply}
 use Rattle.llb_model.specs.Table.{Reply}
 use Rattle.llb_model.specs.Table.{execution_on, claim_at, with_step, after_step, after_end, after_settle}

@@ -5,8 +5,8 @@ use Rattle.llb_cache.specs.declared.key.Key.{Key}
 use Rattle.llb_model.specs.Caches.{Instance, IsExclusive}
 use Rattle.llb_model.specs.Program.{Build, needs_of}
 use Rattle.llb_model.specs.State.{Status, Waiting, Running, Settled, State, opening, program_in, is_finished, held, place_for}
-use Rattle.llb_model.specs.declared.event.Event.{Event}
-use Rattle.llb_model.specs.declared.event.Event.TheVariants.{Claim, Step, Settle, Cancel}
+use Rattle.llb_events.specs.declared.event.Event.{Event}
+use Rattle.llb_events.specs.declared.event.Event.TheVariants.{Claim, Step, Settle, Cancel}
 use Rattle.llb_model.specs.Table.{HasStepped, HasSettled, HasCancelled}
 use Rattle.llb_model.specs.Table.{Reply, Claimed}
 use Rattle.llb_model.specs.Table.{table}

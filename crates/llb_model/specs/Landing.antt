@@ -6,8 +6,8 @@ use Rattle.llb_model.specs.Caches.{Hold, Distinct, put_all}
 use Rattle.llb_model.specs.Program.{Build, MicroStep, Left, go_on}
 use Rattle.llb_model.specs.Outcome.{ending}
 use Rattle.llb_model.specs.State.{Settled, Execution, Idle, Runs, State, program_in}
-use Rattle.llb_model.specs.declared.event.Event.{Event}
-use Rattle.llb_model.specs.declared.event.Event.TheVariants.{Step, Settle}
+use Rattle.llb_events.specs.declared.event.Event.{Event}
+use Rattle.llb_events.specs.declared.event.Event.TheVariants.{Step, Settle}
 use Rattle.llb_model.specs.Table.{Reply, settle_reply}
 use Rattle.llb_model.specs.Run.{run}
 

@@ -12,13 +12,13 @@ use Rattle.llb_applet.specs.declared.setting.Setting.{Setting}
 use Rattle.llb_mount.specs.declared.shown.Shown.{Shown}
 use Rattle.llb_tree.specs.Tree.{TreeMap}
 use Rattle.llb_model.specs.Caches.{Instance, place, Store, content, put, Hold, Has, Distinct, IsExclusive}
-use Rattle.llb_model.specs.declared.fault.VertexFault.{VertexFault}
-use Rattle.llb_model.specs.declared.fault.VertexFault.TheVariants as fault
+use Rattle.llb_events.specs.declared.fault.VertexFault.{VertexFault}
+use Rattle.llb_events.specs.declared.fault.VertexFault.TheVariants as fault
 use Rattle.llb_model.specs.Program.{Build, MicroStep, Run, Mounted, Work, Need, key_of, needs_of, has_cache, all_and, runs_of, filled, taken, blanked}
 use Rattle.llb_model.specs.Program.{last_of, is_run, part}
 use Rattle.llb_model.specs.State.{Running, Execution, Runs, State, Opening, opening, program_in, is_finished, IsFree, places_by}
-use Rattle.llb_model.specs.declared.event.Event.{Event}
-use Rattle.llb_model.specs.declared.event.Event.TheVariants.{Claim}
+use Rattle.llb_events.specs.declared.event.Event.{Event}
+use Rattle.llb_events.specs.declared.event.Event.TheVariants.{Claim}
 use Rattle.llb_model.specs.Table.{Job, Reply, Claimed, worker_of, table}
 use Rattle.llb_model.specs.Run.{run, chosen}
 use Rattle.llb_model.specs.Order.{at_first, order, claims_in, StandsIn}

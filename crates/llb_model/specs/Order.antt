@@ -4,7 +4,7 @@ use Rattle.llb_model.specs.Caches.{Instance, Store, content, put_all}
 use Rattle.llb_model.specs.Program.{Build, MicroStep, Program, Work, Left, Start, program_of, needs_of, part, whole}
 use Rattle.llb_model.specs.Outcome.{Ending, ending}
 use Rattle.llb_model.specs.State.{Status, Waiting, Settled, State, ready, IsFree, begin_at, places_by}
-use Rattle.llb_model.specs.declared.event.Settled.TheVariants as ended
+use Rattle.llb_events.specs.declared.event.Settled.TheVariants as ended
 use Rattle.llb_model.specs.Table.{HasStepped, HasSettled, HasCancelled}
 use Rattle.llb_model.specs.Table.{Reply, Claimed}
 

@@ -34,8 +34,8 @@ use Rattle.llb_fileop.specs.declared.fault.ActFault.{ActFault}
 use Rattle.llb_fileop.specs.declared.fault.ActFault.TheVariants as act_fault
 use Rattle.llb_fileop.specs.Act.{act}
 use Rattle.llb_merge.specs.Laying.{lay}
-use Rattle.llb_model.specs.declared.fault.VertexFault.{VertexFault}
-use Rattle.llb_model.specs.declared.fault.VertexFault.TheVariants as fault
+use Rattle.llb_events.specs.declared.fault.VertexFault.{VertexFault}
+use Rattle.llb_events.specs.declared.fault.VertexFault.TheVariants as fault
 
 -- what a run is over: the graph, and the trees of local sources by name
 pub record Build : Type 0 where

@@ -4,8 +4,8 @@ use Rattle.std.specs.Prelude.{Some, None, option_map, slice_get, if◌then◌els
 use Rattle.llb_model.specs.Program.{Build}
 use Rattle.llb_model.specs.Outcome.{Outcome, Ended, Blocked}
 use Rattle.llb_model.specs.State.{Status, Waiting, Running, Settled, WorkerStatus, Idle, Runs, State, is_ready, is_blocked, is_finished, program_in}
-use Rattle.llb_model.specs.declared.event.Event.{Event}
-use Rattle.llb_model.specs.declared.event.Event.TheVariants.{Claim, Step, Settle, Cancel}
+use Rattle.llb_events.specs.declared.event.Event.{Event}
+use Rattle.llb_events.specs.declared.event.Event.TheVariants.{Claim, Step, Settle, Cancel}
 use Rattle.llb_model.specs.Table.{Reply, worker_of, table}
 
 -- how a run goes on: from the state after an event, with the event's reply before the others; not at all if the event was refused

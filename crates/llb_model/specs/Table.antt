@@ -3,28 +3,28 @@ use Rattle.std.specs.Prelude.{ℕ, ◌+◌, List, map, Option, Some, None, slice
 use Rattle.std.specs.Result.{result_ok}
 use Rattle.llb_cache.specs.declared.key.Key.{Key}
 use Rattle.llb_loader.specs.declared.graph.Vertex.{Vertex}
-use Rattle.llb_model.specs.declared.event.Event.{Event}
-use Rattle.llb_model.specs.declared.event.Event.TheVariants.{Claim, Step, Settle, Cancel}
-use Rattle.llb_model.specs.declared.event.Stepped as of_step
-use Rattle.llb_model.specs.declared.event.Stepped.TheVariants as did
-use Rattle.llb_model.specs.declared.event.Settled as of_settle
-use Rattle.llb_model.specs.declared.event.Settled.TheVariants as ended
-use Rattle.llb_model.specs.declared.event.Cancelled as of_cancel
-use Rattle.llb_model.specs.declared.fault.VertexFault.{VertexFault}
+use Rattle.llb_events.specs.declared.event.Event.{Event}
+use Rattle.llb_events.specs.declared.event.Event.TheVariants.{Claim, Step, Settle, Cancel}
+use Rattle.llb_events.specs.declared.event.Stepped as of_step
+use Rattle.llb_events.specs.declared.event.Stepped.TheVariants as did
+use Rattle.llb_events.specs.declared.event.Settled as of_settle
+use Rattle.llb_events.specs.declared.event.Settled.TheVariants as ended
+use Rattle.llb_events.specs.declared.event.Cancelled as of_cancel
+use Rattle.llb_events.specs.declared.fault.VertexFault.{VertexFault}
 use Rattle.llb_model.specs.Caches.{Instance, put_all}
 use Rattle.llb_model.specs.Program.{Build, MicroStep, ReadLocal, Act, LayInput, Run, Program, Workspace, Work, Left, Start, program_of, needs_of, step_on}
 use Rattle.llb_model.specs.Program.{last_of, is_run}
 use Rattle.llb_model.specs.Outcome.{Ending, Done, Failed}
 use Rattle.llb_model.specs.State.{Status, Waiting, Running, Settled, Execution, WorkerStatus, Idle, Runs, State, start_from, program_in, work_of, is_finished}
 use Rattle.llb_model.specs.State.{next_step, ending_from, held, places_for, held_key, begin_at}
-use Rattle.llb_model.specs.declared.refusal.ClaimFault.{ClaimFault}
-use Rattle.llb_model.specs.declared.refusal.ClaimFault.TheVariants as claim
-use Rattle.llb_model.specs.declared.refusal.StepFault.{StepFault}
-use Rattle.llb_model.specs.declared.refusal.StepFault.TheVariants as step
-use Rattle.llb_model.specs.declared.refusal.SettleFault.{SettleFault}
-use Rattle.llb_model.specs.declared.refusal.SettleFault.TheVariants as settle
-use Rattle.llb_model.specs.declared.refusal.CancelFault.{CancelFault}
-use Rattle.llb_model.specs.declared.refusal.CancelFault.TheVariants as cancel
+use Rattle.llb_events.specs.declared.refusal.ClaimFault.{ClaimFault}
+use Rattle.llb_events.specs.declared.refusal.ClaimFault.TheVariants as claim
+use Rattle.llb_events.specs.declared.refusal.StepFault.{StepFault}
+use Rattle.llb_events.specs.declared.refusal.StepFault.TheVariants as step
+use Rattle.llb_events.specs.declared.refusal.SettleFault.{SettleFault}
+use Rattle.llb_events.specs.declared.refusal.SettleFault.TheVariants as settle
+use Rattle.llb_events.specs.declared.refusal.CancelFault.{CancelFault}
+use Rattle.llb_events.specs.declared.refusal.CancelFault.TheVariants as cancel
 
 -- the worker of an event
 abbrev pub worker_of : Event → ℕ

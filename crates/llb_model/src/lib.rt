@@ -1,11 +1,7 @@
-//! The whole machine, as mathematics: definitions alone, in `specs/`, that the crates which run a graph cite. It has no code but the one
-//! type that these crates return. It is built on `llb_cache`, `llb_fileop`, `llb_loader` and `llb_merge`.
+//! The whole machine, as mathematics: definitions, in `specs/`, that the crates which run a graph cite. Its events, replies and refusals are
+//! the types of `llb_events`. It has no code but a law. It is built on `llb_events`, `llb_fileop`, `llb_loader` and `llb_merge`.
 #![tactic(auto)]
 
-mod event;
-mod fault;
-mod refusal;
+mod laws;
 
-pub use event::{Cancelled, Event, Settled, Stepped};
-pub use fault::VertexFault;
-pub use refusal::{CancelFault, ClaimFault, Memory, SettleFault, StepFault, WalkFault};
+pub use laws::rules_want_no_memory;

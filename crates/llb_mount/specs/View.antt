@@ -14,7 +14,7 @@ pub record IsView (mounts : List Shown) : Type 0 where
   pub differ : AllPairs (λ d e. d ≢ e) (dests mounts)
   pub few : length mounts < 2 ^ 32
 
--- the mount that a number without a mount has
+-- the default mount, for a number out of range
 abbrev pub no_mount : Shown
 no_mount = record { dest = []; selector = []; readonly = false; tree = empty_tree }
 

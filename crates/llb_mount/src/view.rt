@@ -148,8 +148,8 @@ impl View {
     }
 
     /// Returns the number of the mount with the longest dest that is a prefix of the path, by names, and how many names that
-    /// dest has: they are dropped from the path. Does not allocate; takes time in the logarithm of the number of mounts, and in the
-    /// number of dests above one.
+    /// dest has: they are dropped from the path. Does not allocate. With an order of the dests it takes time in the logarithm of the
+    /// number of mounts and in the number of dests above one; without, as of at most eight mounts, it looks at each mount.
     pub fn route(&self, path: &Path) -> (u32, u32)
         ensures route { result ≡ route self.now path.now }
         ensures longest { IsRoute self.now path.now result }

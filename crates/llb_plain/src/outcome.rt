@@ -6,7 +6,7 @@ ghost use Rattle.llb_plain.specs.Endings.{outcome_of};
 ghost use Rattle.llb_plain.specs.Faults.{is_memory};
 
 use crate::fault::PlainFault;
-use llb_model::VertexFault;
+use llb_events::VertexFault;
 use llb_tree::Tree;
 use llb_wire::Many;
 use std::alloc::Global;

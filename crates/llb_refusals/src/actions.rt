@@ -208,6 +208,7 @@ const ROWS: &[Row] = &[
     ("rm: path \"o*\", allowWildcard true", "OLD", "53", "EMPTY"),
     ("lay", "PQ with P", "", "P"),
     ("lay", "P with PR", "", "PR"),
+    ("lay", "PQ with PR", "55", PQR),
     ("lay_onto", "copy of P with PR", "", "PR"),
     ("lay_over", "P with PR", "", "PR"),
     ("lay_over", "copy of PQ with PR", "55", PQR),

@@ -1,4 +1,4 @@
-//! Each growth of a call refused in turn. A test asks `tools/refuse.c`, which is between a test and its memory, by the sizes of requests
+//! Each growth of a call refused in turn. A test asks `tools/llbm_tools/refuse.c`, which is between a test and its memory, by the sizes of requests
 //! that no allocator grants.
 
 use super::told::is_same;
@@ -28,6 +28,8 @@ pub(crate) trait Trial: Sized + Drop {
 
 const ASK: usize = 0x1000_0000_0000_0000;
 
+const START: usize = 0x3000_0000_0000_0000;
+
 const TELL: usize = 0x2000_0000_0000_0000;
 
 /// More growths than any call takes.
@@ -38,7 +40,12 @@ pub(crate) fn refuse(alloc: Global, k: usize) {
     let _ = Vec::<u8>::with_capacity(alloc, ASK | k);
 }
 
-/// Returns whether a growth was refused, and refuses none from now on.
+/// Refuses the start of the thread of that number from now on, where the library is in between; else refuses none.
+pub(crate) fn refuse_thread(alloc: Global, k: usize) {
+    let _ = Vec::<u8>::with_capacity(alloc, START | k);
+}
+
+/// Returns whether a growth or a thread was refused, and refuses none from now on.
 pub(crate) fn was_refused(alloc: Global) -> bool {
     Vec::<u8>::with_capacity(alloc, TELL).is_ok()
 }

@@ -5,6 +5,8 @@
 #[cfg(test)]
 mod actions;
 #[cfg(test)]
+mod aims;
+#[cfg(test)]
 mod boards;
 #[cfg(test)]
 mod caches;

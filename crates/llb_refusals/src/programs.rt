@@ -169,12 +169,31 @@ impl Trial for OnInput {
 
     // What is written is the beginning of what is to be written; a session goes on after its refusals.
     fn is_as_before(&mut self, _rt: &impl Abort, _alloc: Global) -> bool {
-        match self.call {
-            "step_over" => true,
-            "asm_over" => self.ran.out.is_empty(),
-            _ => self.wanted.as_bytes().starts_with(self.ran.out.as_slice()),
+        match (self.call, str::from_utf8(self.ran.out.as_slice())) {
+            ("asm_over", _) => self.ran.out.is_empty(),
+            ("step_over", Ok(out)) => is_session(out, self.wanted),
+            (_, Ok(out)) => self.wanted.starts_with(out),
+            (_, Err(_)) => false,
         }
     }
+}
+
+// Whether a session printed the beginning of what it should, or a refusal for want of memory and then what the commands after it print.
+fn is_session(out: &str, wanted: &str) -> bool {
+    match out.split_once("fault ") {
+        None => wanted.starts_with(out),
+        Some((before, rest)) => is_gone_on(before, rest),
+    }
+}
+
+fn is_gone_on(before: &str, rest: &str) -> bool {
+    let (fault, after) = rest.split_once('\n').unwrap_or((rest, ""));
+    for (wanted, lacks, behind) in GONE_ON {
+        if before == *wanted && is_lack(fault, lacks) && after == *behind {
+            return true;
+        }
+    }
+    false
 }
 
 const ONE_FILE: &str = "MAKES_A; RESULT 0";
@@ -195,11 +214,48 @@ const ANSWERS: &str =
     "1 claim 0 0 -> file 1\n2 step 0 -> acted 0\n3 settle 0 -> 0 done\nstop\nback 2\n0 running 0\n\
     3 settle 0 -> 0 done\nd 0755 0 0 /\nf 0644 0 0 6869 /a\n";
 
-const LOOKS: &str =
-    "step_over: next; next; work 0; work 0 0; work 0 1; caches; cache 0 0; work 1; quit";
+const GONE: &str = "1 claim 0 0 -> file 1\n2 step 0 -> acted 0\n3 settle 0 -> 0 done\nstop\n";
 
-const LOOKED: &str = "1 claim 0 0 -> exec 1\n2 step 0 -> ran 0 0\n0 mount /\n1 mount /c\nd 0755 0 0 /\n\
-    d 0755 0 0 /\nf 0644 0 0 780a /a\n0 locked 1 - k\nd 0755 0 0 /\nf 0644 0 0 780a /a\nnone\n";
+const BACK: &str =
+    "1 claim 0 0 -> file 1\n2 step 0 -> acted 0\n3 settle 0 -> 0 done\nstop\nback 2\n";
+
+const LOOKED: &str =
+    "1 claim 0 0 -> file 1\n2 step 0 -> acted 0\n3 settle 0 -> 0 done\nstop\nback 2\n0 running 0\n";
+
+const SETTLED: &str =
+    "1 claim 0 0 -> file 1\n2 step 0 -> acted 0\n3 settle 0 -> 0 done\nstop\nback 2\n0 running 0\n\
+    3 settle 0 -> 0 done\n";
+
+// For each command of the session: what is printed before it, the faults by which it is refused memory, and what the commands after it print then.
+const GONE_ON: &[(&str, &str, &str)] = &[
+    // Without the breakpoint the run goes to its end.
+    (
+        "",
+        "174",
+        "1 claim 0 0 -> file 1\n2 step 0 -> acted 0\n3 settle 0 -> 0 done\nend\nback 2\n0 running 0\n\
+        3 settle 0 -> 0 done\nd 0755 0 0 /\nf 0644 0 0 6869 /a\n",
+    ),
+    // Nothing was done.
+    (
+        "",
+        "171 141 or 174",
+        "fault 172\n0 ready\n1 claim 0 0 -> file 1\nnone\n",
+    ),
+    // The settle stays.
+    (
+        GONE,
+        "174",
+        "0 done\nend\nd 0755 0 0 /\nf 0644 0 0 6869 /a\n",
+    ),
+    (
+        BACK,
+        "174",
+        "3 settle 0 -> 0 done\nd 0755 0 0 /\nf 0644 0 0 6869 /a\n",
+    ),
+    // The vertex is not settled.
+    (LOOKED, "171 141 or 174", "none\n"),
+    (SETTLED, "174", ""),
+];
 
 const ROWS: &[Row] = &[
     (
@@ -231,12 +287,6 @@ const ROWS: &[Row] = &[
         ONE_FILE,
         "3 fault 184 and 3 fault 91 and 3 fault 123 and fault 171 141 and fault 174",
         ANSWERS,
-    ),
-    (
-        LOOKS,
-        "locked: write /c/a x; RESULT 0",
-        "3 fault 184 and 3 fault 91 and 3 fault 123 and fault 171 141 and fault 174",
-        LOOKED,
     ),
 ];
 

@@ -1,10 +1,12 @@
 //! Runs to the end: alone, and by threads; and the queue that threads share.
 
-use super::boards::{Open, TWO_FILES, are_same, board_in, board_on};
-use super::growths::{MOST, Row, Trial, are_refused, is_lack, print_count, refuse, was_refused};
+use super::boards::{Open, TWO_FILES, are_same, board_in, board_of, board_on};
+use super::growths::{
+    MOST, Row, Trial, are_refused, is_lack, print_count, refuse, refuse_thread, was_refused,
+};
 use super::told::{fault_told, is_same, text_told, tree_told};
 use super::written::tree_text;
-use llb_board::{Board, WorkerStatus};
+use llb_board::{Board, Status, WorkerStatus};
 use llb_ready::{ReadyFault, ReadyQueue};
 use llb_stepper::Stepper;
 use llb_work::{RunEnd, run_alone, run_workers};
@@ -21,10 +23,11 @@ fn replayed(stepper: &mut Stepper, board: &Board) -> bool {
     stepper.replay(board.events().as_slice()).is_ok()
 }
 
-// Whether the record of a run, on a board that was opened in the same way, leads to where the run ended, and is as long as the workers' counts.
-fn is_replayed(alloc: Global, end: &RunEnd, opened: Board) -> bool {
+// Whether the record of a run, on a board that was opened in the same way, leads to where the run ended, and is as long as the record before
+// the run with the workers' counts.
+fn is_replayed(alloc: Global, end: &RunEnd, opened: Board, before: usize) -> bool {
     let mut stepper = Stepper::new(alloc, opened);
-    let mut made = 0u64;
+    let mut made = before as u64;
     for count in &end.made {
         made = made.wrapping_add(*count);
     }
@@ -93,7 +96,7 @@ impl Trial for OnRun {
     fn is_as_before(&mut self, rt: &impl Abort, alloc: Global) -> bool {
         let opened = board_on(rt, alloc, &board_in(rt, self.on));
         match &self.end {
-            Some(end) => is_replayed(alloc, end, opened),
+            Some(end) => is_replayed(alloc, end, opened, 0),
             None => false,
         }
     }
@@ -139,7 +142,7 @@ fn are_idle(board: &Board) -> bool {
     board.caches().leases() == 0
 }
 
-fn alone_told(rt: &impl Abort, alloc: Global, board: Board) -> String {
+pub(crate) fn alone_told(rt: &impl Abort, alloc: Global, board: Board) -> String {
     end_told(rt, alloc, &alone(board))
 }
 
@@ -157,7 +160,7 @@ fn is_growth<R: Abort + Threads + Wait + Sync>(rt: &R, alloc: Global, row: &Row,
         is_done || is_refused && is_lack(told.as_str(), lacks),
         "growth {k}: {told}"
     );
-    assert!(rt; is_replayed(alloc, &end, opened), "growth {k}");
+    assert!(rt; is_replayed(alloc, &end, opened, 0), "growth {k}");
     assert!(rt; are_idle(&end.board), "growth {k}");
     let RunEnd {
         board,
@@ -210,6 +213,87 @@ const CREWS: &[Row] = &[
 fn runs_by_threads(rt: HostRuntime) {
     for row in CREWS {
         let count = growths(&rt, rt.alloc(), row);
+        print_count(&rt, count, row);
+    }
+}
+
+// Whether a vertex is done. `None` is no vertex.
+fn is_done(board: &Board, v: Option<u32>) -> bool {
+    match v {
+        Some(v) => board.status(v) == Some(Status::Done),
+        None => true,
+    }
+}
+
+// The vertex that the worker of thread k runs, the first thread being 1.
+fn run_by(board: &Board, k: usize) -> Option<u32> {
+    match board.worker(k.wrapping_sub(1) as u32) {
+        Some(WorkerStatus::Runs(v, _, _)) => Some(v),
+        _ => None,
+    }
+}
+
+// Whether thread k of a run could not be started. Then the run has ended for that, and what the thread's worker ran is done; the record stays,
+// and is gone on with alone.
+fn is_thread<R: Abort + Threads + Wait + Sync>(rt: &R, alloc: Global, row: &Row, k: usize) -> bool {
+    let (_, on, fault, wanted) = *row;
+    let written = board_in(rt, on);
+    let board = board_of(rt, alloc, &written);
+    let before = board.events().len();
+    let part = run_by(&board, k);
+    refuse_thread(alloc, k);
+    let end = crew(rt, alloc, board);
+    let is_refused = was_refused(alloc);
+    let told = end_told(rt, alloc, &end);
+    is_same(rt, told.as_str(), if is_refused { fault } else { wanted });
+    let opened = board_on(rt, alloc, &written);
+    assert!(rt; is_replayed(alloc, &end, opened, before), "thread {k}");
+    assert!(rt; is_done(&end.board, part), "thread {k}");
+    assert!(rt; are_idle(&end.board), "thread {k}");
+    let RunEnd {
+        board,
+        made: _,
+        fault: _,
+    } = end;
+    is_same(rt, alone_told(rt, alloc, board).as_str(), wanted);
+    is_refused
+}
+
+fn threads<R: Abort + Threads + Wait + Sync>(rt: &R, alloc: Global, row: &Row) -> usize {
+    for k in 1..MOST {
+        if !is_thread(rt, alloc, row, k) {
+            return k.saturating_sub(1);
+        }
+    }
+    panic!(rt; "no end of threads");
+}
+
+// Of each board every thread can't be started in turn. All workers but the first run something; the last row's second and last do.
+const THREADS: &[Row] = &[
+    (
+        "run_workers",
+        "4: MAKES_A; MAKES_B; MAKES_P; MERGES_0_1_2; RESULT 3 after claim 1 0; claim 2 1; claim 3 2",
+        "153",
+        "d 0755 0 0 /\nf 0644 0 0 6869 /a\nf 0644 0 0 686f /b\nf 0644 0 0 32 /p\n",
+    ),
+    (
+        "run_workers",
+        "3: locked: write /c/a x; MAKES_B; MERGES_0_1; RESULT 2 after claim 1 0; claim 2 1",
+        "153",
+        "d 0755 0 0 /\nf 0644 0 0 686f /b\n",
+    ),
+    (
+        "run_workers",
+        "64: MAKES_A; MAKES_B; MERGES_0_1; RESULT 2 after claim 1 0; claim 63 1",
+        "153",
+        BOTH,
+    ),
+];
+
+#[test]
+fn runs_without_a_thread(rt: HostRuntime) {
+    for row in THREADS {
+        let count = threads(&rt, rt.alloc(), row);
         print_count(&rt, count, row);
     }
 }

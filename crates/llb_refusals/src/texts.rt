@@ -171,10 +171,13 @@ const MERGE_TEXT: &str =
 
 const A_DEFINITION: &str = "0a1c221a121808ffffffffffffffffff012a0b0a022f6110a4031a026869";
 
+const A_FILE: &str = "d 0755 0 0 /\nf 0644 0 0 6869 /a\n";
+
 const DIGEST: &str = "sha256:5de211d85590268925259f8c7cd45d229b00372355255c350a38752ed1c86a47";
 
 const ROWS: &[Row] = &[
     ("print_tree", "A_B", "34", "A_B"),
+    ("print_tree", A_FILE, "34", A_FILE),
     ("read_tree", "OLD", "34", "OLD"),
     ("read_tree", "F", "34", "F"),
     ("read_tree", "A_B", "34", "A_B"),

@@ -4,7 +4,7 @@ use Rattle.std.specs.Prelude.{Result, Ok, Err, Vec}
 use Rattle.std.specs.Global.{Global}
 use Rattle.llb_wire.specs.declared.sink.Failed.{Failed}
 use Rattle.llb_model.specs.Run.{chosen}
-use Rattle.llb_model.specs.declared.event.Event as own
+use Rattle.llb_events.specs.declared.event.Event as own
 use Rattle.llb_stepper.specs.Rules.{ChosenIsDone, stepper_memory}
 use Rattle.llb_stepper.specs.declared.fault.StepperFault.{StepperFault}
 use Rattle.llb_stepper.specs.Stepping.{Stepping}

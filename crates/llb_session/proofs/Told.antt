@@ -1,7 +1,7 @@
 -- The lines that a `go` prints are those of the run of the record.
 use Rattle.std.proofs.Common.{◌≡◌, ◌∙◌, ◌+◌, ◌≤◌, List, length, take, option_map, Some, ap, arith, length-append, length-drop}
 use Rattle.std.proofs.lemmas.List.{length-take}
-use Rattle.llb_model.specs.declared.event.Event.{Event}
+use Rattle.llb_events.specs.declared.event.Event.{Event}
 use Rattle.llb_board.specs.Seen.{Replays}
 use Rattle.llb_stepper.specs.Records.{record_at, record_text}
 use Rattle.llb_stepper.specs.Stepping.{Stepping, timeline}

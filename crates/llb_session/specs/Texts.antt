@@ -1,5 +1,5 @@
 -- What a session prints: how vertices look, lines of the record, trees, what workers work on, caches, and refusals.
-use Rattle.std.specs.Prelude.{ℕ, zero, suc, ◌+◌, List, [], ◌++◌, codes, length, Option, Some, None, option_map, slice_get}
+use Rattle.std.specs.Prelude.{ℕ, zero, suc, ◌+◌, ◌==◌, if◌then◌else◌, List, [], ◌++◌, codes, length, Option, Some, None, option_map, slice_get}
 use Rattle.std.specs.Map.{keys_of}
 use Rattle.std.specs.Fmt.{decimal}
 use Rattle.llb_tree.specs.Tree.{TreeMap}
@@ -11,11 +11,11 @@ use Rattle.llb_cache.specs.declared.key.Mode.{Mode}
 use Rattle.llb_cache.specs.declared.key.Mode.TheVariants.{Shared, Private, Locked}
 use Rattle.llb_model.specs.Program.{Workspace}
 use Rattle.llb_execution.specs.Looks.{Role, Local, Input, ResultOf, Laid, MountAt, roles_of}
-use Rattle.llb_model.specs.Failure.{failure_text}
+use Rattle.llb_events.specs.Failure.{failure_text}
 use Rattle.llb_board.specs.Seen.{BoardValue}
-use Rattle.llb_events.specs.Views.{look_at}
-use Rattle.llb_events.specs.declared.event.Status.{Status}
-use Rattle.llb_events.specs.declared.event.Status.TheVariants.{Waiting, Ready, Blocked, Running, Done, Failed}
+use Rattle.llb_state.specs.Statuses.{look_at}
+use Rattle.llb_state.specs.declared.status.Status.{Status}
+use Rattle.llb_state.specs.declared.status.Status.TheVariants.{Waiting, Ready, Blocked, Running, Done, Failed}
 use Rattle.llb_stepper.specs.declared.fault.StepperFault.{StepperFault}
 use Rattle.llb_stepper.specs.Faults.{stepper_text}
 use Rattle.llb_stepper.specs.Records.{record_text, record_at}
@@ -85,10 +85,14 @@ unfoldable pub role_lines : List Role → ℕ → List ℕ
 role_lines roles zero = []
 role_lines roles (suc i) = role_lines roles i ++ role_line_of i (slice_get roles i)
 
--- a line for each tree of what a worker runs, or that it runs nothing
+-- a line for each of these trees, or that there is none
+abbrev pub part_lines : List Role → List ℕ
+part_lines roles = if length roles == 0 then codes "none\n" else role_lines roles (length roles)
+
+-- a line for each tree of what a worker runs, or that there is none
 abbrev pub work_lines : Option Workspace → List ℕ
 work_lines None = codes "none\n"
-work_lines (Some own) = role_lines (roles_of own) (length (roles_of own))
+work_lines (Some own) = part_lines (roles_of own)
 
 -- the word of a mode
 abbrev pub mode_word : Mode → List ℕ

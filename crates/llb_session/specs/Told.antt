@@ -1,7 +1,7 @@
 -- What a session's `go` prints, by the run of the whole record.
 use Rattle.std.specs.Prelude.{◌≡◌, ◌<◌, ◌-◌, ◌++◌, ℕ, List, length, codes, Some, slice_get}
 use Rattle.llb_model.specs.State.{opening}
-use Rattle.llb_model.specs.declared.event.Event.{Event}
+use Rattle.llb_events.specs.declared.event.Event.{Event}
 use Rattle.llb_model.specs.Table.{Reply}
 use Rattle.llb_model.specs.Run.{run}
 use Rattle.llb_stepper.specs.Records.{record_text}

@@ -1,8 +1,8 @@
 //! The texts that a session prints: how vertices look, lines of the record, trees, what workers work on, caches, and refusals.
 
-ghost use Rattle.std.specs.Prelude.{◌≡◌, ◌++◌, ◌-◌, ◌+◌, true, length, option_map, IfOk, IfErr, string_bytes};
+ghost use Rattle.std.specs.Prelude.{◌≡◌, ◌++◌, ◌-◌, ◌+◌, true, codes, option_map, IfOk, IfErr, string_bytes};
 ghost use Rattle.llb_session.specs.Texts.{status_line, status_lines, record_line, record_lines, tree_lines, fault_line, back_line};
-ghost use Rattle.llb_session.specs.Texts.{role_line, role_lines, work_lines, seed_text, mode_word, key_line, key_lines};
+ghost use Rattle.llb_session.specs.Texts.{role_line, part_lines, work_lines, seed_text, mode_word, key_line, key_lines};
 ghost use Rattle.llb_execution.specs.Looks.{role_in, roles_of};
 ghost use Rattle.llb_stepper.specs.Rules.{stepper_memory};
 
@@ -126,12 +126,25 @@ fn push_part(text: &mut String, i: usize, part: Part<'_>) -> Result<(), StepperF
     Ok(())
 }
 
-// A line for each tree of a workspace.
-#[tactic(auto, unfolding(crate::specs::Texts::role_lines))]
-fn parts_text(alloc: Global, workspace: &Workspace) -> Result<String, StepperFault>
-    ensures lines { IfOk result (λ s. string_bytes s ≡ role_lines (roles_of workspace.now) (length (roles_of workspace.now))) }
+// Returns the line for nothing.
+fn none_text(alloc: Global) -> Result<String, StepperFault>
+    ensures lines { IfOk result (λ s. string_bytes s ≡ codes "none\n") }
     ensures memory { IfErr result (λ e. stepper_memory e ≡ true) }
 {
+    let mut text = String::new(alloc);
+    text.push_str("none\n")?;
+    Ok(text)
+}
+
+// Returns a line for each tree of a workspace, or the line for nothing if it has none.
+#[tactic(auto, unfolding(crate::specs::Texts::role_lines))]
+fn parts_text(alloc: Global, workspace: &Workspace) -> Result<String, StepperFault>
+    ensures lines { IfOk result (λ s. string_bytes s ≡ part_lines (roles_of workspace.now)) }
+    ensures memory { IfErr result (λ e. stepper_memory e ≡ true) }
+{
+    if workspace.parts() == 0 {
+        return none_text(alloc);
+    }
     let mut text = String::new(alloc);
     for i in 0..workspace.parts() {
         if let Some(part) = workspace.part(i) {
@@ -151,11 +164,7 @@ pub(crate) fn work_text(
 {
     match workspace {
         Some(workspace) => parts_text(alloc, workspace),
-        None => {
-            let mut text = String::new(alloc);
-            text.push_str("none\n")?;
-            Ok(text)
-        }
+        None => none_text(alloc),
     }
 }
 

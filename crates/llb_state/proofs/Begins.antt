@@ -17,7 +17,7 @@ use Rattle.llb_execution.specs.Parts.{work_with, mounts_in, shown_in}
 use Rattle.llb_state.specs.Room.{Supplies, supplies_for}
 use Rattle.llb_state.specs.Rules.{or_not_ready, Begun, begun}
 use Rattle.llb_state.specs.Begun.{Outfitted, outfit_of}
-use Rattle.llb_model.specs.declared.refusal.ClaimFault.{ClaimFault}
+use Rattle.llb_events.specs.declared.refusal.ClaimFault.{ClaimFault}
 use Rattle.llb_state.proofs.Lists.{length_map}
 use Rattle.llb_state.proofs.Needed.{mounts_on, shown_on}
 use Rattle.llb_state.proofs.Wanted.{keys_found, taken_as}

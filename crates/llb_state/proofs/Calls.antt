@@ -25,11 +25,11 @@ use Rattle.llb_state.specs.Needs.{first_held_key, unless_held, places_taken}
 use Rattle.llb_state.specs.Rules.{Begun, begun_at, begun, Written}
 use Rattle.llb_state.specs.Views.{at_of}
 use Rattle.llb_state.specs.declared.desk.Desk.{Desk}
-use Rattle.llb_model.specs.declared.refusal.ClaimFault.{ClaimFault}
-use Rattle.llb_model.specs.declared.refusal.ClaimFault.TheVariants as claim
-use Rattle.llb_model.specs.declared.refusal.StepFault.{StepFault}
-use Rattle.llb_model.specs.declared.refusal.SettleFault.{SettleFault}
-use Rattle.llb_model.specs.declared.refusal.SettleFault.TheVariants.{NotFinished}
+use Rattle.llb_events.specs.declared.refusal.ClaimFault.{ClaimFault}
+use Rattle.llb_events.specs.declared.refusal.ClaimFault.TheVariants as claim
+use Rattle.llb_events.specs.declared.refusal.StepFault.{StepFault}
+use Rattle.llb_events.specs.declared.refusal.SettleFault.{SettleFault}
+use Rattle.llb_events.specs.declared.refusal.SettleFault.TheVariants.{NotFinished}
 use Rattle.llb_state.proofs.Wanting.{first_refused_held}
 
 abbrev ok_of : {A E : Type 0} → A → Result A E

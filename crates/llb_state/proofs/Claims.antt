@@ -19,8 +19,8 @@ use Rattle.llb_model.proofs.Leases.{makes_alike}
 use Rattle.llb_model.proofs.Leasing.{leased_holds_as}
 use Rattle.llb_model.proofs.Lists.{get_set_same}
 use Rattle.llb_model.proofs.Needs.{graph_distinct}
-use Rattle.llb_model.specs.Faults.{GivesClaim, claim_memory, claim_may_want}
-use Rattle.llb_model.specs.declared.refusal.ClaimFault.{ClaimFault}
+use Rattle.llb_events.specs.Faults.{GivesClaim, claim_memory, claim_may_want}
+use Rattle.llb_events.specs.declared.refusal.ClaimFault.{ClaimFault}
 use Rattle.llb_state.specs.Needs.{first_held_key, unless_held, places_taken}
 use Rattle.llb_state.specs.Caches.{lease_if, written, places_at, rows_after}
 use Rattle.llb_state.specs.Room.{supplies_of, supplies_for}

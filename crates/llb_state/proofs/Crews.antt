@@ -4,7 +4,7 @@ use Rattle.std.specs.Prelude.{replicate, slice_get, slice_set}
 use Rattle.std.proofs.lemmas.List.{length-replicate}
 use Rattle.llb_cache.specs.Caches.{CachesValue, Leases, leases}
 use Rattle.llb_loader.specs.declared.graph.Vertex.{Vertex}
-use Rattle.llb_model.specs.declared.fault.VertexFault.{VertexFault}
+use Rattle.llb_events.specs.declared.fault.VertexFault.{VertexFault}
 use Rattle.llb_model.specs.Leases.{AreLeased}
 use Rattle.llb_model.specs.Outcome.{ended}
 use Rattle.llb_model.specs.Program.{Workspace, outputs_of, program_at}

@@ -21,7 +21,7 @@ use Rattle.llb_links.specs.contracts.links.Links as links
 use Rattle.llb_loader.proofs.graph.Graph.TheSendSync as graph_crosses
 use Rattle.llb_loader.specs.contracts.graph.Graph as graph
 use Rattle.llb_loader.specs.contracts.locals.Locals as locals
-use Rattle.llb_model.proofs.fault.VertexFault.TheSendSync as fault_crosses
+use Rattle.llb_events.proofs.fault.VertexFault.TheSendSync as fault_crosses
 use Rattle.llb_state.specs.contracts.build.Build as build
 use Rattle.llb_state.specs.contracts.build.Build.TheInside as build_inside
 use Rattle.llb_state.specs.contracts.desk.Desk as desk

@@ -9,7 +9,7 @@ use Rattle.llb_loader.specs.Graph.{IsGraph}
 use Rattle.llb_loader.specs.Rules.{kind_mounts}
 use Rattle.llb_loader.specs.declared.graph.Vertex.{Vertex}
 use Rattle.llb_tree.specs.Tree.{TreeMap}
-use Rattle.llb_model.specs.declared.event.Stepped.TheVariants as did
+use Rattle.llb_events.specs.declared.event.Stepped.TheVariants as did
 use Rattle.llb_model.specs.Table.{HasStepped}
 use Rattle.llb_model.specs.Caches.{Instance, Has, Distinct, trees_at}
 use Rattle.llb_model.specs.Kept.{store_of}
@@ -18,8 +18,8 @@ use Rattle.llb_model.specs.Program.{Build, MicroStep, Left, key_of, mount_of, ne
 use Rattle.llb_model.specs.State.{Execution}
 use Rattle.llb_model.specs.Table.{Reply, with_step, step_reply}
 use Rattle.llb_execution.specs.Parts.{work_with, mounts_in, shown_in, is_skipped}
-use Rattle.llb_model.specs.declared.refusal.StepFault.{StepFault}
-use Rattle.llb_events.specs.Causes.{step_memory}
+use Rattle.llb_events.specs.declared.refusal.StepFault.{StepFault}
+use Rattle.llb_events.specs.Faults.{step_memory}
 use Rattle.llb_state.specs.Room.{Supplies, supplies_of, supplies_for, setting_at, needs_at}
 use Rattle.llb_state.specs.Rules.{worked, worked_to, written_by, worked_in}
 use Rattle.llb_state.specs.declared.desk.Execution as own

@@ -20,11 +20,11 @@ use Rattle.llb_model.proofs.Leasing.{step_keeps_lease}
 use Rattle.llb_model.proofs.Parts.{step_keeps}
 use Rattle.llb_execution.specs.Parts.{work_with}
 use Rattle.llb_state.specs.Caches.{written, places_at, leased_places}
-use Rattle.llb_events.specs.Causes.{step_memory, GivesStep}
+use Rattle.llb_events.specs.Faults.{step_memory, GivesStep}
 use Rattle.llb_state.specs.Rules.{Written, worked_by, written_by, worked_in}
 use Rattle.llb_state.specs.Views.{at_of, leased_by, execution_of}
-use Rattle.llb_model.specs.declared.event.Stepped.{Stepped}
-use Rattle.llb_model.specs.declared.refusal.StepFault.{StepFault}
+use Rattle.llb_events.specs.declared.event.Stepped.{Stepped}
+use Rattle.llb_events.specs.declared.refusal.StepFault.{StepFault}
 use Rattle.llb_state.specs.declared.desk.Desk.{Desk}
 use Rattle.llb_state.specs.declared.desk.Desk.TheVariants as desk
 use Rattle.llb_state.specs.declared.desk.Execution as own

@@ -12,11 +12,11 @@ use Rattle.llb_model.specs.State.{Status, Execution, WorkerStatus, Runs, State, 
 use Rattle.llb_model.specs.Table.{Reply, step_grant, stepped, step_with, with_step, step_reply}
 use Rattle.llb_model.proofs.Leases.{writes_alike}
 use Rattle.llb_execution.specs.Parts.{work_with}
-use Rattle.llb_model.specs.declared.event.Stepped.{Stepped}
-use Rattle.llb_model.specs.declared.refusal.StepFault.{StepFault}
+use Rattle.llb_events.specs.declared.event.Stepped.{Stepped}
+use Rattle.llb_events.specs.declared.refusal.StepFault.{StepFault}
 use Rattle.llb_state.specs.Caches.{written, rows_after}
 use Rattle.llb_state.specs.Room.{ready_made, supplies_of, supplies_for}
-use Rattle.llb_events.specs.Causes.{step_memory, GivesStep}
+use Rattle.llb_events.specs.Faults.{step_memory, GivesStep}
 use Rattle.llb_state.specs.Rules.{Written, worked_by, written_by, worked_in}
 use Rattle.llb_state.specs.Vertices.{VerticesValue}
 use Rattle.llb_state.specs.Views.{at_of, execution_of}

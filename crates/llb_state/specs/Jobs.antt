@@ -4,7 +4,7 @@ use Rattle.std.specs.List.{list_any}
 use Rattle.llb_cache.specs.declared.key.Mode.{Mode}
 use Rattle.llb_cache.specs.declared.key.Mode.TheVariants.{Shared, Private, Locked}
 use Rattle.llb_model.specs.Caches.{Instance, Store, trees_at}
-use Rattle.llb_model.specs.declared.fault.VertexFault.{VertexFault}
+use Rattle.llb_events.specs.declared.fault.VertexFault.{VertexFault}
 use Rattle.llb_model.specs.Program.{Build, Workspace}
 use Rattle.llb_model.specs.State.{Execution, program_in}
 use Rattle.llb_model.specs.Table.{Job}

@@ -16,8 +16,8 @@ use Rattle.llb_model.specs.Kept.{store_of}
 use Rattle.llb_model.specs.Leases.{asked}
 use Rattle.llb_model.specs.Program.{Need, base_in}
 use Rattle.llb_model.specs.State.{first_trees}
-use Rattle.llb_model.specs.declared.refusal.ClaimFault.{ClaimFault}
-use Rattle.llb_model.specs.declared.refusal.ClaimFault.TheVariants as claim
+use Rattle.llb_events.specs.declared.refusal.ClaimFault.{ClaimFault}
+use Rattle.llb_events.specs.declared.refusal.ClaimFault.TheVariants as claim
 use Rattle.llb_state.specs.declared.needs.Wanted.{Wanted}
 
 -- a locked key that a lease has

@@ -13,14 +13,14 @@ use Rattle.llb_model.specs.Table.{Reply, Claimed, execution_on, job_on}
 use Rattle.llb_model.specs.Table.{with_step, step_reply}
 use Rattle.llb_execution.specs.Parts.{work_with}
 use Rattle.llb_state.specs.Needs.{places_taken}
-use Rattle.llb_model.specs.declared.refusal.ClaimFault.{ClaimFault}
-use Rattle.llb_model.specs.declared.refusal.ClaimFault.TheVariants as claim
-use Rattle.llb_model.specs.declared.refusal.StepFault.{StepFault}
-use Rattle.llb_model.specs.declared.refusal.StepFault.TheVariants as step
-use Rattle.llb_model.specs.declared.refusal.SettleFault.{SettleFault}
-use Rattle.llb_model.specs.declared.refusal.SettleFault.TheVariants as settle
-use Rattle.llb_model.specs.declared.refusal.CancelFault.{CancelFault}
-use Rattle.llb_model.specs.declared.refusal.CancelFault.TheVariants as cancel
+use Rattle.llb_events.specs.declared.refusal.ClaimFault.{ClaimFault}
+use Rattle.llb_events.specs.declared.refusal.ClaimFault.TheVariants as claim
+use Rattle.llb_events.specs.declared.refusal.StepFault.{StepFault}
+use Rattle.llb_events.specs.declared.refusal.StepFault.TheVariants as step
+use Rattle.llb_events.specs.declared.refusal.SettleFault.{SettleFault}
+use Rattle.llb_events.specs.declared.refusal.SettleFault.TheVariants as settle
+use Rattle.llb_events.specs.declared.refusal.CancelFault.{CancelFault}
+use Rattle.llb_events.specs.declared.refusal.CancelFault.TheVariants as cancel
 
 -- ---- the result of a claim, and what it begins
 

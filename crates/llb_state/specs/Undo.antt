@@ -12,14 +12,14 @@ use Rattle.llb_model.specs.Leases.{put_each}
 use Rattle.llb_model.specs.Program.{key_of}
 use Rattle.llb_model.specs.State.{State, Status, Waiting, Running, Execution, WorkerStatus, Idle, Runs, held, places_for}
 use Rattle.llb_model.specs.Table as table
-use Rattle.llb_model.specs.declared.event.Event as own_event
-use Rattle.llb_model.specs.declared.event.Event.TheVariants as event
-use Rattle.llb_model.specs.declared.refusal.WalkFault.{WalkFault}
-use Rattle.llb_model.specs.declared.refusal.WalkFault.TheVariants as walk
-use Rattle.llb_model.specs.declared.refusal.SettleFault.TheVariants as no_settle
-use Rattle.llb_model.specs.declared.refusal.CancelFault.TheVariants as no_cancel
+use Rattle.llb_events.specs.declared.event.Event as own_event
+use Rattle.llb_events.specs.declared.event.Event.TheVariants as event
+use Rattle.llb_state.specs.declared.fault.WalkFault.{WalkFault}
+use Rattle.llb_state.specs.declared.fault.WalkFault.TheVariants as walk
+use Rattle.llb_events.specs.declared.refusal.SettleFault.TheVariants as no_settle
+use Rattle.llb_events.specs.declared.refusal.CancelFault.TheVariants as no_cancel
 use Rattle.llb_state.specs.Room.{Supplies, supplies_for, mounts_at, needs_at}
-use Rattle.llb_events.specs.Causes.{faulted}
+use Rattle.llb_state.specs.Faults.{faulted}
 use Rattle.llb_state.specs.Caches.{places_at, lent_of}
 use Rattle.llb_state.specs.Undoing.{Left, left_in}
 use Rattle.llb_state.specs.Vertices.{VerticesValue, status_of}

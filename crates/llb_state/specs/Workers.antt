@@ -10,8 +10,8 @@ use Rattle.llb_model.specs.Leases.{AreLeased, asked}
 use Rattle.llb_model.specs.Program.{Build, needs_of, start_with}
 use Rattle.llb_model.specs.State.{State, Running, Execution, WorkerStatus, Idle, Runs, held, held_key, places_for}
 use Rattle.llb_model.specs.Table.{Job, Reply, Claimed, claim_start, claim_at, claim_grant, step_grant}
-use Rattle.llb_model.specs.declared.refusal.ClaimFault.{ClaimFault}
-use Rattle.llb_model.specs.declared.refusal.StepFault.{StepFault}
+use Rattle.llb_events.specs.declared.refusal.ClaimFault.{ClaimFault}
+use Rattle.llb_events.specs.declared.refusal.StepFault.{StepFault}
 use Rattle.llb_state.specs.Jobs.{IsRunOf}
 use Rattle.llb_execution.specs.Jobs.{OutcomeValue}
 use Rattle.llb_state.specs.Room.{Supplies, supplies_for, needed}

@@ -6,8 +6,8 @@ ghost use Rattle.llb_state.specs.Undoing.{left_in};
 ghost use Rattle.llb_state.specs.Views.{at_of, leased_by};
 
 use crate::desk::{Desk, Execution};
+use crate::fault::Memory;
 use llb_cache::{Instance, Lease};
-use llb_events::Memory;
 use llb_tree::Tree;
 use std::alloc::Global;
 

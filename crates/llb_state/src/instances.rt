@@ -11,11 +11,12 @@ ghost use Rattle.llb_model.specs.Kept.{store_of};
 ghost use Rattle.llb_model.specs.Leases.{AreLeased, put_each};
 ghost use Rattle.llb_state.specs.Caches.{tree_of, leased_places, IsOutIf, given_back, taken_back, lease_if, lent_of, lent_if};
 ghost use Rattle.llb_state.specs.Views.{at_of, leased_by};
-ghost use Rattle.llb_events.specs.Causes.{step_memory};
+ghost use Rattle.llb_events.specs.Faults.{step_memory};
 
 use crate::desk::Desk;
+use crate::fault::Memory;
 use llb_cache::{Caches, Growth, Instance, Lease, LeaseFault, Lent, Need};
-use llb_events::{Memory, StepFault};
+use llb_events::StepFault;
 use llb_tree::Tree;
 use llb_wire::Many;
 use std::alloc::Global;

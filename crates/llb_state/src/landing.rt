@@ -15,8 +15,8 @@ ghost use Rattle.llb_state.specs.Views.{leased_by, execution_of};
 use crate::copying::lease_of;
 use crate::desk::{Desk, Execution};
 use llb_cache::{Caches, Instance, Lease};
+use llb_events::VertexFault;
 use llb_execution::{Job, Workspace};
-use llb_model::VertexFault;
 use llb_tree::Tree;
 use llb_wire::Same;
 

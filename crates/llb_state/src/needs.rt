@@ -10,10 +10,11 @@ ghost use Rattle.llb_model.specs.Program.{needs_of, mount_of, base_in, mode_of, 
 ghost use Rattle.llb_state.specs.Needs.{need_of, first_held_key, unless_held, if_locked, number_of, HasEdges};
 ghost use Rattle.llb_state.specs.Needs.{IsFound, place_found, row_found, first_tree, taken_by, growth_for};
 ghost use Rattle.llb_cache.specs.Key.{seed_by};
-ghost use Rattle.llb_model.specs.Faults.{GivesClaim, claim_memory, claim_may_want};
+ghost use Rattle.llb_events.specs.Faults.{GivesClaim, claim_memory, claim_may_want};
 
+use crate::fault::Memory;
 use llb_cache::{Caches, Found, Growth, Instance, KeyRef, Mode, Need};
-use llb_events::{ClaimFault, Memory};
+use llb_events::ClaimFault;
 use llb_execution::input_tree;
 use llb_loader::{Vertex, cache_in, mounts_of};
 use llb_ops::Mount;

@@ -2,7 +2,7 @@
 
 ghost use Rattle.std.specs.Prelude.{Ok};
 ghost use Rattle.llb_state.specs.Begun.{outfit_as, outfit_of};
-ghost use Rattle.llb_model.specs.Faults.{GivesClaim};
+ghost use Rattle.llb_events.specs.Faults.{GivesClaim};
 
 use llb_applet::Setting;
 use llb_events::ClaimFault;

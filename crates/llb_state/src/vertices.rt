@@ -3,7 +3,7 @@
 
 ghost use Rattle.std.specs.Prelude.{◌≡◌, ◌<◌, ◌^◌, ◌||◌, IfOk, IfErr, length, option_map, replicate, slice_get, false, is_ok, true, Some, Err};
 ghost use Rattle.std.specs.Prelude.{MatchResult, map, ℕ, ◌+◌, All, get_or};
-ghost use Rattle.llb_model.specs.Faults.{GivesClaim};
+ghost use Rattle.llb_events.specs.Faults.{GivesClaim};
 ghost use Rattle.llb_loader.specs.Graph.{IsGraph, IsVertexOf};
 ghost use Rattle.llb_links.specs.Links.{IsLinked, users_at, users_of};
 ghost use Rattle.llb_model.specs.Outcome.{inputs_from, output_in};
@@ -12,7 +12,7 @@ ghost use Rattle.llb_model.specs.Run.{least, each, is_settled};
 ghost use Rattle.llb_model.specs.State.{Idle, ending_at, is_blocked, is_ready};
 ghost use Rattle.llb_model.specs.Table.{claim_start};
 ghost use Rattle.llb_state.specs.Rules.{or_not_ready};
-ghost use Rattle.llb_events.specs.Views.{look, look_in};
+ghost use Rattle.llb_state.specs.Statuses.{look, look_in};
 ghost use Rattle.llb_state.specs.Vertices.{all_waiting, with_status, status_of, AreCounted, IsWhole};
 ghost use Rattle.llb_state.specs.declared.vertices.stage.Stage.TheVariants as stage;
 
@@ -21,7 +21,9 @@ mod over;
 mod stage;
 
 use crate::build::Build;
-use llb_events::{ClaimFault, Memory, Status};
+use crate::fault::Memory;
+use crate::status::Status;
+use llb_events::ClaimFault;
 use llb_links::Links;
 use llb_loader::{Edge, Graph, Locals, Vertex};
 use llb_tree::Tree;

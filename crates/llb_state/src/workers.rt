@@ -7,7 +7,7 @@ ghost use Rattle.llb_model.specs.Leases.{HoldsAs};
 ghost use Rattle.llb_model.specs.State.{Execution, Idle, runs};
 ghost use Rattle.llb_state.specs.Caches.{places_at};
 ghost use Rattle.llb_state.specs.Room.{supplies_for};
-ghost use Rattle.llb_events.specs.Views.{look_of};
+ghost use Rattle.llb_state.specs.Statuses.{look_of};
 
 mod claiming;
 mod landing;
@@ -18,11 +18,12 @@ mod undoing;
 
 use crate::copying::copied_desks;
 use crate::desk::{Desk, desk_at, idle, is_finished, same_desks};
+use crate::fault::Memory;
 use crate::instances::give_all_back;
+use crate::status::WorkerStatus;
 use crate::vertices::Vertices;
 pub use claiming::Begun;
 use llb_cache::{Caches, Instance};
-use llb_events::{Memory, WorkerStatus};
 use llb_execution::Workspace;
 use std::alloc::Global;
 use std::marker::Model;

@@ -1,7 +1,7 @@
 -- A board after one event more.
 use Rattle.std.proofs.Common.{◌≡◌, List, [], ◌∷◌, ◌++◌, Option, Some, None, option_map, refl, sym, ap, ◌∙◌}
 use Rattle.llb_model.specs.State.{State}
-use Rattle.llb_model.specs.declared.event.Event.{Event}
+use Rattle.llb_events.specs.declared.event.Event.{Event}
 use Rattle.llb_model.specs.Table.{Reply, table}
 use Rattle.llb_board.specs.Seen.{BoardValue, after_event}
 use Rattle.llb_stepper.specs.Stepping.{answered, then_on}

@@ -7,7 +7,7 @@ use Rattle.std.proofs.lemmas.Option.{slice_get_within, slice_get-get_or}
 use Rattle.std.specs.Prelude.{slice_get, nat_le}
 use Rattle.llb_model.specs.Program.{Build}
 use Rattle.llb_model.specs.State.{State, opening}
-use Rattle.llb_model.specs.declared.event.Event.{Event}
+use Rattle.llb_events.specs.declared.event.Event.{Event}
 use Rattle.llb_model.specs.Table.{Reply, table}
 use Rattle.llb_model.specs.Run.{run}
 use Rattle.llb_model.proofs.Events.{Answer}

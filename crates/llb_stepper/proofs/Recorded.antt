@@ -6,7 +6,7 @@ use Rattle.std.proofs.lemmas.List.{get_or-reverse, length-append, length-reverse
 use Rattle.std.proofs.lemmas.Option.{slice_get-get_or, slice_get_past, slice_get_within}
 use Rattle.std.specs.Prelude.{slice_get, nat_le}
 use Rattle.llb_model.specs.State.{State}
-use Rattle.llb_model.specs.declared.event.Event.{Event}
+use Rattle.llb_events.specs.declared.event.Event.{Event}
 use Rattle.llb_model.specs.Table.{Reply, table}
 use Rattle.llb_board.specs.Seen.{BoardValue, after_event}
 use Rattle.llb_board.specs.Undo.{told, undone}

@@ -6,15 +6,15 @@ use Rattle.std.specs.List.{list_any}
 use Rattle.llb_model.specs.Run.{chosen}
 use Rattle.llb_model.specs.Room.{still_to_come}
 use Rattle.llb_model.specs.State.{State}
-use Rattle.llb_model.specs.declared.event.Event.{Event}
+use Rattle.llb_events.specs.declared.event.Event.{Event}
 use Rattle.llb_model.specs.Table.{Reply, table}
 use Rattle.llb_model.proofs.Alone.{chosen_comes_nearer}
 use Rattle.llb_board.specs.Seen.{BoardValue, after_event}
 use Rattle.llb_stepper.specs.declared.stop.Break.{Break}
 use Rattle.llb_stepper.specs.declared.stop.Stop.{Stop}
 use Rattle.llb_board.specs.Undo.{walk_of}
-use Rattle.llb_model.specs.declared.event.Event as own
-use Rattle.llb_model.specs.declared.refusal.WalkFault.{WalkFault}
+use Rattle.llb_events.specs.declared.event.Event as own
+use Rattle.llb_state.specs.declared.fault.WalkFault.{WalkFault}
 use Rattle.llb_board.specs.declared.walk.Reply as short
 use Rattle.llb_stepper.specs.declared.fault.StepperFault.{StepperFault}
 use Rattle.llb_stepper.specs.declared.fault.StepperFault.TheVariants as fault

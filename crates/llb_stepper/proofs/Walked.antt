@@ -5,18 +5,18 @@ use Rattle.std.proofs.lemmas.List.{reverse-append, length-reverse, length-append
 use Rattle.std.specs.Prelude.{Result, Ok, Err}
 use Rattle.std.specs.List.{list_any}
 use Rattle.std.specs.Result.{result_ok}
-use Rattle.llb_model.specs.declared.event.Settled.TheVariants as ended
+use Rattle.llb_events.specs.declared.event.Settled.TheVariants as ended
 use Rattle.llb_model.specs.Run.{chosen}
 use Rattle.llb_model.specs.State.{State}
-use Rattle.llb_model.specs.declared.event.Event.{Event}
-use Rattle.llb_model.specs.declared.event.Event.TheVariants.{Claim, Step, Settle, Cancel}
+use Rattle.llb_events.specs.declared.event.Event.{Event}
+use Rattle.llb_events.specs.declared.event.Event.TheVariants.{Claim, Step, Settle, Cancel}
 use Rattle.llb_model.specs.Table.{Reply, Claimed, HasStepped, HasSettled, HasCancelled}
 use Rattle.llb_model.specs.Table.{claim_grant, step_grant, settle_grant, cancel_grant, table}
 use Rattle.llb_board.specs.Seen.{BoardValue, after_event, recorded}
 use Rattle.llb_board.specs.Laws.{ChosenIsGranted}
 use Rattle.llb_board.specs.Undo.{told, told_as, undone, walk_of, CanUndo}
-use Rattle.llb_model.specs.declared.refusal.WalkFault.{WalkFault}
-use Rattle.llb_model.specs.declared.refusal.WalkFault.TheVariants as walk
+use Rattle.llb_state.specs.declared.fault.WalkFault.{WalkFault}
+use Rattle.llb_state.specs.declared.fault.WalkFault.TheVariants as walk
 use Rattle.llb_board.specs.declared.walk.Reply as short
 use Rattle.llb_board.specs.declared.walk.Walked.{Walked}
 use Rattle.llb_stepper.specs.declared.stop.Break.{Break}

@@ -3,9 +3,9 @@ use Rattle.std.specs.Prelude.{◌≡◌, ℕ, ◌==◌, ◌||◌, Bool, true, fa
 use Rattle.std.specs.List.{list_any}
 use Rattle.std.specs.Ordering.{nat_cmp}
 use Rattle.std.specs.BTreeSet.{contains}
-use Rattle.llb_model.specs.declared.event.Event.{Event}
-use Rattle.llb_model.specs.declared.event.Event.TheVariants.{Claim, Step, Settle, Cancel}
-use Rattle.llb_model.specs.declared.event.Settled.TheVariants as settled
+use Rattle.llb_events.specs.declared.event.Event.{Event}
+use Rattle.llb_events.specs.declared.event.Event.TheVariants.{Claim, Step, Settle, Cancel}
+use Rattle.llb_events.specs.declared.event.Settled.TheVariants as settled
 use Rattle.llb_board.specs.declared.walk.Reply.{Reply}
 use Rattle.llb_board.specs.declared.walk.Reply.TheVariants as reply
 use Rattle.llb_stepper.specs.declared.breakpoints.Kinds.{Kinds}

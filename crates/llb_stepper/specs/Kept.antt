@@ -1,6 +1,6 @@
 -- What the type of a stepper keeps: each event that was done can be taken back, and its reply is the table's on the board before it.
 use Rattle.std.specs.Prelude.{◌≡◌, List, [], ◌∷◌, reverse, Some}
-use Rattle.llb_model.specs.declared.event.Event.{Event}
+use Rattle.llb_events.specs.declared.event.Event.{Event}
 use Rattle.llb_model.specs.Table.{Reply}
 use Rattle.llb_board.specs.Seen.{BoardValue}
 use Rattle.llb_board.specs.Undo.{told, undone, CanUndo}

@@ -3,16 +3,16 @@ use Rattle.std.specs.Prelude.{◌≡◌, ◌≤◌, ◌<◌, ◌+◌, ℕ, ◌-�
 use Rattle.std.specs.Fmt.{decimal}
 use Rattle.llb_ops.specs.Kinds.{kind_text}
 use Rattle.llb_loader.specs.declared.graph.Vertex.{Vertex}
-use Rattle.llb_model.specs.declared.event.Settled.TheVariants as ended
-use Rattle.llb_model.specs.declared.event.Settled.{Settled}
-use Rattle.llb_model.specs.declared.event.Stepped.{Stepped}
-use Rattle.llb_model.specs.declared.event.Stepped.TheVariants.{Read, Acted, Merged, Ran, Skipped, Fault}
-use Rattle.llb_model.specs.declared.fault.VertexFault.{VertexFault}
-use Rattle.llb_model.specs.declared.fault.VertexFault.TheVariants as vertex
+use Rattle.llb_events.specs.declared.event.Settled.TheVariants as ended
+use Rattle.llb_events.specs.declared.event.Settled.{Settled}
+use Rattle.llb_events.specs.declared.event.Stepped.{Stepped}
+use Rattle.llb_events.specs.declared.event.Stepped.TheVariants.{Read, Acted, Merged, Ran, Skipped, Fault}
+use Rattle.llb_events.specs.declared.fault.VertexFault.{VertexFault}
+use Rattle.llb_events.specs.declared.fault.VertexFault.TheVariants as vertex
 use Rattle.llb_model.specs.State.{State, opening}
 use Rattle.llb_model.specs.Run.{run}
-use Rattle.llb_model.specs.declared.event.Event.{Event}
-use Rattle.llb_model.specs.declared.event.Event.TheVariants.{Claim, Step, Settle, Cancel}
+use Rattle.llb_events.specs.declared.event.Event.{Event}
+use Rattle.llb_events.specs.declared.event.Event.TheVariants.{Claim, Step, Settle, Cancel}
 use Rattle.llb_model.specs.Table.{Reply, Claimed, HasStepped, HasSettled, HasCancelled}
 use Rattle.llb_board.specs.Seen.{BoardValue}
 use Rattle.llb_stepper.specs.Stepping.{Stepping, answered}

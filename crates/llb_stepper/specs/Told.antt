@@ -2,10 +2,10 @@
 use Rattle.std.specs.Prelude.{ℕ, ◌==◌, Bool, true, false, List, ◌++◌, codes, slice_get}
 use Rattle.std.specs.Fmt.{decimal}
 use Rattle.llb_loader.specs.declared.graph.Vertex.{Vertex}
-use Rattle.llb_model.specs.declared.event.Event.{Event}
+use Rattle.llb_events.specs.declared.event.Event.{Event}
 use Rattle.llb_model.specs.Table as table
 use Rattle.llb_board.specs.Undo.{told}
-use Rattle.llb_model.specs.declared.event.Settled.TheVariants as settled
+use Rattle.llb_events.specs.declared.event.Settled.TheVariants as settled
 use Rattle.llb_board.specs.declared.walk.Reply.{Reply}
 use Rattle.llb_board.specs.declared.walk.Reply.TheVariants as reply
 use Rattle.llb_stepper.specs.declared.stop.Break.{Break}

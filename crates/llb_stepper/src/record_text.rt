@@ -5,8 +5,8 @@ ghost use Rattle.llb_stepper.specs.Records.{event_text, claimed_text, pair_text,
 ghost use Rattle.llb_stepper.specs.Told.{told_text, line_text};
 
 use llb_board::{Cancelled, Event, Reply, Settled, Stepped};
+use llb_events::VertexFault;
 use llb_loader::Vertex;
-use llb_model::VertexFault;
 use llb_ops::kind_name;
 use std::alloc::{AllocError, Global};
 

@@ -420,6 +420,30 @@ const NOT_LOCKED: &str = "
     f 0644 0 0 620a /shared
     ";
 
+const FAILED: &str = "
+    # A command that fails leaves what those before it wrote to a cache, and what needs its vertex is blocked.
+    @ 2: locked: write /c/a x && false; D_ON_0; RESULT_1
+    > go
+    1 claim 0 0 -> exec 2
+    2 step 0 -> ran 0 0
+    3 step 0 -> ran 1 1
+    4 settle 0 -> 0 failed
+    end
+    > status
+    0 failed command 1 status 1
+    1 blocked
+    > cache 0 0
+    d 0755 0 0 /
+    f 0644 0 0 780a /a
+    > claim 1 1
+    fault 171 134
+    ";
+
+#[test]
+fn a_failed_execution_leaves_its_cache_and_blocks_its_users(rt: HostRuntime) {
+    are_stories(&rt, rt.alloc(), Way::Session, FAILED);
+}
+
 #[test]
 fn a_locked_cache_is_had_by_one_at_a_time(rt: HostRuntime) {
     are_stories(&rt, rt.alloc(), Way::Session, LOCKED);

@@ -1,7 +1,7 @@
 //! Calls on boards and steppers as stories make them, each in a function without clauses: a story compares values, and what a call promises
 //! besides need not be carried through it.
 
-use llb_board::{Board, Event, Gate, LandFault, OpenFault, Outcome, WorkFault, work};
+use llb_board::{Board, Event, Gate, Job, LandFault, OpenFault, Outcome, WorkFault, work};
 use llb_cache::Caches;
 use llb_loader::{Graph, Locals};
 use llb_session::{Request, request_in};
@@ -73,12 +73,36 @@ pub(crate) fn are_done(board: &mut Board, events: &str) -> bool {
     true
 }
 
+// Puts what each of these events prints where it is refused, or `done`, a line each, at the end of a text.
+pub(crate) fn say_events(rt: &impl Abort, text: &mut String, board: &mut Board, events: &str) {
+    for line in events.lines() {
+        let event = event_in(line).expect(rt, "an event");
+        match board.walk(event) {
+            Ok(_) => text.push_str("done\n").expect(rt, "memory"),
+            Err(fault) => write!(text, "{fault}\n").expect(rt, "memory"),
+        }
+    }
+}
+
 pub(crate) fn are_same(one: &Board, other: &Board) -> bool {
     one.same(other)
 }
 
 pub(crate) fn copy_of(board: &Board) -> Option<Board> {
     board.copy().ok()
+}
+
+pub(crate) fn claimed(board: &mut Board, w: u32, v: u32) -> Option<Job> {
+    board.claim(w, v).ok()
+}
+
+// What is worked out of a job behind a gate, or the number of the fault.
+pub(crate) fn worked_out<G: Gate>(alloc: Global, job: Job, gate: &G) -> Result<Outcome, u32> {
+    match work(alloc, job, gate) {
+        Ok(outcome) => Ok(outcome),
+        Err(WorkFault::Stopped) => Err(143),
+        Err(WorkFault::Memory) => Err(142),
+    }
 }
 
 // What worker w works out of a vertex behind a gate, or the number of the fault.
@@ -89,13 +113,9 @@ pub(crate) fn worked<G: Gate>(
     v: u32,
     gate: &G,
 ) -> Result<Outcome, u32> {
-    match board.claim(w, v) {
-        Ok(job) => match work(alloc, job, gate) {
-            Ok(outcome) => Ok(outcome),
-            Err(WorkFault::Stopped) => Err(143),
-            Err(WorkFault::Memory) => Err(142),
-        },
-        Err(_) => Err(0),
+    match claimed(board, w, v) {
+        Some(job) => worked_out(alloc, job, gate),
+        None => Err(0),
     }
 }
 

@@ -1,9 +1,11 @@
 //! Two workers, each in a thread of its own: a gate that holds each until the other has come.
 
+use super::calls::{breaks_at, goes_back, replayed};
 use super::runs::TWO_FILES;
 use super::told::{is_so, row_holds};
 use super::written::board_of;
-use llb_board::{Event, Gate, Status, Stopped};
+use llb_board::{Board, Event, Gate, Status, Stopped, WorkerStatus};
+use llb_stepper::{Break, Stepper, Stop};
 use llb_work::{RunEnd, RunFault, run_workers};
 use std::sync::atomic::{AtomicU64, Ordering};
 use std::thread;
@@ -88,12 +90,51 @@ fn told(end: &RunEnd, gate: &Meet) -> Option<(u64, u64, u32)> {
     Some((first.min(second), first.max(second), claims))
 }
 
+// Whether one of the two files is made, and the worker of the other has finished it and not settled.
+fn is_half_made(board: &Board) -> bool {
+    match (board.status(0), board.status(1)) {
+        (Some(Status::Done), Some(Status::Running(w))) => {
+            board.worker(w) == Some(WorkerStatus::Runs(1, 1, true))
+        }
+        (Some(Status::Running(w)), Some(Status::Done)) => {
+            board.worker(w) == Some(WorkerStatus::Runs(0, 1, true))
+        }
+        _ => false,
+    }
+}
+
+const AT_THE_MERGE: Stop = Stop {
+    events: 7,
+    at_break: true,
+};
+
+// Whether a record stops behind the claim of the merge, its seventh event, and with two events less has one file and half of the other.
+fn is_walked(stepper: &mut Stepper, events: &[Event]) -> [bool; 3] {
+    let broken = breaks_at(stepper, Break::Claims(2));
+    let stopped = replayed(stepper, events) == Some(AT_THE_MERGE);
+    let back = goes_back(stepper) && goes_back(stepper);
+    let left = stepper.board().events().len() == 5;
+    [
+        broken && stopped,
+        back && left,
+        is_half_made(stepper.board()),
+    ]
+}
+
+// The vertices are claimed before either worker passes the gate, so the third claim is the seventh event.
 #[test]
-fn two_workers_are_at_work_together(rt: HostRuntime) {
+fn two_workers_are_at_work_together_and_their_record_is_walked(rt: HostRuntime) {
+    let alloc = rt.alloc();
     let gate = Meet::new();
-    let board = board_of(&rt, rt.alloc(), TWO_FILES, "", 2);
-    let end = run_workers(&rt, rt.alloc(), board, &gate);
+    let board = board_of(&rt, alloc, TWO_FILES, "", 2);
+    let end = run_workers(&rt, alloc, board, &gate);
     is_so(&rt, told(&end, &gate) == Some((3, 7, 3)));
+    let board = board_of(&rt, alloc, TWO_FILES, "", 2);
+    let events = end.board.events().as_slice();
+    is_so(
+        &rt,
+        is_walked(&mut Stepper::new(alloc, board), events) == [true; 3],
+    );
 }
 
 // Whether the run was stopped right after its claim of vertex 0, which the worker then gave up: the vertex is ready, no cache is held,

@@ -4,7 +4,7 @@ use super::calls::is_event_done;
 use super::farm::{counts, push_merge};
 use super::told::row_holds;
 use super::written::board_from;
-use llb_board::{Event, Gate, Stopped};
+use llb_board::{Board, Event, Gate, Stopped, WorkerStatus};
 use llb_work::{RunEnd, RunFault, run_workers};
 use std::alloc::Global;
 use std::fmt::Write;
@@ -164,19 +164,38 @@ fn runs_by_any_number_of_workers_end(rt: HostRuntime) {
     }
 }
 
-// Whether a run is stopped at the last vertex that is no merge.
-fn is_stopped(end: &RunEnd) -> bool {
-    matches!(end.fault, Some(RunFault::Stopped)) && !end.board.is_complete()
+// Whether no worker runs anything, and no lease is out.
+fn are_idle(board: &Board, workers: u32) -> bool {
+    for w in 0..workers {
+        if board.worker(w) != Some(WorkerStatus::Idle) {
+            return false;
+        }
+    }
+    board.caches().leases() == 0
+}
+
+// Whether a run is stopped at the last vertex that is no merge, and nobody is left at work.
+fn is_stopped(end: &RunEnd, workers: u32) -> bool {
+    matches!(end.fault, Some(RunFault::Stopped))
+        && !end.board.is_complete()
+        && are_idle(&end.board, workers)
 }
 
 #[test]
-fn a_stop_ends_the_run_of_those_that_sleep(rt: HostRuntime) {
-    for (at, shape) in [Shape::Chain, Shape::Fan, Shape::Locked].iter().enumerate() {
+fn a_stop_ends_the_run_of_those_that_sleep_and_leaves_nobody_at_work(rt: HostRuntime) {
+    let shapes = [
+        Shape::Chain,
+        Shape::Fan,
+        Shape::Locked,
+        Shape::TwoOfThree,
+        Shape::Mixed,
+    ];
+    for (at, shape) in shapes.iter().enumerate() {
         let text = definition(&rt, rt.alloc(), *shape, 30);
         for workers in [1, 3, 64] {
             let board = board_from(&rt, rt.alloc(), text.as_str(), workers);
             let end = run_workers(&rt, rt.alloc(), board, &Shut(29));
-            row_holds(&rt, row(at, workers), is_stopped(&end));
+            row_holds(&rt, row(at, workers), is_stopped(&end, workers));
         }
     }
 }

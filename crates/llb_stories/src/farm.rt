@@ -1,12 +1,12 @@
 //! Many workers, each in a thread of its own, that take their vertices from one queue.
 
-use super::calls::{are_same, breaks_at, goes_back, replayed};
+use super::calls::{are_same, replayed};
 use super::gates::{Counting, Open};
 use super::runs::TWO_FILES;
 use super::told::{is_answered, is_so, row_holds};
 use super::written::{board_from, board_of, push_entries};
-use llb_board::{Board, Event, Gate, Stopped};
-use llb_stepper::{Break, Stepper, Stop};
+use llb_board::{Board, Gate, Stopped};
+use llb_stepper::Stepper;
 use llb_wire::Same;
 use llb_work::{RunEnd, run_alone, run_workers};
 use std::alloc::Global;
@@ -149,33 +149,6 @@ fn any_number_of_workers_leaves_one_tree(rt: HostRuntime) {
         let made = made_by(&rt, rt.alloc(), &alone.board, workers);
         row_holds(&rt, workers as usize, made == Some(10));
     }
-}
-
-// Where the record of threads stops at the claim of the merge, and how many events are left after two steps back: one of the files is made
-// then, and the other's worker has not settled.
-fn walked(stepper: &mut Stepper, events: &[Event]) -> Option<(Stop, usize)> {
-    let broken = breaks_at(stepper, Break::Claims(2));
-    let stop = replayed(stepper, events)?;
-    let back = broken && goes_back(stepper) && goes_back(stepper);
-    if back {
-        Some((stop, stepper.board().events().len()))
-    } else {
-        None
-    }
-}
-
-#[test]
-fn a_record_of_threads_is_walked(rt: HostRuntime) {
-    let alloc = rt.alloc();
-    let board = board_of(&rt, alloc, TWO_FILES, "", 2);
-    let left = run_workers(&rt, alloc, board, &Open).board;
-    let board = board_of(&rt, alloc, TWO_FILES, "", 2);
-    let stop = Stop {
-        events: 7,
-        at_break: true,
-    };
-    let walk = walked(&mut Stepper::new(alloc, board), left.events().as_slice());
-    is_so(&rt, walk == Some((stop, 5)));
 }
 
 const ON_CACHES: &str =

@@ -1,10 +1,12 @@
 //! Work of jobs away from the board: its outcome, gates that stop it, and where an outcome lands.
 
-use super::calls::{are_done, landed, worked};
+use super::calls::{are_done, claimed, copy_of, landed, opened, say_events, worked, worked_out};
 use super::runs::TWO_FILES;
-use super::told::{is_so, row_holds};
-use super::written::board_of;
-use llb_board::{Board, Event, Gate, Outcome, Status, Stopped};
+use super::told::{is_answered, is_same, is_so, row_holds};
+use super::written::{board_of, graph_from};
+use llb_board::{Board, Event, Gate, OpenFault, Outcome, Status, Stopped};
+use llb_cache::Caches;
+use llb_loader::Locals;
 use std::alloc::Global;
 use std::process::Abort;
 
@@ -182,4 +184,97 @@ fn an_outcome_does_not_land_once_a_step_was_done(rt: HostRuntime) {
     let outcome = worked(rt.alloc(), &mut board, 0, 0, &Passes);
     let outcome = outcome.ok().expect(&rt, "an outcome");
     is_so(&rt, is_late(&mut board, outcome) == [true; 3]);
+}
+
+// Events, each in a line, and what they print.
+type Told = (&'static str, &'static str);
+
+const IDLE: Told = (
+    "claim 5 0\nclaim 0 9\nclaim 0 2\nstep 0",
+    "131\n133\n134\n136\n",
+);
+
+const RUNNING: Told = ("claim 0 1\nsettle 0", "132\n138\n");
+
+const STEPPED: Told = ("step 0\nstep 0", "done\n137\n");
+
+const SETTLED: Told = ("settle 0", "done\n");
+
+fn are_told(rt: &impl Abort, alloc: Global, board: &mut Board, told: Told) {
+    let mut text = String::new(alloc);
+    say_events(rt, &mut text, board, told.0);
+    is_same(rt, text.as_str(), told.1);
+}
+
+// Whether a board for that number of workers is not opened.
+fn are_refused(rt: &impl Abort, alloc: Global, workers: u32) -> bool {
+    let graph = graph_from(rt, alloc, TWO_FILES);
+    let board = opened(
+        rt,
+        alloc,
+        graph,
+        Locals::new(alloc),
+        Caches::new(alloc),
+        workers,
+    );
+    matches!(board, Err(OpenFault::Workers(..)))
+}
+
+// Whether nothing was done on a board yet.
+fn is_opening(board: &Board) -> bool {
+    board.status(0) == Some(Status::Ready) && board.events().is_empty()
+}
+
+// From the opening of a board for two workers to its first settle: each call that is refused on the way, and what a copy from before the claim
+// keeps. The other outcome is of a board whose first vertex makes another file.
+#[test]
+fn a_vertex_is_claimed_worked_on_and_settled_with_each_refusal_on_the_way(rt: HostRuntime) {
+    let alloc = rt.alloc();
+    for workers in [0, 65] {
+        is_so(&rt, are_refused(&rt, alloc, workers));
+    }
+    let other = outcome_from(&rt, alloc, OTHER_FILES, 0, &Passes);
+    let other = other.ok().expect(&rt, "an outcome");
+    let mut board = board_of(&rt, alloc, TWO_FILES, "", 2);
+    are_told(&rt, alloc, &mut board, IDLE);
+    let mut copy = copy_of(&board).expect(&rt, "memory");
+    let job = claimed(&mut board, 0, 0).expect(&rt, "a job");
+    are_told(&rt, alloc, &mut board, RUNNING);
+    let outcome = worked_out(alloc, job, &Passes);
+    let outcome = outcome.ok().expect(&rt, "an outcome");
+    is_so(&rt, landed(&mut board, 0, other) == 139);
+    are_told(&rt, alloc, &mut board, STEPPED);
+    is_so(&rt, landed(&mut board, 0, outcome) == 139);
+    are_told(&rt, alloc, &mut board, SETTLED);
+    is_so(&rt, is_opening(&copy));
+    is_so(
+        &rt,
+        worked(alloc, &mut copy, 0, 0, &Stops).err() == Some(143),
+    );
+}
+
+// The outcome of the job that a worker gave up does not land for the one that claims the vertex anew: it is of another worker, and the cache
+// has what was written to it.
+const GIVEN_UP: Told = (
+    "step 0\ncancel 0\ncancel 0\ncancel 9\nclaim 1 0",
+    "done\ndone\n136\n131\ndone\n",
+);
+
+const BEGUN_ANEW: Told = ("step 1\nstep 1\nsettle 1", "done\ndone\ndone\n");
+
+const WRITTEN: &str =
+    "> instance locked 0\nd 0755 0 0 /\nf 0644 0 0 610a610a620a /l\n> leases\n0\n";
+
+#[test]
+fn the_outcome_of_a_job_that_was_given_up_does_not_land(rt: HostRuntime) {
+    let alloc = rt.alloc();
+    let mut board = board_of(&rt, alloc, APPENDS, "", 2);
+    let job = claimed(&mut board, 0, 0).expect(&rt, "a job");
+    let outcome = worked_out(alloc, job, &Passes);
+    let outcome = outcome.ok().expect(&rt, "an outcome");
+    are_told(&rt, alloc, &mut board, GIVEN_UP);
+    is_so(&rt, landed(&mut board, 1, outcome) == 139);
+    are_told(&rt, alloc, &mut board, BEGUN_ANEW);
+    is_so(&rt, is_answered(&rt, alloc, &mut board, WRITTEN));
+    is_so(&rt, board.events().len() == 7);
 }

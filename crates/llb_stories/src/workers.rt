@@ -39,6 +39,54 @@ const END: &str = "
     f 0644 0 0 686f /b
     ";
 
+// All events of two workers on one vertex.
+const ON_ONE_VERTEX: [Event; 8] = [
+    Event::Claim(0, 0),
+    Event::Claim(1, 0),
+    Event::Step(0),
+    Event::Step(1),
+    Event::Settle(0),
+    Event::Settle(1),
+    Event::Cancel(0),
+    Event::Cancel(1),
+];
+
+// How many cancels are left after an event; none where it is one too many.
+fn cancels_left(event: Event, cancels: u32) -> Option<u32> {
+    match event {
+        Event::Cancel(_) => cancels.checked_sub(1),
+        _ => Some(cancels),
+    }
+}
+
+// The most events of a run that leads on from here with at most this number of cancels. No run is longer than `most` further events.
+fn longest_run(stepper: &mut Stepper, cancels: u32, most: u32) -> usize {
+    let mut longest = stepper.board().events().len();
+    if most == 0 {
+        return longest;
+    }
+    for event in ON_ONE_VERTEX {
+        if let Some(cancels) = cancels_left(event, cancels) {
+            if stepper.do_event(event).is_ok() {
+                longest = longest.max(longest_run(stepper, cancels, most - 1));
+                let _ = stepper.back();
+            }
+        }
+    }
+    longest
+}
+
+// A vertex of two commands has four events, and as many more for each cancel.
+#[test]
+fn a_run_has_four_events_for_a_claim_of_two_commands(rt: HostRuntime) {
+    let appends = "locked: append /c/l a && append /c/l b; RESULT_0";
+    for (cancels, wanted) in [(0, 4), (1, 8), (2, 12)] {
+        let board = board_of(&rt, rt.alloc(), appends, "", 2);
+        let mut stepper = Stepper::new(rt.alloc(), board);
+        is_so(&rt, longest_run(&mut stepper, cancels, 20) == wanted);
+    }
+}
+
 // How many runs lead on from here to an end, and how many of the ends print what they should. No run is longer than `most` events.
 fn ends(rt: &impl Abort, alloc: Global, stepper: &mut Stepper, most: u32) -> [u32; 2] {
     let mut all = 0u32;

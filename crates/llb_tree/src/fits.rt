@@ -1,5 +1,5 @@
-//! Whether the entries of a tree have room at and below a path. The bound of the tree's depth says it of most trees; of the
-//! others the nodes do.
+//! Whether the entries of a tree have room at and below a path. Usually the bound of the tree's depth decides; otherwise the nodes
+//! are visited.
 
 ghost use Rattle.std.specs.Prelude.{◌≡◌, ◌↔◌, ◌≤◌, IsTrue, IfErr, false};
 ghost use Rattle.std.specs.FinMap as finite;

@@ -2,7 +2,7 @@
 //! looks only at the children of directories whose own names pass, so never deeper than there are tests.
 
 ghost use Rattle.std.specs.Prelude.{◌≡◌, ◌∷◌, Bool, List, ℕ, IfOk, option_map};
-ghost use Rattle.llb_tree.specs.Tree.{Gives};
+ghost use Rattle.llb_tree.specs.Tree.{Gives, MemoryLast};
 ghost use Rattle.llb_tree.specs.Nodes.{left_in};
 ghost use Rattle.llb_tree.specs.Tested.{Keeps, KeepsAll, Thins, rid_of};
 
@@ -108,7 +108,8 @@ impl Tree {
     /// Returns the tree without the paths that pass the tests, and what is below them; `None` where no path passes. Fails with 25 `Root` where
     /// there are no tests, else with 27 `Memory`. What is unchanged is shared.
     pub fn without_passing<T: NameTest>(&self, tests: &[T]) -> Result<Option<Tree>, TreeFault>
-        ensures { Gives (λ o. o) result (rid_of T.passes tests.now self.now) }
+        ensures gives { Gives (λ o. o) result (rid_of T.passes tests.now self.now) }
+        ensures last { MemoryLast result (rid_of T.passes tests.now self.now) }
     {
         let [test, rest @ ..] = tests else {
             return Err(TreeFault::Root);

@@ -15,8 +15,8 @@ use Rattle.llb_model.specs.Table.{HasStepped, HasSettled, HasCancelled}
 use Rattle.llb_model.specs.Consistent.{IsConsistent}
 use Rattle.llb_model.specs.Program.{Build}
 use Rattle.llb_model.specs.State.{State}
-use Rattle.llb_model.specs.declared.event.Event.{Event}
-use Rattle.llb_model.specs.declared.event.Event.TheVariants.{Claim, Step, Settle, Cancel}
+use Rattle.llb_events.specs.declared.event.Event.{Event}
+use Rattle.llb_events.specs.declared.event.Event.TheVariants.{Claim, Step, Settle, Cancel}
 use Rattle.llb_model.specs.Table.{Reply, worker_of, claim_grant, step_grant, settle_grant, cancel_grant, table}
 use Rattle.llb_model.specs.Run.{run, events_by, chosen}
 use Rattle.llb_model.specs.Laws.{AreChosen}
@@ -27,16 +27,16 @@ use Rattle.llb_model.proofs.Alone.{Ascends, alone_step, chosen_comes_nearer}
 use Rattle.llb_board.specs.Seen.{BoardValue, after_event, recorded}
 use Rattle.llb_board.specs.Laws.{ChosenIsGranted}
 use Rattle.llb_board.specs.Rules.{claim_of, step_of, settle_of, cancel_of}
-use Rattle.llb_events.specs.Causes.{GivesStep, GivesSettle, GivesCancel}
-use Rattle.llb_model.specs.Faults.{GivesClaim}
-use Rattle.llb_model.specs.declared.event.Event as event
-use Rattle.llb_model.specs.declared.event.Stepped.{Stepped}
-use Rattle.llb_model.specs.declared.event.Settled.{Settled}
-use Rattle.llb_model.specs.declared.refusal.ClaimFault.{ClaimFault}
-use Rattle.llb_model.specs.declared.refusal.StepFault.{StepFault}
-use Rattle.llb_model.specs.declared.refusal.SettleFault.{SettleFault}
-use Rattle.llb_model.specs.declared.event.Cancelled.{Cancelled}
-use Rattle.llb_model.specs.declared.refusal.CancelFault.{CancelFault}
+use Rattle.llb_events.specs.Faults.{GivesStep, GivesSettle, GivesCancel}
+use Rattle.llb_events.specs.Faults.{GivesClaim}
+use Rattle.llb_events.specs.declared.event.Event as event
+use Rattle.llb_events.specs.declared.event.Stepped.{Stepped}
+use Rattle.llb_events.specs.declared.event.Settled.{Settled}
+use Rattle.llb_events.specs.declared.refusal.ClaimFault.{ClaimFault}
+use Rattle.llb_events.specs.declared.refusal.StepFault.{StepFault}
+use Rattle.llb_events.specs.declared.refusal.SettleFault.{SettleFault}
+use Rattle.llb_events.specs.declared.event.Cancelled.{Cancelled}
+use Rattle.llb_events.specs.declared.refusal.CancelFault.{CancelFault}
 use Rattle.llb_work.specs.Alone.{Takes, IsLeft, Goes, TakesMemory}
 
 abbrev ok_of : {A F : Type 0} → A → Result A F

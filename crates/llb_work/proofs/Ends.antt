@@ -3,8 +3,8 @@ use Rattle.std.proofs.Common.{◌≡◌, ℕ, ◌+◌, ◌<◌, Bool, true, fals
 use Rattle.std.specs.Prelude.{option_map}
 use Rattle.llb_model.specs.Program.{Build}
 use Rattle.llb_model.specs.State.{State, WorkerStatus, Idle, Runs}
-use Rattle.llb_model.specs.declared.event.Event.{Event}
-use Rattle.llb_model.specs.declared.event.Event.TheVariants.{Step, Settle, Claim}
+use Rattle.llb_events.specs.declared.event.Event.{Event}
+use Rattle.llb_events.specs.declared.event.Event.TheVariants.{Step, Settle, Claim}
 use Rattle.llb_model.specs.Table.{worker_of}
 use Rattle.llb_model.specs.Run.{next_of, next_claim, or_else, chosen, least}
 use Rattle.llb_model.specs.State.{is_finished, program_in, is_ready}

@@ -5,13 +5,13 @@ use Rattle.std.specs.Prelude.{nat_lt, IsTrue, IfOk, Result, Ok, Err}
 use Rattle.llb_model.specs.Program.{Build}
 use Rattle.llb_model.specs.Outcome.{is_plain}
 use Rattle.llb_model.specs.State.{State}
-use Rattle.llb_model.specs.declared.event.Event.{Event}
+use Rattle.llb_events.specs.declared.event.Event.{Event}
 use Rattle.llb_model.specs.Table.{Job, Reply}
 use Rattle.llb_model.specs.Run.{run}
 use Rattle.llb_model.proofs.Events.{workers_stay}
 use Rattle.llb_model.proofs.Runs.{run_keeps}
 use Rattle.llb_board.specs.Seen.{BoardValue}
-use Rattle.llb_model.specs.declared.refusal.ClaimFault.{ClaimFault}
+use Rattle.llb_events.specs.declared.refusal.ClaimFault.{ClaimFault}
 use Rattle.llb_board.specs.Begun.{plain_job}
 use Rattle.llb_work.specs.Crew.{IsAfter}
 use Rattle.llb_work.specs.Turns.{IsClaimed}

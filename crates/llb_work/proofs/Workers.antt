@@ -5,10 +5,10 @@ use Rattle.std.specs.Result.{result_ok}
 use Rattle.std.proofs.lemmas.Option.{slice_get_within}
 use Rattle.llb_model.specs.Table.{HasStepped, HasSettled, HasCancelled}
 use Rattle.llb_model.specs.State.{State, Idle}
-use Rattle.llb_model.specs.declared.event.Event.{Event}
+use Rattle.llb_events.specs.declared.event.Event.{Event}
 use Rattle.llb_model.specs.Table.{Job, Claimed, claim_grant, table}
 use Rattle.llb_model.proofs.Events.{claim_is}
-use Rattle.llb_model.specs.declared.event.Event.TheVariants.{Claim, Step, Settle, Cancel}
+use Rattle.llb_events.specs.declared.event.Event.TheVariants.{Claim, Step, Settle, Cancel}
 use Rattle.llb_model.specs.Table.{Reply}
 use Rattle.llb_model.specs.Landing.{landing}
 use Rattle.llb_board.specs.Seen.{BoardValue, after_event, recorded}
@@ -16,15 +16,15 @@ use Rattle.llb_execution.specs.Jobs.{OutcomeValue}
 use Rattle.llb_board.specs.Begun.{ClaimsArePlain}
 use Rattle.llb_board.specs.Landing.{Lands}
 use Rattle.llb_board.specs.Rules.{claim_of, step_of, settle_of, cancel_of}
-use Rattle.llb_events.specs.Causes.{GivesStep, GivesSettle, GivesCancel}
-use Rattle.llb_model.specs.Faults.{GivesClaim}
-use Rattle.llb_model.specs.declared.event.Stepped.{Stepped}
-use Rattle.llb_model.specs.declared.event.Settled.{Settled}
-use Rattle.llb_model.specs.declared.refusal.ClaimFault.{ClaimFault}
-use Rattle.llb_model.specs.declared.refusal.StepFault.{StepFault}
-use Rattle.llb_model.specs.declared.refusal.SettleFault.{SettleFault}
-use Rattle.llb_model.specs.declared.event.Cancelled.{Cancelled}
-use Rattle.llb_model.specs.declared.refusal.CancelFault.{CancelFault}
+use Rattle.llb_events.specs.Faults.{GivesStep, GivesSettle, GivesCancel}
+use Rattle.llb_events.specs.Faults.{GivesClaim}
+use Rattle.llb_events.specs.declared.event.Stepped.{Stepped}
+use Rattle.llb_events.specs.declared.event.Settled.{Settled}
+use Rattle.llb_events.specs.declared.refusal.ClaimFault.{ClaimFault}
+use Rattle.llb_events.specs.declared.refusal.StepFault.{StepFault}
+use Rattle.llb_events.specs.declared.refusal.SettleFault.{SettleFault}
+use Rattle.llb_events.specs.declared.event.Cancelled.{Cancelled}
+use Rattle.llb_events.specs.declared.refusal.CancelFault.{CancelFault}
 use Rattle.llb_board.specs.declared.fault.LandFault.{LandFault}
 use Rattle.llb_work.specs.Crew.{GoesOn}
 use Rattle.llb_work.proofs.Driving.{claim_takes, step_takes, settle_takes, cancel_takes}

@@ -61,6 +61,7 @@ pub fn run_workers<G: Gate + Sync, R: Threads + Wait + Sync>(
         made,
         noted,
     } = left;
+    // Never taken: the type of what the lock holds keeps that this copy is the given board.
     if !start.same(&outside) {
         let fault = Some(RunFault::Foreign(start));
         return RunEnd { board, made, fault };

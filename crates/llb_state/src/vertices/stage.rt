@@ -4,8 +4,8 @@ ghost use Rattle.std.specs.Prelude.{◌≡◌, Some, IfOk};
 ghost use Rattle.llb_model.specs.State.{ending_of, is_done, is_failed};
 ghost use Rattle.llb_state.specs.Vertices.{status_of};
 
-use llb_events::Memory;
-use llb_model::VertexFault;
+use crate::fault::Memory;
+use llb_events::VertexFault;
 use llb_tree::Tree;
 use llb_wire::{Many, Same};
 use std::alloc::Global;

@@ -3,8 +3,8 @@
 ghost use Rattle.std.specs.Prelude.{◌≡◌, ◌<◌, ◌^◌, length, map, true, Ok, Some, OnErr, OnOk, IfErr, IfOk};
 ghost use Rattle.std.specs.List.{All};
 ghost use Rattle.llb_model.specs.Table.{Claimed};
-ghost use Rattle.llb_model.specs.Faults.{GivesClaim, claim_memory, claim_may_want};
-ghost use Rattle.llb_model.specs.declared.refusal.ClaimFault.TheVariants as claim;
+ghost use Rattle.llb_events.specs.Faults.{GivesClaim, claim_memory, claim_may_want};
+ghost use Rattle.llb_events.specs.declared.refusal.ClaimFault.TheVariants as claim;
 ghost use Rattle.llb_loader.specs.Graph.{IsVertexOf};
 ghost use Rattle.llb_model.specs.Outcome.{inputs_from};
 ghost use Rattle.llb_model.specs.Program.{needs_of, program_of};

@@ -5,7 +5,7 @@ ghost use Rattle.llb_tree.specs.Tree.{empty_tree};
 ghost use Rattle.llb_model.specs.Outcome.{ended};
 ghost use Rattle.llb_model.specs.Program.{Build, program_at};
 ghost use Rattle.llb_model.specs.State.{Idle, Settled};
-ghost use Rattle.llb_events.specs.Causes.{GivesSettle, GivesCancel};
+ghost use Rattle.llb_events.specs.Faults.{GivesSettle, GivesCancel};
 ghost use Rattle.llb_state.specs.Rules.{left_at, given_up_at};
 ghost use Rattle.llb_state.specs.Vertices.{status_of, IsWhole};
 ghost use Rattle.llb_state.specs.Workers.{Fits};

@@ -10,7 +10,7 @@ ghost use Rattle.llb_model.specs.Program.{Left, last_of};
 ghost use Rattle.llb_model.specs.Table as table;
 ghost use Rattle.llb_state.specs.Caches.{rows_after};
 ghost use Rattle.llb_state.specs.Room.{supplies_of, supplies_for};
-ghost use Rattle.llb_events.specs.Causes.{step_memory, GivesStep};
+ghost use Rattle.llb_events.specs.Faults.{step_memory, GivesStep};
 ghost use Rattle.llb_state.specs.Rules.{worked_in};
 ghost use Rattle.llb_state.specs.Views.{execution_of};
 ghost use Rattle.llb_state.specs.Workers.{Fits, state_in, step_in};
@@ -21,9 +21,8 @@ use crate::instances::{contents, write_back};
 use crate::vertices::Vertices;
 use crate::workers::Workers;
 use llb_cache::{Caches, Lease};
-use llb_events::{StepFault, Stepped};
+use llb_events::{StepFault, Stepped, VertexFault};
 use llb_execution::{MicroStep, step_of};
-use llb_model::VertexFault;
 use std::alloc::Global;
 
 impl Workers {

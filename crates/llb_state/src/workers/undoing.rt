@@ -2,7 +2,7 @@
 //! the vertex of the event shows, and none for other caches.
 
 ghost use Rattle.std.specs.Prelude.{◌≡◌, ◌<◌, false, length, map, option_map, slice_get, IfOk, IfErr, Err};
-ghost use Rattle.llb_model.specs.declared.event.Event.TheVariants.{Step};
+ghost use Rattle.llb_events.specs.declared.event.Event.TheVariants.{Step};
 ghost use Rattle.llb_state.specs.Needs.{growth_for};
 ghost use Rattle.llb_state.specs.Room.{needs_at, ready_made};
 ghost use Rattle.llb_state.specs.Undo.{MarksIn, MarksClaim, MarksStep, MarksEnd, CanPutBack};
@@ -13,12 +13,13 @@ ghost use Rattle.llb_state.specs.Workers.{Fits, IsCrew};
 
 use crate::copying::copied;
 use crate::desk::{Desk, Execution, make_idle, step_back};
+use crate::fault::{Memory, WalkFault};
 use crate::instances::{contents, lend_again, lent_for, take_back, write_back};
 use crate::needs::growths_of;
 use crate::vertices::{Stage, Vertices};
 use crate::workers::Workers;
 use llb_cache::{Caches, Growth, Lent};
-use llb_events::{CancelFault, Event, Memory, SettleFault, StepFault, WalkFault};
+use llb_events::{CancelFault, Event, SettleFault, StepFault};
 use llb_execution::Mark;
 use llb_tree::Tree;
 use std::alloc::Global;

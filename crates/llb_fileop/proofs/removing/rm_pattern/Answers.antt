@@ -11,14 +11,14 @@ pub returns-in-Some : goal.returns-in-Some
 returns-in-Some c =
     sym (rm_is c.args.pattern.now c.args.base.now c.args.allowed c.is_tree.ensures)
     ∙ ap (λ r. r >>= or_absent c.args.allowed c.args.base.now)
-    ((λ i. rid_of fits_part (sym c.parts.ensures i) c.args.base.now) ∙ c.in_ok-tree.ensures ∙ ap Ok c.in-Some.is)
+    ((λ i. rid_of fits_part (sym c.parts.ensures i) c.args.base.now) ∙ c.in_ok-tree.ensures.gives ∙ ap Ok c.in-Some.is)
 
 pub returns-in-None : goal.returns-in-None
 returns-in-None c =
     let none : rm_pattern c.args.allowed c.args.base.now c.args.pattern.now ≡ absent c.args.allowed c.args.base.now =
     sym (rm_is c.args.pattern.now c.args.base.now c.args.allowed c.is_tree.ensures)
     ∙ ap (λ r. r >>= or_absent c.args.allowed c.args.base.now)
-    ((λ i. rid_of fits_part (sym c.parts.ensures i) c.args.base.now) ∙ c.in_ok-tree.ensures ∙ ap Ok c.in-None.is) in
+    ((λ i. rid_of fits_part (sym c.parts.ensures i) c.args.base.now) ∙ c.in_ok-tree.ensures.gives ∙ ap Ok c.in-None.is) in
     subst (λ r. tree.Gives (λ t. t) c.absent.result r) (sym none) c.absent.ensures
 
 pub returns-in_err-tree : goal.returns-in_err-tree
@@ -28,5 +28,5 @@ returns-in_err-tree c =
     = λ m.
     sym (rm_is c.args.pattern.now c.args.base.now c.args.allowed c.is_tree.ensures)
     ∙ ap (λ r. r >>= or_absent c.args.allowed c.args.base.now)
-    ((λ i. rid_of fits_part (sym c.parts.ensures i) c.args.base.now) ∙ c.in_err-tree.ensures m) in
+    ((λ i. rid_of fits_part (sym c.parts.ensures i) c.args.base.now) ∙ c.in_err-tree.ensures.gives m) in
     search rules

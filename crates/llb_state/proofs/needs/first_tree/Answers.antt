@@ -3,7 +3,7 @@ use Rattle.std.specs.Prelude.{Option, option_map, unwrap_or}
 use Rattle.std.proofs.lemmas.Int.{to_z-of_z}
 use Rattle.llb_tree.specs.Tree.{TreeMap}
 use Rattle.llb_model.specs.Program.{base_in}
-use Rattle.llb_model.specs.Faults.{GivesClaim}
+use Rattle.llb_events.specs.Faults.{GivesClaim}
 use Rattle.llb_state.proofs.needs.first_tree.Goals as goal
 
 pub returns-in-None : goal.returns-in-None

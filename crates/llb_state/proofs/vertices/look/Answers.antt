@@ -1,5 +1,5 @@
 use Rattle.std.proofs.Common.{sym}
-use Rattle.llb_events.specs.Views.{look}
+use Rattle.llb_state.specs.Statuses.{look}
 use Rattle.llb_state.specs.Vertices.{status_of}
 use Rattle.llb_state.proofs.vertices.look.Goals as goal
 

@@ -1,5 +1,5 @@
 use Rattle.std.proofs.Common.{◌+◌, refl, sym, subst, arith}
-use Rattle.llb_model.specs.declared.event.Event.TheVariants as event
+use Rattle.llb_events.specs.declared.event.Event.TheVariants as event
 use Rattle.llb_work.proofs.alone.made_by.Goals.{then-w-lt64, else-w-lt64}
 use Rattle.llb_work.proofs.Driving.{zeros, Counts, counted, not_counted}
 use Rattle.llb_work.proofs.alone.made_by.Goals as goal

@@ -1,9 +1,9 @@
 use Rattle.std.proofs.Common.{◌≡◌, ◌∙◌, ◌+◌, ◌++◌, ◌∷◌, [], true, false, sym, ap, rules}
 use Rattle.std.specs.Prelude.{Ok, Err, slice_get}
 use Rattle.llb_model.specs.Table.{Claimed}
-use Rattle.llb_model.specs.declared.event.Event.TheVariants.{Claim}
+use Rattle.llb_events.specs.declared.event.Event.TheVariants.{Claim}
 use Rattle.llb_model.specs.Table.{claim_grant}
-use Rattle.llb_model.specs.Faults.{claim_memory, claim_may_want}
+use Rattle.llb_events.specs.Faults.{claim_memory, claim_may_want}
 use Rattle.llb_state.specs.Workers.{state_in}
 use Rattle.llb_board.specs.Seen.{BoardValue, seen}
 use Rattle.llb_board.specs.Rules.{claim_of}

@@ -1,7 +1,7 @@
 use Rattle.std.proofs.Common.{sym, subst}
 use Rattle.llb_board.specs.Landing.{Lands}
 use Rattle.llb_model.specs.Table.{HasSettled}
-use Rattle.llb_model.specs.declared.event.Settled.{Settled}
+use Rattle.llb_events.specs.declared.event.Settled.{Settled}
 use Rattle.llb_board.proofs.Landed.{lands}
 use Rattle.llb_board.proofs.board.Board.land_known.Goals as goal
 

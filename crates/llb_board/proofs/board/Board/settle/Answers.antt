@@ -1,10 +1,10 @@
 use Rattle.std.proofs.Common.{◌≡◌, ◌∙◌, sym, ap}
 use Rattle.std.specs.Prelude.{Ok, Some, slice_get, if◌then◌else◌}
-use Rattle.llb_model.specs.declared.event.Settled.TheVariants as ended
+use Rattle.llb_events.specs.declared.event.Settled.TheVariants as ended
 use Rattle.llb_model.specs.Table.{HasSettled}
 use Rattle.llb_model.specs.State.{Status, ending_of, is_failed}
 use Rattle.llb_model.specs.Table as table
-use Rattle.llb_model.specs.declared.event.Event.TheVariants.{Settle}
+use Rattle.llb_events.specs.declared.event.Event.TheVariants.{Settle}
 use Rattle.llb_state.specs.Rules.{left_at}
 use Rattle.llb_state.specs.Vertices.{status_of}
 use Rattle.llb_board.specs.Seen.{BoardValue, seen}

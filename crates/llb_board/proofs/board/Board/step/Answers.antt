@@ -1,6 +1,6 @@
 use Rattle.std.proofs.Common.{◌≡◌, refl, arith}
 use Rattle.std.specs.Prelude.{Ok}
-use Rattle.llb_model.specs.declared.event.Event.TheVariants.{Step}
+use Rattle.llb_events.specs.declared.event.Event.TheVariants.{Step}
 use Rattle.llb_model.specs.Table.{HasStepped, step_grant}
 use Rattle.llb_state.specs.Workers.{state_in}
 use Rattle.llb_board.specs.Seen.{seen}

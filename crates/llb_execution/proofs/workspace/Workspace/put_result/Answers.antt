@@ -1,6 +1,6 @@
 use Rattle.std.proofs.Common.{◌≡◌, ap, ◌∙◌, rules}
 use Rattle.std.specs.Prelude.{Some, None, false}
-use Rattle.llb_model.specs.declared.fault.VertexFault.TheVariants as fault
+use Rattle.llb_events.specs.declared.fault.VertexFault.TheVariants as fault
 use Rattle.llb_fileop.specs.Faults.{is_memory}
 use Rattle.llb_execution.specs.Parts.{left_with}
 use Rattle.llb_execution.proofs.Stepping.{put_tree, put_fault}

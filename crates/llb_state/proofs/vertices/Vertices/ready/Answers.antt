@@ -7,7 +7,7 @@ use Rattle.llb_model.specs.Table.{claim_start}
 use Rattle.llb_model.specs.Table as table
 use Rattle.llb_model.proofs.Vertices.{kind_at}
 use Rattle.llb_state.specs.Vertices.{VerticesValue, status_of}
-use Rattle.llb_model.specs.declared.refusal.ClaimFault.TheVariants.{NotReady}
+use Rattle.llb_events.specs.declared.refusal.ClaimFault.TheVariants.{NotReady}
 use Rattle.llb_state.proofs.Behind.{ready_so}
 use Rattle.llb_state.proofs.InStep.{tells_in}
 use Rattle.llb_state.proofs.vertices.Vertices.ready.Goals as goal

@@ -4,7 +4,7 @@ use Rattle.std.proofs.lemmas.Option.{slice_get_within, slice_get-get_or}
 use Rattle.llb_links.specs.Links.{has_inputs}
 use Rattle.llb_model.specs.Outcome.{Done, Failed}
 use Rattle.llb_model.specs.State.{Status, Waiting, Running, Settled, is_ready, is_waiting, is_blocked}
-use Rattle.llb_events.specs.Views.{look, look_in}
+use Rattle.llb_state.specs.Statuses.{look, look_in}
 use Rattle.llb_state.specs.Vertices.{VerticesValue, status_of}
 use Rattle.llb_state.proofs.InStep.{tells_in, ready_here}
 use Rattle.llb_state.proofs.Lists.{get_map}

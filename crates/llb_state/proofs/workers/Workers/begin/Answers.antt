@@ -6,7 +6,7 @@ use Rattle.llb_model.specs.Table.{Claimed}
 use Rattle.llb_model.specs.State.{WorkerStatus, Idle}
 use Rattle.llb_model.specs.Table.{claim_start, claimed}
 use Rattle.llb_model.proofs.Leasing.{leased_holds_as}
-use Rattle.llb_model.specs.Faults.{GivesClaim, claim_memory, claim_may_want}
+use Rattle.llb_events.specs.Faults.{GivesClaim, claim_memory, claim_may_want}
 use Rattle.llb_state.specs.Views.{at_of, leased_by}
 use Rattle.llb_state.specs.Workers.{WorkersValue, IsBegunOn, state_in, claim_in, reply_of}
 use Rattle.llb_state.specs.Needs.{IsFound}

@@ -6,7 +6,7 @@ use Rattle.llb_model.specs.Table.{HasStepped}
 use Rattle.llb_model.specs.State.{WorkerStatus}
 use Rattle.llb_model.specs.Table.{stepped}
 use Rattle.llb_state.specs.Caches.{rows_after}
-use Rattle.llb_events.specs.Causes.{step_memory, GivesStep}
+use Rattle.llb_events.specs.Faults.{step_memory, GivesStep}
 use Rattle.llb_state.specs.Views.{at_of}
 use Rattle.llb_state.specs.Workers.{WorkersValue, Fits, state_in, step_in}
 use Rattle.llb_state.specs.declared.desk.Desk.TheVariants as desk

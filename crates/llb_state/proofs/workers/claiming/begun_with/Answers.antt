@@ -7,7 +7,7 @@ use Rattle.llb_model.specs.State.{ending_at}
 use Rattle.llb_model.specs.Table.{Job, Claimed}
 use Rattle.llb_state.specs.Needs.{taken_by}
 use Rattle.llb_state.specs.Begun.{outfit_as}
-use Rattle.llb_model.specs.declared.refusal.ClaimFault.{ClaimFault}
+use Rattle.llb_events.specs.declared.refusal.ClaimFault.{ClaimFault}
 use Rattle.llb_state.proofs.Begins.{Parts, AreParts, put_together, begun_of, supplied, workable}
 use Rattle.llb_state.proofs.workers.claiming.begun_with.Goals as goal
 use Rattle.llb_state.proofs.workers.claiming.begun_with.Goals.{After-new-instances}

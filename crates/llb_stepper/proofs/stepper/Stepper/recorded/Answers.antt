@@ -1,6 +1,6 @@
 use Rattle.std.proofs.Common.{◌≡◌, ◌-◌, ◌≤◌, length, get_or, option_map, ap, sym, ◌∙◌, arith}
 use Rattle.std.specs.Prelude.{slice_get}
-use Rattle.llb_model.specs.declared.event.Event.TheVariants as event
+use Rattle.llb_events.specs.declared.event.Event.TheVariants as event
 use Rattle.llb_stepper.specs.Stepping.{Stepping}
 use Rattle.llb_stepper.specs.Told.{told_pair}
 use Rattle.llb_stepper.proofs.Recorded.{not_done_here, positive, told_as}

@@ -1,0 +1,41 @@
+//! Why a vertex fails. A failure prints what comes after the vertex in its line.
+
+ghost use Rattle.std.specs.Prelude.{Some};
+ghost use Rattle.llb_events.specs.Failure.{failure_text};
+
+use llb_wire::Same;
+use std::error::Error;
+use std::fmt;
+
+/// Why a vertex fails: an action that could not be done, or the status with which its commands ended.
+#[derive(Clone, Copy, Debug, PartialEq, Eq)]
+pub enum VertexFault {
+    /// An action was refused: its number, and that of its fault, 21 to 26, or 52 for a text that is no pattern.
+    Action(u32, u32),
+    /// The last command that ran ended with another status than 0: its number, and that status.
+    Exit(u32, u32),
+}
+
+impl fmt::Display for VertexFault {
+    ghost output = { λ f. Some (failure_text f) };
+
+    fn fmt<W: fmt::Write>(&self, f: &mut fmt::Formatter<W>) -> fmt::Result {
+        match self {
+            VertexFault::Action(a, n) => write!(f, "action {a} fault {n}"),
+            VertexFault::Exit(c, status) => write!(f, "command {c} status {status}"),
+        }
+    }
+}
+
+impl Error for VertexFault {}
+
+impl Same for VertexFault {
+    fn same(&self, other: &VertexFault) -> bool {
+        match (self, other) {
+            (VertexFault::Action(a, n), VertexFault::Action(b, m)) => a == b && n == m,
+            (VertexFault::Exit(c, status), VertexFault::Exit(d, other)) => c == d
+                && status == other,
+            _ => false,
+        }
+    }
+}

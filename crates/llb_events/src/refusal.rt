@@ -1,0 +1,223 @@
+//! Why an event is refused. A fault prints its number, and after it the ID of a held key.
+
+ghost use Rattle.std.specs.Prelude.{Some};
+ghost use Rattle.llb_events.specs.Faults.{claim_text, step_text, settle_text, cancel_text};
+
+use llb_cache::Key;
+use llb_tree::TreeFault;
+use std::alloc::{AllocError, AllocFailed};
+use std::{error, fmt};
+
+/// Why a vertex is not claimed: the first cause that applies.
+#[derive(Debug, Drop)]
+pub enum ClaimFault {
+    /// 131: there is no worker of that number.
+    NoWorker,
+    /// 132: the worker runs a vertex.
+    Busy,
+    /// 133: there is no vertex of that number.
+    NoVertex,
+    /// 134: the vertex does not wait, or an input of it is not done.
+    NotReady,
+    /// 135: a running worker has the locked cache of this key, the first such key in the order of the mounts.
+    Held(Key),
+    /// 141: memory was refused.
+    Memory,
+}
+
+impl fmt::Display for ClaimFault {
+    ghost output = { λ e. Some (claim_text e) };
+
+    fn fmt<W: fmt::Write>(&self, f: &mut fmt::Formatter<W>) -> fmt::Result {
+        match self {
+            ClaimFault::NoWorker => write!(f, "131"),
+            ClaimFault::Busy => write!(f, "132"),
+            ClaimFault::NoVertex => write!(f, "133"),
+            ClaimFault::NotReady => write!(f, "134"),
+            ClaimFault::Held(key) => write!(f, "135 {key}"),
+            ClaimFault::Memory => write!(f, "141"),
+        }
+    }
+}
+
+impl error::Error for ClaimFault {}
+
+/// Why a micro-step is not done: the first cause that applies.
+#[derive(Clone, Copy, Debug, PartialEq, Eq)]
+pub enum StepFault {
+    /// 131: there is no worker of that number.
+    NoWorker,
+    /// 136: the worker is idle.
+    NotRunning,
+    /// 137: what the worker runs is finished.
+    NothingLeft,
+    /// 141: memory was refused.
+    Memory,
+}
+
+impl fmt::Display for StepFault {
+    ghost output = { λ e. Some (step_text e) };
+
+    fn fmt<W: fmt::Write>(&self, f: &mut fmt::Formatter<W>) -> fmt::Result {
+        match self {
+            StepFault::NoWorker => write!(f, "131"),
+            StepFault::NotRunning => write!(f, "136"),
+            StepFault::NothingLeft => write!(f, "137"),
+            StepFault::Memory => write!(f, "141"),
+        }
+    }
+}
+
+impl error::Error for StepFault {}
+
+/// Why a vertex is not settled: the first cause that applies.
+#[derive(Clone, Copy, Debug, PartialEq, Eq)]
+pub enum SettleFault {
+    /// 131: there is no worker of that number.
+    NoWorker,
+    /// 136: the worker is idle.
+    NotRunning,
+    /// 138: what the worker runs is not finished.
+    NotFinished,
+}
+
+impl fmt::Display for SettleFault {
+    ghost output = { λ e. Some (settle_text e) };
+
+    fn fmt<W: fmt::Write>(&self, f: &mut fmt::Formatter<W>) -> fmt::Result {
+        match self {
+            SettleFault::NoWorker => write!(f, "131"),
+            SettleFault::NotRunning => write!(f, "136"),
+            SettleFault::NotFinished => write!(f, "138"),
+        }
+    }
+}
+
+impl error::Error for SettleFault {}
+
+/// Why what a worker runs is not given up: the first cause that applies.
+#[derive(Clone, Copy, Debug, PartialEq, Eq)]
+pub enum CancelFault {
+    /// 131: there is no worker of that number.
+    NoWorker,
+    /// 136: the worker is idle.
+    NotRunning,
+}
+
+impl fmt::Display for CancelFault {
+    ghost output = { λ e. Some (cancel_text e) };
+
+    fn fmt<W: fmt::Write>(&self, f: &mut fmt::Formatter<W>) -> fmt::Result {
+        match self {
+            CancelFault::NoWorker => write!(f, "131"),
+            CancelFault::NotRunning => write!(f, "136"),
+        }
+    }
+}
+
+impl error::Error for CancelFault {}
+
+impl From<AllocError> for ClaimFault {
+    ghost use Rattle.std.specs.Prelude.{◌≡◌};
+    ghost use Rattle.llb_events.specs.declared.refusal.ClaimFault.TheVariants.{Memory};
+
+    ghost from_gives = { λ _ e. e ≡ Memory };
+
+    fn from(_: AllocError) -> ClaimFault {
+        ClaimFault::Memory
+    }
+}
+
+impl<T: Drop> From<AllocFailed<T>> for ClaimFault {
+    ghost use Rattle.std.specs.Prelude.{◌≡◌};
+    ghost use Rattle.llb_events.specs.declared.refusal.ClaimFault.TheVariants.{Memory};
+
+    ghost from_gives = { λ _ e. e ≡ Memory };
+
+    fn from(_: AllocFailed<T>) -> ClaimFault {
+        ClaimFault::Memory
+    }
+}
+
+/// Converts the fault of a call on a tree that can only lack memory.
+impl From<TreeFault> for ClaimFault {
+    ghost use Rattle.std.specs.Prelude.{◌≡◌};
+    ghost use Rattle.llb_events.specs.declared.refusal.ClaimFault.TheVariants.{Memory};
+
+    ghost from_gives = { λ _ e. e ≡ Memory };
+
+    fn from(_: TreeFault) -> ClaimFault {
+        ClaimFault::Memory
+    }
+}
+
+/// Converts the fault of a copy of a text, and of the parts of an execution.
+impl From<llb_wire::Memory> for ClaimFault {
+    ghost use Rattle.std.specs.Prelude.{◌≡◌};
+    ghost use Rattle.llb_events.specs.declared.refusal.ClaimFault.TheVariants.{Memory};
+
+    ghost from_gives = { λ _ e. e ≡ Memory };
+
+    fn from(_: llb_wire::Memory) -> ClaimFault {
+        ClaimFault::Memory
+    }
+}
+
+/// Converts the fault of a copy of a key.
+impl From<llb_cache::Memory> for ClaimFault {
+    ghost use Rattle.std.specs.Prelude.{◌≡◌};
+    ghost use Rattle.llb_events.specs.declared.refusal.ClaimFault.TheVariants.{Memory};
+
+    ghost from_gives = { λ _ e. e ≡ Memory };
+
+    fn from(_: llb_cache::Memory) -> ClaimFault {
+        ClaimFault::Memory
+    }
+}
+
+/// Converts the fault of a lease that can only lack memory.
+impl From<llb_cache::LeaseFault> for ClaimFault {
+    ghost use Rattle.std.specs.Prelude.{◌≡◌};
+    ghost use Rattle.llb_events.specs.declared.refusal.ClaimFault.TheVariants.{Memory};
+
+    ghost from_gives = { λ _ e. e ≡ Memory };
+
+    fn from(_: llb_cache::LeaseFault) -> ClaimFault {
+        ClaimFault::Memory
+    }
+}
+
+/// Converts the fault of a call on a tree that can only lack memory.
+impl From<TreeFault> for StepFault {
+    ghost use Rattle.std.specs.Prelude.{◌≡◌};
+    ghost use Rattle.llb_events.specs.declared.refusal.StepFault.TheVariants.{Memory};
+
+    ghost from_gives = { λ _ e. e ≡ Memory };
+
+    fn from(_: TreeFault) -> StepFault {
+        StepFault::Memory
+    }
+}
+
+/// Converts the fault of a micro-step on a view, which can only lack memory.
+impl From<llb_wire::Memory> for StepFault {
+    ghost use Rattle.std.specs.Prelude.{◌≡◌};
+    ghost use Rattle.llb_events.specs.declared.refusal.StepFault.TheVariants.{Memory};
+
+    ghost from_gives = { λ _ e. e ≡ Memory };
+
+    fn from(_: llb_wire::Memory) -> StepFault {
+        StepFault::Memory
+    }
+}
+
+impl From<AllocError> for StepFault {
+    ghost use Rattle.std.specs.Prelude.{◌≡◌};
+    ghost use Rattle.llb_events.specs.declared.refusal.StepFault.TheVariants.{Memory};
+
+    ghost from_gives = { λ _ e. e ≡ Memory };
+
+    fn from(_: AllocError) -> StepFault {
+        StepFault::Memory
+    }
+}

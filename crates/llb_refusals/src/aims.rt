@@ -1,0 +1,90 @@
+//! What a definition is loaded and opened as, by the call that meets the premises of the machine's aim.
+
+use super::boards::copy_of;
+use super::growths::{Row, Trial, are_refused};
+use super::runs::alone_told;
+use super::told::{fault_told, say, text_told};
+use super::written::{definition_of, entries_of, entries_text};
+use llb_board::Board;
+use llb_commands::ProgramFault;
+use llb_commands::laws::{BoardOptions, aim_is_met};
+use llb_loader::Locals;
+use llb_ops::Entries;
+use llb_stepper::Stepper;
+use llb_wire::Bytes;
+use std::alloc::Global;
+use std::process::Abort;
+
+// A text, its entries and their definition, and the boards that are opened on it.
+#[derive(Drop)]
+struct OnDefinition {
+    text: String,
+    entries: Entries,
+    definition: Bytes,
+    answer: Option<Result<(Board, Stepper), ProgramFault>>,
+}
+
+fn options(alloc: Global, workers: u32) -> BoardOptions {
+    BoardOptions {
+        locals: Locals::new(alloc),
+        workers,
+    }
+}
+
+fn met(
+    alloc: Global,
+    text: &str,
+    definition: &Bytes,
+    entries: &Entries,
+) -> Result<(Board, Stepper), ProgramFault> {
+    let (board, stepper) = (options(alloc, 2), options(alloc, 1));
+    aim_is_met(alloc, text.as_bytes(), definition, entries, board, stepper)
+}
+
+// The trees of the results, once each board is run to its end.
+fn results_told(rt: &impl Abort, alloc: Global, board: &Board, stepper: &Stepper) -> String {
+    let mut text = alone_told(rt, alloc, copy_of(rt, board));
+    let other = alone_told(rt, alloc, copy_of(rt, stepper.board()));
+    say(rt, &mut text, other.as_str());
+    text
+}
+
+impl Trial for OnDefinition {
+    fn ready(rt: &impl Abort, alloc: Global, row: &Row) -> OnDefinition {
+        OnDefinition {
+            text: entries_text(rt, alloc, row.1),
+            entries: entries_of(rt, alloc, row.1),
+            definition: definition_of(rt, alloc, row.1),
+            answer: None,
+        }
+    }
+
+    fn call(&mut self, alloc: Global) {
+        let text = self.text.as_str();
+        self.answer = Some(met(alloc, text, &self.definition, &self.entries));
+    }
+
+    fn told(&self, rt: &impl Abort, alloc: Global) -> String {
+        match &self.answer {
+            None => text_told(rt, alloc, "nothing"),
+            Some(Ok((board, stepper))) => results_told(rt, alloc, board, stepper),
+            Some(Err(fault)) => fault_told(rt, alloc, fault),
+        }
+    }
+
+    fn is_as_before(&mut self, _rt: &impl Abort, _alloc: Global) -> bool {
+        true
+    }
+}
+
+const ROWS: &[Row] = &[(
+    "aim_is_met",
+    "MAKES_A; RESULT 0",
+    "91 and 123",
+    "d 0755 0 0 /\nf 0644 0 0 6869 /a\nd 0755 0 0 /\nf 0644 0 0 6869 /a\n",
+)];
+
+#[test]
+fn boards_and_steppers(rt: HostRuntime) {
+    are_refused::<OnDefinition>(&rt, rt.alloc(), ROWS);
+}

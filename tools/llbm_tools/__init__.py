@@ -1,0 +1,1 @@
+"""The tools of this repository: a module for each script of the folder above, and what they share."""

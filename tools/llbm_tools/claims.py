@@ -1,0 +1,157 @@
+"""Prints what has to be read to believe a statement, and maintains the lists in docs/CLAIMS.md.
+
+In: the sources in crates/. `tools/claims STATEMENT` prints every definition that a statement depends on, nearest first,
+each with its file and line; STATEMENT is a column of the table in docs/CLAIMS.md: aim, load, assemble, disassemble,
+run, show, asm, dis, step or program. `--write` writes the lists in docs/CLAIMS.md from the sources: the files to read
+for each statement with the number of lines in each, and the wrong bodies that the prover refuses. `--check` compares
+the page with the sources.
+
+Out: definitions on standard output, or with --check a line for each list that differs.
+
+Exit status: 0 done, or the page agrees with the sources; 1 it does not; 2 the command line is refused; 3 a read or a
+write failed.
+"""
+
+import argparse
+import pathlib
+import re
+import sys
+
+from llbm_tools.definitions import Definition, Library, contract
+from llbm_tools.paths import ROOT
+from llbm_tools.streams import exit_status
+
+PAGE = ROOT / "docs" / "CLAIMS.md"
+FUNCTION = re.compile(r"\s*(?:pub(?:\(\w+\))? )?(?:const |unsafe )?fn (\w+)")
+STATEMENTS = {
+    "aim": ("llb_commands", "laws.rt", "aim"),
+    "load": ("llb_loader", "loading.rt", "load"),
+    "assemble": ("llb_asm", "assembling.rt", "assemble"),
+    "disassemble": ("llb_asm", "print.rt", "disassemble"),
+    "run": ("llb_commands", "run.rt", "run_many_over"),
+    "show": ("llb_commands", "show.rt", "show_over"),
+    "asm": ("llb_commands", "assembling.rt", "asm_over"),
+    "dis": ("llb_commands", "disassembling.rt", "dis_over"),
+    "step": ("llb_commands", "stepping.rt", "step_over"),
+    "program": ("llb_commands", "performing.rt", "program"),
+}
+
+
+def resting(library: Library, statement: str) -> tuple[list[Definition], list[str]]:
+    """Returns the definitions and the types of src/ that a statement depends on."""
+    crate, file, name = STATEMENTS[statement]
+    return library.cone(*contract(library.root / "crates" / crate / "src" / file, name))
+
+
+def reading(library: Library) -> list[str]:
+    """Returns the table of files to read, with how many lines of each."""
+    cones = {name: resting(library, name) for name in STATEMENTS}
+    lines: dict[tuple[str, str], dict[str, int]] = {}
+    for name, (definitions, _) in cones.items():
+        for one in definitions:
+            counts = lines.setdefault((one.crate, one.file), dict.fromkeys(STATEMENTS, 0))
+            counts[name] += len(one.lines)
+    head = ["File", *STATEMENTS]
+    rows = [
+        [f"`{crate}/specs/{file}.antt`", *(str(it or "") for it in counts.values())]
+        for (crate, file), counts in lines.items()
+    ]
+    sums = [
+        ["definitions", *(str(len(them)) for them, _ in cones.values())],
+        ["files", *(str(len({(it.crate, it.file) for it in them})) for them, _ in cones.values())],
+        ["lines", *(str(sum(len(it.lines) for it in them)) for them, _ in cones.values())],
+        ["types of `src/`", *(str(len(types)) for _, types in cones.values())],
+    ]
+    whole = sum(len(it.read_text("utf-8").splitlines()) for it in library.root.glob("crates/*/specs/*.antt"))
+    table = [head, ["---"] + ["--:"] * len(STATEMENTS), *sums, *rows]
+    return [*("| " + " | ".join(row) + " |" for row in table), "", f"All files of `specs/` have {whole} lines."]
+
+
+def edited(crate: pathlib.Path, edit: pathlib.Path) -> str:
+    """Returns the file and the function that an edit changes."""
+    fields = dict(line.split(": ", 1) for line in reversed(edit.read_text("utf-8").splitlines()) if ": " in line)
+    rows = (crate / fields["file"]).read_text("utf-8").splitlines()
+    at = next((i for i, row in enumerate(rows) if fields["old"].strip() in row), 0)
+    names = [found[1] for row in rows[: at + 1] if (found := FUNCTION.match(row))]
+    return f"`{fields['file'].removeprefix('src/')}`" + (f", `{names[-1]}`" if names else "")
+
+
+def edits_of(crate: pathlib.Path) -> list[pathlib.Path]:
+    """Returns the edits of a crate by name, those that only `tools/more-edits` tries too."""
+    folders = (crate / "must-fail", crate / "more-edits")
+    return sorted((edit for folder in folders for edit in folder.glob("*.edit")), key=lambda edit: edit.stem)
+
+
+def edits(library: Library) -> list[str]:
+    """Returns the table of wrong bodies."""
+    rows = ["| Crate | Wrong body | Where | Tried by |", "|---|---|---|---|"]
+    for line in (library.root / "crates.txt").read_text("utf-8").splitlines():
+        crate = library.root / "crates" / line.partition(":")[0].strip()
+        for edit in edits_of(crate) if line.strip() else []:
+            words = edit.stem.replace("_", " ")
+            by = "the gate" if edit.parent.name == "must-fail" else "`tools/more-edits`"
+            rows.append(f"| `{crate.name}` | {words[0].upper()}{words[1:]}. | {edited(crate, edit)} | {by} |")
+    return [f"{len(rows) - 2} wrong bodies.", "", *rows]
+
+
+def page_of(text: str, lists: dict[str, list[str]]) -> tuple[str, list[str]]:
+    """Returns the page with the lists replaced, and the names of the lists that differed."""
+    differing = []
+    for name, lines in lists.items():
+        marks = rf"(<!-- tools/claims writes: {name} -->\n)(.*?)(\n<!-- end -->)"
+        found = re.search(marks, text, re.S)
+        if not found or found[2] != "\n".join(lines):
+            differing.append(name)
+        if found:
+            text = text[: found.end(1)] + "\n".join(lines) + text[found.start(3) :]
+    return text, differing
+
+
+def write_or_check(library: Library, writes: bool) -> int:
+    """Writes the lists of the page, or compares them; returns the exit status."""
+    page, differing = page_of(PAGE.read_text("utf-8"), {"reading": reading(library), "wrong bodies": edits(library)})
+    if writes:
+        PAGE.write_text(page, "utf-8")
+        return 0
+    for name in differing:
+        print(f"docs/CLAIMS.md: the list `{name}` differs from the sources: run tools/claims --write")
+    return 1 if differing else 0
+
+
+def show(library: Library, statement: str) -> None:
+    """Prints the definitions that a statement depends on."""
+    definitions, types = resting(library, statement)
+    for one in definitions:
+        print(f"{one.crate}/specs/{one.file}.antt:{one.first}")
+        print("\n".join(one.lines), end="\n\n")
+    print("Types to be read in src/:")
+    print("\n".join(types))
+
+
+def parse_options() -> argparse.Namespace:
+    """Parses the command line."""
+    parser = argparse.ArgumentParser(
+        description="Prints what has to be read to believe a statement.", allow_abbrev=False
+    )
+    what = parser.add_mutually_exclusive_group(required=True)
+    what.add_argument(
+        "statement", metavar="STATEMENT", nargs="?", choices=[*STATEMENTS], help=f"one of {', '.join(STATEMENTS)}"
+    )
+    what.add_argument("--write", action="store_true", help="write the lists in docs/CLAIMS.md")
+    what.add_argument("--check", action="store_true", help="compare them with the sources")
+    return parser.parse_args()
+
+
+def work(library: Library, options: argparse.Namespace) -> int:
+    """Does what the command line asks for, and returns the exit status."""
+    if not options.statement:
+        return write_or_check(library, options.write)
+    show(library, options.statement)
+    sys.stdout.flush()
+    return 0
+
+
+def main() -> int:
+    """Runs the tool, and returns its exit status."""
+    options, library = parse_options(), Library()
+    return exit_status(lambda: work(library, options))

@@ -1,0 +1,92 @@
+"""What the tools of this folder share: the program, rules for names, text for a person, and the standard streams."""
+
+import contextlib
+import os
+import re
+import shutil
+import subprocess
+import sys
+
+from llbm_tools import paths
+
+KIT = "rattle-kit-13f logic dac8208d650f15bf"
+NOT_PROVED = "not proved, compiled with"
+
+MOST_BYTES = 67_108_864
+MOST_NAMES = 128
+NAME = re.compile(rb"[^\x00-\x1f/\x7f]{1,255}")
+
+
+def is_name(name: bytes) -> bool:
+    """Returns whether these bytes are a valid name in a tree."""
+    if not NAME.fullmatch(name) or name in (b".", b".."):
+        return False
+    try:
+        name.decode("utf-8")
+    except UnicodeDecodeError:
+        return False
+    return True
+
+
+def printable(text: str) -> str:
+    """Returns a text with non-printable characters escaped."""
+    return "".join(c if c.isprintable() else c.encode("unicode_escape").decode() for c in text)
+
+
+def shortened(text: str, most: int) -> str:
+    """Returns a text, cut with `...` if it has more than `most` characters."""
+    return text if len(text) <= most else text[: most - 3] + "..."
+
+
+def say(text: str) -> None:
+    """Prints one line on standard error, if it is open, with non-printable characters escaped."""
+    with contextlib.suppress(OSError, AttributeError):
+        os.write(sys.stderr.fileno(), f"{printable(text)}\n".encode("utf-8"))
+
+
+def check_open(stream: object, name: str) -> None:
+    """Raises OSError if a standard stream is closed."""
+    if stream is None:
+        raise OSError(None, f"{name} is closed")
+
+
+def data_in(file: str | None) -> bytes:
+    """Returns the bytes of a file, or of standard input for `-` or None; at most one byte more than the limit."""
+    if file in (None, "-"):
+        check_open(sys.stdin, "standard input")
+        return sys.stdin.buffer.read(MOST_BYTES + 1)
+    with open(file or "-", "rb") as opened:
+        return opened.read(MOST_BYTES + 1)
+
+
+def discard_output() -> None:
+    """Redirects standard output to /dev/null, so that buffered output does not fail again at exit."""
+    os.dup2(os.open(os.devnull, os.O_WRONLY), 1)
+
+
+def os_error_text(fault: OSError) -> str:
+    """Returns a failed read or write as one line."""
+    return f"{fault.filename or 'a read or a write failed'}: {fault.strerror}"
+
+
+def is_unproved(program: str | os.PathLike) -> bool:
+    """Returns whether a program says of itself, by `--version`, that it is not proved."""
+    try:
+        said = subprocess.run([program, "--version"], stdin=subprocess.DEVNULL, capture_output=True, timeout=60).stderr
+    except (OSError, subprocess.TimeoutExpired):
+        return False
+    return NOT_PROVED.encode() in said
+
+
+def program_named(word: str | None) -> str:
+    """Returns the given program, else that of the installation or repository around this folder.
+
+    A proved one comes before one that is not; that the program is not proved is said on standard error.
+    """
+    if word is not None:
+        return word
+    places = [paths.INSTALLED_PROGRAM] if paths.INSTALLED.is_file() else [paths.PROVED, paths.UNPROVED]
+    found = next((place for place in places if shutil.which(place)), None)
+    if found and is_unproved(found):
+        say(f"{os.path.relpath(found)}: the program is not proved")
+    return str(found or places[0])

@@ -1,0 +1,124 @@
+"""Converts the lines of `llbm show` to a Graphviz digraph.
+
+In: the lines on standard input, `V KIND steps S outputs O inputs LIST` for each vertex by number and then `result V.I`;
+KIND is source, file, merge or exec, LIST the inputs as `V.I` with spaces between them, or `-` for none. --definition
+FILE names the definition of the graph.
+
+Out: a digraph on standard output. A source is a folder, a file operation a note, a merge a trapezium and an execution a
+box, each with its numbers of steps and outputs. With a definition each vertex has instead its name and its place in its
+source, if the definition has them, and what it does: the identifier of a source, the kind and the paths of each action,
+the script of an execution, each in at most 60 characters, and at most 8 actions. An edge goes from an input's vertex to
+the vertex that uses it, labeled with the number of the output; the double circle `result` follows the output that is
+the result.
+
+Exit status: 0 the digraph is written; 2 a line, the definition or the command line is refused, and nothing is written:
+the first faulty line is named on standard error as `line N: ...`, counted from 1; 3 a read or a write failed.
+"""
+
+import argparse
+import re
+import sys
+
+from llbm_tools import common, definition, names
+from llbm_tools.ops import Op
+from llbm_tools.shows import Edge, Show, Vertex, show_of
+from llbm_tools.streams import Refused, check_inputs, exit_status
+from llbm_tools.wire import Unreadable
+
+SHAPES = {"source": "folder", "file": "note", "merge": "trapezium", "exec": "box"}
+MOST_CHARACTERS = 60
+MOST_TEXTS = 8
+
+ENTITY = re.compile(r"&(?=#?\w+;)")
+
+
+def counts_of(vertex: Vertex) -> list[str]:
+    """Returns what a label has after a vertex's number and kind if no definition is given."""
+    return [f"steps {vertex.steps}", f"outputs {vertex.outputs}"]
+
+
+def texts_of(op: Op) -> list[str]:
+    """Returns what a label has from an op, shortened."""
+    texts = [common.shortened(common.printable(text), MOST_CHARACTERS) for text in definition.texts_of(op)]
+    left = len(texts) - MOST_TEXTS
+    return [*texts[:MOST_TEXTS], f"and {left} more"] if left > 0 else texts
+
+
+def named_by(name: str) -> list[str]:
+    """Returns what a label has from a name, shortened; nothing for an empty one."""
+    return [common.shortened(name, MOST_CHARACTERS)] if name else []
+
+
+def check(show: Show, graph: definition.Graph, ops: list[Op]) -> None:
+    """Checks that the lines are those of the definition's graph."""
+    if len(ops) != len(show.vertices) or graph.result != show.result:
+        raise Refused("the definition has another graph than the lines")
+    for vertex, inputs, op in zip(show.vertices, graph.inputs, ops):
+        if vertex.kind != op.kind or vertex.inputs != inputs:
+            raise Refused(f"vertex {vertex.number} is another one in the definition")
+
+
+def labels_of(show: Show, file: str | None) -> list[list[str]]:
+    """Returns what the labels have after number and kind."""
+    if file is None:
+        return [counts_of(vertex) for vertex in show.vertices]
+    try:
+        data = common.data_in(file)
+        entries = definition.entries_of(data)
+        graph = definition.graph_of(entries)
+        ops = [definition.op_of(row, entries[row]) for row in graph.rows]
+        shown = [name.shown() for name in names.names_of_vertices(names.names_of(data))]
+    except Unreadable as fault:
+        raise Refused(f"the definition: {fault}") from fault
+    check(show, graph, ops)
+    return [[*named_by(name), *texts_of(op)] for name, op in zip(shown, ops)]
+
+
+def quoted(lines: list[str]) -> str:
+    """Returns a label with these lines, quoted for Graphviz."""
+    escaped = [line.replace("\\", "\\\\").replace('"', '\\"') for line in lines]
+    return '"' + ENTITY.sub("&amp;", "\\n".join(escaped)) + '"'
+
+
+def arrow(edge: Edge, target: int | str) -> str:
+    """Returns the line of an edge to a vertex or to the result."""
+    return f'  {edge[0]} -> {target} [label="{edge[1]}"];\n'
+
+
+def node(vertex: Vertex, label: list[str]) -> str:
+    """Returns the lines of a vertex and of the edges to it."""
+    text = quoted([f"{vertex.number} {vertex.kind}", *label])
+    prefix = f"  {vertex.number} [shape={SHAPES[vertex.kind]}, label={text}];\n"
+    return prefix + "".join(arrow(edge, vertex.number) for edge in vertex.inputs)
+
+
+def digraph(show: Show, labels: list[list[str]]) -> str:
+    """Returns the digraph."""
+    nodes = map(node, show.vertices, labels)
+    return f"digraph llb {{\n{''.join(nodes)}  result [shape=doublecircle];\n{arrow(show.result, 'result')}}}\n"
+
+
+def parse_options() -> argparse.Namespace:
+    """Parses the command line."""
+    parser = argparse.ArgumentParser(
+        description="Converts the lines of llbm show on standard input to a Graphviz digraph.", allow_abbrev=False
+    )
+    parser.add_argument("--definition", metavar="FILE", help="the definition of the graph, for the labels")
+    return parser.parse_args()
+
+
+def draw(file: str | None) -> None:
+    """Reads standard input, and writes the digraph."""
+    if file is not None:
+        check_inputs(None, file)
+    common.check_open(sys.stdin, "standard input")
+    common.check_open(sys.stdout, "standard output")
+    show = show_of(sys.stdin.buffer.read().decode("ascii", "backslashreplace"))
+    sys.stdout.buffer.write(digraph(show, labels_of(show, file)).encode("utf-8"))
+    sys.stdout.flush()
+
+
+def main() -> int:
+    """Runs the tool, and returns its exit status."""
+    options = parse_options()
+    return exit_status(lambda: draw(options.definition))

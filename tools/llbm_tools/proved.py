@@ -1,0 +1,212 @@
+"""Maintains the lists of public calls in docs/PROVED.md: for each call its signature, a sentence, and its clauses.
+
+In: the sources in crates/, of the crates that crates.txt names, in its order. A call is a public function that a crate
+exports, or a function of a public trait, whose contract every implementation meets. The sentence is the first one of
+its docstring. Clauses without a name are written `one clause` (or `N clauses`); `asks` names the conditions that the
+caller has to meet.
+
+Out: with --write the lists in docs/PROVED.md; with --check a line for each crate whose list differs, and for each call
+without a clause or a docstring; else the lists on standard output.
+
+Exit status: 0 done, or the page agrees with the sources; 1 it does not; 2 the command line is refused; 3 a read or a
+write failed.
+"""
+
+import argparse
+import dataclasses
+import pathlib
+import re
+import sys
+import textwrap
+
+from llbm_tools.paths import ROOT
+from llbm_tools.streams import exit_status
+
+PAGE = ROOT / "docs" / "PROVED.md"
+OUTSIDE = {"llb_examples", "llb_stories", "llb_refusals"}
+# The calls that need no clause, each with the reason.
+WITHOUT = {"Many::allocator": "contracts see a list by its items alone, and not where its memory comes from"}
+COLUMNS = 156
+HEAD = re.compile(r"^The public calls\b[^\n]*:\n", re.M)
+
+OWNER = re.compile(r"(?:pub (trait)|impl)(?:<.*?>)? (?:.* for )?(\w+)")
+START = re.compile(r"(\s*)(pub )?(?:const |unsafe )?fn (\w+)")
+CLAUSE = re.compile(r"\s*(ensures|requires)(?: (\w+))? ?\{")
+
+
+@dataclasses.dataclass
+class Call:
+    """A function, as its source has it."""
+
+    owner: str
+    module: str
+    name: str
+    doc: str
+    signature: str = ""
+    ensures: list[str] = dataclasses.field(default_factory=list)
+    requires: list[str] = dataclasses.field(default_factory=list)
+
+
+def exported(crate: pathlib.Path) -> set[str]:
+    """Returns the names that the crate's root file exports, and its public modules."""
+    roots = (crate / "src" / name for name in ("lib.rt", "main.rt"))
+    root = next(path for path in roots if path.exists()).read_text("utf-8")
+    names = {f"mod {module}" for module in re.findall(r"^pub mod (\w+);", root, re.M)}
+    for group, single in re.findall(r"^pub use [\w:]+::(?:\{([^}]*)\}|(\w+));", root, re.M | re.S):
+        names.update(name.strip() for name in (group or single).split(",") if name.strip())
+    return names
+
+
+def head_of(lines: list[str], at: int) -> tuple[str, list[str], list[str], int]:
+    """Returns the signature that begins on a line, without comments, its clauses of both kinds, and the line after it."""
+    signature: list[str] = []
+    clauses: dict[str, list[str]] = {"ensures": [], "requires": []}
+    depth = 0
+    while at < len(lines):
+        line = lines[at]
+        found = None if depth else CLAUSE.match(line)
+        if found:
+            clauses[found[1]].append(found[2] or "")
+        if found or depth:
+            depth += line.count("{") - line.count("}")
+            if not depth and line.rstrip().endswith(";"):
+                break
+        elif not line.lstrip().startswith("//"):
+            bare = line.strip()
+            signature.append(bare.removesuffix("{}").removesuffix("{").removesuffix(";").strip())
+            if bare.endswith(("{", "{}", ";")):
+                break
+        at += 1
+    text = " ".join(filter(None, signature)).replace("( ", "(").replace(",)", ")")
+    return re.sub(r", \)", ")", text).removeprefix("pub "), clauses["ensures"], clauses["requires"], at + 1
+
+
+def calls(path: pathlib.Path) -> list[Call]:
+    """Returns the public functions of a source, and those of its public traits."""
+    found, owner, in_trait, doc, at = [], "", False, [], 0
+    lines = path.read_text("utf-8").split("\n")
+    while at < len(lines):
+        line = lines[at]
+        at += 1
+        if text := re.match(r"\s*/// ?(.*)", line):
+            doc.append(text[1])
+            continue
+        if head := OWNER.match(line):
+            in_trait = bool(head[1])
+            owner = head[2] if in_trait or " for " not in line.split("{")[0] else ""
+        start = START.match(line)
+        if start and (start[2] or (in_trait and start[1])):
+            call = Call(owner if start[1] else "", path.stem, start[3], " ".join(doc))
+            call.signature, call.ensures, call.requires, at = head_of(lines, at - 1)
+            found.append(call)
+        if line == "}":
+            owner, in_trait = "", False
+        if not line.lstrip().startswith("#["):
+            doc = []
+    return found
+
+
+def clauses(names: list[str]) -> str:
+    """Describes the clauses of a contract."""
+    named = [f"`{name}`" for name in names if name]
+    bare = len(names) - len(named)
+    return ", ".join(named + ([] if not bare else ["one clause" if bare == 1 else f"{bare} clauses"]))
+
+
+def sentence(doc: str) -> str:
+    """Returns the first sentence of a docstring, with its full stop."""
+    first = re.split(r"(?<=[.])\s+(?=[A-Z`(0-9])", doc.strip(), maxsplit=1)[0]
+    return first if first.endswith(".") else f"{first}."
+
+
+def item(call: Call, full: str) -> str:
+    """Returns a call as an item of its crate's list."""
+    asks = f"; asks {clauses(call.requires)}" if call.requires else ""
+    promised = clauses(call.ensures) or f"no clause: {WITHOUT.get(full, '')}"
+    where = f"{full.rpartition('::')[0]}::" if "::" in full else ""
+    signature = call.signature.removeprefix("const ").removeprefix("unsafe ").removeprefix("fn ")
+    text = f"- `{where}{signature}`: {sentence(call.doc)} *{promised}{asks}*"
+    return textwrap.fill(text, COLUMNS, subsequent_indent="  ", break_long_words=False, break_on_hyphens=False)
+
+
+def listed(crate: pathlib.Path) -> tuple[list[str], list[str]]:
+    """Returns the list of a crate, and what is wrong with its calls."""
+    names, items, wrong = exported(crate), [], []
+    for path in sorted((crate / "src").rglob("*.rt")):
+        for call in [] if "tests" in path.parts else calls(path):
+            module = f"mod {call.module}" in names
+            if not (call.owner in names or (not call.owner and (call.name in names or module))):
+                continue
+            before = call.owner or (call.module if module else "")
+            full = f"{before}::{call.name}" if before else call.name
+            if not call.ensures and full not in WITHOUT:
+                wrong.append(f"{crate.name}: `{full}` has no clause")
+            if not call.doc:
+                wrong.append(f"{crate.name}: `{full}` has no docstring")
+            items.append(item(call, full))
+    return items, wrong
+
+
+def crates() -> list[pathlib.Path]:
+    """Returns the crates with code to be called, in the order of crates.txt."""
+    names = (line.partition(":")[0].split() for line in (ROOT / "crates.txt").read_text("utf-8").splitlines())
+    return [ROOT / "crates" / it[0] for it in names if it and not it[0].startswith("#") and it[0] not in OUTSIDE]
+
+
+def with_lists(page: str, lists: dict[str, list[str]]) -> tuple[str, list[str]]:
+    """Returns the page with these lists, and the crates whose list differed."""
+    differing = []
+    for crate, items in lists.items():
+        section = re.search(rf"^## `{crate}`\n.*?(?=^## |\Z)", page, re.M | re.S)
+        head = HEAD.search(section[0]) if section else None
+        if not section or not head:
+            differing += [crate] if items else []
+            continue
+        made = section[0][: head.end()] + "\n" + "\n".join(items) + "\n"
+        made += "\n" if section.end() < len(page) else ""
+        if made != section[0]:
+            differing.append(crate)
+        page = page[: section.start()] + made + page[section.end() :]
+    return page, differing
+
+
+def parse_options() -> argparse.Namespace:
+    """Parses the command line."""
+    parser = argparse.ArgumentParser(
+        description="Maintains the lists of public calls in docs/PROVED.md.", allow_abbrev=False
+    )
+    what = parser.add_mutually_exclusive_group()
+    what.add_argument("--check", action="store_true", help="compare docs/PROVED.md with the sources")
+    what.add_argument("--write", action="store_true", help="write its lists")
+    return parser.parse_args()
+
+
+def write_or_check(options: argparse.Namespace) -> int:
+    """Prints, writes or compares the lists, and returns the exit status."""
+    found = {crate.name: listed(crate) for crate in crates()}
+    lists = {crate: items for crate, (items, _) in found.items()}
+    if not options.check and not options.write:
+        for crate, items in lists.items():
+            print(f"## `{crate}`", "", *items, "", sep="\n")
+        return 0
+    page, differing = with_lists(PAGE.read_text("utf-8"), lists)
+    if options.write:
+        PAGE.write_text(page, "utf-8")
+    wrong = [line for _, lines in found.values() for line in lines]
+    if options.check:
+        wrong += [f"{crate}: its list differs from the sources: run tools/proved --write" for crate in differing]
+    print("\n".join(wrong), end="\n" if wrong else "")
+    return 1 if wrong else 0
+
+
+def work(options: argparse.Namespace) -> int:
+    """Writes or checks the lists, and returns the exit status."""
+    status = write_or_check(options)
+    sys.stdout.flush()
+    return status
+
+
+def main() -> int:
+    """Runs the tool, and returns its exit status."""
+    options = parse_options()
+    return exit_status(lambda: work(options))

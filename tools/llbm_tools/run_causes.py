@@ -1,0 +1,155 @@
+"""Finds what the words, the files and the definition of a run say about a line that the program printed for it."""
+
+import contextlib
+import os
+import re
+from collections.abc import Iterator
+from typing import NamedTuple
+
+from llbm_tools import definition, op_rules, trees
+from llbm_tools.common import MOST_BYTES, printable, shortened
+from llbm_tools.ops import FileAction, Op
+from llbm_tools.program_words import Words
+from llbm_tools.streams import Refused
+from llbm_tools.wire import Unreadable
+
+MOST_CHARACTERS = 80
+FAULT = re.compile(r"fault ([0-9]+)(?: ([0-9]+)\b)?")
+BAD_NAME = re.compile(r"failed ([0-9]+) action ([0-9]+) fault 26")
+TREES, MISSING, UNREAD, WORDS, TOO_LONG, LINES = (31, 32, 33), 121, 181, 183, 185, (161, 162)
+
+
+class Local(NamedTuple):
+    """A local source of a definition: its vertex and its name."""
+
+    vertex: int
+    name: str
+
+
+class Run(NamedTuple):
+    """What a run was given: its words, and what came from standard input, if it is known."""
+
+    words: Words
+    given: bytes | None
+
+
+def data_of(run: Run) -> bytes | None:
+    """Returns the definition, or None if it is not at hand."""
+    if run.words.command != "step":
+        return run.given
+    with contextlib.suppress(OSError), open(run.words.file or "", "rb") as file:
+        return file.read(MOST_BYTES + 1) if os.path.isfile(run.words.file or "") else None
+    return None
+
+
+def ops_of(data: bytes | None) -> list[Op]:
+    """Returns the ops of the vertices, by number; empty if the entries are not a graph."""
+    try:
+        entries = definition.entries_of(data or b"")
+        return [definition.op_of(row, entries[row]) for row in definition.graph_of(entries).rows]
+    except Unreadable:
+        return []
+
+
+def locals_of(ops: list[Op]) -> list[Local]:
+    """Returns the local sources, by vertex."""
+    named = [(vertex, op.source.identifier) for vertex, op in enumerate(ops) if op.source]
+    return [Local(vertex, name[len(op_rules.LOCAL) :]) for vertex, name in named if name.startswith(op_rules.LOCAL)]
+
+
+def line_in(data: bytes, number: int) -> str:
+    """Returns a line, counted from 1, for a person, cut if it is long."""
+    lines = data.split(b"\n")
+    text = lines[number - 1][: 4 * MOST_CHARACTERS] if 1 <= number <= len(lines) else b""
+    return shortened(printable(text.decode("utf-8", "backslashreplace")), MOST_CHARACTERS)
+
+
+def unread_file(place: str) -> str:
+    """Returns why a file cannot be read; empty if it can."""
+    try:
+        with open(place, "rb") as file:
+            file.read(1)
+    except OSError as fault:
+        return f"{place}: {fault.strerror}"
+    return ""
+
+
+def tree_text(place: str) -> str:
+    """Returns the first faulty line of a tree's text, with its cause; empty if there is none."""
+    try:
+        with open(place, "rb") as file:
+            data = file.read(MOST_BYTES + 1)
+    except OSError:
+        return ""
+    try:
+        for _ in trees.checked(data.splitlines(keepends=True)):
+            pass
+    except Refused as fault:
+        found = re.match(r"line ([0-9]+): ", str(fault))
+        return f"{fault}: {line_in(data, int(found[1]))}" if found and data else str(fault)
+    return ""
+
+
+def of_sources(run: Run, number: int) -> Iterator[str]:
+    """Yields the first file that the program could not use, for the faults 31 to 33, 181 and 185."""
+    look = tree_text if number in TREES else unread_file
+    for name, file in run.words.sources:
+        is_long = number == TOO_LONG and os.path.isfile(file) and os.path.getsize(file) > MOST_BYTES
+        cause = f"{file} has {os.path.getsize(file):,} bytes" if is_long else "" if number == TOO_LONG else look(file)
+        if cause:
+            yield f"the local source {name}: {cause}"
+            return
+    if number == UNREAD and run.words.command == "step" and (cause := unread_file(run.words.file or "")):
+        yield f"the definition: {cause}"
+    elif number == UNREAD:
+        yield "standard input could not be read"
+
+
+def of_names(run: Run) -> Iterator[str]:
+    """Yields which local sources have no tree, which names no local source has, and which are given twice."""
+    ops = ops_of(data_of(run))
+    known = locals_of(ops)
+    given = {source.name for source in run.words.sources}
+    missing = [f"{name} (vertex {vertex})" for vertex, name in known if name not in given]
+    if missing:
+        yield f"without a tree: {', '.join(missing)}"
+    unknown = sorted(given - {name for _, name in known}) if ops else []
+    if unknown:
+        yield f"no local source has the name: {', '.join(unknown)}"
+    twice = run.words.twice()
+    if twice:
+        yield f"given twice, and the later one is used: {', '.join(twice)}"
+
+
+def paths_of(action: FileAction) -> list[str]:
+    """Returns the paths of an action."""
+    if action.copy:
+        return [action.copy.src, action.copy.dest]
+    member = action.mkfile or action.mkdir or action.rm
+    return [member.path] if member else []
+
+
+def of_failure(run: Run, vertex: int, number: int) -> Iterator[str]:
+    """Yields the first path of an action that is not a path."""
+    ops = ops_of(data_of(run))[vertex : vertex + 1]
+    for action in [action for op in ops for action in op_rules.actions_of(op)][number : number + 1]:
+        bad = next((path for path in paths_of(action) if op_rules.path_of(path) is None), None)
+        if bad is not None:
+            yield f"not a path: {bad!r}"
+
+
+def causes_of(run: Run, line: str) -> list[str]:
+    """Returns what is known of a line besides its explanation, as lines for a person."""
+    if failure := BAD_NAME.fullmatch(line):
+        return list(of_failure(run, int(failure[1]), int(failure[2])))
+    fault = FAULT.match(line)
+    number = int(fault[1]) if fault else 0
+    if number == WORDS:
+        return [run.words.refused] if run.words.refused else []
+    if number == MISSING:
+        return list(of_names(run))
+    if number in (*TREES, UNREAD, TOO_LONG):
+        return list(of_sources(run, number))
+    if number in LINES and fault and fault[2] and run.given is not None:
+        return [f"line {fault[2]}: {line_in(run.given, int(fault[2]))}"]
+    return []

@@ -1,0 +1,142 @@
+"""Standard input, standard output and exit statuses for the tools of trees and archives."""
+
+import contextlib
+import errno
+import os
+import shutil
+import sys
+import tempfile
+from collections.abc import Callable, Iterator
+from typing import BinaryIO, cast
+
+from llbm_tools.common import discard_output, os_error_text, say
+
+REFUSED, FAILED, INTERRUPTED = 2, 3, 130
+
+PIECE = 1 << 20
+
+
+WRONGLY_NAMED = (
+    errno.ENOENT, errno.ENOTDIR, errno.EISDIR, errno.EACCES, errno.EPERM, errno.ELOOP, errno.ENAMETOOLONG
+)  # fmt: skip
+
+
+class Refused(Exception):
+    """What the caller gave is wrong; each argument is a line that says why."""
+
+
+class Failed(Exception):
+    """A read or a write failed; the message says which."""
+
+
+def status_of(fault: OSError) -> int:
+    """Returns the exit status for a failed call: a file that was named wrongly is refused, all else is a failure."""
+    return REFUSED if fault.filename is not None and fault.errno in WRONGLY_NAMED else FAILED
+
+
+def exit_status(work: Callable[[], int | None]) -> int:
+    """Does the work, prints why it was refused or failed, and returns the exit status."""
+    try:
+        return work() or 0
+    except Refused as fault:
+        for line in fault.args:
+            say(str(line))
+        return REFUSED
+    except Failed as fault:
+        say(str(fault))
+        return FAILED
+    except OSError as fault:
+        say(os_error_text(fault))
+        discard_output()
+        return status_of(fault)
+    except MemoryError:
+        say("out of memory")
+        return FAILED
+    except KeyboardInterrupt:
+        return INTERRUPTED
+
+
+def is_standard_input(file: str | None) -> bool:
+    """Returns whether a file of the command line is standard input: none is given, or `-`, or /dev/stdin."""
+    return file in (None, "-", "/dev/stdin")
+
+
+def check_inputs(*files: str | None) -> None:
+    """Checks that at most one of these inputs is standard input."""
+    if sum(map(is_standard_input, files)) > 1:
+        raise Refused("only one input can come from standard input")
+
+
+def standard_input() -> BinaryIO:
+    """Returns standard input, if it is open."""
+    if sys.stdin is None:
+        raise Failed("standard input is closed")
+    return sys.stdin.buffer
+
+
+def input_lines() -> Iterator[bytes]:
+    """Yields the lines of standard input."""
+    lines = standard_input()
+    try:
+        yield from lines
+    except OSError as fault:
+        raise Failed(f"standard input could not be read: {fault.strerror}") from fault
+
+
+@contextlib.contextmanager
+def temporary_file(what: str) -> Iterator[BinaryIO]:
+    """Yields an unnamed temporary file (under TMPDIR); an OSError becomes Failed."""
+    try:
+        with tempfile.TemporaryFile() as stored:
+            yield cast(BinaryIO, stored)
+    except OSError as fault:
+        raise Failed(f"{what} could not be stored: {fault.strerror}") from fault
+
+
+def write_output(stored: BinaryIO, what: str) -> None:
+    """Writes a temporary file to standard output."""
+    if sys.stdout is None:
+        raise Failed(f"{what} could not be written: standard output is closed")
+    stored.seek(0)
+    try:
+        shutil.copyfileobj(stored, sys.stdout.buffer, PIECE)
+        sys.stdout.flush()
+    except OSError as fault:
+        discard_output()
+        raise Failed(f"{what} could not be written: {fault.strerror}") from fault
+    except KeyboardInterrupt:
+        discard_output()
+        raise
+
+
+def mode_of_new_files() -> int:
+    """Returns the mode of new files on this system."""
+    mask = os.umask(0o077)
+    os.umask(mask)
+    return 0o666 & ~mask
+
+
+def write_and_rename(stored: BinaryIO, place: str) -> None:
+    """Writes a temporary file under a temporary name beside a path, and renames it when it is complete."""
+    descriptor, beside = tempfile.mkstemp(prefix=".llbm-", dir=os.path.dirname(place) or ".")
+    try:
+        with open(descriptor, "wb") as file:
+            shutil.copyfileobj(stored, file, PIECE)
+            os.fchmod(file.fileno(), mode_of_new_files())
+        os.rename(beside, place)
+    except BaseException:
+        with contextlib.suppress(OSError):
+            os.unlink(beside)
+        raise
+
+
+def write_new_file(stored: BinaryIO, place: str) -> None:
+    """Writes a temporary file to a new path, completely or not at all."""
+    if os.path.lexists(place):
+        raise Refused(f"{place}: already exists")
+    stored.seek(0)
+    try:
+        write_and_rename(stored, place)
+    except OSError as fault:
+        kind = Refused if fault.errno in WRONGLY_NAMED else Failed
+        raise kind(f"{place}: {fault.strerror}") from fault

@@ -1,0 +1,57 @@
+"""Checks the types and the layout of the tools with mypy, and with ruff or else flake8, where these are installed.
+
+In: the tools of the repository around this folder, and the settings in `pyproject.toml` and `.flake8` at its top.
+
+Out: on standard output what the checkers print, a line for each of them, and then the counts. A checker that is not
+installed is skipped; its line says so.
+
+Exit status: 0 nothing is wrong; 1 something is; 2 the command line is refused; 3 a read or a write failed.
+"""
+
+import argparse
+import shutil
+import subprocess
+import sys
+
+from llbm_tools.common import check_open
+from llbm_tools.paths import ROOT
+from llbm_tools.streams import exit_status
+
+MYPY = ("mypy", "--cache-dir=/dev/null")
+RUFF = ("ruff", "check", "--no-cache", "tools")
+FLAKE8 = ("flake8", "tools")
+
+
+def commands() -> list[tuple[str, ...]]:
+    """Returns the command of each checker; flake8 takes the place of ruff where ruff is not installed."""
+    return [MYPY, FLAKE8 if not shutil.which("ruff") and shutil.which("flake8") else RUFF]
+
+
+def outcome(command: tuple[str, ...]) -> str:
+    """Runs a checker, and returns `passed`, `failed` or `skipped`."""
+    if not shutil.which(command[0]):
+        return "skipped"
+    sys.stdout.flush()
+    done = subprocess.run(command, cwd=ROOT, stdin=subprocess.DEVNULL, stderr=subprocess.STDOUT)
+    return "failed" if done.returncode else "passed"
+
+
+def check() -> int:
+    """Runs all checkers, prints the counts, and returns the exit status."""
+    check_open(sys.stdout, "standard output")
+    found = {command[0]: outcome(command) for command in commands()}
+    for name, word in found.items():
+        print(f"{name}: {'skipped, since it is not installed' if word == 'skipped' else word}")
+    words = list(found.values())
+    print(f"{words.count('passed')} passed, {words.count('failed')} failed")
+    sys.stdout.flush()
+    return 1 if "failed" in words else 0
+
+
+def main() -> int:
+    """Runs the tool, and returns its exit status."""
+    argparse.ArgumentParser(
+        description="Checks the types and the layout of the tools, with the checkers that are installed.",
+        allow_abbrev=False,
+    ).parse_args()
+    return exit_status(check)

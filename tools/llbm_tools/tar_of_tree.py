@@ -1,0 +1,81 @@
+"""Writes a tree text as a tar archive; the same text always makes the same bytes.
+
+In: a tree text on standard input; the whole text is checked before anything is written, and its first faulty line is
+named on standard error as `line N: ...`, counted from 1.
+
+Out: the archive, in the new file ARCHIVE, or on standard output if none is named. It is in the pax format of
+POSIX.1-2001, with an extended header only for a path or a number that needs one. Entries are in path order, the root
+first, as `./`, and the others without a leading `/`. Each has the mode, the user and the group of its line, no user
+names, and the time 0, or that of --mtime. ARCHIVE appears complete, at the end.
+
+Exit status: 0 the archive is written; 2 the text or the command line is refused, or ARCHIVE already exists; 3 a read or
+a write failed (named on standard error); 130 interrupted. If it is not 0, no ARCHIVE is made.
+"""
+
+import argparse
+import binascii
+import io
+import re
+import tarfile
+from typing import BinaryIO
+
+from llbm_tools.streams import exit_status, input_lines, temporary_file, write_new_file, write_output
+from llbm_tools.trees import Entry, check_into, entry_of
+
+MOST_SECONDS = (1 << 33) - 1
+
+
+def header_of(entry: Entry, time: int) -> tarfile.TarInfo:
+    """Returns an entry's header without its size."""
+    header = tarfile.TarInfo(b"/".join(entry.names).decode("utf-8") or ".")
+    header.type = tarfile.DIRTYPE if entry.content is None else tarfile.REGTYPE
+    header.mode, header.uid, header.gid, header.mtime = entry.mode, entry.user, entry.group, time
+    return header
+
+
+def write(text: BinaryIO, output: BinaryIO, time: int) -> None:
+    """Writes the archive of a valid tree text."""
+    with tarfile.open(fileobj=output, mode="w:", format=tarfile.PAX_FORMAT, encoding="utf-8") as archive:
+        for entry in map(entry_of, text):
+            header = header_of(entry, time)
+            content = binascii.unhexlify(entry.content or b"")
+            header.size = len(content)
+            archive.addfile(header, io.BytesIO(content))
+            archive.members.clear()  # type: ignore[attr-defined]
+
+
+def write_checked(options: argparse.Namespace) -> None:
+    """Writes the archive of the text on standard input, once all of the text is checked."""
+    with temporary_file("the text") as text, temporary_file("the archive") as archive:
+        check_into(text, input_lines())
+        text.seek(0)
+        write(text, archive, options.mtime)
+        if options.archive in (None, "-"):
+            write_output(archive, "the archive")
+        else:
+            write_new_file(archive, options.archive)
+
+
+def seconds_of(text: str) -> int:
+    """Parses the time of --mtime."""
+    if not re.fullmatch(r"0|[1-9][0-9]{0,9}", text) or int(text) > MOST_SECONDS:
+        raise argparse.ArgumentTypeError(f"{text!r} is not a decimal of at most {MOST_SECONDS}")
+    return int(text)
+
+
+def parse_options() -> argparse.Namespace:
+    """Parses the command line."""
+    parser = argparse.ArgumentParser(
+        description="Writes the tree text on standard input as a tar archive.", allow_abbrev=False
+    )
+    parser.add_argument("archive", metavar="ARCHIVE", nargs="?", help="the new file (default: standard output)")
+    parser.add_argument(
+        "--mtime", metavar="SECONDS", type=seconds_of, default=0, help="the time of every entry, since 1970 (0)"
+    )
+    return parser.parse_args()
+
+
+def main() -> int:
+    """Runs the tool, and returns its exit status."""
+    options = parse_options()
+    return exit_status(lambda: write_checked(options))

@@ -1,0 +1,216 @@
+"""Tests the tools of this folder by examples, in temporary folders that are removed at the end.
+
+In: the tools beside this file, with their tests in tests/; names of test cases on the command line, as in `test
+trees.RoundTrip`, or none for all. Some tests need the program: it is --llbm PROGRAM, or else crates/llbm/out/llbm of
+the repository, or else its out/llbm-unproved, which is named on standard error as not proved; without one they are
+skipped. It can run as root, who can set owners, or as another user, who cannot: the number of examples is the same.
+Test cases run in parallel, in --jobs N processes, or in one for each processor.
+
+Out: on standard output the number of tests and of runs of the tools, and how many tests were skipped and why; failures
+are printed on standard error. --slowest N also lists there the N tests that took longest, in seconds.
+
+Exit status: 0 all tests pass; 1 some fail; 2 the command line is refused; 130 interrupted.
+"""
+
+import argparse
+import collections
+import io
+import multiprocessing
+import os
+import pathlib
+import shutil
+import signal
+import sys
+import time
+import unittest
+from collections.abc import Iterator
+from typing import NamedTuple, TextIO, cast
+
+from llbm_tools import common
+from tests import base
+
+MODULES = [
+    "adapter_runs",
+    "adapter_steps",
+    "adapter_eyes",
+    "adapter_breaks",
+    "reasons",
+    "tracing",
+    "adapter_parts",
+    "program",
+    "linting",
+    "adopting",
+    "fuzzing",
+    "gating",
+    "trees",
+    "graphs",
+    "explaining",
+    "building",
+    "repository",
+    "floors",
+    "buildkit",
+    "refusing",
+    "measuring",
+    "archives",
+    "differences",
+    "jsons",
+    "sessions",
+    "naming",
+    "compiling",
+    "installing",
+    "words",
+    "running",
+]
+
+
+class Timed(unittest.TextTestResult):
+    """A result that measures how long each test takes."""
+
+    def __init__(self, stream: TextIO, descriptions: bool, verbosity: int) -> None:
+        super().__init__(stream, descriptions, verbosity)
+        self.seconds: list[tuple[float, str]] = []
+        self.start = 0.0
+
+    def startTest(self, test: unittest.TestCase) -> None:
+        """Starts the clock of a test."""
+        super().startTest(test)
+        self.start = time.monotonic()
+
+    def stopTest(self, test: unittest.TestCase) -> None:
+        """Stops the clock of a test."""
+        super().stopTest(test)
+        self.seconds.append((time.monotonic() - self.start, test.id()))
+
+
+class GroupResult(NamedTuple):
+    """The result of some tests: the output of those that failed, and counts."""
+
+    output: str
+    tests: int
+    runs: int
+    wrong: collections.Counter[str]
+    left_out: collections.Counter[str]
+    seconds: list[tuple[float, str]]
+
+
+groups: list[unittest.TestSuite] = []
+
+
+def tests_in(suite: unittest.TestSuite) -> Iterator[unittest.TestCase]:
+    """Yields all tests of a suite, in order."""
+    for one in suite:
+        if isinstance(one, unittest.TestSuite):
+            yield from tests_in(one)
+        else:
+            yield one
+
+
+def grouped(suite: unittest.TestSuite) -> list[unittest.TestSuite]:
+    """Returns the tests one by one; those of a class with a `setUpClass` stay together."""
+    whole: dict[type, unittest.TestSuite] = {}
+    found = []
+    for test in tests_in(suite):
+        kind = type(test)
+        if "setUpClass" not in vars(kind):
+            found.append(unittest.TestSuite([test]))
+        elif kind in whole:
+            whole[kind].addTest(test)
+        else:
+            whole[kind] = unittest.TestSuite([test])
+            found.append(whole[kind])
+    return found
+
+
+def run_group(number: int) -> GroupResult:
+    """Runs a group of tests."""
+    base.runs = 0
+    out = io.StringIO()
+    result = cast(Timed, unittest.TextTestRunner(out, verbosity=0, resultclass=Timed).run(groups[number]))
+    wrong = collections.Counter(
+        {
+            "failures": len(result.failures),
+            "errors": len(result.errors),
+            "unexpected successes": len(result.unexpectedSuccesses),
+        }
+    )
+    output = "" if result.wasSuccessful() else out.getvalue().rpartition("-" * 70)[0]
+    left_out = collections.Counter(cause for _, cause in result.skipped)
+    return GroupResult(output, result.testsRun, base.runs, +wrong, left_out, result.seconds)
+
+
+def end_at_once() -> None:
+    """Lets SIGTERM end a process that runs tests."""
+    signal.signal(signal.SIGTERM, signal.SIG_DFL)
+
+
+def run_groups(jobs: int) -> Iterator[GroupResult]:
+    """Runs all groups in this many processes, and yields their results as they end."""
+    if jobs == 1:
+        yield from map(run_group, range(len(groups)))
+        return
+    with multiprocessing.get_context("fork").Pool(jobs, end_at_once) as pool:
+        yield from pool.imap_unordered(run_group, range(len(groups)))
+
+
+def program_at(word: str) -> str:
+    """Returns the path of the given program."""
+    found = shutil.which(word)
+    if not found:
+        raise argparse.ArgumentTypeError(f"{word}: there is no such program")
+    return str(pathlib.Path(found).absolute())
+
+
+def positive(word: str) -> int:
+    """Parses a number that is at least 1."""
+    if not word.isdecimal() or int(word) == 0:
+        raise argparse.ArgumentTypeError(f"{word}: not a number above 0")
+    return int(word)
+
+
+def parse_options() -> argparse.Namespace:
+    """Parses the command line."""
+    parser = argparse.ArgumentParser(description="Tests the tools of this folder.", allow_abbrev=False)
+    parser.add_argument("--llbm", metavar="PROGRAM", type=program_at, help="the program llbm")
+    jobs = len(os.sched_getaffinity(0))
+    parser.add_argument("--jobs", metavar="N", type=positive, default=jobs, help="the number of processes")
+    parser.add_argument("--slowest", metavar="N", type=positive, default=0, help="list the N tests that took longest")
+    parser.add_argument("name", nargs="*", metavar="NAME", default=MODULES, help="a module of tests, or a part of it")
+    return parser.parse_args()
+
+
+def test_all(options: argparse.Namespace) -> int:
+    """Runs all tests, prints the results, and returns the exit status."""
+    groups.extend(grouped(unittest.defaultTestLoader.loadTestsFromNames([f"tests.{name}" for name in options.name])))
+    start = time.monotonic()
+    tests, runs = 0, 0
+    wrong: collections.Counter[str] = collections.Counter()
+    left_out: collections.Counter[str] = collections.Counter()
+    seconds: list[tuple[float, str]] = []
+    for one in run_groups(options.jobs):
+        sys.stderr.write(one.output)
+        tests, runs, seconds = tests + one.tests, runs + one.runs, seconds + one.seconds
+        wrong += one.wrong
+        left_out += one.left_out
+    print(f"Ran {tests} tests in {time.monotonic() - start:.1f} s", file=sys.stderr)
+    for taken, name in sorted(seconds, reverse=True)[: options.slowest]:
+        print(f"{taken:6.2f} s {name}", file=sys.stderr)
+    if wrong:
+        print(f"FAILED ({', '.join(f'{cause}={count}' for cause, count in wrong.items())})", file=sys.stderr)
+    sys.stderr.flush()
+    user = "root" if base.IS_ROOT else "another user"
+    print(f"{tests} tests, {runs} runs of the tools, as {user}: {'some failed' if wrong else 'all passed'}")
+    for cause, count in left_out.items():
+        print(f"{count} of them skipped: {cause}")
+    return 1 if wrong else 0
+
+
+def main() -> int:
+    """Runs the tool, and returns its exit status."""
+    options = parse_options()
+    base.llbm = options.llbm or shutil.which(common.program_named(None))
+    os.umask(0o022)
+    signal.signal(signal.SIGTERM, signal.default_int_handler)
+    try:
+        return test_all(options)
+    except KeyboardInterrupt:
+        return 130
