@@ -48,7 +48,7 @@ class Work(NamedTuple):
         return last if last.kind in ("settle", "cancel") else None
 
 
-def event_of(match: re.Match, vertices: dict[int, int]) -> Event:
+def event_of(match: re.Match[str], vertices: dict[int, int]) -> Event:
     """Returns the event on a line, given the vertex that each worker runs."""
     kind, worker, reply = match[2], int(match[3]), match[5]
     if not re.fullmatch(REPLIES[kind], reply) or (kind == "claim") != bool(match[4]):

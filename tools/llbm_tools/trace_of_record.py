@@ -29,6 +29,10 @@ MOST_OF_A_NAME = 200
 PART = re.compile(r"(?:acted|ran|skipped|fault) ([0-9]+).*")
 
 
+Arguments = dict[str, object]
+Slice = dict[str, object]
+
+
 class Shown(NamedTuple):
     """What a definition has for a vertex: its name, and its actions or commands."""
 
@@ -53,14 +57,14 @@ def vertices_in(file: str) -> list[Shown]:
     return found
 
 
-def slice_of(name: str, category: str, begin: int, end: int, worker: int, args: dict) -> dict:
+def slice_of(name: str, category: str, begin: int, end: int, worker: int, args: Arguments) -> Slice:
     """Returns the trace event of a slice."""
     name = shortened(printable(name), MOST_OF_A_NAME)
     place = {"pid": PROCESS, "tid": worker}
     return {"name": name, "cat": category, "ph": "X", "ts": begin, "dur": end - begin, **place, "args": args}
 
 
-def metadata(kind: str, name: str, worker: int) -> dict:
+def metadata(kind: str, name: str, worker: int) -> Slice:
     """Returns the trace event that names the process or the row of a worker."""
     return {"name": kind, "ph": "M", "pid": PROCESS, "tid": worker, "args": {"name": name}}
 
@@ -72,16 +76,16 @@ def state_of(work: Work) -> str:
     return "cancelled" if work.end.kind == "cancel" else work.end.reply.partition(" ")[2]
 
 
-def vertex_slice(work: Work, shown: Shown | None, end: int) -> dict:
+def vertex_slice(work: Work, shown: Shown | None, end: int) -> Slice:
     """Returns the slice of a vertex; that of one that still runs is up to the end of the record."""
     kind, steps = work.events[0].reply.split(" ")
     name = f"{work.vertex} {kind}" + (f": {shown.name}" if shown and shown.name else "")
-    args = {"vertex": work.vertex, "kind": kind, "steps": int(steps), "state": state_of(work)}
+    args: Arguments = {"vertex": work.vertex, "kind": kind, "steps": int(steps), "state": state_of(work)}
     last = work.end.number + 1 if work.end else end
     return slice_of(name, kind, work.events[0].number, last, work.worker, args)
 
 
-def step_slice(event: Event, shown: Shown | None) -> dict:
+def step_slice(event: Event, shown: Shown | None) -> Slice:
     """Returns the slice of a micro-step."""
     part = PART.fullmatch(event.reply)
     parts = shown.parts if shown else []
@@ -91,7 +95,7 @@ def step_slice(event: Event, shown: Shown | None) -> dict:
     return slice_of(name, "step", event.number, event.number + 1, event.worker, {"reply": event.reply})
 
 
-def trace_of(works: list[Work], vertices: list[Shown] | None) -> dict:
+def trace_of(works: list[Work], vertices: list[Shown] | None) -> list[Slice]:
     """Returns the trace of what the workers did."""
     workers = sorted({work.worker for work in works})
     events = [metadata("process_name", "llbm", 0)]
@@ -103,12 +107,12 @@ def trace_of(works: list[Work], vertices: list[Shown] | None) -> dict:
         shown = None if vertices is None else vertices[work.vertex]
         events.append(vertex_slice(work, shown, end))
         events += [step_slice(event, shown) for event in work.events if event.kind == "step"]
-    return {"displayTimeUnit": "ms", "traceEvents": events}
+    return events
 
 
-def json_of(trace: dict) -> str:
+def json_of(events: list[Slice]) -> str:
     """Returns the trace as JSON, with a line for each event."""
-    lines = ",\n".join(json.dumps(event, ensure_ascii=False, separators=(",", ":")) for event in trace["traceEvents"])
+    lines = ",\n".join(json.dumps(event, ensure_ascii=False, separators=(",", ":")) for event in events)
     return f'{{"displayTimeUnit":"ms","traceEvents":[\n{lines}\n]}}\n'
 
 

@@ -60,7 +60,7 @@ def words_places(lines: list[str]) -> list[int]:
 def command_spans(script: str, line: str, number: int) -> list[Span]:
     """Returns the places of the commands of a script on its line."""
     column = line.find('"') + 1
-    found, begin, place = [], None, 0
+    found, begin, end, place = [], None, 0, 0
     for word in [*script.split(" "), ";"]:
         if word in SEPARATORS:
             if begin is not None:
