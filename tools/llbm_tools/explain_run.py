@@ -46,14 +46,16 @@ def compared_lines(compared: Compared, most: int) -> Iterator[str]:
         yield f"{compared.name}: and {more:,} more paths"
 
 
-def step_lines(happened: Happened, most: int) -> Iterator[str]:
+def step_lines(happened: Happened | None, most: int) -> Iterator[str]:
     """Yields the lines of a micro-step."""
+    if happened is None:
+        return
     yield f"  {happened.text}"
     for compared in happened.compared:
         yield from (f"    {line}" for line in compared_lines(compared, most))
 
 
-def event_lines(event: Event, happened: Happened, views: Views, most: int) -> Iterator[str]:
+def event_lines(event: Event, happened: Happened | None, views: Views, most: int) -> Iterator[str]:
     """Yields the lines of an event."""
     if event.kind == "claim":
         place = views.place_of(event.vertex)

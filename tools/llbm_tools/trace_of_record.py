@@ -23,6 +23,7 @@ from llbm_tools.common import MOST_BYTES, os_error_text, printable, shortened
 from llbm_tools.ops import Op
 from llbm_tools.records import Event, Work, events_of, works_of
 from llbm_tools.streams import Failed, Refused, exit_status, input_lines, write_output
+from llbm_tools.wire import Unreadable
 
 PROCESS = 0
 MOST_OF_A_NAME = 200
@@ -120,7 +121,7 @@ def convert(file: str | None) -> None:
     """Converts standard input to standard output."""
     try:
         vertices = None if file is None else vertices_in(file)
-    except definition.Unreadable as fault:
+    except Unreadable as fault:
         raise Refused(f"{file}: {fault}") from fault
     except OSError as fault:
         raise Failed(os_error_text(fault)) from fault
