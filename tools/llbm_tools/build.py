@@ -6,11 +6,17 @@ given twice the later one is used. A path that is not a directory and ends in .t
 repository, or else its out/llbm-unproved, which is named on standard error as not proved; --workers N sets its number
 of workers. All entries of sources get the owner 0:0, as with `tree-of-directory --owner 0:0`.
 
-Out: RESULT, which must not exist yet: an archive by `tar-of-tree` if its name ends in .tar, else a new directory with
-owners and modes as `directory-of-tree` sets them. On standard error there is a line for each phase, the messages of the
-tools and the program, and an explanation after a fault or a failure of the program. RESULT appears complete, at the
-end: a build that fails or is interrupted leaves nothing, not even temporary files, which are in TMPDIR and beside
-RESULT while it runs.
+The program gets a token in the place of each content, and the contents are copied into the result afterwards, so that a
+source can have any size; a file that changed meanwhile is refused. With --by-value the program gets the contents. So it
+does in any case those of sources at or before an exec that calls `sha256` or `listing`, and all of them where a mkfile
+or such a source has the byte 255, with which tokens begin; a source that is too long for that is refused before the
+program runs.
+
+Out: RESULT, which must not exist yet: an archive as `tar-of-tree` makes it if its name ends in .tar, else a new
+directory with owners and modes as `directory-of-tree` sets them. On standard error there is a line for each phase, the
+messages of the tools and the program, and an explanation after a fault or a failure of the program. RESULT appears
+complete, at the end: a build that fails or is interrupted leaves nothing, not even temporary files, which are in TMPDIR
+and beside RESULT while it runs.
 
 With --progress there is also a line for each vertex as it settles, `[n/m] vertex V KIND done`, or `failed`, followed by
 its name if the definition's metadata has one (`llb.customname`). The vertices then run one after another, in a session
@@ -20,8 +26,8 @@ may see each other's writes in another order than with several workers.
 Exit status: that of the program. Before the program runs: 2 the command line is refused, DEFINITION, a source, the
 parent of RESULT or the program does not exist, a source is refused, RESULT already exists or ends like a packed
 archive; 3 a source can't be read completely, or a write failed. After the program has run: 2 its output is not a tree,
-or RESULT was created meanwhile; 3 RESULT could not be written, or a session ended too early. 128 plus the number of a
-signal that interrupted the build or ended the program.
+a source has changed, or RESULT was created meanwhile; 3 RESULT could not be written, or a session ended too early. 128
+plus the number of a signal that interrupted the build or ended the program.
 """
 
 import argparse
@@ -34,13 +40,15 @@ import subprocess
 import sys
 import tempfile
 from collections.abc import Iterable, Iterator
-from typing import BinaryIO, NamedTuple
+from typing import BinaryIO
 
-from llbm_tools import faults, progress, shows
+from llbm_tools import by_value, faults, progress, shows
 from llbm_tools.archives import is_archive
 from llbm_tools.common import MOST_BYTES, os_error_text, program_named, say, shortened
+from llbm_tools.given_sources import Given, Source, too_long
 from llbm_tools.paths import TOOLS
-from llbm_tools.streams import Refused
+from llbm_tools.result_writing import DirectoryWriter, write_archive
+from llbm_tools.streams import Failed, Refused
 
 SIGNALS = {signal.SIGINT, signal.SIGTERM, signal.SIGHUP}
 PATIENCE = 5
@@ -62,13 +70,6 @@ class Ended(Exception):
 
 class Interrupted(Exception):
     """A signal with this number arrived. It is raised at most once."""
-
-
-class Source(NamedTuple):
-    """A local source: its name, and the path of its directory or archive."""
-
-    name: str
-    place: str
 
 
 def ignore_signals() -> None:
@@ -139,6 +140,8 @@ class Build:
         self.texts = ""
         self.directory = ""
         self.child: subprocess.Popen | None = None
+        self.given: Given | None = None
+        self.writer: DirectoryWriter | None = None
 
     def check(self) -> None:
         """Refuses at the start what would make the build fail at its end."""
@@ -163,6 +166,10 @@ class Build:
         """Removes everything but the result. It may be called twice."""
         if self.child:
             end(self.child)
+        if self.writer:
+            self.writer.end()
+        if self.given:
+            self.given.close()
         for folder in (self.texts, self.directory):
             try:
                 remove(folder)
@@ -185,8 +192,39 @@ class Build:
         """Returns the path of the text of a source."""
         return os.path.join(self.texts, f"{number}.tree")
 
+    def read_all(self) -> None:
+        """Writes the texts of all sources: by reference, unless the options or the graph need all by value."""
+        cause = "" if self.options.by_value else self.give()
+        if self.given:
+            return
+        if cause:
+            say(f"all sources are given by value: {cause}")
+        for number, source in enumerate(self.options.source):
+            self.read(number, source)
+            if cause and os.stat(self.text(number)).st_size > MOST_BYTES:
+                say(too_long(source, cause))
+                raise Ended(REFUSED)
+
+    def give(self) -> str:
+        """Writes the texts of all sources by reference. Returns why all have to be given by value, or nothing."""
+        if not self.options.source:
+            return ""
+        with open(self.options.definition, "rb") as file:
+            plan = by_value.plan_of(file.read(MOST_BYTES + 1))
+        if not plan or plan.all:
+            return plan.all if plan else ""
+        given = Given(self.options.source, self.text, [self.texts, self.directory])
+        self.given = given
+        cause = given.give(plan)
+        if not given.is_whole:
+            raise Ended(FAILED)
+        if cause:
+            given.close()
+            self.given = None
+        return cause
+
     def read(self, number: int, source: Source) -> None:
-        """Writes the text of a source."""
+        """Writes the text of a source, by value."""
         say(f"reading {source.name} from {source.place}")
         reader = "tree-of-tar" if is_archive(source.place) else "tree-of-directory"
         with open(self.text(number), "wb") as text:
@@ -280,13 +318,15 @@ class Build:
     def write(self, result: str) -> None:
         """Writes the result from its text."""
         say(f"writing {self.result}")
-        place, tool = self.directory, "directory-of-tree"
-        if self.is_archive:
-            place, tool = os.path.join(self.directory, "result.tar"), "tar-of-tree"
-        with open(result, "rb") as text:
-            status = ended(self.start(self.tool(tool, "--", place), stdin=text))
-        if status:
-            raise Ended(status)
+        place = os.path.join(self.directory, "result.tar") if self.is_archive else self.directory
+        if self.given:
+            self.write_contents(result, place)
+        else:
+            with open(result, "rb") as text:
+                tool = "tar-of-tree" if self.is_archive else "directory-of-tree"
+                status = ended(self.start(self.tool(tool, "--", place), stdin=text))
+            if status:
+                raise Ended(status)
         with held_back():
             if os.path.lexists(self.result):
                 raise Ended(REFUSED, f"{self.result}: already exists")
@@ -295,19 +335,31 @@ class Build:
                 self.directory = ""
             ignore_signals()
 
+    def write_contents(self, result: str, place: str) -> None:
+        """Writes the result from its text and the contents of the sources."""
+        if self.is_archive:
+            write_archive(result, place, self.given.table)
+        else:
+            self.writer = DirectoryWriter(result, place, self.given.table)
+            self.writer.write()
+        self.given.table.check_archives()
+
     def whole(self) -> int:
         """Does the whole build, and returns the exit status."""
         try:
             self.check()
             self.make_folders()
-            for number, source in enumerate(self.options.source):
-                self.read(number, source)
+            self.read_all()
             self.write(self.run())
             say(f"{self.result} is written")
             return 0
         except Ended as cause:
             say(str(cause))
             return cause.status
+        except (Refused, Failed) as cause:
+            say(str(cause))
+            say("nothing is written")
+            return REFUSED if isinstance(cause, Refused) else FAILED
         except OSError as fault:
             say(os_error_text(fault))
             return FAILED
@@ -330,6 +382,7 @@ def parse_options() -> argparse.Namespace:
     parser.add_argument("--llbm", metavar="PROGRAM", help="the program llbm")
     parser.add_argument("--workers", metavar="N", help="the number of workers")
     parser.add_argument("--progress", action="store_true", help="print a line for each vertex as it settles")
+    parser.add_argument("--by-value", action="store_true", help="give the program the contents of all sources")
     parser.add_argument("definition", metavar="DEFINITION", help="the file of the definition")
     parser.add_argument("result", metavar="RESULT", help="the new directory, or a new file that ends in .tar")
     parser.add_argument(

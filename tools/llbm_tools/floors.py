@@ -36,6 +36,9 @@ LENDERS = {
     "llb_state": {"llb_board"},
     "llb_ops": {"llb_asm", "llb_loader"},
     "llb_execution": {"llb_state", "llb_board"},
+    "llb_fileop": {"llb_contents"},
+    "llb_loader": {"llb_contents", "llb_sharing"},
+    "llb_board": {"llb_contents"},
     "llb_stepper": {"llb_session"},
 }
 # The crate of what a head says that it does not know.

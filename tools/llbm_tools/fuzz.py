@@ -11,7 +11,8 @@ address sanitizer), on processor time and on file sizes, and may take --patience
 These rules must hold: each run exits with a status of 0 to 3; if the input is refused, nothing is printed except the
 answers of a session; docs/FAULTS.md has each line on standard error, with that status; `dis` and then `asm` return the
 same entries; a text of a tree comes back or is refused at its first faulty line; several workers print the same as one
-if no cache is mounted; a session ends where `run` ends, and the same record always has the same status.
+if no cache is mounted; a session ends where `run` ends, and the same record always has the same status; a run on tokens
+in the place of contents prints the same with the contents put back.
 
 Out: on standard output the seed, a line for each finding, and at the end how many cases ran and how many failed. The
 files of a finding and the commands that repeat it are stored in their own folder in --keep FOLDER, by default a new

@@ -9,17 +9,18 @@ import random
 import re
 from typing import NamedTuple
 
-from llbm_tools import definition, faults, fuzz_changed, fuzz_made, messages
+from llbm_tools import by_value, definition, faults, fuzz_changed, fuzz_made, fuzz_tokens, messages
 from llbm_tools.fuzz_checks import Broken, Graph, Rules, Session, caches_in, check_findings, need, tree_fault
 from llbm_tools.fuzz_made import one_in
 from llbm_tools.limited import Ran, Runner
+from llbm_tools.references import MARK
 from llbm_tools.wire import Unreadable
 
 FAULTY_LINE = re.compile(rb"fault 16[12] ([1-9][0-9]*)[ \n]")
 POOL = 40
 MOST_COMMANDS = 40
 DEFINITION, TREE = "definition", "tree"
-KINDS = ["run"] * 5 + ["session"] * 4 + ["entries"] * 3 + ["text"] * 3 + ["tree"] * 3 + ["commands"] * 2
+KINDS = ["run"] * 5 + ["session"] * 4 + ["entries"] * 3 + ["text"] * 3 + ["tree"] * 3 + ["commands"] * 2 + ["build"] * 2
 
 
 def definition_of_source(name: str) -> bytes:
@@ -237,6 +238,25 @@ class Case:
         printed = b"".join(line + b"\n" for line in tree)
         need(printed == (ran.out if ran.status == 0 else b"none\n"), "a session and a run end in different ways")
 
+    def try_build(self) -> None:
+        """Checks that tokens in the place of contents, put back in the result, make the result of the contents."""
+        data = self.made_definition()
+        words = self.sources(data)
+        plan = by_value.plan_of(data)
+        if plan is None or plan.all:
+            return
+        table, short = fuzz_tokens.Contents(), []
+        for word in words:
+            name, _, file = word.partition("=")
+            text = self.tried.trees[file]
+            if name in plan.sources and MARK in fuzz_tokens.contents_in(text):
+                return
+            given = text if name in plan.sources else table.with_tokens(text)
+            short.append(f"{name}={self.file(f'short-{file}', given)}")
+        one, two = self.run("run", *words, given=data), self.run("run", *short, given=data)
+        same = (two.status, table.expanded(two.out), two.err) == (one.status, one.out, one.err)
+        need(same, "tokens in the place of contents make another result")
+
     def try_commands(self) -> None:
         """Checks the answers to lines that are mostly not commands."""
         data = self.made_definition()
@@ -254,7 +274,7 @@ class Case:
         try:
             {
                 "run": self.try_run, "session": self.try_session, "entries": self.try_entries, "text": self.try_text,
-                "tree": self.try_tree, "commands": self.try_commands,
+                "tree": self.try_tree, "commands": self.try_commands, "build": self.try_build,
             }[self.kind]()
         except (Broken, Unreadable) as fault:
             return Found(self.number, self.kind, str(fault), self.runs, self.files)

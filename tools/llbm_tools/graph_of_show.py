@@ -2,20 +2,21 @@
 
 In: the lines on standard input, `V KIND steps S outputs O inputs LIST` for each vertex by number and then `result V.I`;
 KIND is source, file, merge or exec, LIST the inputs as `V.I` with spaces between them, or `-` for none. --definition
-FILE names the definition of the graph.
+FILE names the definition of the graph, --impact FILE the object that `impact --json` prints for it.
 
 Out: a digraph on standard output. A source is a folder, a file operation a note, a merge a trapezium and an execution a
 box, each with its numbers of steps and outputs. With a definition each vertex has instead its name and its place in its
 source, if the definition has them, and what it does: the identifier of a source, the kind and the paths of each action,
 the script of an execution, each in at most 60 characters, and at most 8 actions. An edge goes from an input's vertex to
 the vertex that uses it, labeled with the number of the output; the double circle `result` follows the output that is
-the result.
+the result. With an impact the vertices have colors: green is kept, gold fed by a changed source, blue new, gray cached.
 
 Exit status: 0 the digraph is written; 2 a line, the definition or the command line is refused, and nothing is written:
 the first faulty line is named on standard error as `line N: ...`, counted from 1; 3 a read or a write failed.
 """
 
 import argparse
+import json
 import re
 import sys
 
@@ -26,6 +27,7 @@ from llbm_tools.streams import Refused, check_inputs, exit_status
 from llbm_tools.wire import Unreadable
 
 SHAPES = {"source": "folder", "file": "note", "merge": "trapezium", "exec": "box"}
+COLORS = {"kept": "palegreen", "fed": "gold", "new": "lightblue", "cached": "lightgray"}
 MOST_CHARACTERS = 60
 MOST_TEXTS = 8
 
@@ -74,6 +76,27 @@ def labels_of(show: Show, file: str | None) -> list[list[str]]:
     return [[*named_by(name), *texts_of(op)] for name, op in zip(shown, ops)]
 
 
+def impacts_in(data: bytes) -> list[tuple[str, str]]:
+    """Returns the kind and the word of each vertex in the object that `impact --json` prints."""
+    try:
+        found = [(vertex["kind"], vertex["impact"]) for vertex in json.loads(data)["vertices"]]
+        if all(word in COLORS for _, word in found):
+            return found
+    except (ValueError, LookupError, TypeError):
+        pass
+    raise Refused("the impact is not an object that impact --json prints")
+
+
+def colors_of(show: Show, file: str | None) -> list[str]:
+    """Returns the attributes that color each vertex."""
+    if file is None:
+        return [""] * len(show.vertices)
+    found = impacts_in(common.data_in(file))
+    if [vertex.kind for vertex in show.vertices] != [kind for kind, _ in found]:
+        raise Refused("the impact is that of another graph")
+    return [f", style=filled, fillcolor={COLORS[word]}" for _, word in found]
+
+
 def quoted(lines: list[str]) -> str:
     """Returns a label with these lines, quoted for Graphviz."""
     escaped = [line.replace("\\", "\\\\").replace('"', '\\"') for line in lines]
@@ -85,16 +108,16 @@ def arrow(edge: Edge, target: int | str) -> str:
     return f'  {edge[0]} -> {target} [label="{edge[1]}"];\n'
 
 
-def node(vertex: Vertex, label: list[str]) -> str:
+def node(vertex: Vertex, label: list[str], color: str) -> str:
     """Returns the lines of a vertex and of the edges to it."""
     text = quoted([f"{vertex.number} {vertex.kind}", *label])
-    prefix = f"  {vertex.number} [shape={SHAPES[vertex.kind]}, label={text}];\n"
+    prefix = f"  {vertex.number} [shape={SHAPES[vertex.kind]}, label={text}{color}];\n"
     return prefix + "".join(arrow(edge, vertex.number) for edge in vertex.inputs)
 
 
-def digraph(show: Show, labels: list[list[str]]) -> str:
+def digraph(show: Show, labels: list[list[str]], colors: list[str]) -> str:
     """Returns the digraph."""
-    nodes = map(node, show.vertices, labels)
+    nodes = map(node, show.vertices, labels, colors)
     return f"digraph llb {{\n{''.join(nodes)}  result [shape=doublecircle];\n{arrow(show.result, 'result')}}}\n"
 
 
@@ -104,21 +127,23 @@ def parse_options() -> argparse.Namespace:
         description="Converts the lines of llbm show on standard input to a Graphviz digraph.", allow_abbrev=False
     )
     parser.add_argument("--definition", metavar="FILE", help="the definition of the graph, for the labels")
+    parser.add_argument("--impact", metavar="FILE", help="the output of impact --json, for the colors")
     return parser.parse_args()
 
 
-def draw(file: str | None) -> None:
+def draw(options: argparse.Namespace) -> None:
     """Reads standard input, and writes the digraph."""
-    if file is not None:
-        check_inputs(None, file)
+    if options.definition is not None:
+        check_inputs(None, options.definition)
     common.check_open(sys.stdin, "standard input")
     common.check_open(sys.stdout, "standard output")
     show = show_of(sys.stdin.buffer.read().decode("ascii", "backslashreplace"))
-    sys.stdout.buffer.write(digraph(show, labels_of(show, file)).encode("utf-8"))
+    digraph_of_it = digraph(show, labels_of(show, options.definition), colors_of(show, options.impact))
+    sys.stdout.buffer.write(digraph_of_it.encode("utf-8"))
     sys.stdout.flush()
 
 
 def main() -> int:
     """Runs the tool, and returns its exit status."""
     options = parse_options()
-    return exit_status(lambda: draw(options.definition))
+    return exit_status(lambda: draw(options))

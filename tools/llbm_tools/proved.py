@@ -58,7 +58,7 @@ def exported(crate: pathlib.Path) -> set[str]:
 
 
 def head_of(lines: list[str], at: int) -> tuple[str, list[str], list[str], int]:
-    """Returns the signature that begins on a line, without comments, its clauses of both kinds, and the line after it."""
+    """Returns the signature that begins on a line, its clauses of both kinds, and the line after it. Comments go."""
     signature: list[str] = []
     clauses: dict[str, list[str]] = {"ensures": [], "requires": []}
     depth = 0

@@ -46,6 +46,7 @@ MODULES = [
     "graphs",
     "explaining",
     "building",
+    "contents",
     "repository",
     "floors",
     "buildkit",
@@ -60,6 +61,7 @@ MODULES = [
     "installing",
     "words",
     "running",
+    "impacting",
 ]
 
 

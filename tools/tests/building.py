@@ -93,8 +93,9 @@ class Build(Builds):
         lines = ["reading src from in/a", "left out: nothing", "reading b from in/b", "left out: nothing"]
         lines += ["reading src from in/a", "left out: nothing", "running definition", "writing out", "out is written"]
         self.assertEqual(done.stderr.decode().splitlines(), lines)
-        one, two = "d 0755 0 0 /\nf 0600 0 0 78 /x\n", "d 0755 0 0 /\n"
-        given = f"src= b= src=\nrun --workers 3\n{one}{two}{one}{len(self.given)}"
+        one, two = "d 0755 0 0 /\nf 0600 0 0 ff00000000 /x\n", "d 0755 0 0 /\n"
+        three = one.replace("ff00000000", "ff00000001")
+        given = f"src= b= src=\nrun --workers 3\n{one}{two}{three}{len(self.given)}"
         self.assertEqual((self.at / "given").read_text(), given)
         self.check_nothing_is_left({"out"})
         self.assertEqual((self.at / "out/b/a").read_text(), "hi")
@@ -170,7 +171,7 @@ class Build(Builds):
 
     def test_sources_can_be_archives(self):
         given = tar(entry("x", b"x", mode=0o600, owner=(7, 8)))
-        tree = b"d 0755 0 0 /\nf 0600 0 0 78 /x\n"
+        tree = b"d 0755 0 0 /\nf 0600 0 0 ff00000000 /x\n"
         self.set_behavior(PRINTS)
         for name, packed in [("a.tar", given), ("b.tar.gz", gzip.compress(given)), ("c.tgz", gzip.compress(given))]:
             self.file(name.encode(), packed)

@@ -231,7 +231,7 @@ class WithProgram(Folder):
         base.skip_if_slow(self)
         self.make(b"a", b"")
         os.truncate(self.place(b"in", b"a"), 1 << 25)
-        done = self.build(base.ending(base.source("local://src")), f"src={self.at / 'in'}")
+        done = self.build(base.ending(base.source("local://src")), "--by-value", f"src={self.at / 'in'}")
         self.assertEqual(done.returncode, 2)
         self.assertRegex(done.stderr, rb"\nthe text has [0-9,]+ bytes: .*\n(.*\n)*fault 185\n  185: ")
 

@@ -136,7 +136,8 @@ file_input inputs rest i low =
     let count : length (map input_role inputs) ≡ length inputs = length_map input_role inputs in
     get_front (map input_role inputs) rest i (omega (arith, count, low)) ∙ input_at inputs i low
 
-pub behind_inputs : (inputs : List TreeMap) (rest : List Role) (i k : ℕ) → i ≡ length inputs + k → slice_get (map input_role inputs ++ rest) i ≡ slice_get rest k
+pub behind_inputs : (inputs : List TreeMap) (rest : List Role) (i k : ℕ) → i ≡ length inputs + k
+    → slice_get (map input_role inputs ++ rest) i ≡ slice_get rest k
 behind_inputs inputs rest i k is =
     let count : length (map input_role inputs) ≡ length inputs = length_map input_role inputs in
     get_behind (map input_role inputs) rest i k (omega (arith, count, is))

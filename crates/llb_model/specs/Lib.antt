@@ -1,6 +1,7 @@
--- Read first State (the state of the machine) and Table (which event is granted, the state after it, and its reply, or why it is refused), then Program (what a
--- vertex does) and Caches (instances of caches and their trees), Run (whole runs), Outcome (plain outcomes), Room (how many events a run has) and Order (the claim
--- order). Consistent, Plain, Laws, Kept, Leases and Landing are what follows from these for every list of events, for the laws of the board; ByNumber is a list.
+-- Read first State (the state of the machine) and Table (which event is granted, the state after it, and its reply, or why it is refused), then Program (what
+-- a vertex does) and Caches (instances of caches and their trees), Run (whole runs), Outcome (plain outcomes), Room (how many events a run has) and Order (the
+-- claim order). Consistent, Plain, Laws, Kept, Leases and Landing are what follows from these for every list of events, for the laws of the board; ByNumber is
+-- a list.
 pub mod ByNumber
 pub mod Caches
 pub mod Program

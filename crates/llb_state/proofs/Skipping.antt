@@ -67,7 +67,8 @@ not_true true e = absurd (false≢true e)
 not_true false e = refl
 
 -- what is skipped says so
-pub skip_reply : (k : ℕ) (m : MicroStep) (before : Workspace) (left : Left) → is_skipped m before ≡ true → HasStepped (did.Skipped k) ≡ table.step_reply k m before left
+pub skip_reply : (k : ℕ) (m : MicroStep) (before : Workspace) (left : Left) → is_skipped m before ≡ true
+    → HasStepped (did.Skipped k) ≡ table.step_reply k m before left
 skip_reply k ReadLocal before left skips = absurd (false≢true skips)
 skip_reply k (Act action) before left skips = absurd (false≢true skips)
 skip_reply k (LayInput i) before left skips = absurd (false≢true skips)

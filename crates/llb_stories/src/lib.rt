@@ -53,6 +53,8 @@ mod runs;
 #[cfg(test)]
 mod sessions;
 #[cfg(test)]
+mod sharing;
+#[cfg(test)]
 mod told;
 #[cfg(test)]
 mod walks;

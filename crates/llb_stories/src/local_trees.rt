@@ -21,6 +21,15 @@ d 0755 0 0 /sub
 f 0644 0 0 6869 /sub/f
 ";
 
+// The same with a token in the place of the content of `/sub/f`: the byte 255, and the number 1 in four bytes.
+pub(crate) const SUB_BY_A_TOKEN: &str = "== p
+d 0755 0 0 /
+== q
+d 0755 0 0 /
+d 0755 0 0 /sub
+f 0644 0 0 ff00000001 /sub/f
+";
+
 // The tree of `examples/tour.tree`.
 pub(crate) const SOURCE_TREE: &str = "== source
 d 0755 0 0 /

@@ -5,6 +5,8 @@
 use super::sessions::{Way, are_stories, wanted};
 use super::told::{is_so, prints, say_tree};
 use super::written::{graph_from, locals_named, locals_of};
+use llb_contents::contents_are_handed_on;
+use llb_loader::Graph;
 use llb_plain::{Outcome, Outcomes, PlainFault, evaluate};
 use llb_tree::Tree;
 use std::alloc::Global;
@@ -46,6 +48,22 @@ const EVALUATED: &str = "
     d 0755 0 0 /
     d 0755 0 0 /sub
     f 0644 0 0 6869 /sub/f
+
+    # A token in the place of a content comes out in its places.
+    @ SUB_BY_A_TOKEN: SOURCE_P; SOURCE_Q; COPIES_BY_A_TMPFS; RESULT_2
+    0 done
+    d 0755 0 0 /
+    1 done
+    d 0755 0 0 /
+    d 0755 0 0 /sub
+    f 0644 0 0 ff00000001 /sub/f
+    2 done
+    d 0755 0 0 /
+    f 0644 0 0 ff00000001 /y
+    d 0755 0 0 /
+    d 0755 0 0 /sub
+    f 0644 0 0 ff00000001 /sub/f
+    f 0644 0 0 6b0a /sub/g
 
     # An exec gives the whole trees of its mounts.
     @ EMPTY_AND_SUB: SOURCE_P; SOURCE_Q; COPIES_BY_A_TMPFS; RESULT_2
@@ -137,10 +155,15 @@ fn say_outcome(rt: &impl Abort, text: &mut String, v: usize, outcome: &Outcome) 
     }
 }
 
+fn law(graph: &Graph) {
+    contents_are_handed_on(graph);
+}
+
 fn evaluated(rt: &impl Abort, alloc: Global, head: &str) -> Result<Outcomes, PlainFault> {
     let (locals, definition) = head.split_once(": ").expect(rt, "a definition");
     let graph = graph_from(rt, alloc, definition);
     let locals = locals_of(rt, alloc, locals_named(locals));
+    law(&graph);
     evaluate(alloc, &graph, &locals)
 }
 

@@ -1,8 +1,9 @@
 //! Stories as transcripts, most of them of sessions on boards. A line with `@ ` first opens a board (`written`); one with `> ` first is a
 //! command, and the lines after it are what it prints; one with `# ` first says what the story shows. Each line is read without the spaces
-//! before and after it. Stories of calls (`told`) and of plain outcomes (`plain`) have the same form.
+//! before and after it. Stories of calls (`told`), of plain outcomes (`plain`) and of shared vertices (`sharing`) have the same form.
 
 use super::plain::are_outcomes;
+use super::sharing::are_shared;
 use super::told::is_answered;
 use super::written::board_in;
 use llb_session::converse;
@@ -46,12 +47,13 @@ pub(crate) fn is_told(rt: &impl Abort, alloc: Global, stepper: &mut Stepper, tol
     out.as_slice() == wanted(rt, alloc, told).as_bytes()
 }
 
-// How a story is written: by the commands of a session, by calls on a board, or by its plain outcomes.
+// How a story is written: by the commands of a session, by calls on a board, by its plain outcomes, or by the vertices that two definitions share.
 #[derive(Clone, Copy)]
 pub(crate) enum Way {
     Session,
     Calls,
     Outcomes,
+    Sharing,
 }
 
 fn is_session(rt: &impl Abort, alloc: Global, head: &str, lines: &str) -> bool {
@@ -69,6 +71,7 @@ fn is_story(rt: &impl Abort, alloc: Global, way: Way, head: &str, lines: &str) -
         Way::Session => is_session(rt, alloc, head, lines),
         Way::Calls => are_calls(rt, alloc, head, lines),
         Way::Outcomes => are_outcomes(rt, alloc, head, lines),
+        Way::Sharing => are_shared(rt, alloc, head, lines),
     }
 }
 

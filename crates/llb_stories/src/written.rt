@@ -7,7 +7,7 @@
 
 use super::definitions::ENTRIES;
 use super::execution_definitions::EXECUTIONS;
-use super::local_trees::{EMPTY_AND_SUB, EMPTY_P, OLD_AND_F, SOURCE_TREE};
+use super::local_trees::{EMPTY_AND_SUB, EMPTY_P, OLD_AND_F, SOURCE_TREE, SUB_BY_A_TOKEN};
 use llb_asm::assemble;
 use llb_board::Board;
 use llb_cache::{Caches, Key, Mode, Need, Seed};
@@ -15,7 +15,7 @@ use llb_loader::{Graph, Locals, load};
 use llb_ops::write_definition;
 use llb_tree::Tree;
 use llb_treetext::read_tree;
-use llb_wire::Text;
+use llb_wire::{Bytes, Text};
 use std::alloc::Global;
 use std::process::Abort;
 
@@ -99,11 +99,23 @@ pub(crate) fn push_entries(rt: &impl Abort, text: &mut String, entries: &str) {
     }
 }
 
+// The definition that a text is assembled to.
+fn definition_in(rt: &impl Abort, alloc: Global, text: &str) -> Bytes {
+    let entries = assemble(alloc, text.as_bytes()).expect(rt, "entries");
+    write_definition(alloc, &entries).expect(rt, "memory")
+}
+
 // The graph of the definition that a text is assembled to.
 fn graph_in(rt: &impl Abort, alloc: Global, text: &str) -> Graph {
-    let entries = assemble(alloc, text.as_bytes()).expect(rt, "entries");
-    let definition = write_definition(alloc, &entries).expect(rt, "memory");
+    let definition = definition_in(rt, alloc, text);
     load(alloc, definition.as_slice()).expect(rt, "a graph")
+}
+
+/// Returns the definition of some entries.
+pub(crate) fn definition_from(rt: &impl Abort, alloc: Global, entries: &str) -> Bytes {
+    let mut text = String::new(alloc);
+    push_entries(rt, &mut text, entries);
+    definition_in(rt, alloc, text.as_str())
 }
 
 pub(crate) fn graph_from(rt: &impl Abort, alloc: Global, entries: &str) -> Graph {
@@ -163,6 +175,7 @@ pub(crate) fn locals_named(name: &str) -> &'static str {
         "EMPTY_P" => EMPTY_P,
         "OLD_AND_F" => OLD_AND_F,
         "EMPTY_AND_SUB" => EMPTY_AND_SUB,
+        "SUB_BY_A_TOKEN" => SUB_BY_A_TOKEN,
         "SOURCE_TREE" => SOURCE_TREE,
         _ => "",
     }

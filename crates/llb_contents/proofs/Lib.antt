@@ -1,0 +1,9 @@
+mod Alike
+mod Trees
+mod Actions
+mod Commands
+mod Steps
+mod Outcomes
+mod Exchanges
+mod Tokens
+mod Boards

@@ -1,0 +1,158 @@
+-- Tokens are spelled part by part; what writes no token is related to itself; and a tree expands to one tree at most.
+use Rattle.std.specs.List.{All, flat_map, list_any}
+use Rattle.std.proofs.Common.{arith, zero, suc, ◌+◌, ◌*◌, ◌≡◌, ℕ, Bool, true, false, cond, ◌||◌, ◌==◌, List, [], ◌∷◌, ◌++◌, Option, Some, None, refl, sym, ap}
+use Rattle.std.proofs.Common.{◌∙◌}
+use Rattle.std.proofs.Common.{append_assoc}
+use Rattle.std.specs.Prelude.{option_map}
+use Rattle.std.specs.FinMap as finite
+use Rattle.llb_ops.specs.declared.file.ActionKind.{ActionKind}
+use Rattle.llb_ops.specs.declared.file.ActionKind.TheVariants as kind
+use Rattle.llb_applet.specs.declared.setting.Setting.{Setting}
+use Rattle.llb_applet.specs.declared.command.Command.{Command}
+use Rattle.llb_applet.specs.declared.command.Command.TheVariants as command
+use Rattle.llb_applet.specs.Commands.{line}
+use Rattle.llb_loader.specs.Graph.{Numbered, IsGraph}
+use Rattle.llb_model.specs.Program.{MicroStep, ReadLocal, Act, LayInput, Run, program_of}
+use Rattle.llb_tree.specs.PathOrder.{path_cmp-IsTotalOrder, path_cmp-IsAntisymmetric}
+use Rattle.llb_tree.specs.Meta.{MetaValue}
+use Rattle.llb_tree.specs.Tree.{TreeMap, Entry, Dir, File}
+use Rattle.llb_contents.specs.Alike.{IsKept, BothOptions, AreLike, AreAlike, RelatesTexts, RelatesBody, RelatesStep}
+use Rattle.llb_contents.specs.Laws.{ExpandsTo, spelled_from, spelled, has_mark, marks, body_marks, step_marks, HandsTokensOn}
+use Rattle.llb_contents.proofs.Outcomes.{hands_on}
+
+abbrev some_bytes : List ℕ → Option (List ℕ)
+some_bytes xs = Some xs
+
+first_of : (a b : Bool) → (a || b) ≡ false → a ≡ false
+first_of true b e = absurd cc
+first_of false b e = refl
+
+second_of : (a b : Bool) → (a || b) ≡ false → b ≡ false
+second_of true b e = absurd cc
+second_of false b e = e
+
+module _ (table : ℕ → List ℕ) where
+  -- a byte that begins no token
+  literal : (b n : ℕ) (bytes : List ℕ) → (b == 255) ≡ false
+      → spelled_from table (b ∷ bytes) 0 n ≡ option_map (λ rest. b ∷ rest) (spelled_from table bytes 0 0)
+  literal b n bytes plain =
+      ap (λ t. cond t (spelled_from table bytes 4 0) (option_map (λ rest. b ∷ rest) (spelled_from table bytes 0 0))) plain
+
+  -- the byte that begins a token
+  token : (b n : ℕ) (bytes : List ℕ) → (b == 255) ≡ true → spelled_from table (b ∷ bytes) 0 n ≡ spelled_from table bytes 4 0
+  token b n bytes is =
+      ap (λ t. cond t (spelled_from table bytes 4 0) (option_map (λ rest. b ∷ rest) (spelled_from table bytes 0 0))) is
+
+  -- between tokens no number is read
+  between : (n : ℕ) (bytes : List ℕ) → spelled_from table bytes 0 n ≡ spelled_from table bytes 0 0
+  between n [] = refl
+  between n (b ∷ bytes) = refl
+
+  -- a part before another, where the rest of the first is spelled before the second
+  behind : (f : List ℕ → List ℕ) → ((x y : List ℕ) → f x ++ y ≡ f (x ++ y)) → (o whole : Option (List ℕ)) (d : List ℕ)
+      → ((x : List ℕ) → o ≡ Some x → whole ≡ Some (x ++ d)) → (y : List ℕ) → option_map f o ≡ Some y → option_map f whole ≡ Some (y ++ d)
+  behind f moves None whole d rest y is = absurd cc
+  behind f moves (Some x) whole d rest y is =
+      let same : f x ≡ y = cc in
+      ap (option_map f) (rest x refl) ∙ ap some_bytes (sym (moves x d) ∙ ap (λ z. z ++ d) same)
+
+  -- a content that is cut anywhere, and one behind it
+  spelled_both : (a : List ℕ) (left n : ℕ) (b c d : List ℕ) → spelled_from table a left n ≡ Some b → spelled_from table c 0 0 ≡ Some d
+      → spelled_from table (a ++ c) left n ≡ Some (b ++ d)
+  spelled_both [] zero n b c d first second = let same : [] ≡ b = cc in between n c ∙ second ∙ ap (λ z. some_bytes (z ++ d)) same
+  spelled_both [] (suc left) n b c d first second = absurd cc
+  spelled_both (x ∷ a) (suc zero) n b c d first second =
+      behind (λ rest. table (n * 256 + x) ++ rest) (λ p q. append_assoc (table (n * 256 + x)) p q) (spelled_from table a 0 0)
+          (spelled_from table (a ++ c) 0 0) d
+      (λ y h. spelled_both a 0 0 y c d h second) b first
+  spelled_both (x ∷ a) (suc (suc left)) n b c d first second = spelled_both a (suc left) (n * 256 + x) b c d first second
+  spelled_both (x ∷ a) zero n b c d first second = by_first (x == 255) refl (spelled_both a)
+    where
+      by_first : (t : Bool) → (x == 255) ≡ t
+          → ((left n : ℕ) (b c d : List ℕ) → spelled_from table a left n ≡ Some b → spelled_from table c 0 0 ≡ Some d
+              → spelled_from table (a ++ c) left n ≡ Some (b ++ d))
+          → spelled_from table (x ∷ (a ++ c)) 0 n ≡ Some (b ++ d)
+      by_first true is rest = token x n (a ++ c) is ∙ rest 4 0 b c d (sym (token x n a is) ∙ first) second
+      by_first false is rest =
+          literal x n (a ++ c) is
+          ∙ behind (λ rest. x ∷ rest) (λ p q. refl) (spelled_from table a 0 0) (spelled_from table (a ++ c) 0 0) d (λ y h. rest 0 0 y c d h second) b
+          (sym (literal x n a is) ∙ first)
+
+  pub spelled_kept : IsKept (ExpandsTo (spelled table))
+  spelled_kept = record { empty = refl; appended = λ a b c d first second. spelled_both a 0 0 b c d first second }
+
+  -- ---- what writes no token
+
+  -- a content without the byte that begins tokens expands to itself
+  unmarked : (a : List ℕ) → has_mark a ≡ false → spelled table a ≡ Some a
+  unmarked [] none = refl
+  unmarked (b ∷ a) none =
+      literal b 0 a (first_of (b == 255) (has_mark a) none)
+      ∙ ap (option_map (λ rest. b ∷ rest)) (unmarked a (second_of (b == 255) (has_mark a) none))
+
+  relates_texts : (s : Setting) (c : Command) → marks s c ≡ false → RelatesTexts (ExpandsTo (spelled table)) s c
+  relates_texts s (command.Write path word) none = unmarked (line word) none
+  relates_texts s (command.Append path word) none = unmarked (line word) none
+  relates_texts s (command.Envfile out) none = unmarked (flat_map line s.env) none
+  relates_texts s (command.Listing path out) none = absurd cc
+  relates_texts s (command.Sha256 path out) none = absurd cc
+  relates_texts s command.True none = tt
+  relates_texts s command.False none = tt
+  relates_texts s (command.Mkdir parents path) none = tt
+  relates_texts s (command.Rm path) none = tt
+  relates_texts s (command.Cp from to) none = tt
+  relates_texts s (command.Concat out parts) none = tt
+  relates_texts s (command.Chmod mode path) none = tt
+  relates_texts s (command.Test kind path) none = tt
+
+  relates_body : (a : Option ActionKind) → body_marks a ≡ false → RelatesBody (ExpandsTo (spelled table)) a
+  relates_body (Some (kind.MkFile m)) none = unmarked m.body none
+  relates_body (Some (kind.MkDir m)) none = tt
+  relates_body (Some (kind.Copy c)) none = tt
+  relates_body (Some (kind.Rm r)) none = tt
+  relates_body None none = tt
+
+  relates_step : (m : MicroStep) → step_marks m ≡ false → RelatesStep (ExpandsTo (spelled table)) m
+  relates_step ReadLocal none = tt
+  relates_step (Act a) none = relates_body a.kind none
+  relates_step (LayInput i) none = tt
+  relates_step (Run s c ends) none = relates_texts s c.command none
+
+  relates_steps : (steps : List MicroStep) → list_any step_marks steps ≡ false → All (RelatesStep (ExpandsTo (spelled table))) steps
+  relates_steps [] none k d l = absurd (omega (arith, l))
+  relates_steps (m ∷ steps) none zero d l = relates_step m (first_of (step_marks m) (list_any step_marks steps) none)
+  relates_steps (m ∷ steps) none (suc k) d l =
+      relates_steps steps (second_of (step_marks m) (list_any step_marks steps) none) k d (omega (arith, l))
+
+-- with tokens for contents in local trees, the outcome is the one with the contents
+pub hands_tokens_on : (g : Numbered) → IsGraph g → HandsTokensOn g
+hands_tokens_on g graph table ls ms v none sources =
+    hands_on (ExpandsTo (spelled table)) (spelled_kept table) g graph ls ms v
+    (λ k x before there. relates_steps table (program_of x).steps (none k x before there)) sources
+
+-- ---- one tree for each
+
+module _ (expand : List ℕ → Option (List ℕ)) where
+  one_of : (o p q : Option Entry) → BothOptions (AreLike (ExpandsTo expand)) o p → BothOptions (AreLike (ExpandsTo expand)) o q → p ≡ q
+  one_of None None None h k = refl
+  one_of (Some (Dir m)) (Some (Dir n)) (Some (Dir l)) h k = ap some_dir (sym h ∙ k)
+    where
+      some_dir : MetaValue → Option Entry
+      some_dir x = Some (Dir x)
+  one_of (Some (File m a)) (Some (File n b)) (Some (File l c)) h k =
+      let same : some_bytes b ≡ some_bytes c = sym h.1 ∙ k.1 in
+      let content : b ≡ c = cc in
+      let meta : n ≡ l = sym h.0 ∙ k.0 in
+      λ i. Some (File (meta i) (content i))
+  one_of None (Some e) q h k = absurd h
+  one_of None None (Some e) h k = absurd k
+  one_of (Some e) None q h k = absurd h
+  one_of (Some e) (Some f) None h k = absurd k
+  one_of (Some (Dir m)) (Some (File n b)) (Some e) h k = absurd h
+  one_of (Some (File m a)) (Some (Dir n)) (Some e) h k = absurd h
+  one_of (Some (Dir m)) (Some (Dir n)) (Some (File l c)) h k = absurd k
+  one_of (Some (File m a)) (Some (File n b)) (Some (Dir l)) h k = absurd k
+
+  pub expands_to_one : (t u w : TreeMap) → AreAlike (ExpandsTo expand) t u → AreAlike (ExpandsTo expand) t w → u ≡ w
+  expands_to_one t u w h k =
+      finite.same_map path_cmp-IsTotalOrder path_cmp-IsAntisymmetric u w (λ q. one_of (finite.get t q) (finite.get u q) (finite.get w q) (h q) (k q))

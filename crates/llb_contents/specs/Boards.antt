@@ -1,0 +1,25 @@
+-- What two boards over one graph have settled, where their local trees differ in contents alone.
+use Rattle.std.specs.Prelude.{◌≡◌, ℕ, Bool, true, List, Some, slice_get}
+use Rattle.llb_model.specs.Outcome.{Ending, is_plain}
+use Rattle.llb_model.specs.State.{Settled}
+use Rattle.llb_board.specs.Seen.{BoardValue}
+use Rattle.llb_contents.specs.Alike.{IsKept, AreAlikeEndings}
+use Rattle.llb_contents.specs.Laws.{By, RelatesWritten, HaveAlikeSources, MakesNoDigest, AreExchanged}
+
+-- both boards have settled vertex v, and no cache mount is at or before it
+pub record AreSettled (b c : BoardValue) (v : ℕ) (d e : Ending) : Type 0 where
+  pub graph : b.build.graph ≡ c.build.graph
+  pub plain : is_plain b.build v ≡ true
+  pub first : slice_get b.state.statuses v ≡ Some (Settled d)
+  pub second : slice_get c.state.statuses v ≡ Some (Settled e)
+
+-- vertices that both boards have settled ended alike: failed with the same fault, or done with as many outputs, which are alike
+abbrev pub SettleAlike : BoardValue → BoardValue → Type 0
+SettleAlike b c = (test : List ℕ → List ℕ → Bool) → IsKept (By test) → (v : ℕ) (d e : Ending) → AreSettled b c v d e
+    → RelatesWritten (By test) b.build.graph v → HaveAlikeSources (By test) b.build.graph v b.build.locals c.build.locals → AreAlikeEndings (By test) d e
+
+-- the same where pieces of contents are exchanged and no digest is made
+abbrev pub SettleExchanged : BoardValue → BoardValue → Type 0
+SettleExchanged b c = (pairs : List (List ℕ × List ℕ)) (v : ℕ) (d e : Ending) → AreSettled b c v d e
+    → MakesNoDigest b.build.graph v → HaveAlikeSources (AreExchanged pairs) b.build.graph v b.build.locals c.build.locals
+    → AreAlikeEndings (AreExchanged pairs) d e

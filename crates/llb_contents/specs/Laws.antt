@@ -1,0 +1,193 @@
+-- What contents a graph hands on from its local sources to its outcomes.
+use Rattle.std.specs.Prelude.{◌≡◌, ◌⊎◌, ℕ, zero, suc, ◌+◌, ◌*◌, ◌==◌, Bool, true, false, if◌then◌else◌, List, [], ◌∷◌, ◌++◌, Option, Some, None, option_map}
+use Rattle.std.specs.Prelude.{slice_get}
+use Rattle.std.specs.List.{All, Contains, flat_map, list_any}
+use Rattle.llb_ops.specs.declared.file.ActionKind.{ActionKind}
+use Rattle.llb_ops.specs.declared.file.ActionKind.TheVariants as kind
+use Rattle.llb_tree.specs.Tree.{TreeMap}
+use Rattle.llb_fileop.specs.Act.{act}
+use Rattle.llb_merge.specs.Laying.{lay}
+use Rattle.llb_mount.specs.declared.shown.Shown.{Shown}
+use Rattle.llb_applet.specs.Commands.{run, line}
+use Rattle.llb_applet.specs.declared.setting.Setting.{Setting}
+use Rattle.llb_applet.specs.declared.command.Command.{Command}
+use Rattle.llb_applet.specs.declared.command.Command.TheVariants as command
+use Rattle.llb_loader.specs.declared.graph.Vertex.{Vertex}
+use Rattle.llb_loader.specs.Rows.{Reached}
+use Rattle.llb_loader.specs.Graph.{Numbered, links}
+use Rattle.llb_loader.specs.Locals.{Local, local_name, tree_of_local}
+use Rattle.llb_model.specs.Program.{MicroStep, ReadLocal, Act, LayInput, Run, program_of}
+use Rattle.llb_model.specs.Outcome.{outcome}
+use Rattle.llb_contents.specs.Alike.{BothResults, AreAlikeViews, RelatesTexts, RelatesBody, IsKept, BothOptions, AreAlike, AreAlikeOutcomes, RelatesStep}
+
+-- ---- parts
+
+-- a relation by a test
+abbrev pub By : (List ℕ → List ℕ → Bool) → List ℕ → List ℕ → Type 0
+By test a b = test a b ≡ true
+
+-- a tree laid over another: laid alike trees are alike
+abbrev pub LaysAlike : TreeMap → TreeMap → Type 0
+LaysAlike t v = (test : List ℕ → List ℕ → Bool) (u w : TreeMap) → AreAlike (By test) t u → AreAlike (By test) v w → AreAlike (By test) (lay t v) (lay u w)
+
+-- an action on a base, with a second tree: on alike trees it fails with the same fault, or leaves alike trees
+abbrev pub ActsAlike : Option ActionKind → TreeMap → TreeMap → Type 0
+ActsAlike a t v = (test : List ℕ → List ℕ → Bool) (u w : TreeMap) → RelatesBody (By test) a → AreAlike (By test) t u → AreAlike (By test) v w
+    → BothResults (AreAlike (By test)) (act a t v) (act a u w)
+
+-- a command in a setting on a view: on alike views it fails, or leaves alike views
+abbrev pub RunsAlike : Setting → List Shown → Command → Type 0
+RunsAlike s v c = (test : List ℕ → List ℕ → Bool) (w : List Shown) → IsKept (By test) → RelatesTexts (By test) s c → AreAlikeViews (By test) v w
+    → BothOptions (AreAlikeViews (By test)) (run s v c) (run s w c)
+
+-- ---- by any relation
+
+-- what the vertices at or before vertex v write of their own is related to itself
+abbrev pub RelatesWritten : (List ℕ → List ℕ → Type 0) → Numbered → ℕ → Type 0
+RelatesWritten R g v = (k : ℕ) (x : Vertex) → Reached (links g.vertices) v k → slice_get g.vertices k ≡ Some x → All (RelatesStep R) (program_of x).steps
+
+-- vertex v, or one before it, is the local source of this name
+pub record IsSourceOf (g : Numbered) (v : ℕ) (name : List ℕ) : Type 0 where
+  pub number : ℕ
+  pub source : Vertex
+  pub before : Reached (links g.vertices) v number
+  pub there : slice_get g.vertices number ≡ Some source
+  pub named : local_name source.op ≡ Some name
+
+-- each local source at or before vertex v has alike trees in both, or none in both
+abbrev pub HaveAlikeSources : (List ℕ → List ℕ → Type 0) → Numbered → ℕ → List Local → List Local → Type 0
+HaveAlikeSources R g v ls ms = (name : List ℕ) → IsSourceOf g v name → BothOptions (AreAlike R) (tree_of_local ls name) (tree_of_local ms name)
+
+-- a vertex has alike plain outcomes with these local trees and with those: it is blocked in both, failed in both with the same fault, or done in both with as
+-- many outputs, which are alike
+abbrev pub HasAlikeOutcomes : (List ℕ → List ℕ → Type 0) → Numbered → List Local → List Local → ℕ → Type 0
+HasAlikeOutcomes R g ls ms v = BothOptions (AreAlikeOutcomes R) (outcome (record { graph = g; locals = ls }) v) (outcome (record { graph = g; locals = ms }) v)
+
+-- where local trees differ in contents alone, by a relation, so do the outcomes
+abbrev pub HandsOn : (List ℕ → List ℕ → Type 0) → Numbered → Type 0
+HandsOn R g = (ls ms : List Local) (v : ℕ) → RelatesWritten R g v → HaveAlikeSources R g v ls ms → HasAlikeOutcomes R g ls ms v
+
+-- contents are handed on, whatever relation they are in
+abbrev pub HandsRelationsOn : Numbered → Type 0
+HandsRelationsOn g = (test : List ℕ → List ℕ → Bool) → IsKept (By test) → HandsOn (By test) g
+
+-- ---- by what contents expand to
+
+-- the second content is what the first one expands to
+abbrev pub ExpandsTo : (List ℕ → Option (List ℕ)) → List ℕ → List ℕ → Type 0
+ExpandsTo expand a b = expand a ≡ Some b
+
+-- if contents that are expanded by parts are put in local trees, the outcome with the expanded contents is the expanded outcome
+abbrev pub HandsExpansionsOn : Numbered → Type 0
+HandsExpansionsOn g = (expand : List ℕ → Option (List ℕ)) → IsKept (ExpandsTo expand) → HandsOn (ExpandsTo expand) g
+
+-- a tree expands to one tree at most: so the outcome on short contents determines the one on long contents
+abbrev pub ExpandsToOne : TreeMap → Type 0
+ExpandsToOne t = (expand : List ℕ → Option (List ℕ)) (u w : TreeMap) → AreAlike (ExpandsTo expand) t u → AreAlike (ExpandsTo expand) t w → u ≡ w
+
+-- what the rest of a content expands to, where `left` bytes of a token are still to be read and n is its number so far. The byte 255, which UTF-8 does not
+-- have,
+-- begins a token; the four bytes after it are its number, the most significant first; each other byte expands to itself
+abbrev pub spelled_from : (ℕ → List ℕ) → List ℕ → ℕ → ℕ → Option (List ℕ)
+spelled_from table [] zero n = Some []
+spelled_from table [] (suc left) n = None
+spelled_from table (b ∷ bytes) zero n =
+    if b == 255 then spelled_from table bytes 4 0 else option_map (λ rest. b ∷ rest) (spelled_from table bytes 0 0)
+spelled_from table (b ∷ bytes) (suc zero) n = option_map (λ rest. table (n * 256 + b) ++ rest) (spelled_from table bytes 0 0)
+spelled_from table (b ∷ bytes) (suc (suc left)) n = spelled_from table bytes (suc left) (n * 256 + b)
+
+-- what a content with tokens expands to
+abbrev pub spelled : (ℕ → List ℕ) → List ℕ → Option (List ℕ)
+spelled table bytes = spelled_from table bytes 0 0
+
+-- whether a content has the byte that begins tokens
+abbrev pub has_mark : List ℕ → Bool
+has_mark bytes = list_any (λ b. b == 255) bytes
+
+-- whether a command may write the byte that begins tokens, or a digest of tokens in the place of contents; a listing writes names of any trees
+abbrev pub marks : Setting → Command → Bool
+marks setting (command.Write path word) = has_mark (line word)
+marks setting (command.Append path word) = has_mark (line word)
+marks setting (command.Envfile out) = has_mark (flat_map line setting.env)
+marks setting (command.Listing path out) = true
+marks setting (command.Sha256 path out) = true
+marks setting command.True = false
+marks setting command.False = false
+marks setting (command.Mkdir parents path) = false
+marks setting (command.Rm path) = false
+marks setting (command.Cp from to) = false
+marks setting (command.Concat out parts) = false
+marks setting (command.Chmod mode path) = false
+marks setting (command.Test kind path) = false
+
+-- whether an action writes the byte that begins tokens
+abbrev pub body_marks : Option ActionKind → Bool
+body_marks (Some (kind.MkFile m)) = has_mark m.body
+body_marks (Some (kind.MkDir m)) = false
+body_marks (Some (kind.Copy c)) = false
+body_marks (Some (kind.Rm r)) = false
+body_marks None = false
+
+-- the same for a micro-step
+abbrev pub step_marks : MicroStep → Bool
+step_marks (Act action) = body_marks action.kind
+step_marks (Run setting command ends) = marks setting command.command
+step_marks ReadLocal = false
+step_marks (LayInput i) = false
+
+-- no vertex at or before vertex v makes a digest or a listing, or writes the byte that begins tokens
+abbrev pub WritesNoTokens : Numbered → ℕ → Type 0
+WritesNoTokens g v = (k : ℕ) (x : Vertex) → Reached (links g.vertices) v k → slice_get g.vertices k ≡ Some x → list_any step_marks (program_of x).steps ≡ false
+
+-- with tokens for contents in local trees, the outcome is the one with the contents, with tokens for them
+abbrev pub HandsTokensOn : Numbered → Type 0
+HandsTokensOn g = (table : ℕ → List ℕ) (ls ms : List Local) (v : ℕ) → WritesNoTokens g v → HaveAlikeSources (ExpandsTo (spelled table)) g v ls ms
+    → HasAlikeOutcomes (ExpandsTo (spelled table)) g ls ms v
+
+-- ---- where no digest is made
+
+-- whether a command makes a digest of contents, the one thing that looks at them
+abbrev pub digests : Command → Bool
+digests (command.Sha256 path out) = true
+digests command.True = false
+digests command.False = false
+digests (command.Mkdir parents path) = false
+digests (command.Rm path) = false
+digests (command.Write path word) = false
+digests (command.Append path word) = false
+digests (command.Cp from to) = false
+digests (command.Concat out parts) = false
+digests (command.Chmod mode path) = false
+digests (command.Test kind path) = false
+digests (command.Listing path out) = false
+digests (command.Envfile out) = false
+
+-- whether a micro-step makes a digest of contents
+abbrev pub step_digests : MicroStep → Bool
+step_digests (Run setting command ends) = digests command.command
+step_digests ReadLocal = false
+step_digests (Act action) = false
+step_digests (LayInput i) = false
+
+-- no vertex at or before vertex v makes a digest of contents
+abbrev pub MakesNoDigest : Numbered → ℕ → Type 0
+MakesNoDigest g v = (k : ℕ) (x : Vertex) → Reached (links g.vertices) v k → slice_get g.vertices k ≡ Some x → list_any step_digests (program_of x).steps ≡ false
+
+-- the same as `HandsOn`, with no premise on what is written: for relations that relate each content to itself
+abbrev pub HandsOnUndigested : (List ℕ → List ℕ → Type 0) → Numbered → Type 0
+HandsOnUndigested R g = (ls ms : List Local) (v : ℕ) → MakesNoDigest g v → HaveAlikeSources R g v ls ms → HasAlikeOutcomes R g ls ms v
+
+-- a relation that relates each content to itself is handed on, if no digest is made
+abbrev pub HandsUndigestedOn : Numbered → Type 0
+HandsUndigestedOn g = (test : List ℕ → List ℕ → Bool) → IsKept (By test) → ((a : List ℕ) → By test a a) → HandsOnUndigested (By test) g
+
+-- a content is another with some pieces exchanged, each for its partner in a list of pairs
+pub record AreExchanged (pairs : List (List ℕ × List ℕ)) (a b : List ℕ) : Type 0 where
+  pub pieces : List (List ℕ × List ℕ)
+  pub each : All (λ p. (p.0 ≡ p.1) ⊎ Contains pairs p) pieces
+  pub first : a ≡ flat_map (λ p. p.0) pieces
+  pub second : b ≡ flat_map (λ p. p.1) pieces
+
+-- where pieces of local trees' contents are exchanged, the outcome is the same but for such exchanges in its contents, if no digest is made
+abbrev pub HandsContentsOn : Numbered → Type 0
+HandsContentsOn g = (pairs : List (List ℕ × List ℕ)) → HandsOnUndigested (AreExchanged pairs) g

@@ -1,0 +1,6 @@
+mod Entries
+mod Vertices
+mod Digests
+mod Together
+mod Boards
+mod Jobs

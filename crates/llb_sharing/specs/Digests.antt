@@ -1,0 +1,70 @@
+-- What vertices with one digest have in common, in graphs of definitions that do not collide.
+use Rattle.std.specs.Prelude.{◌≡◌, ℕ, List, Ok, Some, slice_get}
+use Rattle.std.specs.List.{Contains}
+use Rattle.llb_wire.specs.Digest.{digest_text}
+use Rattle.llb_ops.specs.Definition.{definition_of}
+use Rattle.llb_loader.specs.declared.graph.Vertex.{Vertex}
+use Rattle.llb_loader.specs.Rows.{Reached}
+use Rattle.llb_loader.specs.Graph.{Numbered, links}
+use Rattle.llb_loader.specs.Load.{IsGraphIn}
+use Rattle.llb_loader.specs.Locals.{Local, local_name, tree_of_local}
+use Rattle.llb_model.specs.Program.{Build}
+use Rattle.llb_model.specs.Outcome.{outcome, is_plain}
+
+-- ---- two definitions
+
+-- an entry of one definition and an entry of another that have one digest are the same bytes
+abbrev pub DoNotCollide : List ℕ → List ℕ → Type 0
+DoNotCollide d e = (xs ys : List (List ℕ)) → definition_of d ≡ Ok xs → definition_of e ≡ Ok ys
+    → (x y : List ℕ) → Contains xs x → Contains ys y → digest_text x ≡ digest_text y → x ≡ y
+
+-- two definitions are loaded as two graphs, and do not collide
+pub record LoadWithoutCollision (d : List ℕ) (g : Numbered) (e : List ℕ) (h : Numbered) : Type 0 where
+  pub first : IsGraphIn d g
+  pub second : IsGraphIn e h
+  pub apart : DoNotCollide d e
+
+-- each entry of one definition is an entry of another
+abbrev pub IsPartOf : List ℕ → List ℕ → Type 0
+IsPartOf d f = (xs zs : List (List ℕ)) → definition_of d ≡ Ok xs → definition_of f ≡ Ok zs → (x : List ℕ) → Contains xs x → Contains zs x
+
+-- definitions whose entries are all entries of one definition that is loaded do not collide
+abbrev pub PartsDoNotCollide : List ℕ → Numbered → Type 0
+PartsDoNotCollide f g = IsGraphIn f g → (d e : List ℕ) → IsPartOf d f → IsPartOf e f → DoNotCollide d e
+
+-- ---- two vertices
+
+-- vertex v of one graph and vertex w of another have one digest
+pub record HaveOneDigest (g : Numbered) (v : ℕ) (h : Numbered) (w : ℕ) : Type 0 where
+  pub first : Vertex
+  pub second : Vertex
+  pub first_there : slice_get g.vertices v ≡ Some first
+  pub second_there : slice_get h.vertices w ≡ Some second
+  pub same : first.digest ≡ second.digest
+
+-- a vertex at or before v is the local source with this name
+pub record IsSourceOf (g : Numbered) (v : ℕ) (name : List ℕ) : Type 0 where
+  pub number : ℕ
+  pub source : Vertex
+  pub before : Reached (links g.vertices) v number
+  pub there : slice_get g.vertices number ≡ Some source
+  pub named : local_name source.op ≡ Some name
+
+-- each local source at or before vertex v has the same tree, or none, among both lists of local trees
+abbrev pub HaveSameSources : Numbered → ℕ → List Local → List Local → Type 0
+HaveSameSources g v ls ms = (name : List ℕ) → IsSourceOf g v name → tree_of_local ls name ≡ tree_of_local ms name
+
+-- two vertices have one plain outcome, and a cache mount is at or before both or neither
+pub record HaveOneOutcome (b : Build) (v : ℕ) (c : Build) (w : ℕ) : Type 0 where
+  pub same : outcome b v ≡ outcome c w
+  pub plain : is_plain b v ≡ is_plain c w
+
+-- vertices of two graphs with one digest have one outcome, whatever the local trees, if those of the sources at or before the vertex are the same
+abbrev pub ShareOutcomes : Numbered → Numbered → Type 0
+ShareOutcomes g h = (ls ms : List Local) (v w : ℕ) → HaveOneDigest g v h w → HaveSameSources g v ls ms
+    → HaveOneOutcome (record { graph = g; locals = ls }) v (record { graph = h; locals = ms }) w
+
+-- the outcome of a vertex depends on no local trees but those of the sources at or before it
+abbrev pub DependOnSources : Numbered → Type 0
+DependOnSources g = (ls ms : List Local) (v : ℕ) → HaveSameSources g v ls ms
+    → outcome (record { graph = g; locals = ls }) v ≡ outcome (record { graph = g; locals = ms }) v

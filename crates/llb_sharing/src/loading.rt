@@ -1,0 +1,20 @@
+//! Two definitions, loaded side by side.
+
+ghost use Rattle.std.specs.Prelude.{IfOk};
+ghost use Rattle.llb_sharing.specs.Digests.{DoNotCollide, LoadWithoutCollision, ShareOutcomes};
+
+use crate::laws::one_digest_one_outcome;
+use llb_loader::{Graph, LoadFault, load};
+use std::alloc::Global;
+
+/// Returns the graphs of two definitions. If the definitions do not collide, vertices of the graphs with one digest share their outcomes. Fails as
+/// `load` does for the first definition, else as for the second.
+pub fn load_both(alloc: Global, first: &[u8], second: &[u8]) -> Result<(Graph, Graph), LoadFault>
+    ensures { IfOk result (λ made. DoNotCollide first.now second.now
+        → LoadWithoutCollision first.now made.0 second.now made.1 × ShareOutcomes made.0 made.1) }
+{
+    let graph = load(alloc, first)?;
+    let other = load(alloc, second)?;
+    one_digest_one_outcome(first, &graph, second, &other);
+    Ok((graph, other))
+}
