@@ -3,16 +3,18 @@
 In: requests on standard input, each a JSON object after a header with its Content-Length. A launch names the
 `definition` (a file), or the `text` of its entries (a file with what `llbm dis` prints, or any text that `llbm asm`
 accepts), or both; `sources`, an object with a directory, a tar (both with owner 0:0) or a tree text for each local
-source by its name; `workers`, 2 by default; `stopOnEntry`, to stop before the first event; `stopAtEnd`, to stop after
-the last one; and `llbm`, the program, else the one on PATH, else crates/llbm/out/llbm of the repository, or else its
+source by its name; `files`, an object with the paths of files that the definition was made from, by their names there;
+`workers`, 2 by default; `stopOnEntry`, to stop before the first event; `stopAtEnd`, to stop after the last one, true by
+default; and `llbm`, the program, else the one on PATH, else crates/llbm/out/llbm of the repository, or else its
 out/llbm-unproved, which is named on standard error as not proved.
 
 Out: responses and events on standard output. Threads are the workers of the run; the source is the text of the entries,
-where a vertex is at the lines of its entry. A breakpoint on a line stops after the claim of the vertex, with the
-condition `settle` after its settle; the exception filter `failed` stops after the settle of a vertex that failed. Each
-line of the record is an output event. A request that can't be granted gets a failure response with the cause in one
-line. When the run is complete, or the client leaves, `exited` (with 1 if a vertex failed, else 0) and `terminated` are
-sent.
+where a vertex is at the lines of its entry, and beside it the files that the definition was made from. A breakpoint on
+a line, or on a vertex by its name, stops after the claim of the vertex, with the condition `settle` after its settle;
+the exception filter `failed` stops after the settle of a vertex that failed. Scopes show the trees that a worker works
+on, caches, and what the last event changed. Each line of the record is an output event. A request that can't be granted
+gets a failure response with the cause in one line. When the run is over, or the client leaves, `exited` (with 1 if a
+vertex failed, else 0) and `terminated` are sent.
 
 Exit status: 0 the client has left, by `disconnect` or at the end of the input; 2 the input is not a message, or the
 command line is refused: standard error says why; 3 a read or a write failed; 130 or 143 interrupted or terminated.

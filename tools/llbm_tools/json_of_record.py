@@ -12,6 +12,9 @@ Out: an array on standard output, as UTF-8, with an object for each line, in ord
   `action` and `fault`, or `command` and `status`.
 - A line of a tree's text is `directory` or `file`, with `mode` (four octal digits, a string), `user`, `group`, `path`
   and, for a file, `content` in hexadecimal.
+- A tree that a worker works on is `part`, with `number` and `role`: `local`, `input`, `result` with `action`, `laid`,
+  or `mount` with `dest`. A key of the caches is `key`, with `number`, `mode`, `instances`, `seed` (`DIGEST.I` or `-`)
+  and `id`.
 - `stop`, `end` and `none` have no other members; `back` has `number`.
 - A refusal is `fault`, with `fault`; with 171 also `board` (the board's own fault) and for a key that is held its `id`,
   with 173 also `line`.
@@ -30,6 +33,8 @@ from typing import NamedTuple
 from llbm_tools.shows import KINDS, NUMBER
 from llbm_tools.streams import Refused, exit_status, input_lines, write_output
 from llbm_tools.trees import entry_of, path_of
+
+TEXTS = {"id", "dest", "mode", "seed"}
 
 Members = dict[str, object]
 
@@ -75,6 +80,10 @@ OTHERS = [
     form("status", "{vertex} running {worker}", state="running"),
     form("status", "{vertex} failed action {action} fault {fault}", state="failed"),
     form("status", "{vertex} failed command {command} status {status}", state="failed"),
+    *(form("part", "{number} " + role, role=role) for role in ("local", "input", "laid")),
+    form("part", "{number} result {action}", role="result"),
+    form("part", "{number} mount (?P<dest>/.*)", role="mount"),
+    form("key", r"{number} (?P<mode>shared|locked|private) {instances} (?P<seed>-|\S+\.[0-9]+) (?P<id>.*)"),
     form("fault", "fault (?P<fault>171) (?P<board>13[123478]|136|141)"),
     form("fault", "fault (?P<fault>171) (?P<board>135) (?P<id>.*)"),
     form("fault", "fault (?P<fault>172|174)"),
@@ -87,7 +96,7 @@ def object_in(text: str, forms: list[Form]) -> Members | None:
     for one in forms:
         match = one.pattern.fullmatch(text)
         if match:
-            members = {name: value if name == "id" else int(value) for name, value in match.groupdict().items()}
+            members = {name: value if name in TEXTS else int(value) for name, value in match.groupdict().items()}
             kind = {"kind": one.kind} if one.kind else {}
             return {**kind, **members, **one.besides}
     return None

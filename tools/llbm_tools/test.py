@@ -32,6 +32,10 @@ from tests import base
 MODULES = [
     "adapter_runs",
     "adapter_steps",
+    "adapter_eyes",
+    "adapter_breaks",
+    "reasons",
+    "tracing",
     "adapter_parts",
     "program",
     "linting",

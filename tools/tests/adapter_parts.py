@@ -205,7 +205,7 @@ class WithFake(WithAdapter):
     def launched(self, **more):
         """Returns a client that has launched a run."""
         client = self.opened()
-        client.ask("launch", **{**self.given, **more})
+        client.ask("launch", **{**self.given, "stopAtEnd": False, **more})
         client.until("initialized")
         return client
 
@@ -300,7 +300,7 @@ class Crashes(WithFake):
         self.set_behavior(DONE)
         self.environment["PATH"] = f"{self.at}:{os.environ['PATH']}"
         client = self.opened()
-        client.ask("launch", definition=self.definition, sources={"src": self.tree})
+        client.ask("launch", definition=self.definition, sources={"src": self.tree}, stopAtEnd=False)
         client.ask("configurationDone")
         self.assertEqual(client.ended(), 0)
 

@@ -56,7 +56,7 @@ class WithRun(WithAdapter):
     def launched(self, given, habits=None, **more):
         """Returns a client that has launched a run."""
         client = self.opened(**(habits or {}))
-        client.ask("launch", llbm=base.llbm, **given, **more)
+        client.ask("launch", **{"llbm": base.llbm, "stopAtEnd": False, **given, **more})
         client.until("initialized")
         self.check_no_file_is_left()
         return client
@@ -324,20 +324,22 @@ class Failures(WithRun):
     """A vertex that fails: the second command of examples/failure, in its vertex 1."""
 
     LINE = "failed 1 command 1 status 1"
+    WHY = "command 1 (cp /none /b) failed: there is no file /none"
 
     def test_the_run_can_stop_at_a_failure(self):
         client = self.launched(self.example("failure", "empty"))
         client.ask("setExceptionBreakpoints", filters=["failed"])
         client.ask("configurationDone")
         stop = client.stopped()
-        self.assertEqual((stop["reason"], stop["text"], stop["threadId"]), ("exception", self.LINE, 1))
+        self.assertEqual((stop["reason"], stop["threadId"]), ("exception", 1))
+        self.assertEqual(stop["text"], f"{self.LINE}: {self.WHY}")
         answer = client.ask("exceptionInfo", threadId=1)
         self.assertEqual((answer["exceptionId"], answer["description"]), ("failed", self.LINE))
         self.assertIn("command 1: cp /none /b", answer["details"]["stackTrace"])
         self.assertEqual(client.refused("exceptionInfo", threadId=2), "worker 1 has not stopped at a failure")
         self.assertTrue(self.record(client)[-1].endswith(" settle 0 -> 1 failed"))
         answer = client.ask("evaluate", expression="1")["result"]
-        self.assertEqual(answer.splitlines()[0], "1 failed command 1 status 1")
+        self.assertEqual([answer.splitlines()[place] for place in (0, -1)], ["1 failed command 1 status 1", self.WHY])
         answer = client.refused("evaluate", expression="1.0:/a")
         self.assertEqual(answer, "there is no output 1.0: vertex 1 is failed command 1 status 1")
         self.assertEqual([one["value"] for one in self.scope(client, 1, "Outputs")], ["none"])
@@ -355,6 +357,7 @@ class Failures(WithRun):
         lines = client.lines("stderr")
         self.assertEqual(lines[0], self.LINE)
         self.assertIn("  command 1: cp /none /b", lines)
+        self.assertEqual(lines[-1], f"  why: {self.WHY}")
         self.assertEqual(client.leave(), 0)
 
     def test_launches_that_the_program_refuses_are_explained(self):
@@ -380,29 +383,32 @@ class Failures(WithRun):
 class Documented(WithRun):
     """The session in the documentation, and the launch files of the examples."""
 
-    def transcript(self):
-        """Returns the messages of the documented session, each with its arrow."""
-        lines = (ROOT / "docs" / "TOOLS.md").read_text("utf-8").splitlines()
-        begin = lines.index(next(line for line in lines if line.startswith('-> {"seq": 1,')))
-        block = "\n".join(lines[begin : lines.index("```", begin)]).replace("\n   ", " ")
-        return [line.split(" ", 1) for line in block.split("\n")]
+    def transcripts(self):
+        """Returns the messages of each documented session, each with its arrow."""
+        text = (ROOT / "docs" / "TOOLS.md").read_text("utf-8")
+        blocks = [block for block in text.split("```text\n")[1:] if block.startswith('-> {"seq": 1,')]
+        for block in blocks:
+            joined = block[: block.index("\n```")].replace("\n   ", " ").replace("$ROOT", str(ROOT))
+            yield [line.split(" ", 1) for line in joined.split("\n")]
 
-    def test_the_documented_session_is_what_the_adapter_sends(self):
+    def test_the_documented_sessions_are_what_the_adapter_sends(self):
         programs = self.at / "programs"
         programs.mkdir()
         (programs / "llbm").symlink_to(base.llbm)
         self.environment["PATH"] = f"{programs}:{os.environ['PATH']}"
-        client = protocol.Client(base.command("debug-adapter"), env=self.environment, cwd=ROOT)
-        self.addCleanup(client.close)
-        transcript = self.transcript()
-        self.assertGreater(len(transcript), 40)
-        for arrow, text in transcript:
-            message = json.loads(text)
-            if arrow == "->":
-                self.assertEqual(client.send(message["command"], message.get("arguments")), message["seq"])
-            else:
-                self.assertEqual(client.receive(), message)
-        self.assertEqual(client.child.wait(60), 0)
+        lengths = []
+        for transcript in self.transcripts():
+            lengths.append(len(transcript))
+            client = protocol.Client(base.command("debug-adapter"), env=self.environment, cwd=ROOT)
+            self.addCleanup(client.close)
+            for arrow, text in transcript:
+                message = json.loads(text)
+                if arrow == "->":
+                    self.assertEqual(client.send(message["command"], message.get("arguments")), message["seq"])
+                else:
+                    self.assertEqual(client.receive(), message)
+            self.assertEqual(client.child.wait(60), 0)
+        self.assertEqual(lengths, [69, 32, 30])
 
     def test_the_launch_file_of_vs_code_starts_the_adapter(self):
         launch_file = (EXAMPLES / "launch.json").read_text().replace("${workspaceFolder}", str(ROOT))

@@ -8,6 +8,7 @@ from tests import base, protocol
 from tests.adapter_runs import ENTRIES, WithRun, stored_record
 
 PRINTED = "f 0644 0 0 %s /%s"
+NONE = "is none of V.I:/path, V, %k, work W I:/path and cache K I:/path"
 
 
 class Steps(WithRun):
@@ -87,8 +88,8 @@ class Steps(WithRun):
         self.assertTrue(message.startswith("fault 171 138 171: "), message)
         message = client.refused("evaluate", expression="claim 0 9", context="repl")
         self.assertTrue(message.startswith("fault 171 132 "), message)
-        self.assertIn("is neither", client.refused("evaluate", expression="step 0", context="watch"))
-        self.assertIn("is neither", client.refused("evaluate", expression="quit", context="repl"))
+        self.assertIn("is none of", client.refused("evaluate", expression="step 0", context="watch"))
+        self.assertIn("is none of", client.refused("evaluate", expression="quit", context="repl"))
         for count in [3, 2, 1, 0]:
             self.move(client, "stepBack")
             self.assertEqual(len(self.record(client)), count)
@@ -261,12 +262,11 @@ class Inspection(WithRun):
             self.assertEqual(shown, result or client.ask("evaluate", expression="0")["result"])
         self.assertTrue(client.ask("evaluate", expression="2")["result"].startswith("2 waiting\nexec, steps 6, "))
         for expression, message in [
-            ("", "'' is neither V.I:/path nor V nor %k"), ("a", "'a' is neither V.I:/path nor V nor %k"),
-            ("1:/a", "'1:/a' is neither V.I:/path nor V nor %k"), ("3", "there is no vertex 3"),
+            ("", f"'' {NONE}"), ("a", f"'a' {NONE}"), ("1:/a", f"'1:/a' {NONE}"), ("3", "there is no vertex 3"),
             ("3.0:/", "there is no vertex 3"), ("0.1:/", "there is no output 0.1"),
             ("1.0:/", "there is no output 1.0: vertex 1 is ready"), ("0.0:/none", "0.0: nothing is at /none"),
             ("0.0:/text/head/x", "0.0: /text/head is a file"), ("%3", "entry 3 is not a vertex"),
-            ("%9", "entry 9 is not a vertex"), ("9" * 5000, "'" + "9" * 57 + "...' is neither V.I:/path nor V nor %k"),
+            ("%9", "entry 9 is not a vertex"), ("9" * 5000, "'" + "9" * 57 + f"...' {NONE}"),
         ]:
             self.assertEqual(client.refused("evaluate", expression=expression), message)
         self.assertEqual(client.refused("evaluate"), "expression is missing")
@@ -291,7 +291,7 @@ class Inspection(WithRun):
         client.ask("scopes", frameId=1)
         message = client.refused("variables", variablesReference=scope)
         self.assertEqual(message, f"variablesReference {scope} is not known in this state")
-        self.assertEqual(client.refused("restart"), "the request restart is not known")
+        self.assertEqual(client.refused("attach"), "the request attach is not known")
         self.assertEqual(client.refused("configurationDone"), "configurationDone: the run is stopped")
 
 
@@ -300,11 +300,12 @@ class RandomRequests(WithRun):
 
     VALUES = [
         None, True, 0, 1, 2, -1, 1 << 70, 1.5, "", "0.0:/", "%1", "claim 0 0", "\ud800", "a\0b", [], {}, [None],
-        [{"line": 7}], [{"line": 20, "condition": "settle"}], {"sourceReference": 1}, {"path": "a\0b"}, ["failed"],
+        [{"line": 7}], [{"line": 20, "condition": "settle"}], [{"name": "1", "hitCondition": "1"}],
+        {"sourceReference": 1}, {"path": "a\0b"}, ["failed"],
     ]
     NAMES = [
         "threadId", "frameId", "variablesReference", "expression", "context", "source", "breakpoints", "filters",
-        "sourceReference", "levels", "startFrame", "start", "count", "filter",
+        "sourceReference", "levels", "startFrame", "start", "count", "filter", "arguments", "hitCondition",
     ]
 
     def given(self, chance):
@@ -319,7 +320,7 @@ class RandomRequests(WithRun):
         }
 
     def test_each_request_has_one_response(self):
-        moves = {"next", "stepIn", "stepOut", "stepBack", "reverseContinue", "continue"}
+        moves = {"next", "stepIn", "stepOut", "stepBack", "reverseContinue", "continue", "restart"}
         names = sorted(set(protocol.RESPONSES) - {"disconnect", "terminate"} | {"attach"})
         for seed in range(4):
             chance = random.Random(seed)

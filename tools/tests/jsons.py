@@ -138,6 +138,17 @@ class JsonOfRecord(Conversion):
         lines += ["fault 171 135 my  id -> \N{BULLET}", "fault 172", "fault 173 12", "fault 174"]
         self.check_objects(wanted, *lines)
 
+    def test_looks_become_objects(self):
+        wanted = [
+            {"kind": "part", "number": 0, "role": "local"}, {"kind": "part", "number": 1, "role": "input"},
+            {"kind": "part", "number": 2, "role": "laid"}, {"kind": "part", "number": 3, "role": "result", "action": 4},
+            {"kind": "part", "number": 5, "role": "mount", "dest": "/a b"},
+            {"kind": "key", "number": 0, "mode": "locked", "instances": 1, "seed": "-", "id": "my  id"},
+            {"kind": "key", "number": 1, "mode": "private", "instances": 2, "seed": "sha256:ab.0", "id": ""},
+        ]
+        lines = ["0 local", "1 input", "2 laid", "3 result 4", "5 mount /a b", "0 locked 1 - my  id"]
+        self.check_objects(wanted, *lines, "1 private 2 sha256:ab.0 ")
+
     def test_no_lines_become_an_empty_array(self):
         self.check_objects([], end="")
 

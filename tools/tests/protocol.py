@@ -11,7 +11,8 @@ SHAPES = {
     "Capabilities": {
         "supportsConfigurationDoneRequest?": bool, "supportsConditionalBreakpoints?": bool,
         "supportsEvaluateForHovers?": bool, "supportsStepBack?": bool, "supportsExceptionInfoRequest?": bool,
-        "supportsLoadedSourcesRequest?": bool, "supportsTerminateRequest?": bool,
+        "supportsLoadedSourcesRequest?": bool, "supportsTerminateRequest?": bool, "supportsRestartRequest?": bool,
+        "supportsFunctionBreakpoints?": bool, "supportsHitConditionalBreakpoints?": bool, "supportsLogPoints?": bool,
         "exceptionBreakpointFilters?": ["ExceptionBreakpointsFilter"],
     },
     "ExceptionBreakpointsFilter": {"filter": str, "label": str, "description?": str, "default?": bool},
@@ -49,18 +50,23 @@ SHAPES = {
         "hitBreakpointIds?": [int],
     },
     "Output": {"category?": str, "output": str, "source?": "Source", "line?": int},
+    "BreakpointEvent": {"reason": ("changed", "new", "removed"), "breakpoint": "Breakpoint"},
     "Exited": {"exitCode": int},
 }
 
 # The shape of the body of the response to each request, and of each event; None if there is no body.
 RESPONSES = {
     "initialize": "Capabilities", "launch": None, "configurationDone": None, "terminate": None, "disconnect": None,
-    "setBreakpoints": "SetBreakpoints", "setExceptionBreakpoints": None, "exceptionInfo": "ExceptionInfo",
+    "setBreakpoints": "SetBreakpoints", "setFunctionBreakpoints": "SetBreakpoints", "restart": None,
+    "setExceptionBreakpoints": None, "exceptionInfo": "ExceptionInfo",
     "continue": "Continue", "next": None, "stepIn": None, "stepOut": None, "stepBack": None, "reverseContinue": None,
     "pause": None, "threads": "Threads", "stackTrace": "StackTrace", "scopes": "Scopes", "variables": "Variables",
     "evaluate": "Evaluate", "source": "SourceText", "loadedSources": "LoadedSources",
 }
-EVENTS = {"initialized": None, "stopped": "Stopped", "output": "Output", "exited": "Exited", "terminated": None}
+EVENTS = {
+    "initialized": None, "stopped": "Stopped", "output": "Output", "breakpoint": "BreakpointEvent",
+    "exited": "Exited", "terminated": None,
+}
 
 RESPONSE = {
     "seq": int, "type": ("response",), "request_seq": int, "success": bool, "command": str, "message?": str,

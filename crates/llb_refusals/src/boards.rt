@@ -46,6 +46,7 @@ enum Answer {
     Copied(Result<Board, Memory>),
     Events(Result<Events, Memory>),
     Worked(Result<Outcome, WorkFault>),
+    Looked(bool),
 }
 
 /// What is written of a board.
@@ -358,6 +359,8 @@ impl Trial for OnBoard {
         self.answer = match self.call {
             "Board::copy" => Answer::Copied(self.board.copy()),
             "Events::copy" => Answer::Events(self.board.events().copy()),
+            "Board::worked_on" => Answer::Looked(self.board.worked_on(0, 1).is_some()),
+            "Board::cached" => Answer::Looked(self.board.cached(0, 0).is_some()),
             call if call.starts_with("work ") => worked(alloc, &mut self.jobs),
             call => board_called(&mut self.board, call),
         };
@@ -370,6 +373,7 @@ impl Trial for OnBoard {
             Answer::Copied(Ok(copy)) => text_told(rt, alloc, name_of(copy.same(&self.twin))),
             Answer::Events(Ok(events)) => text_told(rt, alloc, self.events_told(events)),
             Answer::Worked(Ok(outcome)) => outcome_told(rt, alloc, outcome),
+            Answer::Looked(true) => text_told(rt, alloc, "a tree"),
             Answer::Claimed(Err(fault)) => fault_told(rt, alloc, fault),
             Answer::Stepped(Err(fault)) => fault_told(rt, alloc, fault),
             Answer::Worked(Err(fault)) => fault_told(rt, alloc, fault),
@@ -430,6 +434,9 @@ const ROWS: &[Row] = &[
     ("step 0", SKIPS, "", "Skipped(1), the board"),
     ("Board::copy", LOCKED_ONCE, "141", "the board"),
     ("Events::copy", LOCKED_ONCE, "141", "the events"),
+    ("Board::worked_on", LOCKED_ONCE, "", "a tree"),
+    ("Board::cached", LOCKED_ONCE, "", "a tree"),
+    ("Board::cached", TWO_FILES, "", "nothing"),
     ("work 0", TWO_FILES, "142", "1 done, false"),
     ("work 0", LOCKED, "142", "1 done, false"),
     ("work 2", ON_VIEW, "142", "3 done, false"),

@@ -37,6 +37,8 @@ mod landings;
 #[cfg(test)]
 mod local_trees;
 #[cfg(test)]
+mod looks;
+#[cfg(test)]
 mod midway;
 #[cfg(test)]
 mod openings;

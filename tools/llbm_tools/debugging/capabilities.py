@@ -1,15 +1,18 @@
 """The capabilities of the adapter, as the response to `initialize` reports them."""
 
 FAILED = "failed"
-CONDITIONS = ("claim", "settle")
 
 CAPABILITIES = {
     "supportsConfigurationDoneRequest": True,
+    "supportsFunctionBreakpoints": True,
     "supportsConditionalBreakpoints": True,
+    "supportsHitConditionalBreakpoints": True,
+    "supportsLogPoints": True,
     "supportsEvaluateForHovers": True,
     "supportsStepBack": True,
     "supportsExceptionInfoRequest": True,
     "supportsLoadedSourcesRequest": True,
+    "supportsRestartRequest": True,
     "supportsTerminateRequest": True,
     "exceptionBreakpointFilters": [
         {

@@ -4,6 +4,7 @@ The program reads all its files before it answers the first command, so the temp
 launch.
 """
 
+import difflib
 import functools
 import os
 import pathlib
@@ -15,12 +16,20 @@ import tempfile
 from collections.abc import Callable
 from typing import NamedTuple
 
-from llbm_tools import definition, faults
+from llbm_tools import definition, faults, names
 from llbm_tools.common import MOST_BYTES, os_error_text, program_named
 from llbm_tools.debugging import places
 from llbm_tools.debugging.arguments import Refused, argument, of_kind
+from llbm_tools.debugging.origins import Origins, origins_of
+from llbm_tools.debugging.readable import readable
 from llbm_tools.debugging.session import Refusal, Session, SessionFailed
 from llbm_tools.paths import TOOLS
+
+ARGUMENTS = ("definition", "text", "sources", "files", "workers", "stopOnEntry", "stopAtEnd", "noDebug", "llbm")
+EDITOR_ARGUMENTS = (
+    "type", "request", "name", "presentation", "preLaunchTask", "postDebugTask", "internalConsoleOptions",
+    "debugServer", "serverReadyAction", "suppressMultipleSessionWarning", "linux", "osx", "windows", "restart",
+)
 
 MOST_WORKERS = 64
 USUAL_WORKERS = 2
@@ -35,13 +44,16 @@ Say = Callable[[str], None]
 
 
 class Launched(NamedTuple):
-    """A session at its beginning, its graph, its entries for explanations, and the name and the file of its text."""
+    """A session at its beginning, its graph, its entries for explanations, the name and the file of its text, and the
+    files that the definition was made from.
+    """
 
     session: Session
     graph: places.Graph
     entries: faults.Entries
     name: str
     file: str | None
+    origins: Origins
 
 
 @functools.cache
@@ -115,6 +127,14 @@ def definition_of(program: str, arguments: dict) -> tuple[bytes, bytes | None]:
     return data, text
 
 
+def text_of(program: str, data: bytes, text: bytes | None, entries: list[bytes]) -> places.Text:
+    """Returns the text of the entries with their lines: the one that is given, or that of the program, readable."""
+    if text is None:
+        return readable(output_of(program, "dis", data).decode("utf-8"), entries)
+    given = text.decode("utf-8")
+    return places.Text(given, places.lines_of(given))
+
+
 def is_tar(path: str, begin: bytes) -> bool:
     """Returns whether a file with this name and beginning is a tar, packed or not, and not a tree text."""
     if TREE_TEXT.match(begin):
@@ -171,6 +191,23 @@ def workers_of(arguments: dict) -> int:
     return workers
 
 
+def files_of(arguments: dict) -> dict[str, str]:
+    """Returns the paths of files that the definition was made from, by the names that it has for them."""
+    given = argument(arguments, "files", dict, {})
+    return {name: of_kind(path, f"files: {name}", str) for name, path in given.items()}
+
+
+def unknown_arguments(arguments: dict) -> list[str]:
+    """Returns a line for each argument of a launch that is neither known nor an editor's own."""
+    lines = []
+    for name in arguments:
+        if name in ARGUMENTS or name in EDITOR_ARGUMENTS or name.startswith("__"):
+            continue
+        near = difflib.get_close_matches(name, ARGUMENTS, 1)
+        lines.append(f"the launch argument {name} is not known" + (f": is it {near[0]}?" if near else ""))
+    return lines
+
+
 def start_session(command: list[str], workers: int, vertices: int, entries: faults.Entries) -> Session:
     """Starts a session, and checks that it answers its first command."""
     session = Session(command, workers, vertices)
@@ -184,21 +221,22 @@ def start_session(command: list[str], workers: int, vertices: int, entries: faul
 
 def start(arguments: dict, folder: str, say: Say) -> Launched:
     """Starts what a launch request asks for, with temporary files in a folder."""
-    program, workers = program_of(arguments), workers_of(arguments)
+    program, workers, given = program_of(arguments), workers_of(arguments), files_of(arguments)
     data, text = definition_of(program, arguments)
     entries = entries_of(data, "the definition")
     named_entries = faults.Entries(data)
     shown = output_of(program, "show", data, named_entries).decode("ascii", "backslashreplace")
-    text = output_of(program, "dis", data) if text is None else text
-    graph = places.graph_of(shown, text.decode("utf-8"), entries)
+    named = names.names_of(data)
+    graph = places.graph_of(shown, text_of(program, data, text, entries), entries, [one.text for one in named])
     words = source_words(arguments, folder, say)
     file = os.path.join(folder, "definition")
     pathlib.Path(file).write_bytes(data)
     command = [program, "step", file, "--workers", str(workers), *words]
     session = start_session(command, workers, len(graph.vertices), named_entries)
-    name = os.path.basename(argument(arguments, "definition", str, ""))
-    place = argument(arguments, "text", str, "")
-    return Launched(session, graph, named_entries, f"{name}.text", os.path.abspath(place) if place else None)
+    path, place = argument(arguments, "definition", str, ""), argument(arguments, "text", str, "")
+    origins = origins_of(data, given, os.path.dirname(os.path.abspath(path or place)))
+    name, text_file = f"{os.path.basename(path)}.text", os.path.abspath(place) if place else None
+    return Launched(session, graph, named_entries, name, text_file, origins)
 
 
 def launch(arguments: dict, say: Say) -> Launched:

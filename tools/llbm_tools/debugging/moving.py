@@ -7,22 +7,14 @@ run. Forwards and backwards it stops in the same states: those after an event th
 from collections.abc import Callable
 from typing import NamedTuple
 
+from llbm_tools.debugging.breakpoints import SETTLE, Breakpoint
 from llbm_tools.debugging.session import Event, Refusal, Session
 
 HELD, FINISHED = "fault 171 135", "fault 171 137"
-CLAIM, SETTLE = "claim", "settle"
 
 
 class Ended(Exception):
     """The run is complete: no event is left to do."""
-
-
-class Breakpoint(NamedTuple):
-    """A breakpoint: its number, and the event of a vertex at which it stops."""
-
-    number: int
-    vertex: int
-    kind: str
 
 
 class Stop(NamedTuple):
@@ -40,23 +32,41 @@ Motion = Callable[[], Stop | None]
 class Mover:
     """Moves a session forwards and backwards between breakpoints, and reports each event that is done or undone."""
 
-    def __init__(self, session: Session, report: Callable[[Event, str], None]) -> None:
+    def __init__(
+        self, session: Session, report: Callable[[Event, str], None], log: Callable[[Event, str], None]
+    ) -> None:
         self.session = session
         self.report = report
+        self.log = log
         self.breakpoints: list[Breakpoint] = []
         self.stops_at_failures = False
         self.stops_at_breakpoints = True
 
+    def is_hit(self, one: Breakpoint, event: Event) -> bool:
+        """Returns whether the last event of the record is a hit at which a breakpoint stops.
+
+        The hits are counted over the record, so they are the same forwards and backwards.
+        """
+        if not one.meets(event.kind, event.vertex):
+            return False
+        return one.stops(sum(one.meets(each.kind, each.vertex) for each in self.session.record))
+
     def met(self, event: Event) -> Stop | None:
-        """Returns the stop after an event that fails or hits breakpoints, or None."""
+        """Returns the stop after the last event of the record if it fails or hits breakpoints, or None."""
         if not self.stops_at_breakpoints:
             return None
-        hits = tuple(one.number for one in self.breakpoints if (one.kind, one.vertex) == (event.kind, event.vertex))
+        hits = tuple(one.number for one in self.breakpoints if not one.message and self.is_hit(one, event))
         if self.stops_at_failures and event.fails():
             return Stop("exception", f"vertex {event.vertex} failed", event.worker, hits)
         if hits:
             return Stop("breakpoint", f"{event.kind} of vertex {event.vertex}", event.worker, hits)
         return None
+
+    def print_messages(self, event: Event) -> None:
+        """Prints the messages of the breakpoints that an event hits."""
+        for one in self.breakpoints if self.stops_at_breakpoints else []:
+            if one.message and self.is_hit(one, event):
+                self.log(event, one.message)
 
     def do(self, command: str) -> Event:
         """Does a command that adds an event, and reports it."""
@@ -64,6 +74,7 @@ class Mover:
         if event is None:
             raise Ended
         self.report(event, event.line)
+        self.print_messages(event)
         return event
 
     def undo(self) -> Event:

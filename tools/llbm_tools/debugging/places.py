@@ -5,6 +5,9 @@ from typing import NamedTuple
 
 from llbm_tools import definition
 from llbm_tools.debugging.arguments import Refused
+from llbm_tools.ops import Op
+
+Lines = list[tuple[int, int]]
 
 NUMBER = r"(?:0|[1-9][0-9]*)"
 EDGE = rf"{NUMBER}\.{NUMBER}"
@@ -14,16 +17,25 @@ VERTEX = re.compile(
 
 
 class Vertex(NamedTuple):
-    """A vertex as the program shows it, with its entry and the lines of that."""
+    """A vertex as the program shows it, with its entry, the bytes, the op and the lines of that, and its own name."""
 
     kind: str
     steps: int
     outputs: int
     inputs: list[str]
     entry: int
-    op: dict
+    data: bytes
+    op: Op
     first: int
     last: int
+    name: str
+
+
+class Text(NamedTuple):
+    """The text of entries, and the first and the last line of each entry in it, counted from 1."""
+
+    text: str
+    lines: Lines
 
 
 class Graph(NamedTuple):
@@ -32,7 +44,7 @@ class Graph(NamedTuple):
     vertices: list[Vertex]
     result: str
     text: str
-    lines: list[tuple[int, int]]
+    lines: Lines
     vertex_of: list[int | None]
 
     def entry_at(self, line: int) -> int | None:
@@ -43,7 +55,7 @@ class Graph(NamedTuple):
         return None
 
 
-def lines_of(text: str) -> list[tuple[int, int]]:
+def lines_of(text: str) -> Lines:
     """Returns the first and the last line of each entry in a text of entries, counted from 1."""
     found = []
     depth, first = 0, 0
@@ -67,19 +79,20 @@ def vertices_by_entry(entries: list[bytes], rows: list[int]) -> list[int | None]
     return [numbers.get(first.setdefault(entry, row)) for row, entry in enumerate(entries)]
 
 
-def vertex_of(line: str, row: int, entry: bytes, place: tuple[int, int]) -> Vertex:
-    """Returns the vertex on a line of `llbm show`, given the row and the lines of its entry."""
+def vertex_of(line: str, row: int, entry: bytes, place: tuple[int, int], name: str) -> Vertex:
+    """Returns the vertex on a line of `llbm show`, given the row, the lines and the name of its entry."""
     match = VERTEX.fullmatch(line)
     if not match:
         raise Refused(f"the program printed an unexpected line for a vertex: {line[:200]}")
     _, kind, steps, outputs, inputs = match.groups()
     named = [] if inputs == "-" else inputs.split(" ")
-    return Vertex(kind, int(steps), int(outputs), named, row, definition.op_of(row, entry), *place)
+    op = definition.op_of(row, entry)
+    return Vertex(kind, int(steps), int(outputs), named, row, entry, op, *place, name)
 
 
-def graph_of(shown: str, text: str, entries: list[bytes]) -> Graph:
-    """Returns the graph from the output of `llbm show`, the text of the entries, and the entries."""
-    lines = lines_of(text)
+def graph_of(shown: str, text: Text, entries: list[bytes], names: list[str]) -> Graph:
+    """Returns the graph from the output of `llbm show`, the text of the entries, the entries, and their names."""
+    lines = text.lines
     if len(lines) != len(entries):
         raise Refused(f"the text has {len(lines)} entries, and the definition {len(entries)}")
     try:
@@ -89,5 +102,5 @@ def graph_of(shown: str, text: str, entries: list[bytes]) -> Graph:
     *vertex_lines, last = shown.splitlines() or [""]
     if len(vertex_lines) != len(rows) or not last.startswith("result "):
         raise Refused(f"the program shows {len(vertex_lines)} vertices, and the definition has {len(rows)}")
-    vertices = [vertex_of(line, row, entries[row], lines[row]) for line, row in zip(vertex_lines, rows)]
-    return Graph(vertices, last.removeprefix("result "), text, lines, vertices_by_entry(entries, rows))
+    vertices = [vertex_of(line, row, entries[row], lines[row], names[row]) for line, row in zip(vertex_lines, rows)]
+    return Graph(vertices, last.removeprefix("result "), text.text, lines, vertices_by_entry(entries, rows))

@@ -1,16 +1,18 @@
 """A stepping session of the program, as in docs/FORMATS.md: sends commands, and reads each answer to its end.
 
 The command determines where its answer ends: an event and `back` have an answer of one line, `status` one line for each
-vertex. Only a tree has no known length: an empty line is sent after it, which is not a command, and the fault that
-answers it marks the end. The commands `break`, `clear` and `go` are not used: without them a run can be paused between
-any two events, and breakpoints work backwards too.
+vertex. Trees, the trees of a worker and caches have no known length: an empty line is sent after them, which is not a
+command, and the fault that answers it marks the end. The commands `break`, `clear` and `go` are not used: without them
+a run can be paused between any two events, and breakpoints work backwards too.
 """
 
 import contextlib
 import re
 import subprocess
 import tempfile
+from collections.abc import Iterator
 from typing import NamedTuple
+
 
 LINE = re.compile(r"([0-9]+) (claim|step|settle|cancel) ([0-9]+)(?: ([0-9]+))? -> (.+)")
 
@@ -26,6 +28,13 @@ class SessionFailed(Exception):
 
 class Refusal(Exception):
     """The program refuses a command; the message is its line, `fault ..`."""
+
+
+class TooLarge(Exception):
+    """An answer has more bytes than were asked for; the message says so."""
+
+    def __init__(self, most: int) -> None:
+        super().__init__(f"its text has more than {most:,} bytes")
 
 
 class Run(NamedTuple):
@@ -44,6 +53,11 @@ class Event(NamedTuple):
     vertex: int
     reply: str
     before: Run | None
+
+    @property
+    def command(self) -> str:
+        """The command that does the event."""
+        return f"{self.kind} {self.worker}" + (f" {self.vertex}" if self.kind == "claim" else "")
 
     def fails(self) -> bool:
         """Returns whether the event settles a vertex that failed."""
@@ -141,24 +155,68 @@ class Session:
             statuses.append(status)
         return statuses
 
+    @contextlib.contextmanager
+    def earlier(self, count: int) -> Iterator[None]:
+        """Goes back to the state after the first `count` events, and at the end of the block forward again.
+
+        Both ways are exact: the states, the record and what the workers run are the same as before.
+        """
+        undone: list[Event] = []
+        try:
+            while len(self.record) > count:
+                undone.append(self.back())
+            yield
+        finally:
+            if self.child.poll() is None:
+                self.redo_all(undone)
+
+    def redo_all(self, undone: list[Event]) -> None:
+        """Does events again, the last that was undone first."""
+        for event in reversed(undone):
+            self.redo(event)
+
+    def redo(self, event: Event) -> None:
+        """Does an event that was undone, and checks that its line is the same."""
+        try:
+            line = self.ask(event.command)
+        except Refusal as refusal:
+            raise self.broken(str(refusal)) from refusal
+        if self.added(line) != event:
+            raise self.broken(line)
+
     def tree(self, vertex: int, output: int) -> list[bytes] | None:
         """Returns the lines of the tree of an output, or None if there is no such output."""
-        self.send(f"tree {vertex} {output}", "")
-        first = self.raw()
-        if first == b"none" or first.startswith(b"fault "):
-            self.check_end(self.raw())
-            if first != b"none":
-                raise Refusal(first.decode("utf-8", "backslashreplace"))
-            return None
-        lines = [first]
-        while lines[-1][:2] in (b"d ", b"f "):
-            lines.append(self.raw())
-        self.check_end(lines.pop())
+        return self.tree_by(f"tree {vertex} {output}")
+
+    def tree_by(self, command: str, most: int | None = None) -> list[bytes] | None:
+        """Returns the lines of the tree that a command prints, or None if it prints that there is none."""
+        lines = self.lines_by(command, most)
+        return None if lines == [b"none"] else lines
+
+    def lines_by(self, command: str, most: int | None = None) -> list[bytes]:
+        """Returns the lines that a command prints, whatever their number; raises TooLarge above `most` bytes."""
+        self.send(command, "")
+        lines, size = [], 0
+        while not self.is_end(line := self.raw()):
+            if not lines and line.startswith(b"fault "):
+                self.check_end(self.raw())
+                raise Refusal(line.decode("utf-8", "backslashreplace"))
+            if line == b"fault 174":
+                break
+            size += len(line) + 1
+            if most is None or size <= most:
+                lines.append(line)
+        if most is not None and size > most:
+            raise TooLarge(most)
         return lines
 
+    def is_end(self, line: bytes) -> bool:
+        """Returns whether a line is the answer to the empty line after a command."""
+        return line == b"fault 173 %d" % self.lines
+
     def check_end(self, line: bytes) -> None:
-        """Checks that a line is the answer to the empty line after a tree."""
-        if line not in (b"fault 173 %d" % self.lines, b"fault 174"):
+        """Checks that a line is the answer to the empty line after a command."""
+        if not self.is_end(line) and line != b"fault 174":
             raise self.broken(line.decode("utf-8", "backslashreplace"))
 
     def error_lines(self) -> list[str]:

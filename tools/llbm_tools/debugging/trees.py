@@ -29,27 +29,35 @@ class Node(NamedTuple):
         return self.names is not None
 
 
-def directory_of(line: bytes) -> tuple[str, Node]:
-    """Returns the path and the node on a directory's line."""
-    _, mode, user, group, path = line.decode("utf-8").split(" ", 4)
-    return path, Node(mode, f"{user}:{group}", {}, b"")
+def path_and_head(line: bytes) -> tuple[str, bytes]:
+    """Splits a line of a tree's text: returns its path, and all that is before it."""
+    parts = {b"d ": 5, b"f ": 6}.get(line[:2])
+    words = line.split(b" ", parts - 1) if parts else []
+    if not words or len(words) != parts:
+        raise ValueError("a line is neither a directory nor a file")
+    return words[-1].decode("utf-8"), b" ".join(words[:-1])
 
 
-def file_of(line: bytes) -> tuple[str, Node]:
-    """Returns the path and the node on a file's line."""
-    _, mode, user, group, content, path = line.split(b" ", 5)
-    if not CONTENT.fullmatch(content):
-        raise ValueError("a content is not hexadecimal")
+def node_of(head: bytes) -> Node:
+    """Returns the node of a line without its path; a directory has no names yet."""
+    kind, mode, user, group, *contents = head.split(b" ")
     owner = f"{user.decode('ascii')}:{group.decode('ascii')}"
-    return path.decode("utf-8"), Node(mode.decode("ascii"), owner, None, b"" if content == b"-" else content)
+    if kind == b"d":
+        return Node(mode.decode("ascii"), owner, {}, b"")
+    if not CONTENT.fullmatch(contents[0]):
+        raise ValueError("a content is not hexadecimal")
+    return Node(mode.decode("ascii"), owner, None, b"" if contents[0] == b"-" else contents[0])
 
 
 def tree_of(lines: list[bytes]) -> Node:
     """Returns the root of the tree with these lines; each directory comes before its entries."""
-    path, root = directory_of(lines[0])
+    root = node_of(path_and_head(lines[0])[1])
+    if not root.is_directory():
+        raise ValueError("the root is not a directory")
     directories = {"": root}
     for line in lines[1:]:
-        path, node = directory_of(line) if line.startswith(b"d ") else file_of(line)
+        path, head = path_and_head(line)
+        node = node_of(head)
         above, _, name = path.rpartition("/")
         directories[above].names[name] = node
         if node.is_directory():

@@ -1,22 +1,21 @@
-"""What can be inspected in a run that has stopped: frames, scopes and variables, and expressions.
-
-A session shows the status of vertices and the outputs of those that are done. It shows no caches, and nothing that a
-running vertex has made so far.
-"""
+"""What can be inspected in a run that has stopped: scopes and variables, and expressions."""
 
 import re
 from collections.abc import Callable
 
 from llbm_tools import definition
 from llbm_tools.common import printable, shortened
-from llbm_tools.debugging import trees
+from llbm_tools.debugging import looks, reasons, trees
 from llbm_tools.debugging.arguments import Refused
+from llbm_tools.debugging.eyes import Eyes
 from llbm_tools.debugging.launching import Launched
 
 MOST_OF_A_NAME = 60
 OUTPUT = re.compile(r"\s*([0-9]{1,9})\.([0-9]{1,9})(?:\s*|:(.*))", re.DOTALL)
 VERTEX = re.compile(r"\s*([0-9]{1,9})\s*")
 LABEL = re.compile(r"\s*%([0-9]{1,9})\s*")
+LOOK = re.compile(r"\s*((?:work|cache) [0-9]{1,9} [0-9]{1,9})(?:\s*|:(.*))", re.DOTALL)
+FORMS = "V.I:/path, V, %k, work W I:/path and cache K I:/path"
 
 Variables = list[dict]
 
@@ -27,18 +26,29 @@ class Views:
     def __init__(self, launched: Launched) -> None:
         self.session = launched.session
         self.graph = launched.graph
+        self.origins = launched.origins
         self.known: dict[tuple[int, int], trees.Node] = {}
+        self.looked: dict[str, trees.Node | None] = {}
+        self.whys: dict[int, str | None] = {}
+        self.eyes = Eyes(launched.session, launched.graph, self)
         self.openers: list[Callable[[], Variables]] = []
         self.first = 1
 
     def close(self) -> None:
-        """Invalidates all references to variables."""
+        """Invalidates all references to variables, because the run moves."""
         self.first += len(self.openers)
         self.openers = []
+        self.looked = {}
+        self.eyes.close()
 
     def forget(self) -> None:
-        """Forgets all trees, because an event was undone."""
+        """Forgets all outputs and why later events failed, because an event was undone."""
         self.known = {}
+        self.whys = {place: why for place, why in self.whys.items() if place < len(self.session.record)}
+
+    def note_failure(self, vertex: int) -> None:
+        """Stores why a vertex failed, by the last event: looking now takes one event back, and later it takes more."""
+        self.why(vertex)
 
     def reference(self, opener: Callable[[], Variables]) -> int:
         """Returns a new reference to the variables that a function returns."""
@@ -61,11 +71,18 @@ class Views:
         return last.vertex if last and last.kind == "settle" and last.worker == worker else None
 
     def title(self, number: int) -> str:
-        """Describes a vertex by its number, its kind, and the beginning of what it does."""
+        """Describes a vertex by its number, its kind, and its own name or the beginning of what it does."""
         vertex = self.graph.vertices[number]
-        texts = definition.texts_of(vertex.op)
-        text = shortened(printable("; ".join(texts)), MOST_OF_A_NAME)
+        text = vertex.name or "; ".join(definition.texts_of(vertex.op))
+        text = shortened(printable(text), MOST_OF_A_NAME)
         return f"{number} {vertex.kind}" + (f": {text}" if text else "")
+
+    def place_of(self, number: int) -> str:
+        """Returns the place of a vertex in a file that the definition was made from, or an empty text."""
+        for one in self.origins.ranges[self.graph.vertices[number].entry]:
+            lines = f"{one.first}" if one.first == one.last else f"{one.first}-{one.last}"
+            return printable(f"{self.origins.files[one.file].name}:{lines}")
+        return ""
 
     def progress(self, worker: int) -> str:
         """Describes how far a worker is with the vertex of its frame."""
@@ -77,30 +94,38 @@ class Views:
     def tree(self, vertex: int, output: int) -> trees.Node | None:
         """Returns the tree of an output, or None if there is none now."""
         if (vertex, output) not in self.known:
-            lines = self.session.tree(vertex, output)
-            if lines is None:
+            node = looks.tree_by(self.session, f"tree {vertex} {output}")
+            if node is None:
                 return None
-            try:
-                self.known[vertex, output] = trees.tree_of(lines)
-            except (ValueError, LookupError) as fault:
-                raise self.session.broken(f"not a tree: {fault}") from fault
+            self.known[vertex, output] = node
         return self.known[vertex, output]
 
-    def node(self, name: str, node: trees.Node, expression: str) -> dict:
+    def tree_by(self, command: str) -> trees.Node | None:
+        """Returns the tree that a command prints in this state, or None."""
+        if command not in self.looked:
+            self.looked[command] = looks.tree_by(self.session, command)
+        return self.looked[command]
+
+    def node(self, name: str, node: trees.Node, expression: str | None) -> dict:
         """Returns the variable for a node of a tree; a directory expands to its entries."""
-        variable = {"name": name, "value": trees.summary_of(node), "evaluateName": expression, "variablesReference": 0}
+        variable = {"name": name, "value": trees.summary_of(node), "variablesReference": 0}
+        if expression is not None:
+            variable["evaluateName"] = expression
         if not node.is_directory():
             return {**variable, "type": "file"}
         return {**variable, "type": "directory", **self.opening(node, expression)}
 
-    def opening(self, node: trees.Node, expression: str) -> dict:
+    def opening(self, node: trees.Node, expression: str | None) -> dict:
         """Returns the fields that make a directory expandable, if it has entries."""
         if not node.names:
             return {}
-        prefix = expression.rstrip("/")
-        names = node.names.items()
-        opener = self.reference(lambda: [self.node(name, below, f"{prefix}/{name}") for name, below in names])
-        return {"variablesReference": opener, "namedVariables": len(names)}
+
+        def entry(name: str, below: trees.Node) -> dict:
+            """Returns the variable for an entry of the directory."""
+            return self.node(name, below, None if expression is None else f"{expression.rstrip('/')}/{name}")
+
+        opener = self.reference(lambda: [entry(name, below) for name, below in node.names.items()])
+        return {"variablesReference": opener, "namedVariables": len(node.names)}
 
     def output(self, name: str, vertex: int, output: int) -> dict:
         """Returns the variable for an output."""
@@ -122,19 +147,32 @@ class Views:
         """Returns the variables that describe a vertex: its entry, its progress, and what it does."""
         known = self.graph.vertices[vertex]
         facts = {"vertex": str(vertex), "kind": known.kind, "entry": str(known.entry), "progress": progress}
+        if known.name:
+            facts["name"] = known.name
         if known.kind == "file":
             facts |= {f"action {i}": text for i, text in enumerate(definition.actions_of(known.op))}
         elif known.kind == "exec":
             facts |= {f"command {i}": text for i, text in enumerate(definition.commands_of(known.op))}
         elif known.kind == "source":
             facts["identifier"] = definition.texts_of(known.op)[0]
+        if progress.startswith("failed"):
+            facts |= {"why": why} if (why := self.why(vertex)) else {}
         return [{"name": name, "value": printable(text), "variablesReference": 0} for name, text in facts.items()]
 
+    def why(self, vertex: int) -> str | None:
+        """Says why a vertex failed, or returns None where that is not known."""
+        place = self.eyes.settle_of(vertex)
+        if place not in self.whys:
+            self.whys[place] = reasons.why_failed(self.session, self.graph.vertices[vertex], place)
+        return self.whys[place]
+
     def graph_variables(self) -> Variables:
-        """Returns the variables for all vertices with their status; each expands to its outputs."""
+        """Returns the variables for all vertices with their status; each expands to its outputs, or to what it left."""
+        openers = {"done": self.outputs, "failed": self.eyes.left}
         found = []
         for vertex, status in enumerate(self.session.status()):
-            opener = self.reference(lambda vertex=vertex: self.outputs(vertex)) if status == "done" else 0
+            opens = openers.get(status.partition(" ")[0])
+            opener = self.reference(lambda opens=opens, vertex=vertex: opens(vertex)) if opens else 0
             found.append({"name": self.title(vertex), "value": status, "variablesReference": opener})
         return found
 
@@ -146,10 +184,21 @@ class Views:
         known, progress = self.graph.vertices[vertex], self.progress(worker)
         return [
             self.scope("Vertex", lambda: self.facts(vertex, progress), presentationHint="locals"),
+            self.scope("Changed by the last step", self.eyes.changed, expensive=True),
+            *self.work_scopes(worker, vertex),
             self.scope("Inputs", lambda: self.inputs(vertex), len(known.inputs), presentationHint="arguments"),
             self.scope("Outputs", lambda: self.outputs(vertex), known.outputs, presentationHint="returnValue"),
+            self.scope("Caches", self.eyes.caches, expensive=True),
             self.scope("All vertices", self.graph_variables, len(self.graph.vertices), expensive=True),
         ]
+
+    def work_scopes(self, worker: int, vertex: int) -> list[dict]:
+        """Returns the scope of what a worker has made so far, or had made when its vertex failed."""
+        if self.session.runs[worker] is not None:
+            return [self.scope("Work", lambda: self.eyes.work(worker), expensive=True)]
+        if not self.session.record[-1].fails():
+            return []
+        return [self.scope("Work when it failed", lambda: self.eyes.left(vertex), expensive=True)]
 
     def scope(self, name: str, opener: Callable[[], Variables], count: int | None = None, **more: object) -> dict:
         """Returns a scope, with the number of its variables if that is known."""
@@ -157,36 +206,49 @@ class Views:
         return {"name": name, "variablesReference": self.reference(opener), "expensive": False, **counted, **more}
 
     def evaluate(self, expression: str) -> dict:
-        """Evaluates `V.I:/path` (a file or a directory), `V` (a vertex) or `%k` (the vertex of entry k)."""
-        output, vertex, label = (form.fullmatch(expression) for form in (OUTPUT, VERTEX, LABEL))
+        """Evaluates `V.I:/path` or a tree of a worker or of a cache, `V` (a vertex) or `%k` (the vertex of entry k)."""
+        output, look, vertex, label = (form.fullmatch(expression) for form in (OUTPUT, LOOK, VERTEX, LABEL))
         if output:
-            return self.evaluated_node(int(output[1]), int(output[2]), output[3] or "/")
+            return self.evaluated_output(int(output[1]), int(output[2]), output[3] or "/")
+        if look:
+            return self.evaluated_look(look[1], look[2] or "/")
         if vertex:
             return self.evaluated_vertex(int(vertex[1]))
         if label:
             return self.evaluated_entry(int(label[1]))
-        raise Refused(f"{shortened(expression, MOST_OF_A_NAME)!r} is neither V.I:/path nor V nor %k")
+        raise Refused(f"{shortened(expression, MOST_OF_A_NAME)!r} is none of {FORMS}")
 
     def check_vertex(self, number: int) -> None:
         """Checks that there is a vertex with this number."""
         if number >= len(self.graph.vertices):
             raise Refused(f"there is no vertex {number}")
 
-    def evaluated_node(self, vertex: int, output: int, path: str) -> dict:
+    def evaluated_output(self, vertex: int, output: int, path: str) -> dict:
         """Returns what is at a path of an output."""
         self.check_vertex(vertex)
         root = self.tree(vertex, output)
         if root is None:
             raise Refused(f"there is no output {vertex}.{output}" + self.why_no_output(vertex, output))
+        return self.evaluated_node(f"{vertex}.{output}", root, path)
+
+    def evaluated_look(self, command: str, path: str) -> dict:
+        """Returns what is at a path of a tree of a worker or of a cache."""
+        root = self.tree_by(command)
+        if root is None:
+            raise Refused(f"there is no tree {command}")
+        return self.evaluated_node(command, root, path)
+
+    def evaluated_node(self, expression: str, root: trees.Node, path: str) -> dict:
+        """Returns what is at a path of a tree."""
         try:
             node = trees.node_at(root, path)
         except trees.NoPath as fault:
-            raise Refused(f"{vertex}.{output}: {fault}") from fault
+            raise Refused(f"{expression}: {fault}") from fault
         names = trees.names_in(path)
         shown = {"result": trees.description_of(node), "variablesReference": 0, "type": "file"}
         if not node.is_directory():
             return shown
-        return shown | {"type": "directory"} | self.opening(node, f"{vertex}.{output}:/" + "/".join(names))
+        return shown | {"type": "directory"} | self.opening(node, f"{expression}:/" + "/".join(names))
 
     def why_no_output(self, vertex: int, output: int) -> str:
         """Says why an output has no tree, if its vertex could have one."""
@@ -201,6 +263,8 @@ class Views:
         lines = [f"{number} {self.session.status()[number]}"]
         counts = f"steps {vertex.steps}, outputs {vertex.outputs}, inputs {' '.join(vertex.inputs) or '-'}"
         lines += [f"{vertex.kind}, {counts}", *map(printable, definition.texts_of(vertex.op))]
+        if " failed " in lines[0]:
+            lines += filter(None, [self.why(number)])
         return {"result": "\n".join(lines), "variablesReference": 0, "type": "vertex"}
 
     def evaluated_entry(self, number: int) -> dict:

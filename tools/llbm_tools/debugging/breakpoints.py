@@ -1,0 +1,134 @@
+"""Breakpoints: where they are, at which events they are met, and at which hits they stop.
+
+A breakpoint is on a line of the text of the entries, on a line of a file that the definition was made from, or on a
+function: a vertex by its name, its digest, its number, or the label of its entry.
+"""
+
+import re
+from collections.abc import Callable
+from typing import NamedTuple
+
+from llbm_tools import definition
+from llbm_tools.debugging.arguments import argument, of_kind
+from llbm_tools.debugging.places import Graph
+
+CLAIM, SETTLE = "claim", "settle"
+CONDITIONS = ("", CLAIM, SETTLE)
+SHORTEST_DIGEST = 8
+
+HITS = re.compile(r"\s*(==|=|>=|>|<=|<|%|)\s*([0-9]{1,9})\s*")
+DIGEST = re.compile(rf"(?:sha256:)?([0-9a-f]{{{SHORTEST_DIGEST},64}})")
+NUMBER = re.compile(r"(%?)([0-9]{1,9})")
+
+Condition = Callable[[int], bool]
+
+
+class Breakpoint(NamedTuple):
+    """A breakpoint: its number, the vertices and the kind of the events that meet it, and at which hits it stops.
+
+    One with a message does not stop: the message is printed.
+    """
+
+    number: int
+    vertices: frozenset[int]
+    kind: str
+    stops: Condition
+    message: str = ""
+
+    def meets(self, kind: str, vertex: int) -> bool:
+        """Returns whether an event of this kind and vertex meets the breakpoint."""
+        return kind == self.kind and vertex in self.vertices
+
+
+class Wanted(NamedTuple):
+    """A breakpoint that a client asks for, with its number, its place, and its conditions as texts."""
+
+    number: int
+    place: int | str
+    condition: str
+    hits: str
+    message: str
+
+
+class NoBreakpoint(Exception):
+    """A breakpoint can't be set; the message says why."""
+
+
+def condition_of(text: str) -> Condition:
+    """Returns the condition on the number of hits in a text: `N`, `== N`, `> N`, `>= N`, `< N`, `<= N` or `% N`."""
+    if not text.strip():
+        return lambda _: True
+    match = HITS.fullmatch(text)
+    if not match or match[1] == "%" and int(match[2]) == 0:
+        raise NoBreakpoint("the hit condition is none of N, == N, > N, >= N, < N, <= N and % N")
+    number = int(match[2])
+    return {
+        "": lambda hits: hits == number,
+        "=": lambda hits: hits == number,
+        "==": lambda hits: hits == number,
+        ">": lambda hits: hits > number,
+        ">=": lambda hits: hits >= number,
+        "<": lambda hits: hits < number,
+        "<=": lambda hits: hits <= number,
+        "%": lambda hits: hits % number == 0,
+    }[match[1]]
+
+
+def wanted_of(given: object, number: int, kind: type, name: str) -> Wanted:
+    """Returns a breakpoint that a client asks for; its place is the argument with this name and type."""
+    one = of_kind(given, "a breakpoint", dict)
+    place = argument(one, name, kind)
+    texts = [argument(one, text, str, "") for text in ("condition", "hitCondition", "logMessage")]
+    return Wanted(number, place, texts[0].strip(), texts[1], texts[2])
+
+
+def made(wanted: Wanted, vertices: list[int]) -> Breakpoint:
+    """Returns the breakpoint on these vertices."""
+    if wanted.condition not in CONDITIONS:
+        raise NoBreakpoint("the condition is neither claim nor settle")
+    stops = condition_of(wanted.hits)
+    return Breakpoint(wanted.number, frozenset(vertices), wanted.condition or CLAIM, stops, wanted.message)
+
+
+def vertex_of(graph: Graph, entry: int) -> int:
+    """Returns the vertex of an entry."""
+    vertex = graph.vertex_of[entry]
+    if vertex is None:
+        raise NoBreakpoint(f"entry {entry} is not a vertex: the result does not depend on it")
+    return vertex
+
+
+def vertices_at_line(graph: Graph, line: int) -> list[int]:
+    """Returns the vertex on a line of the text of the entries."""
+    entry = graph.entry_at(line)
+    if entry is None:
+        raise NoBreakpoint("no entry has this line")
+    return [vertex_of(graph, entry)]
+
+
+def vertices_of_rows(graph: Graph, rows: list[int]) -> list[int]:
+    """Returns the vertices of the entries that come from a line of a file."""
+    if not rows:
+        raise NoBreakpoint("no entry comes from this line")
+    vertices = [graph.vertex_of[row] for row in rows if graph.vertex_of[row] is not None]
+    return vertices or [vertex_of(graph, rows[0])]
+
+
+def vertices_named(graph: Graph, name: str) -> list[int]:
+    """Returns the vertices with a name, or with a digest that begins so, or the one with a number or a label."""
+    name = name.strip()
+    found = [number for number, vertex in enumerate(graph.vertices) if vertex.name and vertex.name.strip() == name]
+    number = NUMBER.fullmatch(name)
+    if found:
+        return found
+    if number and number[1] and int(number[2]) < len(graph.vertex_of):
+        return [vertex_of(graph, int(number[2]))]
+    if number and not number[1] and int(number[2]) < len(graph.vertices):
+        return [int(number[2])]
+    digest = DIGEST.fullmatch(name)
+    begin = f"sha256:{digest[1]}" if digest else None
+    digests = [definition.digest_of(vertex.data) for vertex in graph.vertices] if begin else []
+    found = [number for number, one in enumerate(digests) if one.startswith(begin)]
+    if not found:
+        raise NoBreakpoint(f"no vertex has the name, the digest, the number or the label {name!r}")
+    return found
