@@ -3,4 +3,4 @@ use Rattle.llb_sharing.proofs.laws.worked_elsewhere_lands.Goals as goal
 
 pub returns : goal.returns
 returns c =
-    worked_elsewhere_lands c.args.first.now c.args.second.now c.args.graph.now c.args.board.now c.is_graph.ensures c.is_graph-2.ensures c.begun_are_plain.land
+    worked_elsewhere_lands c.args.first.now c.args.second.now c.args.graph.now c.args.board.now c.is_graph.ensures c.is_graph-2.ensures c.begun_are_plain.ensures.land
