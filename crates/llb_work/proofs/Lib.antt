@@ -10,3 +10,4 @@ pub mod Keeping
 pub mod Ends
 pub mod Crews
 pub mod Known
+pub mod Resting

@@ -1,7 +1,7 @@
 -- What workers that share one lock do to a board.
-use Rattle.std.specs.Prelude.{◌≡◌, ℕ, ◌+◌, ◌++◌, List, [], length, take, drop, sum, Some, option_map}
+use Rattle.std.specs.Prelude.{◌≡◌, ℕ, ◌+◌, ◌++◌, List, [], length, take, drop, sum, slice_get, Some, None, option_map}
 use Rattle.llb_model.specs.Program.{Build}
-use Rattle.llb_model.specs.State.{State}
+use Rattle.llb_model.specs.State.{State, runs}
 use Rattle.llb_events.specs.declared.event.Event.{Event}
 use Rattle.llb_model.specs.Table.{Reply}
 use Rattle.llb_model.specs.Run.{run}
@@ -32,6 +32,10 @@ pub record IsAfter (start found : BoardValue) : Type 0 where
 -- the sum of the workers' counts is the number of events that were added
 abbrev pub Counts : List ℕ → BoardValue → BoardValue → Type 0
 Counts made old new = sum made + length old.events ≡ length new.events
+
+-- no worker runs anything, so no worker has an instance of a cache
+abbrev pub AreIdle : State → Type 0
+AreIdle s = (w : ℕ) → runs (slice_get s.workers w) ≡ None
 
 -- a build without vertices; the board opened on it, on which nothing has happened, is used where no board is given
 abbrev pub no_build : Build

@@ -238,9 +238,7 @@ impl<S: Gated> SharedBoard<S> {
         match settled {
             None => Turn::Again,
             Some(Settled::Done(v) | Settled::Failed(v)) => {
-                if !note_ready(&self.board, v, news) {
-                    return self.stop();
-                }
+                note_ready(&self.board, v, news);
                 if self.is_over() {
                     return Turn::End;
                 }
@@ -252,14 +250,10 @@ impl<S: Gated> SharedBoard<S> {
     // Adds to `news`, for each key of a worker that is about to leave what it runs, one of the numbers that wait for the key.
     fn release(&mut self, w: u32, news: &mut Vec<u32>) {
         let SharedBoard { board, held, .. } = self;
-        let mut whole = true;
         for place in board.places(w) {
             if let Some(v) = held.next_of(&place.key) {
-                whole = whole && news.push(v).is_ok();
+                add(news, v);
             }
-        }
-        if !whole {
-            self.note(Noted::Memory);
         }
     }
 
@@ -268,13 +262,11 @@ impl<S: Gated> SharedBoard<S> {
         ensures { (w : ℕ) → IsHere S.start w result }
     {
         let next = self.held.answered(v, Some(&key));
-        if self.held.push(key, v).is_err() {
-            return self.stop();
+        if !self.held.push(key, v) {
+            add(news, v);
         }
         if let Some(u) = next {
-            if news.push(u).is_err() {
-                return self.stop();
-            }
+            add(news, u);
         }
         Turn::Next
     }
@@ -304,12 +296,19 @@ impl<S: Gated> SharedBoard<S> {
     }
 }
 
-// Adds to `news` the ready vertices that have an edge to a vertex, the greatest first. Returns false if memory is refused.
-fn note_ready(board: &Board, v: u32, news: &mut Vec<u32>) -> bool {
+// Adds to `news` the ready vertices that have an edge to a vertex, the greatest first.
+fn note_ready(board: &Board, v: u32, news: &mut Vec<u32>) {
     for u in board.users(v).iter().rev() {
-        if matches!(board.status(*u), Some(Status::Ready)) && news.push(*u).is_err() {
-            return false;
+        if matches!(board.status(*u), Some(Status::Ready)) {
+            add(news, *u);
         }
     }
-    true
+}
+
+// Adds a number to a worker's list, which has room for as many numbers as there are vertices. No number is there twice, so a full list has
+// every number already. Does not allocate.
+fn add(news: &mut Vec<u32>, v: u32) {
+    if news.len() < news.capacity() {
+        news.push_reserved(v);
+    }
 }
