@@ -9,7 +9,8 @@ import sys
 
 from llbm_tools import paths
 
-KIT = "rattle-kit-13f logic dac8208d650f15bf"
+LOGIC = "logic dac8208d650f15bf"
+PROVER = f"Rattle {LOGIC}"
 NOT_PROVED = "not proved, compiled with"
 VERSION = re.compile(r"^llbm \d+\.\d+, ", re.MULTILINE)
 MOST_SECONDS = 60

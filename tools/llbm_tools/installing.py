@@ -67,7 +67,7 @@ def digest(content: bytes) -> str:
 
 def receipt_of(program: bytes) -> str:
     """Returns what the gate writes when it passed on a program."""
-    return f"{digest(program)}  llbm\n{common.KIT}\n"
+    return f"{digest(program)}  llbm\n{common.PROVER}\n"
 
 
 def program_at(place: str) -> Program:

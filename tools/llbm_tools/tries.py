@@ -17,12 +17,12 @@ import subprocess
 import sys
 from typing import NamedTuple
 
-from llbm_tools.common import NOT_PROVED, check_open, printable, say, shortened
+from llbm_tools.common import NOT_PROVED, PROVER, check_open, printable, say, shortened
 from llbm_tools.paths import ROOT
 from llbm_tools.streams import exit_status
 
 EXAMPLES = ROOT / "examples"
-VERSION = "1.0, proved with rattle-kit-13f logic dac8208d650f15bf"
+VERSION = f"1.0, proved with {PROVER}"
 PATIENCE = 60
 MOST_SHOWN = 120
 

@@ -13,7 +13,7 @@ from llbm_tools import installing as made
 from tests import base
 from tests.base import TOOLS, Folder, run
 
-VERSION = f"1.0, proved with {common.KIT}"
+VERSION = f"1.0, proved with {common.PROVER}"
 PROGRAM = f"#!/bin/sh\nprintf 'fault 183\\nllbm {VERSION}\\n' >&2\nexit 2\n"
 COMMANDS = {"llbm", "llbm-build", "llbm-lint", "llbm-adopt", "llbm-explain", "llbm-debug-adapter", "llbm-tree-of-tar"}
 OTHERS = {
@@ -166,7 +166,7 @@ class Proof(WithFake):
         content = PROGRAM.encode()
         self.assertTrue(self.state(made.receipt_of(content)))
         self.assertIn(hashlib.sha256(content).hexdigest(), made.receipt_of(content))
-        for receipt in ("", made.receipt_of(content + b"\n"), made.receipt_of(content).replace("13f", "13e")):
+        for receipt in ("", made.receipt_of(content + b"\n"), made.receipt_of(content).replace("logic", "another logic")):
             self.assertFalse(self.state(receipt))
         with mock.patch.object(made, "RECEIPT", self.at / "none"):
             self.assertFalse(made.program_at(str(self.llbm)).is_proved)

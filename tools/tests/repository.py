@@ -46,7 +46,7 @@ ERROR = re.compile(r'#\[error\("(.*)"\)\]')
 HEAD = re.compile(r"pub (enum|struct) (\w+)")
 VARIANT = re.compile(r"(\w+)(\(.*\))?,")
 WRITTEN = re.compile(r'(\w+)::(\w+)\b[^\n=]* => (write!\(f, |f\.write_str\(|at_row\(f, )"(.*?)"')
-KIT = re.compile(r"rattle-kit-\w+ logic [0-9a-f]{16}")
+LOGIC = re.compile(r"logic [0-9a-f]{16}")
 NUMBERED = re.compile(r"([0-9]+)(?: [A-Za-z]+)*: (.*)")
 
 
@@ -173,14 +173,14 @@ class Page(unittest.TestCase):
 
 
 class Kit(unittest.TestCase):
-    """The kit that proved the program."""
+    """The logic that the program is proved with; kits of several names have it."""
 
-    def test_the_kit_has_the_same_name_everywhere(self):
-        places = [CRATES / "llb_commands" / "src" / "pages.rt", TOOLS / "llbm_tools" / "tries.py", ROOT / "README.md"]
-        named = [KIT.findall(place.read_text("utf-8")) for place in places]
+    def test_the_logic_is_the_same_everywhere(self):
+        places = [CRATES / "llb_commands" / "src" / "pages.rt", TOOLS / "llbm_tools" / "common.py", ROOT / "README.md"]
+        named = [LOGIC.findall(place.read_text("utf-8")) for place in places]
         self.assertTrue(all(named))
         if shutil.which("rt"):
-            named.append([subprocess.run(["rt", "version"], capture_output=True, text=True).stdout.strip()])
+            named.append(LOGIC.findall(subprocess.run(["rt", "version"], capture_output=True, text=True).stdout))
         self.assertEqual({name for names in named for name in names}, {named[-1][0]})
 
 

@@ -8,10 +8,10 @@ use crate::words::Command;
 use clap::error::ErrorKind;
 use std::convert::AsStr;
 
-/// The version of the program, and the kit that proved it, as `rt version` prints it.
-pub(crate) const VERSION: &str = "1.0, proved with rattle-kit-13f logic dac8208d650f15bf";
+/// The version of the program, and the logic that it is proved with, as `rt version` names it.
+pub(crate) const VERSION: &str = "1.0, proved with Rattle logic dac8208d650f15bf";
 
-const VERSION_PAGE: &str = "llbm 1.0, proved with rattle-kit-13f logic dac8208d650f15bf\n";
+const VERSION_PAGE: &str = "llbm 1.0, proved with Rattle logic dac8208d650f15bf\n";
 
 const PROGRAM_PAGE: &str = "Solves graphs of BuildKit's LLB
 

@@ -53,8 +53,8 @@ fn what_is_asked_for_follows_the_refusal(rt: HostRuntime) {
 }
 
 #[test]
-fn the_version_names_the_kit(rt: HostRuntime) {
-    let line = "fault 183\nllbm 1.0, proved with rattle-kit-13f logic dac8208d650f15bf\n";
+fn the_version_names_the_logic(rt: HostRuntime) {
+    let line = "fault 183\nllbm 1.0, proved with Rattle logic dac8208d650f15bf\n";
     assert!(rt; ran_words(&rt, rt.alloc(), "--version").is(2, "", line));
 }
 
