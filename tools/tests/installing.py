@@ -166,7 +166,7 @@ class Proof(WithFake):
         content = PROGRAM.encode()
         self.assertTrue(self.state(made.receipt_of(content)))
         self.assertIn(hashlib.sha256(content).hexdigest(), made.receipt_of(content))
-        for receipt in ("", made.receipt_of(content + b"\n"), made.receipt_of(content).replace("logic", "another logic")):
+        for receipt in ("", made.receipt_of(content + b"\n"), made.receipt_of(content).replace("logic", "other")):
             self.assertFalse(self.state(receipt))
         with mock.patch.object(made, "RECEIPT", self.at / "none"):
             self.assertFalse(made.program_at(str(self.llbm)).is_proved)
