@@ -192,7 +192,7 @@ pub fn make_dirs(alloc: Global, view: &mut View, spot: &Spot) -> Result<bool, Me
     }
 }
 
-// Makes a directory for each of the names, one below the other, where there is none. After a refusal the tree is unchanged.
+// Makes a directory for each of the names, one below the other, if there is none. After a refusal the tree is unchanged.
 fn dirs_below(alloc: Global, tree: &mut Tree, at: &Path, names: &[Name]) -> Result<(), TreeFault>
     requires { length at.now + length names.now ≤ 128 }
     ensures gives { Gives (λ _. tree.new) result (dirs_below tree.old at.now names.now) }
@@ -211,7 +211,7 @@ fn dirs_below(alloc: Global, tree: &mut Tree, at: &Path, names: &[Name]) -> Resu
     }
 }
 
-// Makes a directory where there is none, and below it one for each of the names, in one edit. After a refusal the tree is unchanged.
+// Makes a directory if there is none, and below it one for each of the names, in one edit. After a refusal the tree is unchanged.
 fn put_dirs(alloc: Global, tree: &mut Tree, path: &Path, names: &[Name]) -> Result<(), TreeFault>
     requires short { length path.now + length names.now ≤ 128 }
     requires missing { is_dir (finite.get tree.old path.now) ≡ false }

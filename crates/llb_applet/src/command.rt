@@ -86,7 +86,7 @@ fn both(first: &Text, second: &Text) -> Result<(Text, Text), ScriptFault>
 }
 
 impl Command {
-    /// Returns an equal second owner. Fails with 74 `Memory` alone.
+    /// Returns an equal copy. Fails with 74 `Memory` alone.
     pub fn copy(&self) -> Result<Command, ScriptFault>
         ensures { Gives (λ c. c) result (Ok self.now) }
     {

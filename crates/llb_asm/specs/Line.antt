@@ -1,4 +1,4 @@
--- One line in an entry: what it adds to the message at hand, or why it is refused.
+-- One line in an entry: what it adds to the current message, or why it is refused.
 use Rattle.std.specs.Prelude.{ℕ, ◌+◌, ◌==◌, ◌&&◌, ◌||◌, not, nat_le, nat_eq, if◌then◌else◌, Bool, true, false, List, [], length, take, drop, position}
 use Rattle.std.specs.Prelude.{codes, slice_get, Option, Some, None, Result, Ok, Err, option_map}
 use Rattle.std.specs.Str.{is_utf8}

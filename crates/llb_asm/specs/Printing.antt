@@ -11,7 +11,7 @@ use Rattle.llb_asm.specs.declared.fault.AsmFault.TheVariants as fault
 use Rattle.llb_asm.specs.declared.print.Front.{Front}
 use Rattle.llb_asm.specs.Plain.{PlainLine, item_line, held_text}
 
--- the whole text is written; or a prefix of it, where memory was refused or the sink has failed
+-- the whole text is written; or a prefix of it, if memory was refused or the sink has failed
 abbrev pub Prints : Option (List ℕ) → Option (List ℕ) → Bool → List ℕ → Result (Unit {0}) AsmFault → Type 0
 Prints taken taken' failed' text (Ok u) = Appends taken taken' text
 Prints taken taken' failed' text (Err fault.Memory) = PartOut taken taken' text

@@ -64,7 +64,7 @@ pub(crate) fn begun_in(
     }
 }
 
-/// Returns the canonical bytes of the op that some bytes are read as, where they are read as one.
+/// Returns the canonical bytes of the op that some bytes are read as, if they are read as one.
 pub(crate) fn canonical(alloc: Global, bytes: &[u8]) -> Result<Option<Bytes>, Memory>
     ensures { IfOk result (λ o. o ≡ canonical_of (op_of bytes.now)) }
 {
@@ -85,7 +85,7 @@ fn written(alloc: Global, op: Op) -> Result<Option<Bytes>, Memory>
     }
 }
 
-/// Returns the canonical bytes of the op that the records are; refused where they are past the limits.
+/// Returns the canonical bytes of the op that the records are; refused if they are past the limits.
 #[tactic(auto, unfolding(crate::specs::Reading::entry_in))]
 pub(crate) fn entry_in(
     alloc: Global,

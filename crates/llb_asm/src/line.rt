@@ -1,4 +1,4 @@
-//! One line in an entry: what it adds to the message at hand, or why it is refused.
+//! One line in an entry: what it adds to the current message, or why it is refused.
 
 ghost use Rattle.std.specs.Prelude.{◌≡◌, ◌==◌, ◌++◌, ◌≤◌, IfOk, OnOk, map, position, nat_eq, Ok, true, not, length, ◌&&◌, if◌then◌else◌};
 ghost use Rattle.std.specs.Option.{option_map};
@@ -29,7 +29,7 @@ pub enum Refusal {
 #[derive(Clone, Copy)]
 pub struct Here {
     pub message: MessageName,
-    /// The number of the last field, 0 where there is none.
+    /// The number of the last field, 0 if there is none.
     pub last: u32,
     /// Whether a member of the message's oneof is set.
     pub set: bool,
@@ -309,7 +309,7 @@ fn field_in(
     }
 }
 
-/// Returns what a line adds to the message at hand, or why it is refused. The labels are the texts of the digests of the entries before.
+/// Returns what a line adds to the current message, or why it is refused. The labels are the texts of the digests of the entries before.
 #[tactic(auto, unfolding(crate::specs::Line::line_in))]
 pub(crate) fn line_in(
     alloc: Global,

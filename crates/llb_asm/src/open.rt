@@ -1,4 +1,4 @@
-//! An op that is open: the message at hand, and those that it is in.
+//! An op that is open: the current message, and those that it is in.
 
 ghost use Rattle.std.specs.Prelude.{◌≡◌, ◌<◌, ◌^◌, ◌++◌, ◌∷◌, IfOk, length, reverse};
 ghost use Rattle.llb_asm.specs.Reading.{is_within, item_at, labels_of, added};
@@ -19,7 +19,7 @@ pub struct Frame {
     pub bytes: Bytes,
 }
 
-/// The message at hand, its bytes so far, and the messages that it is in, the innermost last.
+/// The current message, its bytes so far, and the messages that it is in, the innermost last.
 #[derive(Drop)]
 pub struct Open {
     pub here: Here,
@@ -35,7 +35,7 @@ pub enum Closed {
 }
 
 #[tactic(auto, using(crate::proofs::Lengths::no_room, crate::proofs::Lengths::turned_below))]
-/// Returns whether the entry is within the limits where the message at hand has `size` bytes, all messages closed.
+/// Returns whether the entry is within the limits if the current message has `size` bytes, all messages closed.
 fn has_room(earlier: &Earlier, below: &[Frame], size: usize) -> bool
     ensures { result ≡ room_in (is_within earlier.now) (reverse below.now) size }
 {
@@ -131,7 +131,7 @@ impl Open {
         }
     }
 
-    /// Closes the message at hand.
+    /// Closes the current message.
     pub(crate) fn close(self) -> Result<Closed, Memory>
         ensures { IfOk result (λ c. ended c ≡ closing_of (open_op_of self)) }
     {

@@ -102,7 +102,7 @@ fn push_number_line(
     Ok(())
 }
 
-// A string between quotes, or a label where it is the digest of an entry before.
+// A string between quotes, or a label if it is the digest of an entry before.
 fn push_text(
     alloc: Global,
     out: &mut Vec<u8>,
@@ -162,7 +162,7 @@ fn push_held_line(
     Ok(())
 }
 
-// The line of the extra bytes, where there are any.
+// The line of the extra bytes, if there are any.
 fn push_extra(alloc: Global, out: &mut Vec<u8>, depth: usize, extra: &[u8]) -> Result<(), Memory>
     requires { depth < 2 ^ 62 }
     ensures { OnOk result (out.new.items ≡ out.old.items ++ text_of_lines (extra_lines depth extra.now)) }
@@ -319,7 +319,7 @@ fn entries_have_forms(entries: &[Bytes])
 /// Writes the text of entries to a sink, one entry at a time: an entry that is the canonical bytes of an op as that op, field by field, else
 /// `raw` and its bytes.
 ///
-/// Fails with 163 where memory is refused, and with 164 where the sink failed: a prefix of the text is written then.
+/// Fails with 163 if memory is refused, and with 164 if the sink failed: a prefix of the text is written then.
 pub fn disassemble<W: Sink>(alloc: Global, entries: &Entries, out: &mut W) -> Result<(), AsmFault>
     ensures prints { (xs : List Formed) → AreFormed entries.now xs → Prints (W.taken out.old) (W.taken out.new) (W.failed out.new) (plain_text xs) result }
     ensures some { (xs : List Formed) × AreFormed entries.now xs }

@@ -103,7 +103,7 @@ number_for out key Private = first_free out key 0 (leases out)
 abbrev pub place_for : Leases → Key → Instance
 place_for out key = place key (number_for out key key.mode)
 
--- for each need an instance, and the tree that it holds where it is new
+-- for each need an instance, and the tree that it holds if it is new
 abbrev pub Taken : Type 0
 Taken = Instance × TreeMap
 

@@ -153,7 +153,7 @@ impl Caches {
         }
     }
 
-    /// Returns how many needs a lease has, 0 where it is not out. Does not allocate.
+    /// Returns how many needs a lease has, 0 if it is not out. Does not allocate.
     pub fn needs(&self, lease: Lease) -> usize
         ensures { result ≡ length (places_of self.now.out lease) }
     {
@@ -288,7 +288,7 @@ impl Caches {
 
     /// A law: no two leases have one instance of a locked or a private key, nor have two needs of one lease; what a lease
     /// has is there; no key has more than 65,536 instances; and the last number of the list of leases is that of one that is
-    /// out, so that the list is empty where none is.
+    /// out, so that the list is empty if none is.
     pub fn is_exclusive(&self)
         ensures { IsCaches self.now }
     {

@@ -18,7 +18,7 @@ use llb_tree::Tree;
 use llb_wire::Many;
 use std::alloc::Global;
 
-// What a need takes: an instance, the row that is tried first for its key, the tree that it holds where it is new, and room for it and for
+// What a need takes: an instance, the row that is tried first for its key, the tree that it holds if it is new, and room for it and for
 // its mark.
 #[derive(Drop)]
 pub(crate) struct Ready {

@@ -32,7 +32,7 @@ impl<'a> Model for KeyRef<'a> {
 }
 
 impl<'a> KeyRef<'a> {
-    /// Returns the key of this ID, with the digest text and the index of its seed, where it has one. Does not allocate.
+    /// Returns the key of this ID, with the digest text and the index of its seed, if it has one. Does not allocate.
     pub fn new(id: &'a str, seed: Option<(&'a str, u32)>, mode: Mode) -> KeyRef<'a>
         ensures { result ≡ record { id = id.now; seed = option_map (λ s. seed_by s.0.now s.1) seed.entry; mode = mode } }
     {

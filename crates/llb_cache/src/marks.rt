@@ -1,4 +1,4 @@
-//! Which instances of a key leases have, where one lease at a time has each: a mark for each number, so that a look costs no walk over leases.
+//! Which instances of a key leases have, if one lease at a time has each: a mark for each number, so that a look costs no walk over leases.
 
 ghost use Rattle.std.specs.Prelude.{◌≡◌, ◌<◌, ◌==◌, ℕ, true, false, if◌then◌else◌, length, slice_index_or, IfOk, []};
 
@@ -77,7 +77,7 @@ impl Marks {
         }
     }
 
-    // Sets the mark of a number, in the room where there is none yet.
+    // Sets the mark of a number, in the room if there is none yet.
     pub(crate) fn set(&mut self, number: u32, room: Marks)
         requires room { number < length room }
         requires clear { (k : ℕ) → slice_index_or room k false ≡ false }
@@ -104,7 +104,7 @@ impl Marks {
         self.items = items;
     }
 
-    // An equal second owner.
+    // An equal copy.
     pub(crate) fn copy(&self) -> Result<Marks, Memory>
         ensures { IfOk result (λ m. m ≡ self.now) }
     {

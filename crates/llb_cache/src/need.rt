@@ -29,12 +29,12 @@ pub struct Found<'a> {
     pub is_held: bool,
     /// The number of the instance that a lease of the key would have.
     pub number: u32,
-    /// The tree of that instance, `None` where it is not there.
+    /// The tree of that instance, `None` if it is not there.
     pub tree: Option<&'a Tree>,
 }
 
 impl Instance {
-    // An equal second owner.
+    // An equal copy.
     pub(crate) fn copy(&self) -> Result<Instance, Memory>
         ensures { IfOk result (λ p. p ≡ self.now) }
     {

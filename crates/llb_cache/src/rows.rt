@@ -125,7 +125,7 @@ pub(crate) fn key_at(rows: &Rows, row: usize) -> Option<&Key>
     }
 }
 
-// The trees of a key, where it has a row.
+// The trees of a key, if it has a row.
 pub(crate) fn trees_with<'a>(rows: &'a Rows, key: &Key) -> Option<&'a Trees>
     requires { AreOrdered rows.now }
     ensures { option_map (λ t. t.now) result ≡ lookup (same_key key.now) rows.now.entries.items }
@@ -172,7 +172,7 @@ pub(crate) fn add_row(rows: &mut Rows, key: Key, trees: Trees)
     rows.entries.push_reserved((key, trees));
 }
 
-// Removes the last row, where there is one.
+// Removes the last row, if there is one.
 pub(crate) fn pop_row(rows: &mut Rows)
     requires { AreOrdered rows.old }
     ensures rows { rows.new.entries.items ≡ front rows.old.entries.items }
@@ -186,7 +186,7 @@ pub(crate) fn pop_row(rows: &mut Rows)
     }
 }
 
-// Removes the last instance of a key, where it has one.
+// Removes the last instance of a key, if it has one.
 pub(crate) fn pop_instance(rows: &mut Rows, key: &Key)
     requires { AreOrdered rows.old }
     ensures rows { rows.new.entries.items ≡ shorter rows.old.entries.items key.now (lookup (same_key key.now) rows.old.entries.items) }

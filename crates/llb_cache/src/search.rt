@@ -89,7 +89,7 @@ impl Caches {
         None
     }
 
-    // The needs, where no locked key of theirs is held; else the first such key.
+    // The needs, if no locked key of theirs is held; else the first such key.
     pub(crate) fn admitted(
         &self,
         needs: Vec<Need>,
@@ -108,7 +108,7 @@ impl Caches {
         }
     }
 
-    // What the needs take where these leases are out.
+    // What the needs take if these leases are out.
     pub(crate) fn readied(
         &self,
         needs: Vec<Need>,
@@ -155,7 +155,7 @@ fn nothing_found<'a>() -> Found<'a>
     }
 }
 
-// What is found in a row, where a lease would have the instance of this number.
+// What is found in a row, if a lease would have the instance of this number.
 fn found_in(rows: &Rows, row: usize, number: u32, is_held: bool) -> Found<'_>
     requires { row < length rows.now.entries.items }
     ensures row { result.row ≡ Some row }

@@ -112,14 +112,14 @@ impl Trees {
         self.items = items;
     }
 
-    // Drops the last tree, where there is one.
+    // Drops the last tree, if there is one.
     pub(crate) fn pop(&mut self)
         ensures { self.new ≡ front self.old }
     {
         self.items.pop();
     }
 
-    // Second owners of all trees.
+    // Shared copies of all trees.
     pub(crate) fn copy(&self) -> Result<Trees, Memory>
         ensures { IfOk result (λ t. t ≡ self.now) }
     {

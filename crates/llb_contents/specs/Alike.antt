@@ -36,7 +36,7 @@ BothResults P (Err e) (Err f) = e ≡ f
 BothResults P (Ok x) (Err f) = ⊥
 BothResults P (Err e) (Ok y) = ⊥
 
--- as many, and P holds of those at each place
+-- as many, and P holds of those at each position
 abbrev pub BothLists : {A : Type 0} → (A → A → Type 0) → List A → List A → Type 0
 BothLists P [] [] = Unit {0}
 BothLists P (x ∷ xs) (y ∷ ys) = P x y × BothLists P xs ys

@@ -53,7 +53,7 @@ fn swap_all(mounts: &mut Mounts, numbers: &[u32], trees: &mut Vec<Tree>, spare: 
 }
 
 /// Runs a command on mounts of which those of these numbers show these trees meanwhile, and returns its status. Where that is 0,
-/// the trees are written back and these mounts are empty; else, and where memory is refused, mounts and trees are as they were.
+/// the trees are written back and these mounts are empty; else, and if memory is refused, mounts and trees are as they were.
 pub(crate) fn run_filled(
     alloc: Global,
     command: &Command,

@@ -13,7 +13,7 @@ use llb_tree::Tree;
 use llb_wire::Memory;
 use std::alloc::Global;
 
-/// How many micro-steps were done, and the fault of the last, where it had one.
+/// How many micro-steps were done, and the fault of the last, if it had one.
 #[derive(Clone, Copy)]
 pub struct Further {
     pub count: u32,

@@ -29,7 +29,7 @@ pub fn step_count(vertex: &Vertex) -> u32
     vertex.steps
 }
 
-/// Returns micro-step k, from 0, of a vertex whose commands run in this setting (`setting_of`); `None` where k is at least the number
+/// Returns micro-step k, from 0, of a vertex whose commands run in this setting (`setting_of`); `None` if k is at least the number
 /// of its micro-steps. Does not allocate.
 pub fn step_of<'a>(vertex: &'a Vertex, setting: &'a Setting, k: u32) -> Option<MicroStep<'a>>
     requires { setting.now ≡ kind_setting vertex.now.op.kind }
@@ -92,7 +92,7 @@ pub(crate) fn run_at<'a>(
     }
 }
 
-/// Returns the commands of a script, where there is one.
+/// Returns the commands of a script, if there is one.
 pub(crate) fn commands_of(script: &Option<Script>) -> &[Joined]
     ensures { result.now ≡ unwrap_or script.now [] }
 {

@@ -95,7 +95,7 @@ impl Outcome {
 }
 
 /// Does all micro-steps that a job has left, behind a gate. Fails with 143 `Stopped` where the gate stops the worker, which it does only
-/// where it may, and with 142 `Memory`; then the job is gone. It works on second owners of the job's workspace and trees.
+/// where it may, and with 142 `Memory`; then the job is gone. It works on shared copies of the job's workspace and trees.
 pub fn work<G: Gate>(alloc: Global, job: Job, gate: &G) -> Result<Outcome, WorkFault>
     ensures job { IfOk result (λ o. o.job ≡ job) }
     ensures stopped { result ≡ Err work.Stopped → IsTrue (G.may_stop job.worker job.vertex) }

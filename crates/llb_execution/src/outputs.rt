@@ -41,7 +41,7 @@ fn actions_of(kind: &Option<Kind>) -> &[Action]
     }
 }
 
-// A tree takes the place of the first output, where there is one.
+// A tree takes the place of the first output, if there is one.
 fn place_first(mut outputs: Vec<Tree>, tree: Tree) -> Vec<Tree>
     ensures { result.items ≡ first_placed tree outputs.items }
 {
@@ -97,7 +97,7 @@ fn mount_output(mounts: &[Mount], m: usize) -> Option<i64>
     }
 }
 
-// A tree takes the place of an output, where it has one.
+// A tree takes the place of an output, if it has one.
 fn place(outputs: &mut Vec<Tree>, number: Option<i64>, tree: Tree)
     ensures { outputs.new.items ≡ placed_by number tree outputs.old.items }
 {
@@ -107,7 +107,7 @@ fn place(outputs: &mut Vec<Tree>, number: Option<i64>, tree: Tree)
     }
 }
 
-// A tree takes an output's place, where there is one.
+// A tree takes an output's place, if there is one.
 fn put(outputs: &mut Vec<Tree>, output: i64, tree: Tree)
     ensures { outputs.new.items ≡ placed output tree outputs.old.items }
 {

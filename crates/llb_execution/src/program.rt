@@ -69,7 +69,7 @@ impl Program {
         })
     }
 
-    /// Returns its micro-step k, from 0; `None` where k is at least the number of its micro-steps. Does not allocate.
+    /// Returns its micro-step k, from 0; `None` if k is at least the number of its micro-steps. Does not allocate.
     pub fn step(&self, k: u32) -> Option<MicroStep<'_>>
         ensures { option_map step_in result ≡ slice_get self.now.steps k }
     {

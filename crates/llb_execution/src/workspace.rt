@@ -87,7 +87,7 @@ impl Workspace {
         Ok(Workspace { own })
     }
 
-    /// Returns an equal second owner, whose trees are shared. Fails with `Memory` alone.
+    /// Returns an equal copy, whose trees are shared. Fails with `Memory` alone.
     pub fn copy(&self) -> Result<Workspace, Memory>
         ensures { IfOk result (λ v. v ≡ self.now) }
     {
@@ -116,7 +116,7 @@ impl Workspace {
     }
 
     /// Does micro-step k; that number is in its fault. The trees are those of the instances of the caches that the workspace shows,
-    /// in the order of the needs, and a command leaves them as it changes them. Returns the fault, where there is one, and
+    /// in the order of the needs, and a command leaves them as it changes them. Returns the fault, if there is one, and
     /// then the workspace and the trees are as they were but for the last status. Fails with `Memory` alone; then they
     /// are as they were.
     pub fn step(
@@ -300,7 +300,7 @@ impl Workspace {
     }
 }
 
-// A second owner of all that a workspace has.
+// A shared copy of all that a workspace has.
 fn copy_of(own: &Own) -> Result<Own, NoMemory>
     ensures { IfOk result (λ o. own_of o ≡ own_of own.now) }
 {
@@ -320,7 +320,7 @@ fn copy_of(own: &Own) -> Result<Own, NoMemory>
     }
 }
 
-// Second owners of trees.
+// Shared copies of trees.
 pub(crate) fn tree_copies(alloc: Global, trees: &[Tree]) -> Result<Vec<Tree>, NoMemory>
     ensures { IfOk result (λ v. v.items ≡ trees.now) }
 {

@@ -8,7 +8,7 @@ use Rattle.llb_glob.specs.ClassValue.{ClassValue}
 abbrev pub IsInSpan : Span → ℕ → Type 0
 IsInSpan span c = (span.low ≤ c) × (c ≤ span.high)
 
--- a character is in at least one of the items, so in none where there are no items
+-- a character is in at least one of the items, so in none if there are no items
 abbrev pub IsInSome : List Span → ℕ → Type 0
 IsInSome [] c = ⊥
 IsInSome (span ∷ spans) c = IsInSpan span c ⊎ IsInSome spans c

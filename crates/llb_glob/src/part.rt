@@ -82,7 +82,7 @@ impl NameTest for Part {
     }
 }
 
-/// A part while it is read: where the reader is, the whole items before it, and the class at hand.
+/// A part while it is read: where the reader is, the whole items before it, and the current class.
 #[derive(Drop)]
 pub struct Reading {
     cursor: Cursor,

@@ -40,7 +40,7 @@ impl Pattern {
     /// character, `[..]` one that is in an item of the class, `[^..]` one that is in none, `\c` the character c, any other
     /// character itself. An item of a class is a character or a range `lo-hi`. Fails with 41 `BadPattern` at a part that is no name or
     /// is the 129th, also if a later `..` would remove it, and if a part that is left ends in a lone `\` or has a
-    /// class that is empty, not closed or misspelled. Fails with 42 `Memory` where there is no other fault.
+    /// class that is empty, not closed or misspelled. Fails with 42 `Memory` if there is no other fault.
     pub fn read(alloc: Global, text: &str) -> Result<Pattern, PatternFault>
         ensures gives { Gives (λ p. p) result (pattern_of text.now) }
         ensures last { MemoryLast result (pattern_of text.now) }

@@ -211,7 +211,7 @@ opened done n (e ∷ es) below none = by_test (done e.vertex) refl none (λ rest
         let parts = and_parts (leads es found.0) (not (done found.0)) found.2 in
         (found.0, found.1, and_from (leads (e ∷ es) found.0) (not (done found.0)) (or_right (e.vertex == found.0) (leads es found.0) parts.0) parts.1)
 
--- a count is 0 exactly where all edges lead to vertices that are done
+-- a count is 0 exactly if all edges lead to vertices that are done
 pub counted_done : (vs : List Vertex) (done : ℕ → Bool) (x : Vertex) → All (λ (e : Edge). e.vertex < length vs) x.inputs
     → (open_inputs vs done x == 0) ≡ all_done done x.inputs
 counted_done vs done x below = by_test (all_done done x.inputs) refl

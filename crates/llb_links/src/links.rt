@@ -65,7 +65,7 @@ impl Links {
         })
     }
 
-    /// Returns a second owner of the lists of users, and a copy of the counts. Fails for want of memory alone.
+    /// Returns a shared copy of the lists of users, and a copy of the counts. Fails for want of memory alone.
     pub fn copy(&self, alloc: Global) -> Result<Links, AllocError>
         ensures { IfOk result (λ l. l ≡ self.now) }
     {

@@ -223,7 +223,7 @@ fn is_known(options: &Option<CacheOpt>) -> bool
     }
 }
 
-// The words are read where there are some.
+// The words are read if there are some.
 fn broken_script(alloc: Global, exec: &ExecOp) -> Result<Option<Rule>, Memory>
     requires there { IsSome exec.now.meta }
     requires words { HasWord exec.now.meta }

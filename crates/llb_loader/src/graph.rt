@@ -113,7 +113,7 @@ impl Graph {
         self.shared.as_slice()
     }
 
-    /// Returns an equal second owner, which shares the vertices. Fails with `Memory` (92) alone.
+    /// Returns an equal copy, which shares the vertices. Fails with `Memory` (92) alone.
     pub fn copy(&self) -> Result<Graph, Memory>
         ensures { IfOk result (λ g. g ≡ self.now) }
     {

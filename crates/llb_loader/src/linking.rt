@@ -36,7 +36,7 @@ struct Linked<'a> {
 ///
 /// Fails with the first fault, of the least row and its least input: `Entry` (82), `TooFew` (83), `Collision` (84),
 /// `NoResult` (85), `UnknownDigest` (86), `Cycle` (87), `Unsupported` (88), `Invalid` (89), `BadIndex` (90). Fails with `Memory` (91)
-/// where memory is refused.
+/// if memory is refused.
 pub fn link(alloc: Global, rows: &[Row]) -> Result<Graph, LoadFault>
     requires { length rows.now ≤ 65_536 }
     ensures graph { IfOk result (λ g. IsGraphOf rows.now g) }

@@ -16,7 +16,7 @@ use std::alloc::Global;
 
 /// Returns the graph of a definition's entries under their own digest texts.
 ///
-/// Fails with `Definition` (81) where the definition is not readable, else as `link` does. Fails with `Memory` (91) where memory is refused.
+/// Fails with `Definition` (81) if the definition is not readable, else as `link` does. Fails with `Memory` (91) if memory is refused.
 pub fn load(alloc: Global, bytes: &[u8]) -> Result<Graph, LoadFault>
     ensures graph { IfOk result (λ g. IsGraphIn bytes.now g) }
     ensures refused { IfErr result (λ e. is_memory e ≡ false → IsRefusalIn bytes.now e) }

@@ -60,7 +60,7 @@ impl Locals {
         Ok(())
     }
 
-    /// Returns the same names with second owners of their trees. Fails with `Memory` (92) alone.
+    /// Returns the same names with shared copies of their trees. Fails with `Memory` (92) alone.
     pub fn copy(&self) -> Result<Locals, Memory>
         ensures { IfOk result (λ l. l ≡ self.now) }
     {
@@ -75,7 +75,7 @@ impl Locals {
     }
 }
 
-// The same names with second owners of their trees.
+// The same names with shared copies of their trees.
 fn copied(trees: &IndexMap<String, Tree>) -> Result<Locals, Memory>
     ensures { IfOk result (λ l. l ≡ locals_of trees.now.entries) }
 {
@@ -86,7 +86,7 @@ fn copied(trees: &IndexMap<String, Tree>) -> Result<Locals, Memory>
     Ok(copies)
 }
 
-// A second owner of the tree at an index, under its name.
+// A shared copy of the tree at an index, under its name.
 fn copy_at(copies: &mut Locals, trees: &IndexMap<String, Tree>, i: usize) -> Result<(), Memory>
     ensures { OnOk result (IfSome (slice_get trees.now.entries i) (λ e. copies.new ≡ with_local copies.old (string_bytes e.0) e.1)) }
 {

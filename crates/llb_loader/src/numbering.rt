@@ -20,7 +20,7 @@ struct Waiter {
     checked: usize,
 }
 
-/// Returns the numbering of the rows that are reached from `start`, which are marked, or `None` where they have a cycle.
+/// Returns the numbering of the rows that are reached from `start`, which are marked, or `None` if they have a cycle.
 pub(crate) fn number(
     alloc: Global,
     rows: &[Vec<usize>],

@@ -32,7 +32,7 @@ fn same(row: &Row, other: &Row) -> bool
     row.digest.same(&other.digest) && row.bytes.same(&other.bytes)
 }
 
-/// Returns the first row of each digest text, where no two rows of one digest differ.
+/// Returns the first row of each digest text, if no two rows of one digest differ.
 pub(crate) fn index_of<'a>(
     alloc: Global,
     rows: &'a [Row],

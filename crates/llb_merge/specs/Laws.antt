@@ -89,7 +89,7 @@ walk_more f g more (n ∷ p) walks =
         let own = more [] (m, is) in
         walk-cons g n p ∙ ap (λ e. all_dirs (e ∷ map (λ q. g (n ∷ q)) (parents p))) own.1 ∙ rest walks
 
--- what can be walked to in the lower tree can be walked to in both, where no file of the upper one is above it
+-- what can be walked to in the lower tree can be walked to in both, if no file of the upper one is above it
 walk_both : (f g : Look) (p : List (List ℕ)) → walk f p ≡ Ok tt → below_file g p ≡ false → walk (lay_at f g) p ≡ Ok tt
 walk_both f g [] walks clear = refl
 walk_both f g (n ∷ p) walks clear =

@@ -1,5 +1,5 @@
 //! Laws of the laying, whatever the trees. It is not associative: a file of a tree between two others hides for
-//! good what the lowest has below it, also where the uppermost then has a directory in its place.
+//! good what the lowest has below it, also if the uppermost then has a directory in its place.
 
 ghost use Rattle.std.specs.Prelude.{◌≡◌, List, [], ℕ};
 ghost use Rattle.std.specs.FinMap as finite;

@@ -17,7 +17,7 @@ fn plain() -> Way
 }
 
 /// Lays the upper tree over the lower one, and returns the result: at a path it has what the upper tree has there, and else what the
-/// lower one has, where no file of the upper one is above the path. Fails with 55 `Memory` alone.
+/// lower one has, if no file of the upper one is above the path. Fails with 55 `Memory` alone.
 pub fn lay(_: Global, lower: &Tree, upper: &Tree) -> Result<Tree, Memory>
     ensures { IfOk result (λ t. t ≡ lay lower.now upper.now) }
 {

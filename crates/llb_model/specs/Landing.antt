@@ -28,7 +28,7 @@ abbrev pub further : List MicroStep → ℕ → Left → ℕ → Left
 further steps k left zero = left
 further steps k left (suc n) = further steps (k + 1) (go_on steps k left) n
 
--- the micro-steps are over after a fault, or where none has number k
+-- the micro-steps are over after a fault, or if none has number k
 abbrev pub is_over : List MicroStep → ℕ → Left → Bool
 is_over steps k left = is_some left.fault || nat_le (length steps) k
 

@@ -1,4 +1,4 @@
--- The claim order: each claimed vertex is run at its claim, one after the other: whole, or as far as it came where the claim was cancelled.
+-- The claim order: each claimed vertex is run at its claim, one after the other: whole, or as far as it came if the claim was cancelled.
 use Rattle.std.specs.Prelude.{◌≡◌, ℕ, ◌==◌, List, [], ◌∷◌, length, Option, Some, None, slice_get, slice_set, replicate, if◌then◌else◌}
 use Rattle.llb_model.specs.Caches.{Instance, Store, content, put_all}
 use Rattle.llb_model.specs.Program.{Build, MicroStep, Program, Work, Left, Start, program_of, needs_of, part, whole}
@@ -28,7 +28,7 @@ cut_in v (HasSettled (ended.Done u) ∷ rs) = if u == v then None else cut_in v 
 cut_in v (HasSettled (ended.Failed u) ∷ rs) = if u == v then None else cut_in v rs
 cut_in v (HasCancelled r ∷ rs) = if r.vertex == v then Some r.done else cut_in v rs
 
--- a vertex, with the numbers of the instances that its claim names, and where the claim was cancelled how many micro-steps were done
+-- a vertex, with the numbers of the instances that its claim names, and if the claim was cancelled how many micro-steps were done
 pub record Named : Type 0 where
   pub vertex : ℕ
   pub instances : List ℕ

@@ -1,4 +1,4 @@
-//! The mounts of a view in the order of their dests, by which a path is routed where there are many. The dests that are prefixes of a
+//! The mounts of a view in the order of their dests, by which a path is routed if there are many. The dests that are prefixes of a
 //! path are at or above the last dest that does not come after the path: a search finds that one, and from it one goes up.
 
 ghost use Rattle.std.specs.Prelude.{◌≡◌, ◌<◌, ◌+◌, true, length, IfOk};
@@ -12,8 +12,8 @@ use crate::shown::Shown;
 use llb_tree::Path;
 use std::alloc::Global;
 
-/// A place in the order of the dests: the number of a mount, and the place of the longest other dest that is a prefix of its own. The
-/// root, which has no such dest, is at the first place.
+/// A position in the order of the dests: the number of a mount, and the position of the longest other dest that is a prefix of its own. The
+/// root, which has no such dest, is at the first position.
 #[derive(Clone, Copy)]
 pub(crate) struct Row {
     mount: usize,
@@ -38,7 +38,7 @@ fn place_of(mounts: &[Shown], rows: &[Row], path: &Path) -> usize
     low
 }
 
-// The place of the longest dest that is a prefix of a path. It is at or above the place `from`.
+// The position of the longest dest that is a prefix of a path. It is at or above the position `from`.
 fn nearest(mounts: &[Shown], rows: &[Row], from: usize, path: &Path) -> usize
     requires rises { Rises (dests mounts.now) rows.now }
     requires root { AtRoot (dests mounts.now) rows.now }
@@ -70,7 +70,7 @@ fn sorted(alloc: Global, mounts: &[Shown]) -> Result<Vec<Row>, Memory>
     Ok(rows)
 }
 
-// Finds what is above each place.
+// Finds what is above each position.
 fn link(mounts: &[Shown], rows: &mut [Row])
     requires view { IsView mounts.now }
     requires rises { Rises (dests mounts.now) rows.old }

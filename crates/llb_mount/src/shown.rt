@@ -29,7 +29,7 @@ impl Drop for Shown {
 }
 
 impl Shown {
-    /// Returns an equal second owner. Fails with 62 `Memory` alone.
+    /// Returns an equal copy. Fails with 62 `Memory` alone.
     pub fn copy(&self) -> Result<Shown, Memory>
         ensures { IfOk result (λ m. m ≡ self.now) }
     {

@@ -1,4 +1,4 @@
-//! The view. Contracts see the list of its mounts, in the order in which they were given; a mount's number is its place in
+//! The view. Contracts see the list of its mounts, in the order in which they were given; a mount's number is its position in
 //! the list. The dests never change: from `make` on one of them is the root and no two are the same.
 
 ghost use Rattle.std.specs.Prelude.{◌≡◌, ◌≢◌, ◌↔◌, IsTrue, ℕ, ◌<◌, ◌≤◌, List, length, IfOk, IfErr, IfSome, IsOk, OnOk, OnErr, is_err, Contains, AllPairs};
@@ -22,7 +22,7 @@ const FEW: usize = 8;
 /// Mounts under dests of which one is the root and no two are the same. Contracts see the list of the mounts.
 pub struct View {
     mounts: Vec<Shown>,
-    // The order of the dests, which copies share; none where there are few mounts, or memory was refused for it.
+    // The order of the dests, which copies share; none if there are few mounts, or memory was refused for it.
     order: Option<Arc<Vec<Row>>>,
 }
 
@@ -97,7 +97,7 @@ fn route_among(mounts: &[Shown], path: &Path) -> (u32, u32)
     (number as u32, dropped as u32)
 }
 
-// The order of the dests; none where there are few mounts, or memory is refused.
+// The order of the dests; none if there are few mounts, or memory is refused.
 fn order_of(mounts: &Vec<Shown>) -> Option<Arc<Vec<Row>>>
     requires { IsView mounts.now.items }
     ensures { IfSome result (λ o. IsOrder (dests mounts.now.items) (arc_value o).items) }
@@ -195,7 +195,7 @@ impl View {
         &self.mounts[mount as usize].tree
     }
 
-    /// Replaces a mount's tree. Fails with 61 `ReadOnly` where the mount is read-only; then the fault holds the tree and the view is
+    /// Replaces a mount's tree. Fails with 61 `ReadOnly` if the mount is read-only; then the fault holds the tree and the view is
     /// unchanged. Does not allocate.
     pub fn set_tree(&mut self, mount: u32, tree: Tree) -> Result<(), ReadOnly>
         requires { mount < length self.old }
@@ -230,7 +230,7 @@ impl View {
         Many::new(mounts)
     }
 
-    /// Returns an equal second owner. Fails with 62 `Memory` alone.
+    /// Returns an equal copy. Fails with 62 `Memory` alone.
     pub fn copy(&self) -> Result<View, Memory>
         ensures { IfOk result (λ v. v ≡ self.now) }
     {

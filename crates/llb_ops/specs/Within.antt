@@ -22,7 +22,7 @@ pub record IsMetaWithin (m : Meta) : Type 0 where
   pub env : IsFew m.env
   pub short : All (λ a. length a ≤ entry_limit) m.args
 
--- the `Meta` of a run, if there is one; where it is absent nothing is asked
+-- the `Meta` of a run, if there is one; if it is absent nothing is asked
 abbrev pub IsMetaOptWithin : Option Meta → Type 0
 IsMetaOptWithin None = Unit {0}
 IsMetaOptWithin (Some m) = IsMetaWithin m

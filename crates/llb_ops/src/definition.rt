@@ -97,7 +97,7 @@ fn tally(bytes: &[u8]) -> Result<(usize, bool), OpFault>
     Ok((count, short))
 }
 
-// The entries with that of one record more, where it has one.
+// The entries with that of one record more, if it has one.
 fn put_entry(alloc: Global, entries: &mut Vec<Bytes>, part: &Record<'_>) -> Result<(), Memory>
     ensures { OnOk result (entries.new.items ≡ (if part.now.number == 1 then entries.old.items ++ part.now.payload.now ∷ [] else entries.old.items)) }
 {
@@ -143,7 +143,7 @@ fn admitted(bytes: &[u8]) -> Result<(), OpFault>
 /// Fails with the first fault: `OverLimit` (13) of a definition of more than 67,108,864 bytes; then
 /// of its records from left to right, `Wire` (1 to 4) or `WrongWireType` (11) of a field that it names; then
 /// `OverLimit` (13) of more than 65,536 entries, then of an entry of more than 16,777,216 bytes.
-/// Fails with `Memory` (14) where memory is refused for entries that are there.
+/// Fails with `Memory` (14) if memory is refused for entries that are there.
 pub fn read_definition(alloc: Global, bytes: &[u8]) -> Result<Entries, OpFault>
     ensures gives { Gives (λ e. e) result (definition_of bytes.now) }
     ensures last { MemoryLast is_memory result (definition_of bytes.now) }

@@ -114,7 +114,7 @@ impl Actions {
         self.shared.is_empty()
     }
 
-    /// Returns a second owner of the same actions.
+    /// Returns a shared copy of the same actions.
     pub fn copy(&self) -> Result<Actions, Memory>
         ensures { IfOk result (λ a. a ≡ self.now) }
     {
@@ -124,7 +124,7 @@ impl Actions {
 }
 
 impl FileOp {
-    /// Returns an equal second owner, which shares the actions. Fails with `Memory` (14) alone.
+    /// Returns an equal copy, which shares the actions. Fails with `Memory` (14) alone.
     pub fn copy(&self) -> Result<FileOp, OpFault>
         ensures { Gives (λ x. x) result (Ok self.now) }
     {

@@ -191,7 +191,7 @@ impl Message for Op {
 /// each message from the outermost on: its records from left to right, `Wire` (1 to 4) or
 /// `WrongWireType` (11) of a named field; `NotUtf8` (12) of a string; the faults of the messages in
 /// it by the numbers of their fields; `OverLimit` (13) of a field that is repeated more than 1,024
-/// times. Fails with `Memory` (14) where memory is refused.
+/// times. Fails with `Memory` (14) if memory is refused.
 #[tactic(auto, unfolding(crate::specs::Messages::op_of))]
 pub fn read_op(alloc: Global, bytes: &[u8]) -> Result<Op, OpFault>
     ensures gives { Gives (λ op. op) result (op_of bytes.now) }

@@ -170,7 +170,7 @@ fn last<'a>(records: &[Record<'a>], number: u32) -> Option<Record<'a>>
     last
 }
 
-/// Returns the number of a field, which is in its last record; 0 where there is none.
+/// Returns the number of a field, which is in its last record; 0 if there is none.
 fn last_number(records: &[Record<'_>], number: u32) -> u64
     ensures { result ≡ number_of (all_of number (views records.now)) }
 {
@@ -180,7 +180,7 @@ fn last_number(records: &[Record<'_>], number: u32) -> u64
     }
 }
 
-/// Returns the number of a field as a signed one of 64 bits; 0 where there is none.
+/// Returns the number of a field as a signed one of 64 bits; 0 if there is none.
 pub fn last_int64(records: &[Record<'_>], number: u32) -> i64
     ensures { result ≡ int64 (number_of (all_of number (views records.now))) }
 {
@@ -218,7 +218,7 @@ fn last_payload<'a>(records: &[Record<'a>], number: u32) -> &'a [u8]
     }
 }
 
-/// Returns the bytes of a field, none where it is not there.
+/// Returns the bytes of a field, none if it is not there.
 pub fn last_bytes(alloc: Global, records: &[Record<'_>], number: u32) -> Result<Bytes, Memory>
     ensures { IfOk result (λ b. b ≡ payload_of (all_of number (views records.now))) }
 {

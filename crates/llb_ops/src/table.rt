@@ -70,7 +70,7 @@ pub struct NamedField {
     pub repeated: bool,
     /// One of the message's oneof.
     pub member: bool,
-    /// Whether the field is in an entry of a map, whose key and value are written also where they are empty.
+    /// Whether the field is in an entry of a map, whose key and value are written also if they are empty.
     pub of_entry: bool,
 }
 

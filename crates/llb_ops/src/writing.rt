@@ -8,7 +8,7 @@ use crate::message::{Member, Message};
 use llb_wire::{Bytes, Memory, Text, Wire, write_record};
 use std::alloc::Global;
 
-/// Writes a number, also where it is 0.
+/// Writes a number, also if it is 0.
 #[tactic(auto, unfolding(crate::specs::Writing::set_number))]
 pub fn put_set_number(out: &mut Vec<u8>, number: u32, value: u64) -> Result<(), Memory>
     requires some { 0 < number }
@@ -19,7 +19,7 @@ pub fn put_set_number(out: &mut Vec<u8>, number: u32, value: u64) -> Result<(), 
     Ok(())
 }
 
-/// Writes bytes, also where there are none.
+/// Writes bytes, also if there are none.
 #[tactic(auto, unfolding(crate::specs::Writing::set_bytes))]
 pub fn put_set_bytes(out: &mut Vec<u8>, number: u32, bytes: &[u8]) -> Result<(), Memory>
     requires some { 0 < number }
@@ -30,7 +30,7 @@ pub fn put_set_bytes(out: &mut Vec<u8>, number: u32, bytes: &[u8]) -> Result<(),
     Ok(())
 }
 
-/// Returns the record of a field with these bytes, also where there are none.
+/// Returns the record of a field with these bytes, also if there are none.
 pub fn bytes_record(alloc: Global, number: u32, bytes: &[u8]) -> Result<Vec<u8>, Memory>
     requires some { 0 < number }
     requires small { number ≤ 536_870_911 }
@@ -86,7 +86,7 @@ pub fn put_flag(out: &mut Vec<u8>, number: u32, value: bool) -> Result<(), Memor
     put_number(out, number, u64::from(value))
 }
 
-/// Writes bytes, where there are some.
+/// Writes bytes, if there are some.
 #[tactic(auto, unfolding(crate::specs::Writing::bytes_field))]
 pub fn put_bytes(out: &mut Vec<u8>, number: u32, bytes: &[u8]) -> Result<(), Memory>
     requires some { 0 < number }
@@ -99,7 +99,7 @@ pub fn put_bytes(out: &mut Vec<u8>, number: u32, bytes: &[u8]) -> Result<(), Mem
     Ok(())
 }
 
-/// Writes a message, where there is one.
+/// Writes a message, if there is one.
 #[tactic(auto, unfolding(crate::specs::Writing::message_field))]
 pub fn put_message<M: Message>(
     alloc: Global,
@@ -160,7 +160,7 @@ pub fn put_each_text(out: &mut Vec<u8>, number: u32, items: &[Text]) -> Result<(
     Ok(())
 }
 
-/// Writes the member that is set, where there is one.
+/// Writes the member that is set, if there is one.
 pub fn put_one_of<M: Member>(
     alloc: Global,
     out: &mut Vec<u8>,

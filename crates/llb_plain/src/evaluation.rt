@@ -18,7 +18,7 @@ use llb_loader::{Graph, Locals, Vertex, missing_local};
 use llb_wire::Text;
 use std::alloc::Global;
 
-/// Returns the plain outcome of every vertex: `Blocked` where an input of it is not done, else what its whole program leaves of its
+/// Returns the plain outcome of every vertex: `Blocked` if an input of it is not done, else what its whole program leaves of its
 /// inputs' outputs, either its outputs or its first fault. Fails with 101 `MissingLocal` with the name of the least vertex whose local
 /// source has no tree; then with 102 `HasCache` with the least vertex that mounts a cache; with 103 `Memory` after those, but also in
 /// place of 101 where the name can't be held.

@@ -1,4 +1,4 @@
-//! The trees of a vertex's inputs, among the outcomes of the vertices below it, as second owners.
+//! The trees of a vertex's inputs, among the outcomes of the vertices below it, as shared copies.
 
 ghost use Rattle.std.specs.Prelude.{◌≡◌, Ok, map, option_map};
 ghost use Rattle.llb_model.specs.Outcome.{inputs_from, output_in};
@@ -21,7 +21,7 @@ fn output_at<'a>(before: &'a [Outcome], edge: Edge) -> Option<&'a Tree>
     }
 }
 
-/// Returns the trees that the edges lead to, in their order; `None` where the vertex of one is not done.
+/// Returns the trees that the edges lead to, in their order; `None` if the vertex of one is not done.
 pub(crate) fn gathered(
     alloc: Global,
     before: &[Outcome],

@@ -24,7 +24,7 @@ pub enum Outcome {
 }
 
 impl Outcome {
-    /// Returns the output of that number, where the vertex is done.
+    /// Returns the output of that number, if the vertex is done.
     pub fn output(&self, index: u32) -> Option<&Tree>
         ensures { option_map (λ t. t.now) result ≡ output_in (ending_in (Some (outcome_of self.now))) index }
     {
@@ -88,7 +88,7 @@ impl Outcomes {
         self.items.as_slice()
     }
 
-    /// Returns the outcome of a vertex; `None` where no vertex has that number.
+    /// Returns the outcome of a vertex; `None` if no vertex has that number.
     pub fn get(&self, vertex: u32) -> Option<&Outcome>
         ensures { option_map (λ o. outcome_of o.now) result ≡ slice_get self.now vertex }
     {

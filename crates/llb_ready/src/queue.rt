@@ -80,7 +80,7 @@ impl ReadyQueue {
         ensures ok { OnOk result (hand_of pass.new ≡ with_put (hand_of pass.old) v) }
         ensures full { IfErr result (λ e. (e.0 ≡ v) × (hand_of pass.new ≡ hand_of pass.old)) }
 
-        // To the whole pass the queue is full just where it has put as many numbers more than it took as there is room for.
+        // To the whole pass the queue is full just if it has put as many numbers more than it took as there is room for.
         ensures whole { let before = hand_of pass.old in IsWhole pass.old → MatchResult result (λ _. HasRoom before) (λ _. HasNoRoom before) }
     {
         let ReadyPass { pass } = pass;
@@ -98,7 +98,7 @@ impl ReadyQueue {
         ensures some { IfSome result (λ v. hand_of pass.new ≡ with_taken (hand_of pass.old) v) }
         ensures none { IfNone result (hand_of pass.new ≡ hand_of pass.old) }
 
-        // To the whole pass the queue is empty just where it took all that it put; else it gets one that was put more often than taken.
+        // To the whole pass the queue is empty just if it took all that it put; else it gets one that was put more often than taken.
         ensures whole { let before = hand_of pass.old in IsWhole pass.old → MatchOption result (HasTakenAll before) (HasLeft before) }
     {
         let ReadyPass { pass } = pass;

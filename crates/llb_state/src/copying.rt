@@ -1,4 +1,4 @@
-//! Second owners of what workers have, which share trees and views as far as they can.
+//! Shared copies of what workers have, which share trees and views as far as they can.
 
 ghost use Rattle.std.specs.Prelude.{◌≡◌, map, IfOk};
 ghost use Rattle.llb_state.specs.Room.{ready_made};
@@ -11,7 +11,7 @@ use llb_cache::{Instance, Lease};
 use llb_tree::Tree;
 use std::alloc::Global;
 
-/// Returns second owners of trees. Fails with 141 `Memory` alone.
+/// Returns shared copies of trees. Fails with 141 `Memory` alone.
 pub fn copied_trees(alloc: Global, trees: &[Tree]) -> Result<Vec<Tree>, Memory>
     ensures { IfOk result (λ t. t.items ≡ trees.now) }
 {

@@ -47,7 +47,7 @@ pub fn idle(alloc: Global, count: u32) -> Result<Vec<Desk>, AllocError>
     Ok(desks)
 }
 
-/// Returns the state of the worker of a number; `None` where there is no such worker.
+/// Returns the state of the worker of a number; `None` if there is no such worker.
 pub fn desk_at(desks: &[Desk], w: u32) -> Option<&Desk>
     ensures { option_map (λ d. at_of d.now) result ≡ slice_get (map at_of desks.now) w }
 {

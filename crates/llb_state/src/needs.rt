@@ -45,7 +45,7 @@ pub(crate) struct Taking {
 }
 
 /// Returns the caches that a vertex shows, in the order of the mounts, or fails with 135 with the first locked key that a lease has: then
-/// memory is taken for that key alone. Fails with 141 where memory is refused.
+/// memory is taken for that key alone. Fails with 141 if memory is refused.
 pub(crate) fn wanted_by<'a>(
     alloc: Global,
     caches: &'a Caches,
@@ -176,7 +176,7 @@ fn mode_of(sharing: i32) -> Mode
     }
 }
 
-/// Returns the numbers of the mounts that show caches. Fails with 141 alone, where memory is refused.
+/// Returns the numbers of the mounts that show caches. Fails with 141 alone, if memory is refused.
 pub(crate) fn mount_numbers(alloc: Global, wanted: &[Wanted<'_>]) -> Result<Vec<u32>, ClaimFault>
     ensures { GivesClaim (λ ns. ns.items) result (Ok (map mount_of (map need_of wanted.now))) }
 {
@@ -187,7 +187,7 @@ pub(crate) fn mount_numbers(alloc: Global, wanted: &[Wanted<'_>]) -> Result<Vec<
     Ok(numbers)
 }
 
-/// Returns what a claim of these caches takes, with the trees of the inputs. Fails with 141 alone, where memory is refused.
+/// Returns what a claim of these caches takes, with the trees of the inputs. Fails with 141 alone, if memory is refused.
 pub(crate) fn taking_for(
     alloc: Global,
     inputs: &[Tree],
@@ -248,7 +248,7 @@ fn first_trees(
     Ok(trees)
 }
 
-// The tree of an instance as it is, or where it is not there that of its seed.
+// The tree of an instance as it is, or if it is not there that of its seed.
 fn first_tree(alloc: Global, inputs: &[Tree], want: &Wanted<'_>) -> Result<Tree, ClaimFault>
     ensures { GivesClaim (λ t. t) result (Ok (first_tree inputs.now want.now)) }
 {
@@ -258,7 +258,7 @@ fn first_tree(alloc: Global, inputs: &[Tree], want: &Wanted<'_>) -> Result<Tree,
     }
 }
 
-// The tree of a seed, the empty one where there is none.
+// The tree of a seed, the empty one if there is none.
 fn seed_tree(alloc: Global, inputs: &[Tree], input: i64) -> Result<Tree, ClaimFault>
     ensures { GivesClaim (λ t. t) result (Ok (base_in input inputs.now)) }
 {

@@ -132,7 +132,7 @@ impl Vertices {
         Some(look(stage, ready, is_marked(&self.stop_marks, v)))
     }
 
-    /// Returns output i of a vertex that is done; `None` where there is no such vertex or output. Does not allocate.
+    /// Returns output i of a vertex that is done; `None` if there is no such vertex or output. Does not allocate.
     pub fn output(&self, v: u32, i: u32) -> Option<&Tree>
         ensures { option_map (λ t. t.now) result ≡ output_in (ending_at self.now.statuses v) i }
     {
@@ -146,7 +146,7 @@ impl Vertices {
         self.links.users(v)
     }
 
-    /// Returns the least vertex that waits and has all its inputs; `None` where there is none. Does not allocate.
+    /// Returns the least vertex that waits and has all its inputs; `None` if there is none. Does not allocate.
     pub fn next_ready(&self) -> Option<u32>
         ensures { result ≡ least (is_ready self.now.build self.now.statuses) 0 (length self.now.build.graph.vertices) }
     {
@@ -197,7 +197,7 @@ impl Vertices {
         );
     }
 
-    /// Returns an equal second owner, which shares the graph and all trees. Fails with 141 `Memory` alone.
+    /// Returns an equal copy, which shares the graph and all trees. Fails with 141 `Memory` alone.
     pub fn copy(&self, alloc: Global) -> Result<Vertices, Memory>
         ensures { IfOk result (λ s. s ≡ self.now) }
     {

@@ -64,7 +64,7 @@ or_right : (a b : Option Entry) → is_some b ≡ true → is_some (option_or a 
 or_right None b h = h
 or_right (Some x) b h = refl
 
--- the children's heights, where each look into them is at most n
+-- the children's heights, if each look into them is at most n
 kids_le : (n : ℕ) (ks : List Child) → ((m : List ℕ) (q : List (List ℕ)) → is_some (look_kids ks m q) ≡ true → length q + 1 ≤ n) → most deep-Child ks ≤ n + 1
 kids_le n [] h = omega arith
 kids_le n (k ∷ ks) h =

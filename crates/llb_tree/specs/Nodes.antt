@@ -137,7 +137,7 @@ pub record IsWhole (root : TreeMap) (depth : ℕ) : Type 0 where
 abbrev pub left_in : Children → List Child
 left_in c = c.rows.now ++ kids_in c.pieces.now
 
--- the first child and those after it, or nothing where there is none
+-- the first child and those after it, or nothing if there is none
 abbrev pub SplitsFirst : List Child → Option (Bor Child × Children) → Type 0
 SplitsFirst ks None = ks ≡ []
 SplitsFirst ks (Some (kid, rest)) = ks ≡ kid.now ∷ left_in rest

@@ -31,7 +31,7 @@ impl<'a> Children<'a> {
         Children { rows: &[], pieces }
     }
 
-    /// Returns the first child, and those after it; `None` where none is left. Does not allocate.
+    /// Returns the first child, and those after it; `None` if none is left. Does not allocate.
     pub fn split_first(&self) -> Option<(&'a Child, Children<'a>)>
         ensures { SplitsFirst (left_in self.now) result }
     {

@@ -1,4 +1,4 @@
-//! Contents that files share: a second owner of a content costs no copy of its bytes, so a file is copied to another place,
+//! Contents that files share: a shared copy of a content costs no copy of its bytes, so a file is copied to another place,
 //! or takes another mode or owner, at the price of the edit alone.
 
 ghost use Rattle.std.specs.Prelude.{◌≡◌, [], Ok, List, ℕ, IfOk, OnErr};
@@ -57,7 +57,7 @@ impl Content {
 }
 
 impl Node {
-    // The content of a file, shared; a directory has none. Refused only where there are too many owners.
+    // The content of a file, shared; a directory has none. Refused only if there are too many owners.
     fn content(&self) -> Result<Option<Content>, AllocError>
         ensures { IfOk result (λ c. c ≡ content_of (finite.get self.now [])) }
     {
@@ -81,7 +81,7 @@ impl Node {
 }
 
 impl Tree {
-    /// Returns the content of the file at a path, which it shares and does not copy; `None` where no file is. Fails with 27 `Memory` alone, only
+    /// Returns the content of the file at a path, which it shares and does not copy; `None` if no file is. Fails with 27 `Memory` alone, only
     /// where the content has too many owners.
     pub fn content(&self, path: &Path) -> Result<Option<Content>, TreeFault>
         ensures { Gives (λ c. c) result (Ok (content_of (finite.get self.now path.now))) }
@@ -94,7 +94,7 @@ impl Tree {
 
     /// Puts a file at a path, or replaces the file there, as `put_file` does, with a content that is shared and not copied. Fails, in
     /// this order, with 25 `Root` at the root, 21 `NotFound` or 22 `NotDir` at the first parent that is missing or a file, 23
-    /// `IsDir` where a directory is there; else with 27 `Memory`. After a refusal the tree is unchanged.
+    /// `IsDir` if a directory is there; else with 27 `Memory`. After a refusal the tree is unchanged.
     pub fn put_content(
         &mut self,
         path: &Path,

@@ -10,7 +10,7 @@ use crate::name::Name;
 use crate::node::{Child, Piece};
 use std::cmp::Ordering;
 
-// The children after the one of a name, where they are in the order of their names; none where no child has it.
+// The children after the one of a name, if they are in the order of their names; none if no child has it.
 fn after<'a>(kids: Children<'a>, name: &Name) -> Option<Children<'a>>
     ensures { IfSome result (λ more. HasLater name.now (left_in kids.entry) (left_in more)) }
 {

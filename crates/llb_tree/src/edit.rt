@@ -1,5 +1,5 @@
 //! Edits of nodes that may be shared. A directory is made its own before it is changed: where it has other owners, a fresh
-//! list of second owners of its pieces takes its place, and so do second owners of the children in the piece that is changed, which
+//! list of shared copies of its pieces takes its place, and so do shared copies of the children in the piece that is changed, which
 //! leaves the tree that it represents as it is. So an edit copies one piece of each directory on its path, and the lists of their pieces.
 
 ghost use Rattle.std.specs.Prelude.{[], Ok, Err, ◌≡◌, ◌<◌, ◌≤◌, ℕ, List, length, map, option_map, IfOk, OnOk, OnErr};
@@ -14,7 +14,7 @@ use crate::pieces::{drop_empty, make_room, own_list};
 use std::alloc::{AllocError, Global};
 use std::sync::Arc;
 
-// Second owners of the same children, with room for one more.
+// Shared copies of the same children, with room for one more.
 pub(crate) fn copies(alloc: Global, kids: &[Child]) -> Result<Vec<Child>, AllocError>
     ensures { IfOk result (λ v. map pair_of v.items ≡ map pair_of kids.now) }
 {
@@ -147,7 +147,7 @@ fn set_child(list: &mut Vec<Child>, i: usize, branch: Option<Node>)
     }
 }
 
-// Puts a node in as the child of a name, where that goes; nothing where there is no node.
+// Puts a node in as the child of a name, where that goes; nothing if there is no node.
 fn insert_child(
     list: &mut Vec<Child>,
     alloc: Global,

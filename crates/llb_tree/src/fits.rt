@@ -12,7 +12,7 @@ use crate::path::Path;
 use crate::tree::Tree;
 
 impl Tree {
-    /// Checks that the entries have room at and below a path. Fails with 26 `BadName` where a path would have more than 128 names. Does not
+    /// Checks that the entries have room at and below a path. Fails with 26 `BadName` if a path would have more than 128 names. Does not
     /// allocate.
     pub fn fits(&self, path: &Path) -> Result<(), TreeFault>
         ensures fit { result ≡ places_fit path.now (finite.keys self.now) }

@@ -25,7 +25,7 @@ impl Model for Mode {
 }
 
 impl Mode {
-    /// Reads the mode that one to four octal digits spell; returns `None` where the word is none.
+    /// Reads the mode that one to four octal digits spell; returns `None` if the word is none.
     pub fn read(word: &str) -> Option<Mode>
         ensures { result ≡ mode_of word.now }
     {

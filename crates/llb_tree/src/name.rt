@@ -57,7 +57,7 @@ impl Name {
         is_plain(bytes)
     }
 
-    /// Reads a text as a name. Fails with 26 `BadName` where it is none, else with 27 `Memory`.
+    /// Reads a text as a name. Fails with 26 `BadName` if it is none, else with 27 `Memory`.
     pub fn new(alloc: Global, text: &str) -> Result<Name, TreeFault>
         ensures gives { Gives (λ n. n) result (name_of text.now) }
         ensures last { MemoryLast result (name_of text.now) }
@@ -78,7 +78,7 @@ impl Name {
         self.text.as_str()
     }
 
-    /// Returns an equal second owner. Fails with 27 `Memory` alone.
+    /// Returns an equal copy. Fails with 27 `Memory` alone.
     pub fn copy(&self) -> Result<Name, TreeFault>
         ensures { Gives (λ n. n) result (Ok self.now) }
     {

@@ -1,5 +1,5 @@
 //! The nodes of a tree: a file with its content, or a directory with its children in the order of their names. Nodes are
-//! shared: a second owner of a node costs no copy of what is below it. A path has at most 128 names, so what recurses over
+//! shared: a shared copy of a node costs no copy of what is below it. A path has at most 128 names, so what recurses over
 //! nodes, their drop too, goes at most 128 deep.
 
 ghost use Rattle.std.specs.Prelude.{◌≡◌, ℕ, [], ◌∷◌, ◌++◌, ◌<◌, ◌≤◌, List, length, IfOk, IfErr, Some, false, option_map};
@@ -172,7 +172,7 @@ impl Node {
         }
     }
 
-    // The directory at the names with another mode and owner, an empty one where there is none.
+    // The directory at the names with another mode and owner, an empty one if there is none.
     pub(crate) fn dir_at(
         &self,
         alloc: Global,
@@ -205,7 +205,7 @@ impl Node {
         Ok(())
     }
 
-    // A second owner; refused only where there are too many.
+    // A shared copy; refused only if there are too many.
     pub(crate) fn copy(&self) -> Result<Node, AllocError>
         ensures { IfOk result (λ n. n ≡ self.now) }
     {
@@ -218,7 +218,7 @@ impl Node {
 }
 
 impl Child {
-    // A second owner of the name and of the node.
+    // A shared copy of the name and of the node.
     pub(crate) fn copy(&self) -> Result<Child, AllocError>
         ensures { IfOk result (λ k. pair_of k ≡ pair_of self.now) }
     {

@@ -1,7 +1,7 @@
 //! One tree laid over another. It goes down both at once and touches only what both have: what only one of them has is shared.
 //! At each level the upper children are put among the lower ones, each into the piece that its name belongs to, and where they
 //! have every name of the lower ones their pieces are taken as they are, but for the directories that both have, which are laid in
-//! turn. A refusal leaves what it is laid over as it was: the new children are put among second owners of the lower pieces.
+//! turn. A refusal leaves what it is laid over as it was: the new children are put among shared copies of the lower pieces.
 
 ghost use Rattle.std.specs.Prelude.{◌≡◌, ℕ, List, option_map, IfOk, IfErr, OnOk, OnErr, map, true, unwrap_or};
 ghost use Rattle.std.specs.Arc.{arc_value};
@@ -26,7 +26,7 @@ use std::alloc::{AllocError, Global};
 use std::sync::Arc;
 
 // The node, and all that is below it, in the mode and the owner of the way; the contents are shared, and so is the
-// whole node where the way has neither.
+// whole node if the way has neither.
 #[cycle(dress)]
 fn dressed(node: &Node, alloc: Global, way: &Way) -> Result<Node, AllocError>
     ensures { IfOk result (λ n. n ≡ dress way.now node.now) }
@@ -133,7 +133,7 @@ fn lay_all(
     }
 }
 
-// The upper pieces with what is laid in place of those that are changed; `None` where none is.
+// The upper pieces with what is laid in place of those that are changed; `None` if none is.
 #[cycle(lay)]
 fn laid_all(
     kids: &[Piece],
@@ -154,7 +154,7 @@ fn laid_all(
     Ok(made)
 }
 
-// The upper children of a piece with what is laid in place of those that are changed; `None` where none is. The lower child of a name is
+// The upper children of a piece with what is laid in place of those that are changed; `None` if none is. The lower child of a name is
 // looked for first at the same place in the piece at this place.
 #[cycle(lay)]
 fn laid_rows(
@@ -180,7 +180,7 @@ fn laid_rows(
     Ok(made)
 }
 
-// An upper child, laid over the lower one of its name; `None` where it is unchanged.
+// An upper child, laid over the lower one of its name; `None` if it is unchanged.
 #[cycle(lay)]
 fn laid_over(
     lower: Option<&Child>,
@@ -239,7 +239,7 @@ fn laid_children(
     Ok(ready)
 }
 
-// A child laid over a copy of the one of its name, or dressed where there is none.
+// A child laid over a copy of the one of its name, or dressed if there is none.
 #[cycle(lay)]
 fn laid_child(kids: &[Piece], alloc: Global, way: &Way, upper: &Child) -> Result<Child, AllocError>
     requires { ArePieced kids.now }
@@ -263,7 +263,7 @@ impl Tree {
     /// Lays another tree over this one, and returns the result: at a path it has what the other has there, in the mode and the owner of the
     /// way, and else what this tree has there, unless a file of the other is above. A directory that both have is the other's, or stays as
     /// it is where the way keeps it. Fails with 27 `Memory` alone. It goes down both trees at once and touches only what both have; what only
-    /// one has is shared, not copied. Only where the way has a mode or an owner does what is laid get nodes of its own, and
+    /// one has is shared, not copied. Only if the way has a mode or an owner does what is laid get nodes of its own, and
     /// even then its contents are shared.
     pub fn overlaid(self, way: &Way, upper: &Tree) -> Result<Tree, TreeFault>
         ensures paths { IfOk result (λ t. (q : List (List ℕ)) → finite.get t q ≡ over_at way.now (finite.get self) (finite.get upper.now) q) }

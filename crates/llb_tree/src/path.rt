@@ -48,7 +48,7 @@ impl Path {
 
     /// Reads a text as a path from the root: the text is split at `/`, empty parts and `.` are dropped, and
     /// `..` removes the last name and stops at the root. Fails with 26 `BadName` at the first part that is no name or is the
-    /// 129th name, also where a later `..` would remove it; with 27 `Memory` only where the text reads as a path.
+    /// 129th name, also where a later `..` would remove it; with 27 `Memory` only if the text reads as a path.
     pub fn read(alloc: Global, text: &str) -> Result<Path, TreeFault>
         ensures gives { Gives (λ p. p) result (path_of text.now) }
         ensures last { MemoryLast result (path_of text.now) }
@@ -152,7 +152,7 @@ impl Path {
         self.names.pop();
     }
 
-    /// Returns an equal second owner. Fails with 27 `Memory` alone.
+    /// Returns an equal copy. Fails with 27 `Memory` alone.
     pub fn copy(&self) -> Result<Path, TreeFault>
         ensures { Gives (λ p. p) result (Ok self.now) }
     {
@@ -193,7 +193,7 @@ fn depth_of(start: usize, text: &str) -> Result<usize, TreeFault>
     Ok(names)
 }
 
-/// Returns how many names there are after a part, where there are `names` before it.
+/// Returns how many names there are after a part, if there are `names` before it.
 pub(crate) fn depth_after(names: usize, part: &str) -> Result<usize, TreeFault>
     ensures depth { (path : List (List ℕ)) → length path ≡ names → result ≡ depth (enter path part.now) }
     ensures known { IfErr result (λ e. is_memory e ≡ false) }

@@ -26,7 +26,7 @@ impl Piece {
         Ok(Piece { rows })
     }
 
-    // A second owner.
+    // A shared copy.
     pub(crate) fn copy(&self) -> Result<Piece, AllocError>
         ensures { IfOk result (λ p. rows_in p ≡ rows_in self.now) }
     {
@@ -109,7 +109,7 @@ fn row_at(pieces: &[Piece], at: usize, i: usize) -> Option<&Child>
     Some(&rows[i])
 }
 
-// Second owners of the same pieces.
+// Shared copies of the same pieces.
 pub(crate) fn second_owners(alloc: Global, pieces: &[Piece]) -> Result<Vec<Piece>, AllocError>
     ensures { IfOk result (λ v. map row_pairs v.items ≡ map row_pairs pieces.now) }
 {
@@ -153,7 +153,7 @@ fn part(pieces: &mut Vec<Piece>, alloc: Global, at: usize) -> Result<(), AllocEr
     Ok(())
 }
 
-// Makes a piece where there is none.
+// Makes a piece if there is none.
 fn some_piece(pieces: &mut Vec<Piece>, alloc: Global) -> Result<(), AllocError>
     requires { ArePieced pieces.old.items }
     ensures same { pairs_of pieces.new.items ≡ pairs_of pieces.old.items }
@@ -197,7 +197,7 @@ pub(crate) fn drop_empty(pieces: &mut Vec<Piece>, at: usize)
     }
 }
 
-// Puts a piece of these children after others; none where there are no children.
+// Puts a piece of these children after others; none if there are no children.
 fn end_piece(pieces: &mut Vec<Piece>, alloc: Global, rows: Vec<Child>) -> Result<(), AllocError>
     ensures same { OnOk result (kids_in pieces.new.items ≡ kids_in pieces.old.items ++ rows.items) }
     ensures full { AllFull (map row_pairs pieces.old.items) → AllFull (map row_pairs pieces.new.items) }

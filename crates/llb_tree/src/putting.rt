@@ -14,7 +14,7 @@ use crate::pieces::{make_room, second_owners};
 use std::alloc::{AllocError, Global};
 use std::sync::Arc;
 
-// Puts a child in the place of the one of its name, or in where there is none.
+// Puts a child in the place of the one of its name, or in if there is none.
 fn put_child(list: &mut Vec<Child>, child: Child) -> Result<(), AllocError>
     requires { AreSorted list.old.items }
     ensures ok { OnOk result (map pair_of list.new.items ≡ finite.put name_cmp (name_of child) child.node (map pair_of list.old.items)) }
@@ -58,7 +58,7 @@ fn put_piece(pieces: &mut Vec<Piece>, alloc: Global, child: Child) -> Result<(),
     put_in(&mut piece.rows, alloc, child)
 }
 
-// Puts children in, each in the place of the one of its name, among second owners of the pieces, which take the place of the old
+// Puts children in, each in the place of the one of its name, among shared copies of the pieces, which take the place of the old
 // ones at the end. So a piece that none of them belongs to stays shared, and a refusal leaves all as it was.
 pub(crate) fn put_all(
     kids: &mut Arc<Vec<Piece>>,

@@ -27,7 +27,7 @@ impl Path {
     }
 }
 
-// How many first names are shared after a part, where there are then `next` names.
+// How many first names are shared after a part, if there are then `next` names.
 fn shared_after(names: &[Name], depth: usize, same: usize, part: &str, next: usize) -> usize
     ensures { (path after : List (List ℕ)) → length path ≡ depth → shared names.now path ≡ same → enter path part.now ≡ Ok after → length after ≡ next
         → result ≡ shared names.now after }

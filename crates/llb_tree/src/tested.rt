@@ -24,7 +24,7 @@ pub trait NameTest {
         ensures { result ≡ passes self.now name.now };
 }
 
-// What is left of a node, a file or a directory, without all that passes the tests; `None` where all is left.
+// What is left of a node, a file or a directory, without all that passes the tests; `None` if all is left.
 #[cycle(thin)]
 fn thinned<T: NameTest>(
     node: &Node,
@@ -48,7 +48,7 @@ fn thinned<T: NameTest>(
     }
 }
 
-// What is left of children; `None` where all is left.
+// What is left of children; `None` if all is left.
 #[cycle(thin)]
 fn thinned_children<T: NameTest>(
     kids: Children<'_>,
@@ -105,7 +105,7 @@ fn keep<T: NameTest>(
 }
 
 impl Tree {
-    /// Returns the tree without the paths that pass the tests, and what is below them; `None` where no path passes. Fails with 25 `Root` where
+    /// Returns the tree without the paths that pass the tests, and what is below them; `None` if no path passes. Fails with 25 `Root` where
     /// there are no tests, else with 27 `Memory`. What is unchanged is shared.
     pub fn without_passing<T: NameTest>(&self, tests: &[T]) -> Result<Option<Tree>, TreeFault>
         ensures gives { Gives (λ o. o) result (rid_of T.passes tests.now self.now) }

@@ -147,7 +147,7 @@ impl Tree {
     }
 
     /// Puts a file at a path, or replaces the file there. Fails, in this order, with 25 `Root` at the root, 21 `NotFound` or 22
-    /// `NotDir` at the first parent that is missing or a file, 23 `IsDir` where a directory is there; else with 27 `Memory`.
+    /// `NotDir` at the first parent that is missing or a file, 23 `IsDir` if a directory is there; else with 27 `Memory`.
     /// After a refusal the tree is unchanged.
     pub fn put_file(&mut self, path: &Path, meta: Meta, content: Bytes) -> Result<(), TreeFault>
         ensures gives { Gives (λ _. self.new) result (put_file self.old path.now meta content) }
@@ -169,7 +169,7 @@ impl Tree {
     }
 
     /// Makes a directory at a path; one that is there, the root too, takes the new mode and owner. Fails, in this order, with 21
-    /// `NotFound` or 22 `NotDir` at the first parent that is missing or a file, 24 `Conflict` where a file is there; else with
+    /// `NotFound` or 22 `NotDir` at the first parent that is missing or a file, 24 `Conflict` if a file is there; else with
     /// 27 `Memory`. After a refusal the tree is unchanged.
     pub fn put_dir(&mut self, path: &Path, meta: Meta) -> Result<(), TreeFault>
         ensures gives { Gives (λ _. self.new) result (put_dir self.old path.now meta) }
@@ -222,7 +222,7 @@ impl Tree {
     }
 
     /// Returns the tree of what is at or below a path, which it shares: what is at this path followed by another is there at the
-    /// other. Fails with 21 `NotFound` where nothing is there, also below a file, with 22 `NotDir` where a file is, with 27 `Memory`.
+    /// other. Fails with 21 `NotFound` where nothing is there, also below a file, with 22 `NotDir` if a file is, with 27 `Memory`.
     pub fn subtree(&self, path: &Path) -> Result<Tree, TreeFault>
         ensures gives { Gives (λ t. t) result (subtree self.now path.now) }
         ensures last { MemoryLast result (subtree self.now path.now) }
@@ -238,7 +238,7 @@ impl Tree {
         })
     }
 
-    /// Returns an equal second owner, which shares all of it. Fails with 27 `Memory` alone.
+    /// Returns an equal copy, which shares all of it. Fails with 27 `Memory` alone.
     pub fn copy(&self) -> Result<Tree, TreeFault>
         ensures { Gives (λ t. t) result (Ok self.now) }
     {

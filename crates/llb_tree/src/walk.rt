@@ -85,7 +85,7 @@ fn climb<'a>(path: &mut Path, levels: &mut Vec<Children<'a>>) -> Result<Option<&
     Ok(None)
 }
 
-// Goes down to the first child, or up where there is none.
+// Goes down to the first child, or up if there is none.
 fn descend<'a>(
     path: &mut Path,
     levels: &mut Vec<Children<'a>>,

@@ -9,7 +9,7 @@ ghost use Rattle.llb_tree.specs.Laying.{IsWay, TakesWhole, owner_fits};
 use crate::meta::Meta;
 use std::marker::Model;
 
-/// The mode and the owner that are given to what is laid over a tree, each its own where none is given; and whether a
+/// The mode and the owner that are given to what is laid over a tree, each its own if none is given; and whether a
 /// directory that both trees have stays as the lower one has it.
 #[derive(Clone, Copy)]
 pub struct Way {
@@ -33,7 +33,7 @@ impl Model for Way {
 }
 
 impl Way {
-    /// Makes the way of a mode, a user, a group and what becomes of directories that both have; `None` exactly where the mode
+    /// Makes the way of a mode, a user, a group and what becomes of directories that both have; `None` exactly if the mode
     /// is above 4095.
     pub fn new(mode: Option<u16>, uid: Option<u32>, gid: Option<u32>, keeps: bool) -> Option<Way>
         ensures { result ≡ way_of mode uid gid keeps }

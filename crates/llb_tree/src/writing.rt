@@ -1,4 +1,4 @@
-//! What a laying changes of the upper tree's children is written into second owners of them, which are made at the first change.
+//! What a laying changes of the upper tree's children is written into shared copies of them, which are made at the first change.
 
 ghost use Rattle.std.specs.Prelude.{◌≡◌, ◌<◌, length, IfOk, map, set};
 ghost use Rattle.llb_tree.specs.Nodes.{pair_of};
@@ -10,7 +10,7 @@ use crate::node::{Child, Node, Piece};
 use crate::pieces::second_owners;
 use std::alloc::{AllocError, Global};
 
-// Writes a node as the child at a place among those made, or among second owners of the upper ones where none are made.
+// Writes a node as the child at a place among those made, or among shared copies of the upper ones if none are made.
 pub(crate) fn with_node(
     made: Option<Vec<Child>>,
     alloc: Global,
@@ -29,7 +29,7 @@ pub(crate) fn with_node(
     Ok(list)
 }
 
-// Puts rows in the place of a piece among those made, or among second owners of the upper ones where none are made.
+// Puts rows in the place of a piece among those made, or among shared copies of the upper ones if none are made.
 pub(crate) fn with_rows(
     made: Option<Vec<Piece>>,
     alloc: Global,

@@ -1,5 +1,5 @@
 //! The tree of a text while it is read. The files of a directory often follow one another, so the directory of the last line
-//! is kept apart as a tree of its own, where a file is put by its name alone; later it goes back to its place as a whole.
+//! is kept apart as a tree of its own, into which a file is put by its name alone; later it goes back to its place as a whole.
 
 ghost use Rattle.std.specs.Prelude.{◌≡◌, ◌++◌, ◌∷◌, ℕ, List, [], Ok, None, true, false, IfSome, IfOk};
 ghost use Rattle.std.specs.FinMap as finite;
@@ -31,7 +31,7 @@ pub(crate) struct Open<'a> {
     text: &'a str,
 }
 
-// The tree of a root directory alone; none where memory is refused.
+// The tree of a root directory alone; none if memory is refused.
 fn root_alone(alloc: Global, meta: Meta) -> Option<Tree>
     ensures { IsIfAny result (finite.insert empty_tree [] (Dir meta)) }
 {
@@ -44,7 +44,7 @@ fn root_alone(alloc: Global, meta: Meta) -> Option<Tree>
     }
 }
 
-// The tree of the first line; none where memory is refused.
+// The tree of the first line; none if memory is refused.
 pub(crate) fn started<'a>(alloc: Global, meta: Meta) -> Option<Growing<'a>>
     ensures { IsGrownIfAny result (finite.insert empty_tree [] (Dir meta)) }
 {
@@ -52,7 +52,7 @@ pub(crate) fn started<'a>(alloc: Global, meta: Meta) -> Option<Growing<'a>>
     Some(Growing { tree, open: None })
 }
 
-// The whole tree; none where memory is refused.
+// The whole tree; none if memory is refused.
 fn whole(growing: Growing<'_>) -> Option<Tree>
     ensures { (t : TreeMap) → IsGrown growing.entry t → IsIfAny result t }
 {
@@ -73,14 +73,14 @@ fn whole(growing: Growing<'_>) -> Option<Tree>
     }
 }
 
-// The whole tree, where there is one.
+// The whole tree, if there is one.
 pub(crate) fn whole_if_any(growing: Option<Growing<'_>>) -> Option<Tree>
     ensures { (t : TreeMap) → IsGrownIfAny growing.entry t → IsIfAny result t }
 {
     whole(growing?)
 }
 
-// What a path has after a directory's path and a slash; none where it is not below the directory. Does not allocate.
+// What a path has after a directory's path and a slash; none if it is not below the directory. Does not allocate.
 fn rest_below<'a>(dir: &str, path: &'a str) -> Option<&'a str>
     ensures { IfSome result (λ rest. path.now ≡ dir.now ++ 47 ∷ rest.now) }
 {
@@ -88,7 +88,7 @@ fn rest_below<'a>(dir: &str, path: &'a str) -> Option<&'a str>
     later.strip_prefix('/')
 }
 
-// The path of one name; none where the text is no name.
+// The path of one name; none if the text is no name.
 fn path_of_name(alloc: Global, text: &str) -> Result<Option<Path>, Memory>
     ensures { IfOk result (λ o. IfSome o (λ p. (p ≡ text.now ∷ []) × (is_name text.now ≡ true))) }
 {
@@ -134,7 +134,7 @@ fn is_put_below(alloc: Global, growing: &mut Growing<'_>, parts: &Parts<'_>) -> 
     }
 }
 
-// A tree with a directory more, which is kept apart; none where memory is refused.
+// A tree with a directory more, which is kept apart; none if memory is refused.
 fn opened<'a>(
     alloc: Global,
     above: Tree,
@@ -152,7 +152,7 @@ fn opened<'a>(
     })
 }
 
-// The whole tree with a row more; none where memory is refused.
+// The whole tree with a row more; none if memory is refused.
 fn with_row<'a>(alloc: Global, mut tree: Tree, row: Row, text: &'a str) -> Option<Growing<'a>>
     ensures { IsTree tree → finite.get tree row.path ≡ None → text.now ≡ names_text row.path
         → put_row tree (pair_of row) ≡ Ok (finite.insert tree row.path (pair_of row).1)

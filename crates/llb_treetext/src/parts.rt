@@ -133,7 +133,7 @@ fn is_path(text: &str) -> bool
     }
 }
 
-// The parts of a text, where it is a line.
+// The parts of a text, if it is a line.
 fn parts_in(text: &str) -> Option<Parts<'_>>
     ensures { option_map parts_seen result ≡ parts_in text.now }
 {

@@ -10,7 +10,7 @@ use llb_tree::Tree;
 use std::alloc::Global;
 
 /// Reads the tree of a text, as `print_tree` writes it; else fails with the first fault of the first line that has one: 31 `BadLine`, 32
-/// `Order`, 33 `NoParent`. A text of no bytes and a last line with no end are 31. Fails with 34 `Memory` only where the text is a
+/// `Order`, 33 `NoParent`. A text of no bytes and a last line with no end are 31. Fails with 34 `Memory` only if the text is a
 /// tree's: once memory is refused, the lines that are left are looked through without memory.
 pub fn read_tree(alloc: Global, bytes: &[u8]) -> Result<Tree, TextFault>
     ensures answers { Answers bytes.now result }

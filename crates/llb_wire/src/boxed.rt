@@ -1,4 +1,4 @@
-//! A value in a place of its own, which contracts see as the value.
+//! A value in a box of its own, which contracts see as the value.
 
 ghost use Rattle.std.specs.Prelude.{◌≡◌, IfOk};
 
@@ -7,7 +7,7 @@ use crate::same::Same;
 use std::alloc::Global;
 use std::marker::Model;
 
-/// A value in a place of its own: an enum whose large variants are boxed takes the room of its small ones.
+/// A value in a box of its own: an enum whose large variants are boxed takes the room of its small ones.
 pub struct Boxed<T> {
     place: Box<T>,
 }
@@ -26,7 +26,7 @@ impl<T> Model for Boxed<T> {
 }
 
 impl<T: Drop> Boxed<T> {
-    /// Takes the value over, which is dropped where memory is refused.
+    /// Takes the value over, which is dropped if memory is refused.
     pub fn new(alloc: Global, value: T) -> Result<Boxed<T>, Memory>
         ensures { IfOk result (λ b. b ≡ value) }
     {

@@ -15,7 +15,7 @@ use std::alloc::{AllocError, Global};
 // How many bytes the text of a digest has.
 const DIGEST_LENGTH: usize = 71;
 
-/// Puts the lower-case hexadecimal digits of bytes after a text, `-` where there are none. Where it fails, the text is
+/// Puts the lower-case hexadecimal digits of bytes after a text, `-` if there are none. Where it fails, the text is
 /// unchanged.
 pub fn push_hex(alloc: Global, text: &mut String, bytes: &[u8]) -> Result<(), AllocError>
     ensures ok { OnOk result (string_bytes text.new ≡ string_bytes text.old ++ hex_text bytes.now) }
@@ -50,7 +50,7 @@ pub fn is_hex(text: &str) -> bool
     !digits.is_empty() && digits.len() % 2 == 0 && are_lower(digits)
 }
 
-/// Reads the bytes of pairs of hexadecimal digits, and none of `-`; returns `None` where the text is neither. Takes upper-case digits
+/// Reads the bytes of pairs of hexadecimal digits, and none of `-`; returns `None` if the text is neither. Takes upper-case digits
 /// too: `is_hex` accepts exactly the texts that are written so.
 pub fn read_hex(alloc: Global, text: &str) -> Result<Option<Bytes>, Memory>
     ensures { IfOk result (λ o. option_map (λ b. b) o ≡ bytes_in text.now) }

@@ -3,7 +3,7 @@
 ghost use Rattle.std.specs.Prelude.{◌≡◌, ◌↔◌, List};
 ghost use Rattle.llb_wire.specs.Records.{Record, SpellRecords, Walks};
 
-/// A law: a walk by `next_record` from the start of the bytes, from each record's end to the next, ends well exactly where
+/// A law: a walk by `next_record` from the start of the bytes, from each record's end to the next, ends well exactly if
 /// the bytes spell the records that it meets.
 pub fn walk_meets_what_is_spelled(bytes: &[u8])
     ensures { (rs : List Record) → Walks bytes.now 0 rs ↔ SpellRecords bytes.now rs }

@@ -12,15 +12,15 @@ pub struct Failed;
 
 /// Where bytes go. Contracts see the bytes taken so far and whether the sink has failed.
 pub trait Sink {
-    // The bytes taken so far, where they are known.
+    // The bytes taken so far, if they are known.
     ghost taken: { Self → Option (List ℕ) };
 
     ghost failed: { Self → Bool };
 
-    // The reference behind which the bytes go, where there is one: it stays the same.
+    // The reference behind which the bytes go, if there is one: it stays the same.
     ghost lender: { Self → Option GName } = { λ _. None };
 
-    /// Takes some bytes from the start, at least one where there are any, and returns how many; or
+    /// Takes some bytes from the start, at least one if there are any, and returns how many; or
     /// fails with `Failed`, and then does so in every later call.
     fn write(&mut self, bytes: &[u8]) -> Result<usize, Failed>
         ensures takes { Takes (taken self.old) (failed self.old) (taken self.new) (failed self.new)

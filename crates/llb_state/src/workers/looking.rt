@@ -16,7 +16,7 @@ use llb_execution::Look;
 use llb_tree::Tree;
 
 impl Workers {
-    /// Returns tree i of those that a worker works on (`Workspace::look`), that of a cache instance as it is now; `None` where the worker is
+    /// Returns tree i of those that a worker works on (`Workspace::look`), that of a cache instance as it is now; `None` if the worker is
     /// idle, past the last worker, or past the last tree. Does not allocate.
     pub fn worked_on(&self, w: u32, i: u32) -> Option<&Tree>
         ensures { option_map (λ t. t.now) result ≡ slice_get (worked_by (store_of self.now.rows) (runs (slice_get self.now.workers w))) i }
