@@ -160,7 +160,7 @@ fn target_of(view: &View, source: &Path, path: Path) -> Result<Option<Spot>, Mem
     }
 }
 
-// Gives the entry at a path another mode.
+// Changes the mode of the entry at a path.
 fn chmod(
     alloc: Global,
     mode: Mode,

@@ -1,4 +1,4 @@
--- What is written of the text of entries where the writing stops.
+-- How much of the text of entries is written when the writing stops.
 use Rattle.std.specs.Prelude.{◌≡◌, ◌≢◌, ℕ, List, [], ◌∷◌, length, take, drop, Bool, true, ◌==◌, ◌&&◌, if◌then◌else◌, Option, Some, None, Result, Ok, Err}
 use Rattle.std.specs.Io.KnownBytes.{Appends}
 use Rattle.llb_wire.specs.declared.fault.WireFault.{WireFault}
@@ -21,7 +21,7 @@ Prints taken taken' failed' text (Err (fault.UnknownLabel n)) = ⊥
 
 -- ---- one record at a time
 
--- the result of a reading of the next record where it reads this one
+-- the result of reading the next record, if it is this one
 abbrev pub found : Field → Result (Option Field) WireFault
 found f = Ok (Some f)
 

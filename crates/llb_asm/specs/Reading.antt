@@ -42,8 +42,8 @@ is_within earlier size = nat_le size entry_limit && nat_le (length (definition_b
 
 -- ---- the current message
 
--- the current message: the place of its next line, its bytes so far, and `room`, which says whether the entry is within the limits if this message has n bytes
--- and all messages are then closed
+-- the current message: the context of its next line, its bytes so far, and `room`, which says whether the entry is within the limits if this message has n
+-- bytes and all messages are then closed
 pub record Hand : Type 0 where
   pub here : Here
   pub bytes : List ℕ
@@ -104,7 +104,7 @@ IsWhole (single line next bytes rest) = IsWhole rest
 IsWhole (nested line next number sub inner rest) = IsWhole rest
 IsWhole (unclosed line next number sub inner) = ⊥
 
--- an item with this next place, which holds this
+-- the item that holds this, with the context of the line after it
 abbrev pub item : Here → Held → Item
 item next held = record { next = next; held = held }
 

@@ -31,7 +31,7 @@ pub record OpenOp : Type 0 where
   pub bytes : List ℕ
   pub below : List Frame
 
--- an open op as the code holds it, where the innermost of the messages around the one at hand is the last
+-- an open op as the code stores it: the enclosing messages, innermost last
 abbrev pub open_op_of : Open → OpenOp
 open_op_of s = record { here = s.here; bytes = s.bytes; below = reverse s.below }
 
@@ -39,7 +39,7 @@ open_op_of s = record { here = s.here; bytes = s.bytes; below = reverse s.below 
 abbrev pub at_front : OpenOp
 at_front = record { here = inside named.Op; bytes = []; below = [] }
 
--- whether the entry has room for the current message where that has `size` bytes
+-- whether the entry has room for the current message if that has `size` bytes
 abbrev pub room_in : (ℕ → Bool) → List Frame → ℕ → Bool
 room_in room [] size = room size
 room_in room (f ∷ below) size = room_in room below (length f.bytes + record_length f.number size)

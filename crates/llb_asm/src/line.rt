@@ -46,7 +46,7 @@ pub enum Held {
     Opens(u32, MessageName),
 }
 
-/// What a line adds, and the place of the line after it in the same message.
+/// What a line adds, and the context of the line after it in the same message.
 #[derive(Drop)]
 pub struct Item {
     pub next: Here,

@@ -171,7 +171,7 @@ impl Caches {
         places_at(&self.out, lease.number)[need as usize].number
     }
 
-    /// Returns the tree of the instance that a need of a lease that is out has. Does not allocate.
+    /// Returns the tree of the instance that a need of a granted lease has. Does not allocate.
     pub fn content(&self, lease: &Lease, need: u32) -> &Tree
         requires { need < length (places_of self.now.out lease.now) }
         ensures { tree_at self.now.rows (place_at self.now.out lease.now need) ≡ Some result.now }

@@ -151,7 +151,7 @@ pub(crate) fn places_at(out: &[Option<Many<Instance>>], lease: u32) -> &[Instanc
     }
 }
 
-// Puts a tree in the place of an instance's.
+// Replaces the tree of an instance.
 pub(crate) fn set_at(rows: &mut Rows, place: &Instance, tree: Tree)
     requires order { AreOrdered rows.old }
     requires there { place.now.number < length (trees_of rows.old.entries.items place.now.key) }

@@ -63,7 +63,7 @@ HaveAlikeSources R g v ls ms = (name : List ℕ) → IsSourceOf g v name → Bot
 abbrev pub HasAlikeOutcomes : (List ℕ → List ℕ → Type 0) → Numbered → List Local → List Local → ℕ → Type 0
 HasAlikeOutcomes R g ls ms v = BothOptions (AreAlikeOutcomes R) (outcome (record { graph = g; locals = ls }) v) (outcome (record { graph = g; locals = ms }) v)
 
--- where local trees differ in contents alone, by a relation, so do the outcomes
+-- if local trees differ in contents alone, by a relation, so do the outcomes
 abbrev pub HandsOn : (List ℕ → List ℕ → Type 0) → Numbered → Type 0
 HandsOn R g = (ls ms : List Local) (v : ℕ) → RelatesWritten R g v → HaveAlikeSources R g v ls ms → HasAlikeOutcomes R g ls ms v
 
@@ -188,6 +188,6 @@ pub record AreExchanged (pairs : List (List ℕ × List ℕ)) (a b : List ℕ) :
   pub first : a ≡ flat_map (λ p. p.0) pieces
   pub second : b ≡ flat_map (λ p. p.1) pieces
 
--- where pieces of local trees' contents are exchanged, the outcome is the same but for such exchanges in its contents, if no digest is made
+-- if pieces of local trees' contents are exchanged, the outcome is the same but for such exchanges in its contents, if no digest is made
 abbrev pub HandsContentsOn : Numbered → Type 0
 HandsContentsOn g = (pairs : List (List ℕ × List ℕ)) → HandsOnUndigested (AreExchanged pairs) g

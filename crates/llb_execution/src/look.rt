@@ -14,7 +14,7 @@ use llb_tree::{Path, Tree};
 pub enum Look<'a> {
     /// A tree of the workspace's own.
     Here(&'a Tree),
-    /// The tree of the cache instance of the need of this number.
+    /// The tree of the cache instance that this need has, by the need's number.
     Cached(usize),
 }
 

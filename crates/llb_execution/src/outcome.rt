@@ -64,14 +64,14 @@ impl Outcome {
         self.count
     }
 
-    /// Returns the workspace that they leave.
+    /// Returns the workspace after the micro-steps.
     pub fn workspace(&self) -> &Workspace
         ensures { result.now ≡ self.now.left.work.own }
     {
         &self.workspace
     }
 
-    /// Returns the fault of the last of them, if it had one.
+    /// Returns the fault of the last micro-step, if it had one.
     pub fn fault(&self) -> Option<VertexFault>
         ensures { result ≡ self.now.left.fault }
     {

@@ -186,7 +186,7 @@ all_done done edges = list_all (λ (e : Edge). done e.vertex) edges
 waiting : (done : ℕ → Bool) → List Edge → ℕ → Bool
 waiting done edges u = leads edges u && not (done u)
 
--- where all inputs are done, none is open
+-- if all inputs are done, no edge leads to an open one
 closed : (done : ℕ → Bool) (edges : List Edge) → all_done done edges ≡ true → (u : ℕ) → (leads edges u && not (done u)) ≡ false
 closed done [] all u = refl
 closed done (e ∷ es) all u =
@@ -196,7 +196,7 @@ closed done (e ∷ es) all u =
       | inr apart ↦ (λ i. (eq_no e.vertex u apart i || leads es u) && not (done u)) ∙ closed done es both.1 u
     ]
 
--- where one is not done, there is one that is open
+-- if an input is not done, an edge leads to an open one
 opened : (done : ℕ → Bool) (n : ℕ) (edges : List Edge) → All (λ (e : Edge). e.vertex < n) edges → all_done done edges ≡ false
     → (u : ℕ) × (u < n) × ((leads edges u && not (done u)) ≡ true)
 opened done n [] below none = absurd cc

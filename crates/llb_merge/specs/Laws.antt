@@ -75,7 +75,7 @@ over_is_lay w is a b t over = lay_only a b t (λ q.
 pub below_file-cons : (look : Look) (n : List ℕ) (p : List (List ℕ)) → below_file look (n ∷ p) ≡ (is_file (look []) || below_file (λ q. look (n ∷ q)) p)
 below_file-cons look n p = ap (λ ys. list_any is_file (look [] ∷ ys)) (map-map look (λ q. n ∷ q) (parents p))
 
--- more directories let a walk through
+-- a walk that one tree lets through goes through any tree with directories where that has some
 walk_more : (f g : Look) → ((r : List (List ℕ)) → IsDirAt f r → IsDirAt g r) → (p : List (List ℕ)) → walk f p ≡ Ok tt → walk g p ≡ Ok tt
 walk_more f g more [] walks = refl
 walk_more f g more (n ∷ p) walks =

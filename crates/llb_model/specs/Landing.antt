@@ -42,7 +42,7 @@ pub record AreLeft (steps : List MicroStep) (k : ℕ) (left : Left) (n : ℕ) : 
   pub there : AreThere steps k left n
   pub over : is_over steps (k + n) (further steps k left n) ≡ true
 
--- what a worker has left so far, where its instances have these trees
+-- what a worker's micro-steps have left so far, if its instances have these trees
 abbrev pub left_so_far : Execution → List TreeMap → Left
 left_so_far x trees = record { work = record { own = x.own; trees = trees }; fault = x.fault }
 

@@ -1,4 +1,4 @@
--- What holds over whole runs, where executions share caches.
+-- What holds over whole runs, in which executions share caches.
 use Rattle.std.specs.Prelude.{◌≡◌, ◌≢◌, ◌<◌, ℕ, zero, suc, ◌+◌, ◌-◌, ◌==◌, nat_le, Bool, true, false, not, ◌&&◌, ◌||◌, List, [], ◌∷◌, length, map, drop}
 use Rattle.std.specs.Prelude.{Option, Some, None, is_some, option_map, unwrap_or, slice_get, if◌then◌else◌}
 use Rattle.llb_cache.specs.declared.key.Key.{Key}
@@ -69,11 +69,11 @@ OthersKeep b = (s t : State) (e : Event) (r : Reply) → IsReached b s → table
 abbrev pub with_content : Instance → TreeMap → State → State
 with_content p t s = record s { store = put s.store p t }
 
--- an answer whose state has another tree in an instance
+-- a state and a reply, with another tree in an instance of the state
 abbrev pub with_content_after : Instance → TreeMap → State × Reply → State × Reply
 with_content_after p t a = (with_content p t a.0, a.1)
 
--- nor does it read it: the event has the same reply, and the same effect elsewhere, whatever tree is there
+-- nor does such an event read it: the event has the same reply, and the same effect elsewhere, whatever tree is there
 abbrev pub OthersIgnore : Build → Type 0
 OthersIgnore b = (s : State) (e : Event) (t : TreeMap) → IsReached b s → (w : ℕ) (x : Execution) (p : Instance) → slice_get s.workers w ≡ Some (Runs x)
     → Has x.places p → IsExclusive p.key.mode → worker_of e ≢ w → table b (with_content p t s) e ≡ option_map (with_content_after p t) (table b s e)
@@ -85,12 +85,12 @@ abbrev pub RunsInClaimOrder : Build → Type 0
 RunsInClaimOrder b = (o : Opening) (es : List Event) (rs : List Reply) (s : State) → run b (opening b o) es ≡ Some (s, rs)
     → StandsIn s (order b (at_first b o.store) (claims_in rs))
 
--- each event is as a rule wants it in its state
+-- each event meets a rule in the state before it
 abbrev pub EachIn : (State → Event → Type 0) → Build → State → List Event → Type 0
 EachIn C b s [] = Unit {0}
 EachIn C b s (e ∷ es) = C s e × ((a : State × Reply) → table b s e ≡ Some a → EachIn C b a.0 es)
 
--- e is the event that a run by one does next
+-- e is the event that one driver does next
 abbrev pub IsChosen : Build → State → Event → Type 0
 IsChosen b s e = chosen b s ≡ Some e
 
@@ -110,11 +110,11 @@ AloneInClaimOrder b = (o : Opening) (es : List Event) (rs : List Reply) (s : Sta
 
 -- ---- the instances of a key are a list
 
--- no number is left out
+-- no number of an instance is left out
 abbrev pub IsDense : Store → Type 0
 IsDense store = (k : Key) (n : ℕ) → is_some (content store (place k (n + 1))) ≡ true → is_some (content store (place k n)) ≡ true
 
--- where no number is left out none ever is: what a claim adds comes next
+-- if no number of an instance is left out at first, none ever is: what a claim adds comes next
 abbrev pub StaysDense : Build → Type 0
 StaysDense b = (o : Opening) (es : List Event) (rs : List Reply) (s : State) → IsDense o.store → run b (opening b o) es ≡ Some (s, rs) → IsDense s.store
 

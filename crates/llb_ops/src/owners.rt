@@ -1,4 +1,4 @@
-//! Owners of what a file action makes: users and groups by what they are of their records, and their canonical bytes.
+//! Owners of what a file action makes: users and groups, read from their records, and their canonical bytes.
 
 use crate::fault::OpFault;
 use crate::message::{Member, Message, one, one_of};

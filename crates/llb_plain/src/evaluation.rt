@@ -36,7 +36,7 @@ pub fn evaluate(alloc: Global, graph: &Graph, locals: &Locals) -> Result<Outcome
     evaluate_all(alloc, graph, locals)
 }
 
-// One vertex after another.
+// Evaluates one vertex after another.
 fn evaluate_all(alloc: Global, graph: &Graph, locals: &Locals) -> Result<Outcomes, PlainFault>
     requires { HasNoCaches (record { graph = graph.now; locals = locals.now }) }
     ensures { Gives (λ o. o) result (Ok (outcomes (record { graph = graph.now; locals = locals.now }))) }

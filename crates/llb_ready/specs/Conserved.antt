@@ -24,7 +24,7 @@ HasRoom v = length v.put < length v.taken + v.room
 abbrev pub HasNoRoom : Hand → Type 0
 HasNoRoom v = length v.put ≡ length v.taken + v.room
 
--- The whole pass finds nothing where it took each number as often as it put it, and as many as it put.
+-- The whole pass finds nothing if it took each number as often as it put it.
 abbrev pub HasTakenAll : Hand → Type 0
 HasTakenAll v = (length v.taken ≡ length v.put) × ((x : ℕ) → times x v.taken ≡ times x v.put)
 

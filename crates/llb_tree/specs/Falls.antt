@@ -78,7 +78,7 @@ most_append : (xs ys : List Child) (n : ℕ) → most deep-Child (xs ++ ys) ≤ 
 most_append [] ys n h = (omega arith, h)
 most_append (x ∷ xs) ys n h = let rest = most_append xs ys n (omega arith) in let a : most deep-Child xs ≤ n = rest.0 in (omega arith, rest.1)
 
--- the heights of the pieces, where those of the children in them are at most n
+-- the heights of the pieces, if those of the children in them are at most n
 pub pieces_le : (n : ℕ) (ps : List Piece) → most deep-Child (kids_in ps) ≤ n → most deep-Piece ps ≤ n
 pieces_le n [] h = omega arith
 pieces_le n (p ∷ ps) h =
@@ -87,7 +87,7 @@ pieces_le n (p ∷ ps) h =
     let rest = pieces_le n ps parts.1 in
     omega arith
 
--- and those of the children, where those of the pieces are
+-- and those of the children, if those of the pieces are
 pub le_pieces : (n : ℕ) (ps : List Piece) → most deep-Piece ps ≤ n → most deep-Child (kids_in ps) ≤ n
 le_pieces n [] h = omega arith
 le_pieces n (p ∷ ps) h = both (rows_in p) (kids_in ps) (omega arith) (le_pieces n ps (omega arith))

@@ -42,11 +42,11 @@ over w (Some (File m b)) (Dir k) = Dir (laid_meta w k)
 over w None (Dir k) = Dir (laid_meta w k)
 over w there (File k c) = File (laid_meta w k) c
 
--- the entry at a path where the lower tree has this, and the upper one that, or nothing, with a file above it or not
+-- the entry at a path, given what each tree has there, and whether a file of the upper one is above it
 abbrev pub laid_over : WayValue → Option Entry → Option Entry → Bool → Option Entry
 laid_over w there (Some e) hidden = Some (over w there e)
 laid_over w there None hidden = if hidden then None else there
 
--- the entry at a path where the upper tree, given last, is laid over the lower one
+-- the entry at a path when the upper tree, given last, is laid over the lower one
 abbrev pub over_at : WayValue → Look → Look → Look
 over_at w lower upper p = laid_over w (lower p) (upper p) (below_file upper p)

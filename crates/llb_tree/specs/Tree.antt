@@ -59,7 +59,7 @@ file_fits (Some (Dir m)) = Err IsDir
 file_fits (Some (File m b)) = Ok tt
 file_fits None = Ok tt
 
--- a directory if there is nothing or a directory
+-- a directory may be put if there is nothing or a directory
 abbrev pub dir_fits : Option Entry → Result (Unit {0}) TreeFault
 dir_fits (Some (File m b)) = Err Conflict
 dir_fits (Some (Dir m)) = Ok tt

@@ -25,7 +25,7 @@ fn after<'a>(kids: Children<'a>, name: &Name) -> Option<Children<'a>>
     None
 }
 
-// Whether two rows of children have the same names.
+// Returns whether two lists of children have the same names.
 fn same_names(upper: &[Child], lower: &[Child]) -> bool
     ensures { IsTrue result → map name_of upper.now ≡ map name_of lower.now }
 {

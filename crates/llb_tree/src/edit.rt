@@ -133,7 +133,7 @@ fn set_below(
     }
 }
 
-// Sets a node, or nothing, as the child at a place.
+// Sets a node, or nothing, as the child at an index.
 fn set_child(list: &mut Vec<Child>, i: usize, branch: Option<Node>)
     requires within { i < length list.old.items }
     requires sorted { AreSorted list.old.items }

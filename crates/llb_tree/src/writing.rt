@@ -10,7 +10,7 @@ use crate::node::{Child, Node, Piece};
 use crate::pieces::second_owners;
 use std::alloc::{AllocError, Global};
 
-// Writes a node as the child at a place among those made, or among shared copies of the upper ones if none are made.
+// Writes a node as the child at an index among those made, or among shared copies of the upper ones if none are made.
 pub(crate) fn with_node(
     made: Option<Vec<Child>>,
     alloc: Global,

@@ -185,7 +185,7 @@ fn file_parts<'a>(meta: Meta, digits: &'a str, path: &'a str) -> Option<Parts<'a
     })
 }
 
-// The parts of the entry whose line this is, without its end.
+// Splits a line without its end into the parts of its entry.
 fn parts_of(line: &[u8]) -> Option<Parts<'_>>
     ensures { Spells line.now result }
 {

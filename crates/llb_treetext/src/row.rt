@@ -1,4 +1,4 @@
-//! The entry of a line: its path and its content take memory.
+//! The entry of a line, whose path and content are allocated.
 
 ghost use Rattle.std.specs.Prelude.{◌≡◌, IfOk};
 ghost use Rattle.std.specs.Option.{option_map};

@@ -191,7 +191,7 @@ between_is bytes at last le =
     let sum : at + (last - at) ≡ last = omega (arith, le) in
     ap (λ (k : ℕ). drop at (take k bytes)) (sym sum) ∙ drop-take at (last - at) bytes
 
--- they fall apart at a position between
+-- they split at a position between
 between_split : (bytes : List ℕ) (at mid last : ℕ) → at ≤ mid → mid ≤ last → drop at (take last bytes) ≡ drop at (take mid bytes) ++ drop mid (take last bytes)
 between_split bytes at mid last low high =
     let width : at + (mid - at) ≡ mid = omega (arith, low) in
@@ -394,7 +394,7 @@ drop_whole xs k e = go (drop k xs) (omega (arith, length-drop k xs, e)) where
   go [] e = refl
   go (y ∷ ys) e = absurd (omega (arith, e))
 
--- where a walk ends well, the bytes from there on spell what it met
+-- if a walk ends well, the bytes from there on spell what it met
 walk_spelled : (bytes : List ℕ) (rs : List Record) (at : ℕ) → AreBytes bytes → at ≤ length bytes → Walks bytes at rs → SpellRecords (drop at bytes) rs
 walk_spelled bytes [] at are le w = record { whole = drop_whole bytes at (ended bytes at w); each = tt }
 walk_spelled bytes (r ∷ rs) at are le w =
