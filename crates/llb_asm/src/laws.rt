@@ -5,14 +5,14 @@ ghost use Rattle.llb_asm.specs.Plain.{ReadsBack};
 
 use llb_ops::Entries;
 
-/// A law: a text is read as one list of entries at most, or it has one first fault, and never both.
+/// Proves that a text is read as one list of entries at most, or it has one first fault, and never both.
 pub fn one_answer(text: &[u8])
     ensures { HasOneAnswer text.now }
 {
     let _ = text;
 }
 
-/// A law: what is written of the entries of a definition is read as these entries.
+/// Proves that what is written of the entries of a definition is read as these entries.
 pub fn reads_back(entries: &Entries)
     ensures { ReadsBack entries.now }
 {

@@ -279,7 +279,7 @@ pub(crate) fn push_label(alloc: Global, out: &mut Vec<u8>, entry: u64) -> Result
     push_decimal(alloc, out, entry)
 }
 
-/// A law: what is written for a value is read as the value, and fits on one line as it is.
+/// Proves that what is written for a value is read as the value, and fits on one line as it is.
 pub(crate) fn values_are_read_back()
     ensures read_back { ValuesAreReadBack }
     ensures solid { ValuesAreSolid }

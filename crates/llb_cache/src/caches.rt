@@ -279,14 +279,14 @@ impl Caches {
         same_rows(&self.rows.entries, &other.rows.entries)
     }
 
-    /// A law: no key occurs twice.
+    /// Proves that no key occurs twice.
     pub fn keys_differ(&self)
         ensures { AllPairs (λ k l. k ≢ l) (keys_of self.now.rows) }
     {
         let _rows = &self.rows;
     }
 
-    /// A law: no two leases have one instance of a locked or a private key, nor have two needs of one lease; what a lease
+    /// Proves that no two leases have one instance of a locked or a private key, nor have two needs of one lease; what a lease
     /// has is there; no key has more than 65,536 instances; and the last number of the list of leases is that of one that is
     /// out, so that the list is empty if none is.
     pub fn is_exclusive(&self)

@@ -96,7 +96,7 @@ fn file_part<'a>(inputs: &[Tree], results: &[Tree], i: usize) -> Option<Part<'a>
     None
 }
 
-// What tree i of a merge is.
+// Returns the role of tree i of a merge.
 fn merge_part<'a>(inputs: &[Tree], i: usize) -> Option<Part<'a>>
     ensures { option_map role_in result ≡ slice_get (map input_role inputs.now ++ Laid ∷ []) i }
 {

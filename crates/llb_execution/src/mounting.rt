@@ -47,7 +47,7 @@ pub(crate) fn setting_with(alloc: Global, meta: &Option<Meta>) -> Result<Setting
     }
 }
 
-// The path that a text reads as; the root where it reads as none.
+// The path that a text reads as; the root if it reads as none.
 fn path_in(alloc: Global, text: &Text) -> Result<Path, NoMemory>
     ensures { IfOk result (λ p. p ≡ path_in text.now) }
 {

@@ -1,5 +1,5 @@
 //! Whether two workspaces are the same by value, and whether a program is that of a vertex. Nothing here allocates: the vertex's own
-//! program is not made, but each part of the one at hand is compared with what the vertex says.
+//! program is not made, but each part of the given one is compared with what the vertex says.
 
 ghost use Rattle.std.specs.Prelude.{◌≡◌, ◌↔◌, IsTrue, [], ◌∷◌, map};
 ghost use Rattle.llb_loader.specs.Rules.{mount_outputs};

@@ -191,7 +191,7 @@ fn lower(counts: &mut [u32], users: &[u32])
     }
 }
 
-// One more for each time that its vertex is listed.
+// Increments a count each time that its vertex is listed.
 fn raise(counts: &mut [u32], users: &[u32])
     requires below { All (λ x. x < length counts.old) users.now }
     requires few { (x : ℕ) → get_or counts.old x 0 + length users.now < 2 ^ 32 }

@@ -81,7 +81,7 @@ impl fmt::Debug for LoadFault {
 
 impl error::Error for LoadFault {}
 
-/// What an op can have that is not taken; of several the first.
+/// A feature of an op that is not supported; of several the first is named.
 #[derive(Clone, Copy, Debug, PartialEq, Eq)]
 pub enum Feature {
     /// A diff op.

@@ -124,7 +124,7 @@ impl Graph {
         })
     }
 
-    /// A law: what is true of every graph, for callers to cite.
+    /// Proves what is true of every graph, for callers to cite.
     pub fn is_graph(&self)
         ensures { IsGraph self.now }
     {

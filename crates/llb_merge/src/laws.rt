@@ -9,7 +9,7 @@ ghost use Rattle.llb_merge.specs.Laying.{lay, lay_at};
 
 use llb_tree::Tree;
 
-/// A law: at each path is what the upper tree has there, and else what the lower one has, where no file of the upper one
+/// Proves that at each path is what the upper tree has there, and else what the lower one has, where no file of the upper one
 /// is above the path; and what is at the paths is a tree.
 pub fn at_each_path(lower: &Tree, upper: &Tree)
     ensures paths { (q : List (List ℕ)) → finite.get (lay lower.now upper.now) q ≡ lay_at (finite.get lower.now) (finite.get upper.now) q }
@@ -19,21 +19,21 @@ pub fn at_each_path(lower: &Tree, upper: &Tree)
     upper.is_tree();
 }
 
-/// A law: a tree that is laid over the empty one is itself.
+/// Proves that a tree that is laid over the empty one is itself.
 pub fn over_the_empty_tree(tree: &Tree)
     ensures { lay empty_tree tree.now ≡ tree.now }
 {
     tree.is_tree();
 }
 
-/// A law: a tree over which the empty one is laid is itself, but its root has the mode and the owner of the empty tree's.
+/// Proves that a tree over which the empty one is laid is itself, but its root has the mode and the owner of the empty tree's.
 pub fn under_the_empty_tree(tree: &Tree)
     ensures { lay tree.now empty_tree ≡ finite.insert tree.now [] (Dir new_dir_meta) }
 {
     let _ = tree;
 }
 
-/// A law: a tree that is laid over itself is itself.
+/// Proves that a tree that is laid over itself is itself.
 pub fn over_itself(tree: &Tree)
     ensures { lay tree.now tree.now ≡ tree.now }
 {

@@ -64,7 +64,7 @@ landed b s w x left = record {
   store = put_all s.store x.places left.work.trees;
 }
 
--- the steps alone have the effect of further micro-steps on what the worker has left so far
+-- n steps of a worker do to the state what n further micro-steps do to what the worker has left so far
 abbrev pub StepsAsBlock : Build → Type 0
 StepsAsBlock b = (s : State) (w : ℕ) (x : Execution) (trees : List TreeMap) (n : ℕ) → slice_get s.workers w ≡ Some (Runs x)
     → Distinct x.places → Hold s.store x.places trees

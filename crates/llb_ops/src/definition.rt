@@ -163,7 +163,7 @@ pub fn write_definition(alloc: Global, entries: &Entries) -> Result<Bytes, OpFau
     Ok(Bytes::new(out))
 }
 
-/// A law: the entries of a definition in bytes are read again from their canonical bytes.
+/// Proves that the entries of a definition in bytes are read again from their canonical bytes.
 pub fn definition_is_read_again(entries: &Entries)
     ensures { AreReadAgain entries.now }
 {

@@ -228,7 +228,7 @@ pub fn kind_name(op: &Op) -> &'static str
     }
 }
 
-/// A law: the records of a message are those that its bytes spell by the grammar of the wire, whatever the
+/// Proves that the records of a message are those that its bytes spell by the grammar of the wire, whatever the
 /// message names; and an op is read of the records that its entry spells, and of nothing else.
 pub fn op_is_read_of_records(bytes: &[u8])
     ensures { IsReadOfRecords bytes.now }
@@ -236,7 +236,7 @@ pub fn op_is_read_of_records(bytes: &[u8])
     let _ = bytes;
 }
 
-/// A law: what was read as an op is read as that op again from its canonical bytes, where these are within
+/// Proves that what was read as an op is read as that op again from its canonical bytes, where these are within
 /// the limit of an entry.
 pub fn op_is_read_again(op: &Op)
     ensures { IsReadAgain op.now }

@@ -370,7 +370,7 @@ fn is_unnamed(message: MessageName, part: &Record<'_>) -> bool
     form(message, part.number).is_none()
 }
 
-/// Bytes are the records of fields that the message doesn't name, and nothing else.
+/// Returns whether bytes are the records of fields that the message doesn't name, and nothing else.
 pub fn are_unnamed(message: MessageName, bytes: &[u8]) -> bool
     ensures { result ≡ are_unnamed message bytes.now }
 {

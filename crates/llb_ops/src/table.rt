@@ -306,7 +306,7 @@ pub fn field_named(message: MessageName, name: &[u8]) -> Option<FieldRow>
     None
 }
 
-/// A law: each row is found by its number and by its name: no two of a message have one of them.
+/// Proves that each row is found by its number and by its name: no two of a message have one of them.
 pub fn rows_are_apart(message: MessageName)
     ensures { AreRowsApart message }
 {

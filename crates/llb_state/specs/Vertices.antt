@@ -50,7 +50,7 @@ done_in statuses u = is_done (ending_at statuses u)
 abbrev pub is_over : Build → List Status → ℕ → Bool
 is_over b statuses v = is_settled (slice_get statuses v) || (is_blocked b statuses v && not (is_ready b statuses v))
 
--- each vertex below a number is over
+-- each vertex below a number is over: none of them is to be claimed
 abbrev pub AreOver : Build → List Status → ℕ → Type 0
 AreOver b statuses n = (v : ℕ) → v < n → is_over b statuses v ≡ true
 

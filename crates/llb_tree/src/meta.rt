@@ -51,7 +51,7 @@ impl Meta {
         }
     }
 
-    /// A law: the mode is at most 4095, and the owners are numbers of 32 bits.
+    /// Proves that the mode is at most 4095, and the owners are numbers of 32 bits.
     pub fn is_meta(&self)
         ensures { IsMeta self.now }
     {

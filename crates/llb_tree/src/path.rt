@@ -160,7 +160,7 @@ impl Path {
         Ok(Path { names })
     }
 
-    /// A law: a path that is written with `/` between its names, and `/` before them or not, reads as itself.
+    /// Proves that a path that is written with `/` between its names, and `/` before them or not, reads as itself.
     pub fn reads_back(&self)
         ensures { ReadsBack self.now }
     {

@@ -138,7 +138,7 @@ impl Tree {
         }
     }
 
-    /// A law: the root is a directory, and so is each proper prefix of a path that is there; and each entry is allowed at
+    /// Proves that the root is a directory, and so is each proper prefix of a path that is there; and each entry is allowed at
     /// its path, which is one, with a mode and owners and, for a file, with bytes. Does not allocate.
     pub fn is_tree(&self)
         ensures { IsTree self.now }

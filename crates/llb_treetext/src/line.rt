@@ -101,7 +101,7 @@ fn push_row(
     push_path(line, path)
 }
 
-// Writes the line of an entry in a text's place.
+// Replaces a text by the line of an entry.
 pub(crate) fn set_line(
     alloc: Global,
     line: &mut String,

@@ -56,7 +56,7 @@ impl Bytes {
         self.content.as_slice()
     }
 
-    /// A law: each element is below 256.
+    /// Proves that each element is below 256.
     pub fn is_bytes(&self)
         ensures { AreBytes self.now }
     {

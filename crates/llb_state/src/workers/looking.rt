@@ -54,7 +54,7 @@ fn instance_at<'a>(caches: &'a Caches, places: &[Instance], k: usize) -> Option<
     caches.instance(&place.key, place.number)
 }
 
-// The instance of a number.
+// Returns the instance of that number.
 fn place_at(places: &[Instance], k: usize) -> Option<&Instance>
     ensures { option_map (λ p. p.now) result ≡ slice_get places.now k }
 {
