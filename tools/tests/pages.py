@@ -198,7 +198,7 @@ class Architecture(unittest.TestCase):
         floors: dict[str, int] = {}
         floor = 0
         for number, names in (found.groups() for line in prose(self.page) if (found := FLOOR.match(line))):
-            floor = 99 if number == "tests" else int(number or floor)
+            floor += bool(number)
             floors.update(dict.fromkeys(re.findall(r"\w+", names), floor))
         self.assertEqual(floors.keys(), crates().keys())
         for crate, others in crates().items():
