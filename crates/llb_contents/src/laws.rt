@@ -40,7 +40,8 @@ pub fn runs_alike(setting: &Setting, view: &View, command: &Command)
 /// fault, or done in both with as many outputs.
 /// `relations`: the contents are in any relation that is kept by appending, if what the ops write of their own is related to itself, and the
 /// digests of related contents are related. `expansions`: one is what the other expands to. `tokens`: the same for tokens, the byte 255 and a number of
-/// four bytes, if no exec at or before the vertex makes a digest or a listing and no action writes the byte 255.
+/// four bytes, if no exec at or before the vertex makes a listing, nothing there writes the byte 255, and the sources at or before each exec that makes a
+/// digest are given by value: the same in both, without the byte 255.
 /// `undigested`: the relation relates each content to itself, and no exec at or before the vertex makes a digest. `contents`: the same where
 /// pieces of the contents are exchanged for their partners.
 pub fn contents_are_handed_on(graph: &Graph)
