@@ -11,7 +11,8 @@ use llb_ops::{ENTRY_LIMIT, MessageName};
 use llb_wire::{Bytes, Many, Memory};
 use std::alloc::Global;
 
-/// A message with another one in it that is open: the place of its next line, its bytes so far, and the number of the field that is open.
+/// A message with another one in it that is open: the position of its next line, its bytes so far, and the number of
+/// the field that is open.
 #[derive(Drop)]
 pub struct Frame {
     pub here: Here,
@@ -30,12 +31,14 @@ pub struct Open {
 /// What is there after a closing line: the records of a whole op, or a message that is still open.
 #[derive(Drop)]
 pub enum Closed {
+    /// The op is closed: the bytes of its records.
     Whole(Bytes),
+    /// A message is still open.
     Still(Open),
 }
 
 #[tactic(auto, using(crate::proofs::Lengths::no_room, crate::proofs::Lengths::turned_below))]
-/// Returns whether the entry is within the limits if the current message has `size` bytes, all messages closed.
+// Returns whether the entry is within the limits if the current message has `size` bytes and all messages are closed.
 fn has_room(earlier: &Earlier, below: &[Frame], size: usize) -> bool
     ensures { result ≡ room_in (is_within earlier.now) (reverse below.now) size }
 {
@@ -95,7 +98,7 @@ impl Open {
         }
     }
 
-    /// Returns the op with an item more.
+    // Adds an item to the op.
     pub(crate) fn with_item(self, alloc: Global, item: Item) -> Result<Open, Memory>
         ensures { IfOk result (λ s. open_op_of s ≡ with_item (open_op_of self) item) }
     {
@@ -131,7 +134,7 @@ impl Open {
         }
     }
 
-    /// Closes the current message.
+    // Closes the current message.
     pub(crate) fn close(self) -> Result<Closed, Memory>
         ensures { IfOk result (λ c. ended c ≡ closing_of (open_op_of self)) }
     {

@@ -85,7 +85,7 @@ impl Model for Board {
 
 impl Board {
     /// Opens a board on which nothing has happened. Fails, in this order, with 121 `MissingLocal` and the name of the first local source, by
-    /// vertex, that has no tree, with 122 `Workers` if the number of workers is 0 or more than 64, and with 123 `Memory`. The fault holds
+    /// vertex, that has no tree, with 122 `Workers` where the number of workers is 0 or more than 64, and with 123 `Memory`. The fault holds
     /// the graph, the local trees and the caches. No lease of the caches may be out.
     pub fn open(
         alloc: Global,
@@ -238,7 +238,7 @@ impl Board {
     }
 
     /// Returns tree i of those that a worker works on now: the local tree of a source; the inputs of a file op, then its results so far; the
-    /// inputs of a merge, then what is laid so far; the tree of each mount of an exec, that of a cache's instance as it is now. `None` if
+    /// inputs of a merge, then what is laid so far; the tree of each mount of an exec, that of a cache's instance as it is now. `None` where
     /// the worker is idle, or there is no such worker or tree. Does not allocate.
     pub fn worked_on(&self, w: u32, i: u32) -> Option<&Tree>
         ensures { option_map (λ t. t.now) result ≡ worked_on self.now.state w i }
@@ -246,7 +246,7 @@ impl Board {
         self.workers.worked_on(w, i)
     }
 
-    /// Returns output i of a vertex that is done; `None` if there is no such vertex or output. Does not allocate.
+    /// Returns output i of a vertex that is done; `None` where there is no such vertex or output. Does not allocate.
     pub fn output(&self, v: u32, i: u32) -> Option<&Tree>
         ensures { option_map (λ t. t.now) result ≡ output_in (ending_at self.now.state.statuses v) i }
     {
@@ -271,7 +271,7 @@ impl Board {
         self.history.events()
     }
 
-    /// Returns the event that a driver chooses; `None` if the board is complete. Does not allocate.
+    /// Returns the event that a driver chooses; `None` where the board is complete. Does not allocate.
     pub fn chosen(&self) -> Option<Event>
         ensures { result ≡ chosen self.now.build self.now.state }
     {
@@ -301,7 +301,7 @@ impl Board {
         self.workers.caches()
     }
 
-    /// Returns the tree of instance i of key k as it is now, the keys numbered in the order of the rows of `caches`; `None` if there is no
+    /// Returns the tree of instance i of key k as it is now, the keys numbered in the order of the rows of `caches`; `None` where there is no
     /// such key or instance. Does not allocate.
     pub fn cached(&self, k: u32, i: u32) -> Option<&Tree>
         ensures { option_map (λ t. t.now) result ≡ cached_at self.now.rows self.now.state.store k i }

@@ -6,7 +6,7 @@ ghost use Rattle.llb_model.specs.Run.{next_of};
 use llb_events::Event;
 use llb_state::{Vertices, WorkerStatus, Workers};
 
-/// Returns the next event of the lowest running worker: a settle if what it runs is finished, else a step. `None` if no worker runs.
+/// Returns the next event of the lowest running worker: a settle if what it runs is finished, else a step. `None` where no worker runs.
 pub(crate) fn next_event(vertices: &Vertices, workers: &Workers) -> Option<Event>
     ensures { result ≡ next_of vertices.now.build 0 workers.now.workers }
 {

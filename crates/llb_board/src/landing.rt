@@ -29,7 +29,7 @@ pub(crate) enum LandCause {
 
 impl Board {
     /// Lands the outcome of a worker's job: the effect is that of all micro-steps that the worker has left and of its settle, and the record
-    /// grows by exactly these. Fails with 131 `NoWorker`, 136 `NotRunning`, 140 `HasShared` if a cache of its vertex is in shared mode, or
+    /// grows by exactly these. Fails with 131 `NoWorker`, 136 `NotRunning`, 140 `HasShared` where a cache of its vertex is in shared mode, or
     /// 139 `Stranger` where the outcome's job is not what the worker runs now, with the caches as they are now. Then the fault holds the
     /// outcome, and the board is as it was. Does not allocate.
     pub fn land(&mut self, w: u32, outcome: Outcome) -> Result<Settled, LandFault>
@@ -57,7 +57,7 @@ impl Board {
         self.settle(w).unwrap_or(Settled::Done(vertex))
     }
 
-    /// Returns whether what a worker runs has an instance of a shared cache, so that no outcome of it lands. False if the worker runs nothing
+    /// Returns whether what a worker runs has an instance of a shared cache, so that no outcome of it lands. False where the worker runs nothing
     /// or there is no such worker. Does not allocate.
     pub fn has_shared(&self, w: u32) -> bool
         ensures { result ≡ runs_shared (slice_get self.now.state.workers w) }
@@ -65,14 +65,14 @@ impl Board {
         has_shared(self.workers.places(w))
     }
 
-    /// Returns the instances of caches that a worker has; none if it runs nothing, or there is no such worker. Does not allocate.
+    /// Returns the instances of caches that a worker has; none where it runs nothing, or there is no such worker. Does not allocate.
     pub fn places(&self, w: u32) -> &[Instance]
         ensures { result.now ≡ places_had (slice_get self.now.state.workers w) }
     {
         self.workers.places(w)
     }
 
-    /// Returns the workspace of what a worker runs; `None` if it runs nothing, or there is no such worker. Does not allocate.
+    /// Returns the workspace of what a worker runs; `None` where it runs nothing, or there is no such worker. Does not allocate.
     pub fn workspace(&self, w: u32) -> Option<&Workspace>
         ensures { option_map (λ v. v.now) result ≡ option_map (λ (x : Execution). x.own) (runs (slice_get self.now.state.workers w)) }
     {

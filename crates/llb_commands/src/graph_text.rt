@@ -100,7 +100,7 @@ fn print_vertices<W: Sink>(
 }
 
 /// Writes the text of a graph to a sink: a line for each vertex by number, `V KIND steps S outputs O inputs LIST`, and the
-/// line `result V.I`. LIST is the inputs as `V.I`, a dash for none. Fails with 182 only if the writer failed, and with 184;
+/// line `result V.I`. LIST is the inputs as `V.I`, a dash for none. Fails with 182 only where the writer failed, and with 184;
 /// a prefix of the text is written then.
 pub fn print_graph<W: Sink>(alloc: Global, graph: &Graph, out: &mut W) -> Result<(), OutputFault>
     ensures writes { Writes (W.taken out.old) (W.taken out.new) (W.failed out.new) (graph_text graph.now) result }

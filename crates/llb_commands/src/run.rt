@@ -61,7 +61,7 @@ fn finished<R: Read>(alloc: Global, input: &mut R, locals: Locals) -> Result<Boa
     }
 }
 
-// The same with this number of workers, if they are several each in a thread of its own.
+// The same with this number of workers, where they are several each in a thread of its own.
 fn finished_by<T: Threads + Wait + Sync, R: Read>(
     rt: &T,
     alloc: Global,
@@ -92,7 +92,7 @@ fn print_over<W: Write>(alloc: Global, tree: &Tree, out: &mut W) -> Result<(), P
     print_tree(alloc, tree, &mut sink)
 }
 
-// Writes the text of an output, if it is a tree; if it is none, the board comes back.
+// Writes the text of an output, where it is a tree; where it is none, the board comes back.
 fn print_output<W: Write>(
     alloc: Global,
     board: Board,
@@ -126,7 +126,7 @@ fn print_result<W: Write>(
     print_output(alloc, board, edge, out)
 }
 
-// The line of a vertex, if it has failed.
+// The line of a vertex, where it has failed.
 fn print_failure<E: Write>(v: u32, status: Option<Status>, err: &mut E) -> io::Result<()>
     ensures { OnOk result (Appends (E.contents err.old) (E.contents err.new) (failed_line v status)) }
 {
@@ -173,8 +173,8 @@ fn exit_status<W: Write, E: Write>(
 }
 
 /// Reads a definition from `input`, runs it on the local trees with one worker and caches that are empty at first, and writes
-/// the text of its result to `out`; refusals and failures go to `err`, a line each. Returns the exit status: 0 if the whole
-/// text is written; 1 if a vertex failed; 2 if the definition is refused, or a local source has no tree (`fault 121` and its
+/// the text of its result to `out`; refusals and failures go to `err`, a line each. Returns the exit status: 0 where the whole
+/// text is written; 1 where a vertex failed; 2 where the definition is refused, or a local source has no tree (`fault 121` and its
 /// name); 3 where a read, a write or memory failed. But for 0, nothing is written to `out`, or, for 3, a prefix of the text.
 /// Reading ends past 67,108,864 bytes (`fault 81 13`) or after 2^27 reads (`fault 181`).
 pub fn run_over<R: Read, W: Write, E: Write>(
@@ -195,8 +195,8 @@ pub fn run_over<R: Read, W: Write, E: Write>(
     exit_status(ended, out, err)
 }
 
-/// Does the same with this number of workers, if they are several each in a thread of its own, which it waits for. Where no cache is mounted,
-/// the text is that of the plain outcomes, for any number of workers. The status is 2 also if the number is 0, or more than 64 (`fault 122`),
+/// Does the same with this number of workers, where they are several each in a thread of its own, which it waits for. Where no cache is mounted,
+/// the text is that of the plain outcomes, for any number of workers. The status is 2 also where the number is 0, or more than 64 (`fault 122`),
 /// and 3 also where a thread could not be started (`fault 153`).
 pub fn run_many_over<T: Threads + Wait + Sync, R: Read, W: Write, E: Write>(
     rt: &T,

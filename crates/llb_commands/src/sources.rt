@@ -52,7 +52,7 @@ impl error::Error for SourceFault {}
 pub trait Sources {
     type Input: Read + Drop;
 
-    /// The bytes of a file, if they are known.
+    /// The bytes of a file, where they are known.
     ghost bytes: { Self → List ℕ → Option (List ℕ) };
 
     /// Opens a file at its start.
@@ -60,7 +60,7 @@ pub trait Sources {
         ensures { IfOk result (λ input. IfSome (bytes self.now file.now) (λ xs. Self.Input.remaining input ≡ Some xs)) };
 }
 
-/// Reads a text to its end as a tree. Fails with 181 if a read fails, or the end is not met in 2^27 reads; with 185 past
+/// Reads a text to its end as a tree. Fails with 181 where a read fails, or the end is not met in 2^27 reads; with 185 past
 /// 67,108,864 bytes; with 31 to 34; with 184.
 pub fn local_from<R: Read>(alloc: Global, input: &mut R) -> Result<Tree, SourceFault>
     ensures { Reads (R.remaining input.old) result }
@@ -125,7 +125,7 @@ pub fn locals_of<F: Sources>(
 }
 
 impl SourceFault {
-    /// Returns the status with which the program ends, once the fault's line is written: 2 if the text is refused, else 3.
+    /// Returns the status with which the program ends, once the fault's line is written: 2 where the text is refused, else 3.
     pub fn status(&self) -> u8
         ensures { result ≡ source_status self.now }
     {

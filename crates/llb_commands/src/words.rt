@@ -87,7 +87,7 @@ impl<T: Drop> From<AllocFailed<T>> for WordsFault<'_> {
 }
 
 impl WordsFault<'_> {
-    /// Returns the status with which the program ends, once the fault's line is written: 2 for the words, 3 if it is out of memory.
+    /// Returns the status with which the program ends, once the fault's line is written: 2 for the words, 3 where it is out of memory.
     pub fn status(&self) -> u8
         ensures { result ≡ words_status self.now }
     {

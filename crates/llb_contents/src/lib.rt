@@ -3,9 +3,9 @@
 //! `llb_board`.
 //!
 //! Types: none; `specs/Laws.antt` has the relation on trees, views and outcomes.
-//! Promise: `laws::contents_are_handed_on` (`tokens`, `contents`): where no exec at or before a vertex makes a digest or a listing, and none
-//! there writes the byte 255, tokens in the sources come out as the same tokens in the outcome. `laws::boards_settle_alike` says the like of
-//! two boards.
+//! Promise: `laws::contents_are_handed_on` (`tokens`, `contents`): if no exec at or before a vertex makes a listing, none there writes the byte
+//! 255, and each that makes a digest has its sources by value, tokens in the sources come out as the same tokens in the outcome.
+//! `laws::boards_settle_alike` says the like of two boards.
 //!
 //! A caller:
 //!

@@ -1,4 +1,5 @@
-//! All micro-steps that are left of a program, one after another, on a workspace of its own. It is built on single micro-steps.
+//! All remaining micro-steps of a program, one after another, on a workspace of its own. It is built on single
+//! micro-steps.
 
 ghost use Rattle.std.specs.Prelude.{◌≡◌, ◌+◌, ◌<◌, ◌^◌, length, IfOk, None};
 ghost use Rattle.std.specs.List.{All};
@@ -20,9 +21,9 @@ pub struct Further {
     pub fault: Option<VertexFault>,
 }
 
-/// Does the micro-steps of a program from number `done`, up to the first that faults or the last. The trees are those of the
-/// instances of the caches that the workspace shows, in the order of the needs. Fails with `Memory` alone; then
-/// some of the micro-steps may be done.
+/// Does the micro-steps of a program from number `done`, up to the first that faults or the last. The trees are those
+/// of the instances of the caches that the workspace shows, in the order of the needs. Fails with 5 `Memory` alone;
+/// then some of the micro-steps may be done.
 pub fn do_further(
     alloc: Global,
     program: &Program,

@@ -7,7 +7,7 @@ ghost use Rattle.llb_glob.specs.Items.{at, start, literal, outside, inside, clos
 use crate::fault::PatternFault;
 use crate::item::{Item, Letter};
 
-/// Where the reader is.
+/// Where the reader is in a part.
 #[derive(Clone, Copy)]
 pub enum Stage {
     /// In no class.

@@ -1,6 +1,6 @@
-//! Matching without backtracking. The items are taken from the last to the first; a flag for each position of the name, on the stack,
-//! says whether the items taken so far match the rest of the name from there.
-//! A name has at most 255 characters, so its positions are 0 to 255. An item changes the set of positions in one pass over the name.
+//! Matching without backtracking. The items are taken from the last to the first; a flag for each position of the name,
+//! on the stack, says whether the items taken so far match the rest of the name from there. A name has at most 255
+//! characters, so its positions are 0 to 255. An item changes the set of positions in one pass over the name.
 
 ghost use Rattle.std.specs.Prelude.{◌↔◌, ℕ, ◌+◌, ◌<◌, ◌≤◌, List, ◌∷◌, length, IsTrue, slice_index};
 ghost use Rattle.llb_glob.specs.Matching.{Takes, MatchesName};
@@ -8,8 +8,9 @@ ghost use Rattle.llb_glob.specs.Places.{IsIn, Reaches, AreStarts};
 
 use crate::item::{Item, Letter};
 
-/// Returns whether items match the characters of a name. It makes at most as many comparisons as the part has characters, times
-/// the positions: an item is compared once at each position, and a class has at most as many items as characters. Does not allocate.
+/// Returns whether items match the characters of a name. It makes at most as many comparisons as the part has
+/// characters, times the positions: an item is compared once at each position, and a class has at most as many items as
+/// characters. Does not allocate.
 pub fn matches_letters(items: &[Item], name: &[char]) -> bool
     requires { length name.now ≤ 255 }
     ensures { IsTrue result ↔ MatchesName items.now name.now }

@@ -7,14 +7,14 @@ ghost use Rattle.llb_loader.specs.Laws.{HasOneAnswer, HasOneAnswerIn};
 
 use crate::row::Row;
 
-/// Proves that there is one numbering at most.
+/// Proves that there is at most one numbering.
 pub fn one_numbering(rows: &[Vec<usize>], start: usize, first: &[usize], second: &[usize])
     requires first { IsNumbering (lists rows.now) start first.now }
     requires second { IsNumbering (lists rows.now) start second.now }
     ensures { first.now ≡ second.now }
 {}
 
-/// Proves that a numbering makes every edge go down.
+/// Proves that in a numbering every edge goes down.
 pub fn numbering_goes_down(rows: &[Vec<usize>], start: usize, order: &[usize])
     requires { IsNumbering (lists rows.now) start order.now }
     ensures { GoesDown (lists rows.now) start (rank_in order.now) }

@@ -20,7 +20,7 @@ pub struct ExecOp {
     pub mounts: Many<Mount>,
     pub network: i32,
     pub security: i32,
-    /// The payloads of messages that are not looked into.
+    /// The payloads of messages that are not read.
     pub secretenv: Many<Bytes>,
     pub extra: Bytes,
 }
@@ -61,12 +61,12 @@ impl Drop for Meta {
     }
 }
 
-/// A tree under a path.
+/// A tree that an exec shows at a path.
 pub struct Mount {
     pub input: i64,
     pub selector: Text,
     pub dest: Text,
-    /// The number of the output that the mount's tree becomes, -1 for none.
+    /// The output that the mount's tree is, -1 for none.
     pub output: i64,
     pub readonly: bool,
     /// 0 bind, 1 secret, 2 SSH, 3 cache, 4 tmpfs.

@@ -21,7 +21,7 @@ struct Pending {
     line: Vec<u8>,
 }
 
-// Replies to the line that was heard, under its number, and flushes the reply. False if it ends the session.
+// Replies to the line that was heard, under its number, and flushes the reply. False where it ends the session.
 fn say<W: Write>(
     alloc: Global,
     session: &mut Stepper,
@@ -42,7 +42,7 @@ fn say<W: Write>(
     }
 }
 
-// Hears a byte. False if the line that it ends ends the session.
+// Hears a byte. False where the line that it ends ends the session.
 fn hear<W: Write>(
     alloc: Global,
     session: &mut Stepper,

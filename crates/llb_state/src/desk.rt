@@ -17,6 +17,7 @@ use std::alloc::{AllocError, Global};
 /// The state of a worker.
 #[derive(Drop)]
 pub enum Desk {
+    /// It runs no vertex.
     Idle,
     /// The lease of its cache instances, if any, and everything else it holds.
     Runs(Option<Lease>, Execution),

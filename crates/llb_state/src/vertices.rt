@@ -197,7 +197,7 @@ impl Vertices {
         );
     }
 
-    /// Returns an equal copy, which shares the graph and all trees. Fails with 141 `Memory` alone.
+    /// Copies the vertices, which share the graph and all trees. Fails with 141 `Memory` alone.
     pub fn copy(&self, alloc: Global) -> Result<Vertices, Memory>
         ensures { IfOk result (λ s. s ≡ self.now) }
     {
@@ -245,7 +245,7 @@ impl Vertices {
         Ok(vertex)
     }
 
-    /// Returns copies of the trees of a vertex's inputs. Fails with 134 `NotReady` where one is not there, with 141 `Memory`.
+    // Copies the trees of a vertex's inputs. Fails with 134 `NotReady` if one is not there, with 141 `Memory`.
     pub(crate) fn inputs(&self, alloc: Global, vertex: &Vertex) -> Result<Vec<Tree>, ClaimFault>
         ensures { GivesClaim (λ trees. trees.items) result (or_not_ready (inputs_from (ending_at self.now.statuses) vertex.now.inputs)) }
     {
@@ -318,7 +318,7 @@ fn count(links: &mut Links, v: u32, was_done: bool, is_done: bool)
     }
 }
 
-// Returns copies of the trees that the edges lead to.
+// Copies the trees that the edges lead to. Fails with 134 `NotReady` if one is not there, with 141 `Memory`.
 fn gathered(alloc: Global, stages: &[Stage], inputs: &[Edge]) -> Result<Vec<Tree>, ClaimFault>
     ensures { GivesClaim (λ trees. trees.items) result (or_not_ready (inputs_from (ending_at (map status_of stages.now)) inputs.now)) }
 {

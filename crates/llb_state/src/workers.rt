@@ -64,7 +64,8 @@ impl Model for Workers {
 }
 
 impl Workers {
-    /// Makes idle workers, of a number from 1 to 64, on caches of which no lease is out. Fails with the caches if memory is refused.
+    /// Makes idle workers, of a number from 1 to 64, on caches of which no lease is out. If memory is refused, returns
+    /// the caches.
     pub fn open(alloc: Global, caches: Caches, count: u32) -> Result<Workers, Caches>
         requires count { (0 < count) × (count ≤ 64) }
         requires free { leases caches.out ≡ 0 }
@@ -135,7 +136,7 @@ impl Workers {
         }
     }
 
-    /// Returns workers that do the same, with the same leases, on equal caches. Fails with 141 `Memory` alone.
+    /// Copies the workers, with the same leases on equal caches. Fails with 141 `Memory` alone.
     pub fn copy(&self, alloc: Global) -> Result<Workers, Memory>
         ensures { IfOk result (λ s. s ≡ self.now) }
     {

@@ -40,7 +40,7 @@ impl Meta {
         }
     }
 
-    /// Returns the mode and the owner of a directory that is made if none are given: 0755 0:0.
+    /// Returns the mode and the owner of a directory that is made without any: 0755 0:0.
     pub fn new_dir() -> Meta
         ensures { result ≡ new_dir_meta }
     {
@@ -51,7 +51,7 @@ impl Meta {
         }
     }
 
-    /// Proves that the mode is at most 4095, and the owners are numbers of 32 bits.
+    /// Proves that the mode is at most 4095, and that the owners are numbers of 32 bits.
     pub fn is_meta(&self)
         ensures { IsMeta self.now }
     {
