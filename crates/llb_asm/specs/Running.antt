@@ -62,16 +62,16 @@ pub data Ending : Type 0 where
   whole : List ℕ → Ending
   still : OpenOp → Ending
 
--- what is there after a message of these bytes ends: the records of the op if it is in no other, else the next message outwards, with its record added
+-- what is open after a message of these bytes ends: the next message outwards, with its record added; or the records of the op if there is none
 abbrev pub closing_on : List ℕ → List Frame → Ending
 closing_on bytes [] = whole bytes
 closing_on bytes (f ∷ below) = still (record { here = f.here; bytes = f.bytes ++ set_bytes f.number bytes; below = below })
 
--- what is there after the current message of an open op ends
+-- what is open after the current message of an open op ends, or the records of the op
 abbrev pub closing_of : OpenOp → Ending
 closing_of s = closing_on s.bytes s.below
 
--- what is there after a closing line, as the code holds it
+-- what is open after a closing line, as the code stores it
 abbrev pub ended : Closed → Ending
 ended (Whole bytes) = whole bytes
 ended (Still s) = still (open_op_of s)

@@ -30,7 +30,7 @@ same_path p q h = path_cmp-IsAntisymmetric p q (is_equal (path_cmp p q) h)
     is_equal Equal h = refl
     is_equal Greater h = cc
 
--- what bounds the paths with an entry bounds the height
+-- a bound of the lengths of all paths that have an entry is a bound of the height
 most_le : (n : ℕ) (es : List (List (List ℕ) × Entry)) → ((q : List (List ℕ)) → is_some (find path_cmp q es) ≡ true → length q + 1 ≤ n)
     → most (λ (e : List (List ℕ) × Entry). length e.0 + 1) es ≤ n
 most_le n [] h = omega arith
