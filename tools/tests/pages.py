@@ -183,7 +183,7 @@ class Reading(unittest.TestCase):
         names = [name for names in READ.findall(text) for name in re.findall(r"\w+", names)]
         self.assertLessEqual(set(names), rests_on.keys())
         self.assertEqual(len(names), len(set(names)))
-        self.assertTrue(55 <= len(names) <= 70, len(names))
+        self.assertIn(f"Read these {len(names)} ", text)
 
 
 class Architecture(unittest.TestCase):

@@ -2,7 +2,8 @@
 //!
 //! Types: `View` (its mounts, one of them at the root), `Shown` (a mount: dest, selector, whether it is read-only, tree), `ReadOnly`.
 //! Promise: `View::route` (`longest`, `only`) returns the mount with the longest dest that is a prefix of a path, by names. `View::set_tree`
-//! (`set`, `refused`, `back`) replaces one mount's tree, and refuses a read-only one. `View::make` alone takes memory, and never fails.
+//! (`set`, `refused`, `back`) replaces one mount's tree, and refuses a read-only one. Of these and `View::make` the last alone takes memory,
+//! and it never fails.
 //!
 //! A caller:
 //!
