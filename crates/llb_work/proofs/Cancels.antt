@@ -1,5 +1,6 @@
 -- Calls that add no cancel to a record.
-use Rattle.std.proofs.Common.{◌≡◌, ℕ, zero, suc, ◌+◌, Bool, true, false, cond, List, [], ◌∷◌, ◌++◌, length, Result, Ok, Err, Option, Some, None, refl, sym, ap, subst, ◌∙◌, arith}
+use Rattle.std.proofs.Common.{◌≡◌, ℕ, zero, suc, ◌+◌, Bool, true, false, cond, List, [], ◌∷◌, ◌++◌, length, Result, Ok, Err, Option, Some, None}
+use Rattle.std.proofs.Common.{refl, sym, ap, subst, ◌∙◌, arith}
 use Rattle.std.proofs.lemmas.List.Sums.{sum_by-append}
 use Rattle.std.specs.Prelude.{IfOk, IsSome, OnErr, option_map}
 use Rattle.std.specs.List.{count_by}
@@ -77,10 +78,6 @@ pub land_no_cancel : (b n : BoardValue) (w : ℕ) (o : OutcomeValue) (r : Result
     → OnErr r (n ≡ b) → CancelsNothing b n
 land_no_cancel b n w o (Ok s) gives err = lands_no_cancel b n w o (HasSettled s) gives
 land_no_cancel b n w o (Err e) gives err = leaves_cancels b n err
-
--- a landing that is known to be granted
-pub known_no_cancel : (b n : BoardValue) (w : ℕ) (o : OutcomeValue) (s : Settled) → Lands b w o n (HasSettled s) → CancelsNothing b n
-known_no_cancel b n w o s lands = lands_no_cancel b n w o (HasSettled s) lands
 
 -- something and nothing are not noted at once
 pub some_noted : {X : Type 0} (o : Option X) → IsSome o → o ≡ None → ⊥

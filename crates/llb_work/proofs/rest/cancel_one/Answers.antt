@@ -1,5 +1,5 @@
-use Rattle.std.proofs.Common.{◌≡◌, ap, arith, length, sym, subst, ◌∙◌}
-use Rattle.std.specs.Prelude.{None, slice_get}
+use Rattle.std.proofs.Common.{ap, arith, length, ◌∙◌}
+use Rattle.std.specs.Prelude.{slice_get}
 use Rattle.llb_model.specs.State.{runs}
 use Rattle.llb_events.specs.declared.event.Event.TheVariants.{Cancel}
 use Rattle.llb_board.specs.Seen.{BoardValue}
