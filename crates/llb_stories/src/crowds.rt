@@ -1,15 +1,17 @@
 //! Runs by more workers than there is work for, so that most of them sleep: each ends, many times over, and with all its events.
 
-use super::calls::is_event_done;
-use super::farm::{counts, push_merge};
+use super::calls::{are_same, is_event_done, replayed};
+use super::farm::{counts, have_one_tree, push_merge};
 use super::told::row_holds;
 use super::written::board_from;
-use llb_board::{Board, Event, Gate, Stopped, WorkerStatus};
-use llb_work::{RunEnd, RunFault, run_workers};
+use llb_board::{Board, Event, Gate, Status, Stopped, WorkerStatus};
+use llb_stepper::Stepper;
+use llb_work::{RunEnd, RunFault, run_alone, run_workers};
 use std::alloc::Global;
 use std::fmt::Write;
 use std::process::Abort;
 use std::sync::Wait;
+use std::sync::atomic::{AtomicU64, Ordering};
 use std::thread;
 use std::thread::Threads;
 
@@ -41,6 +43,33 @@ impl Gate for Shut {
 
     fn pass(&self, _w: u32, v: u32) -> Result<(), Stopped> {
         if v == self.0 { Err(Stopped) } else { Ok(()) }
+    }
+}
+
+// Lets ten vertices pass, and stops any worker that comes after them.
+#[derive(Drop)]
+struct Ten {
+    passed: AtomicU64,
+}
+
+impl Ten {
+    fn new() -> Ten {
+        Ten {
+            passed: AtomicU64::new(0),
+        }
+    }
+}
+
+impl Gate for Ten {
+    ghost use Rattle.std.specs.Prelude.{true};
+
+    ghost may_stop = { λ _ _. true };
+
+    fn pass(&self, _w: u32, _v: u32) -> Result<(), Stopped> {
+        if self.passed.fetch_add(1, Ordering::SeqCst) < 10 {
+            return Ok(());
+        }
+        Err(Stopped)
     }
 }
 
@@ -197,6 +226,75 @@ fn a_stop_ends_the_run_of_those_that_sleep_and_leaves_nobody_at_work(rt: HostRun
             let end = run_workers(&rt, rt.alloc(), board, &Shut(29));
             row_holds(&rt, row(at, workers), is_stopped(&end, workers));
         }
+    }
+}
+
+// Whether the record of a run is replayed from an opening of its board.
+fn is_replayed(alloc: Global, opened: Board, end: &Board) -> bool {
+    let mut stepper = Stepper::new(alloc, opened);
+    let stop = replayed(&mut stepper, end.events().as_slice());
+    stop.is_some() && are_same(stepper.board(), end)
+}
+
+// Whether one driver completes a board, with the same tree as another board has as the output of a vertex.
+fn is_completed(board: Board, wanted: &Board, v: u32) -> bool {
+    let end = run_alone(board);
+    end.fault.is_none() && end.board.is_complete() && have_one_tree(&end.board, wanted, v)
+}
+
+// Of the 30 vertices ten pass the gate.
+#[test]
+fn workers_that_are_stopped_in_the_middle_leave_what_one_driver_completes(rt: HostRuntime) {
+    let shapes = [
+        Shape::Chain,
+        Shape::Fan,
+        Shape::Locked,
+        Shape::TwoOfThree,
+        Shape::Mixed,
+    ];
+    for (at, shape) in shapes.iter().enumerate() {
+        let text = definition(&rt, rt.alloc(), *shape, 30);
+        let whole = run_alone(board_from(&rt, rt.alloc(), text.as_str(), 1));
+        for workers in [3, 64] {
+            let board = board_from(&rt, rt.alloc(), text.as_str(), workers);
+            let end = run_workers(&rt, rt.alloc(), board, &Ten::new());
+            row_holds(&rt, row(at, workers), is_stopped(&end, workers));
+            let opened = board_from(&rt, rt.alloc(), text.as_str(), workers);
+            let replayed = is_replayed(rt.alloc(), opened, &end.board);
+            let completed = is_completed(end.board, &whole.board, 30);
+            row_holds(&rt, row(at, workers), replayed && completed);
+        }
+    }
+}
+
+fn is_cancel(event: &Event) -> bool {
+    matches!(event, Event::Cancel(_))
+}
+
+// Whether vertex 0, which worker 1 ran before the run, is done, and vertex 1 alone was given up.
+fn is_ended(end: &RunEnd) -> bool {
+    let cancels = end
+        .board
+        .events()
+        .as_slice()
+        .iter()
+        .copied()
+        .filter(is_cancel);
+    cancels.count() == 1
+        && end.board.status(0) == Some(Status::Done)
+        && end.board.status(1) == Some(Status::Ready)
+        && are_idle(&end.board, 2)
+}
+
+// The gate stops whoever claims vertex 1.
+#[test]
+fn what_a_worker_ran_before_is_ended_though_another_is_stopped(rt: HostRuntime) {
+    for (at, shape) in [Shape::Fan, Shape::Mixed].iter().enumerate() {
+        let text = definition(&rt, rt.alloc(), *shape, 2);
+        let mut board = board_from(&rt, rt.alloc(), text.as_str(), 2);
+        let claimed = is_event_done(&mut board, Event::Claim(1, 0));
+        let end = run_workers(&rt, rt.alloc(), board, &Shut(1));
+        row_holds(&rt, at, claimed && is_ended(&end));
     }
 }
 

@@ -10,3 +10,5 @@ pub mod Keeping
 pub mod Ends
 pub mod Crews
 pub mod Known
+pub mod Resting
+pub mod Cancels

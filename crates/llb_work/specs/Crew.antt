@@ -1,8 +1,9 @@
 -- What workers that share one lock do to a board.
-use Rattle.std.specs.Prelude.{◌≡◌, ℕ, ◌+◌, ◌++◌, List, [], length, take, drop, sum, Some, option_map}
+use Rattle.std.specs.Prelude.{◌≡◌, ℕ, ◌+◌, ◌++◌, Bool, true, false, List, [], length, take, drop, sum, count_by, slice_get, Some, None, option_map}
 use Rattle.llb_model.specs.Program.{Build}
-use Rattle.llb_model.specs.State.{State}
+use Rattle.llb_model.specs.State.{State, runs}
 use Rattle.llb_events.specs.declared.event.Event.{Event}
+use Rattle.llb_events.specs.declared.event.Event.TheVariants.{Claim, Step, Settle, Cancel}
 use Rattle.llb_model.specs.Table.{Reply}
 use Rattle.llb_model.specs.Run.{run}
 use Rattle.llb_board.specs.Seen.{BoardValue, opened}
@@ -32,6 +33,21 @@ pub record IsAfter (start found : BoardValue) : Type 0 where
 -- the sum of the workers' counts is the number of events that were added
 abbrev pub Counts : List ℕ → BoardValue → BoardValue → Type 0
 Counts made old new = sum made + length old.events ≡ length new.events
+
+-- whether an event gives a vertex up
+abbrev pub is_cancel : Event → Bool
+is_cancel (Claim w v) = false
+is_cancel (Step w) = false
+is_cancel (Settle w) = false
+is_cancel (Cancel w) = true
+
+-- the record has as many cancels as it had
+abbrev pub CancelsNothing : BoardValue → BoardValue → Type 0
+CancelsNothing old new = count_by is_cancel new.events ≡ count_by is_cancel old.events
+
+-- no worker runs anything, so no worker has an instance of a cache
+abbrev pub AreIdle : State → Type 0
+AreIdle s = (w : ℕ) → runs (slice_get s.workers w) ≡ None
 
 -- a build without vertices; the board opened on it, on which nothing has happened, is used where no board is given
 abbrev pub no_build : Build

@@ -1,7 +1,7 @@
 -- What a run returns.
-use Rattle.std.specs.Prelude.{ℕ, ◌<◌, ◌&&◌, nat_lt, List, length, Bool, true, false, Option, Some, None, IsTrue}
+use Rattle.std.specs.Prelude.{◌≡◌, ℕ, ◌<◌, ◌&&◌, ◌⊎◌, nat_lt, List, length, Bool, true, false, Option, Some, None, IsTrue}
 use Rattle.llb_board.specs.Seen.{BoardValue}
-use Rattle.llb_work.specs.Crew.{GoesOn, Counts}
+use Rattle.llb_work.specs.Crew.{GoesOn, Counts, AreIdle}
 use Rattle.llb_work.specs.declared.end.RunFault.{RunFault}
 use Rattle.llb_work.specs.declared.end.RunFault.TheVariants.{Memory, Stopped, Thread, Foreign}
 use Rattle.llb_work.specs.declared.noted.Noted.{Noted}
@@ -18,6 +18,15 @@ is_foreign (Some (Foreign b)) = true
 -- the board that is returned goes on from the given one, and the workers' counts add up to the number of events that were added
 abbrev pub Leads : BoardValue → List ℕ → BoardValue → Type 0
 Leads given made found = GoesOn given found × Counts made given found
+
+-- no worker runs anything; or memory was refused before a thread was started, and the board is the given one
+abbrev pub EndsIdle : BoardValue → Option RunFault → BoardValue → Type 0
+EndsIdle given fault found = AreIdle found.state ⊎ ((fault ≡ Some Memory) × (found ≡ given))
+
+-- the same of what the threads leave if something is noted; otherwise the run goes on
+abbrev pub LeavesIdle : BoardValue → Option Noted → BoardValue → Type 0
+LeavesIdle given None found = Unit {0}
+LeavesIdle given (Some n) found = AreIdle found.state ⊎ ((n ≡ noted.Memory) × (found ≡ given))
 
 -- a worker of a board and a vertex of its graph at which a gate may stop
 abbrev pub StopsSomewhere : (ℕ → ℕ → Bool) → BoardValue → Type 0

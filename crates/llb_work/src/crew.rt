@@ -1,14 +1,14 @@
 //! Runs one thread for each worker, in a thread scope of their own; the workers share one lock.
 
-ghost use Rattle.std.specs.Prelude.{◌≡◌, ◌≤◌, ℕ, sum, true, Some, IsTrue};
-ghost use Rattle.llb_work.specs.Crew.{IsAfter, Counts};
+ghost use Rattle.std.specs.Prelude.{◌≡◌, ◌≤◌, ℕ, sum, true, Some, None, IsTrue, IfSome};
+ghost use Rattle.llb_work.specs.Crew.{IsAfter, Counts, AreIdle, CancelsNothing};
 ghost use Rattle.llb_work.specs.HandOuts.{IsHandedOut, IsGivenBack};
-ghost use Rattle.llb_work.specs.RunEnds.{may_be};
+ghost use Rattle.llb_work.specs.RunEnds.{may_be, LeavesIdle};
 
 use crate::hand_out::{GivenBack, HandOut};
-use crate::held::Held;
 use crate::idle::Idle;
 use crate::noted::{Gated, Noted};
+use crate::rest::cancel_all;
 use crate::shared_board::{SharedBoard, make_shared_board};
 use crate::supply::{Supply, make_supply, put_ready};
 use llb_board::{Board, Gate};
@@ -69,7 +69,7 @@ pub(crate) struct CrewEnd {
 }
 
 /// Runs a board, with a copy of it kept beside it, in one thread for each of its workers. If memory is refused for what the workers need,
-/// that is noted and nothing is done.
+/// that is noted and nothing is done. If anything is noted later, no worker runs anything at the end.
 pub(crate) fn run_crew<S: Gated + Send + Sync, G: Gate + Sync, R: Threads + Wait + Sync>(
     rt: &R,
     alloc: Global,
@@ -86,6 +86,8 @@ pub(crate) fn run_crew<S: Gated + Send + Sync, G: Gate + Sync, R: Threads + Wait
     ensures after { IsAfter begin.board result.board }
     ensures made { Counts result.made begin.board result.board }
     ensures stops { may_be S.may_stop begin.board result.noted ≡ true }
+    ensures idle { LeavesIdle begin.board result.noted result.board }
+    ensures uncancelled { result.noted ≡ None → CancelsNothing begin.board result.board }
 {
     let CrewStart {
         board,
@@ -101,11 +103,12 @@ pub(crate) fn run_crew<S: Gated + Send + Sync, G: Gate + Sync, R: Threads + Wait
         pass,
         lists,
         threads,
+        held,
         plain,
     } = supply;
     let pass = put_ready(rt, &queue, &board, pass);
     let (calls, share) = blank.open::<S>();
-    let board = Mutex::new(make_shared_board(board, start, plain, Held::new(alloc), calls));
+    let board = Mutex::new(make_shared_board(board, start, plain, held, calls));
     let idle = Idle::new();
     let crew = Crew {
         rt,
@@ -127,7 +130,8 @@ pub(crate) fn run_crew<S: Gated + Send + Sync, G: Gate + Sync, R: Threads + Wait
     closed(board.into_inner(), share, made)
 }
 
-// Closes the book of a run whose threads have ended and have given back all shares of it.
+// Closes the book of a run whose threads have ended and have given back all shares of it. If anything is noted, cancels what workers still
+// run, though each worker leaves or cancels what it has before it ends, so that there is nothing.
 fn closed<S: Gated>(shared: SharedBoard<S>, share: Share<S>, made: [u64; 64]) -> CrewEnd
     requires whole { share.parts ≡ S.parts }
     requires made { share.amount ≡ sum made }
@@ -135,6 +139,8 @@ fn closed<S: Gated>(shared: SharedBoard<S>, share: Share<S>, made: [u64; 64]) ->
     ensures after { IsAfter S.start result.board }
     ensures made { Counts result.made S.start result.board }
     ensures stops { may_be S.may_stop S.start result.noted ≡ true }
+    ensures idle { IfSome result.noted (λ _. AreIdle result.board.state) }
+    ensures uncancelled { result.noted ≡ None → CancelsNothing S.start result.board }
 {
     let SharedBoard {
         board,
@@ -146,11 +152,24 @@ fn closed<S: Gated>(shared: SharedBoard<S>, share: Share<S>, made: [u64; 64]) ->
     let mut calls = calls;
     let mut share = share;
     calls.audit(&mut share);
-    CrewEnd {
-        board,
-        start,
-        made,
-        noted,
+    match noted {
+        None => CrewEnd {
+            board,
+            start,
+            made,
+            noted: None,
+        },
+        Some(noted) => {
+            let mut board = board;
+            let mut made = made;
+            cancel_all(&mut board, &mut made);
+            CrewEnd {
+                board,
+                start,
+                made,
+                noted: Some(noted),
+            }
+        }
     }
 }
 
@@ -161,6 +180,7 @@ fn undone(board: Board, start: Board) -> CrewEnd
     ensures after { IsAfter board result.board }
     ensures made { Counts result.made board result.board }
     ensures noted { result.noted ≡ Some Noted.Memory }
+    ensures kept { result.board ≡ board }
 {
     CrewEnd {
         board,

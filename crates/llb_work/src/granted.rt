@@ -3,7 +3,7 @@
 ghost use Rattle.std.specs.Prelude.{◌≤◌, length, IfOk};
 ghost use Rattle.std.specs.Bool.{OnTrue};
 ghost use Rattle.llb_board.specs.Begun.{IsKnown};
-ghost use Rattle.llb_work.specs.Crew.{GoesOn};
+ghost use Rattle.llb_work.specs.Crew.{GoesOn, CancelsNothing};
 ghost use Rattle.llb_work.specs.Turns.{IsClaimed};
 
 use llb_board::laws::begun_are_plain;
@@ -16,6 +16,7 @@ use llb_board::{
 pub(crate) fn claim(board: &mut Board, w: u32, v: u32) -> Result<Job, ClaimFault>
     ensures claimed { IfOk result (IsClaimed board.old w v) }
     ensures goes { GoesOn board.old board.new }
+    ensures uncancelled { CancelsNothing board.old board.new }
     ensures longer { length board.old.events ≤ length board.new.events }
 {
     begun_are_plain(board);
@@ -25,6 +26,7 @@ pub(crate) fn claim(board: &mut Board, w: u32, v: u32) -> Result<Job, ClaimFault
 /// Does the next micro-step of what a worker runs. Fails with 131, 136, 137 or 141.
 pub(crate) fn step(board: &mut Board, w: u32) -> Result<Stepped, StepFault>
     ensures goes { GoesOn board.old board.new }
+    ensures uncancelled { CancelsNothing board.old board.new }
     ensures longer { length board.old.events ≤ length board.new.events }
 {
     board.step(w)
@@ -33,6 +35,7 @@ pub(crate) fn step(board: &mut Board, w: u32) -> Result<Stepped, StepFault>
 /// Settles what a worker runs. Fails with 131, 136 or 138.
 pub(crate) fn settle(board: &mut Board, w: u32) -> Result<Settled, SettleFault>
     ensures goes { GoesOn board.old board.new }
+    ensures uncancelled { CancelsNothing board.old board.new }
     ensures longer { length board.old.events ≤ length board.new.events }
 {
     board.settle(w)
@@ -56,6 +59,7 @@ pub(crate) fn land(
 ) -> Result<Settled, LandFault>
     requires { OnTrue known (IsKnown board.old w outcome.job) }
     ensures goes { GoesOn board.old board.new }
+    ensures uncancelled { CancelsNothing board.old board.new }
     ensures longer { length board.old.events ≤ length board.new.events }
 {
     if known {

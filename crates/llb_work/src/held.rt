@@ -1,32 +1,24 @@
 //! The numbers of vertices whose claim was refused because another worker has a locked key, by that key. They are put into the queue again
 //! one by one: the first when the vertex with the key is left, and each next one when the vertex of the one before is left or its claim is
-//! refused for another key. So a number is not claimed again and again. Nothing here knows about the board.
+//! refused for another key. So a number is not claimed again and again. The table is made with all the room that it needs, and later calls
+//! do not allocate. Nothing here knows about the board.
 
 use llb_cache::Key;
 use std::alloc::{AllocError, Global};
-use std::collections::VecDeque;
 
-// The numbers that wait for one key, in the order in which they came, and the one that was put into the queue again and has not been
-// claimed since.
+// The numbers that wait for one key: the first and the last of them in the order in which they came, and the one that was put into the queue
+// again and has not been claimed since. What comes after a number is in the table.
 #[derive(Drop)]
 struct Row {
     key: Key,
-    numbers: VecDeque<u32>,
+    first: Option<u32>,
+    last: u32,
     put: Option<u32>,
 }
 
 impl Row {
-    // Takes the next number that is to be put into the queue again; `None` if one was put again already, or none waits.
-    fn next(&mut self) -> Option<u32> {
-        if self.put.is_some() {
-            return None;
-        }
-        self.put = self.numbers.pop_front();
-        self.put
-    }
-
     fn is_empty(&self) -> bool {
-        self.put.is_none() && self.numbers.is_empty()
+        self.put.is_none() && self.first.is_none()
     }
 }
 
@@ -34,37 +26,89 @@ impl Row {
 #[derive(Drop)]
 pub(crate) struct Held {
     rows: Vec<Row>,
+    // For each number the one that waits after it for the same key.
+    after: Vec<Option<u32>>,
 }
 
 impl Held {
-    /// Makes a table in which no number waits.
-    pub(crate) fn new(alloc: Global) -> Held {
-        Held {
-            rows: Vec::new(alloc),
+    /// Makes a table in which no number waits, for the numbers below `count`. Fails if memory is refused.
+    pub(crate) fn new(alloc: Global, count: u32) -> Result<Held, AllocError> {
+        let rows = Vec::with_capacity(alloc, count as usize)?;
+        let mut after = Vec::with_capacity(alloc, count as usize)?;
+        for _v in 0..count {
+            after.push(None)?;
+        }
+        Ok(Held { rows, after })
+    }
+
+    fn place_of(&self, key: &Key) -> Option<usize> {
+        self.rows.iter().position(|row| row.key == *key)
+    }
+
+    // Sets which number waits after a number.
+    fn set_after(&mut self, v: u32, next: Option<u32>) {
+        if let Some(after) = self.after.get_mut(v as usize) {
+            *after = next;
         }
     }
 
-    fn row_of(&mut self, key: &Key) -> Option<&mut Row> {
-        let at = self.rows.iter().position(|row| row.key == *key)?;
-        self.rows.get_mut(at)
+    /// Adds a number that waits for a key. Returns false if there is no room for the key, which does not occur: no number waits twice, so
+    /// there are at most as many keys as numbers.
+    pub(crate) fn push(&mut self, key: Key, v: u32) -> bool {
+        self.set_after(v, None);
+        match self.place_of(&key) {
+            Some(at) => self.push_at(at, v),
+            None => self.push_row(key, v),
+        }
     }
 
-    /// Adds a number that waits for a key. Fails if memory is refused.
-    pub(crate) fn push(&mut self, key: Key, v: u32) -> Result<(), AllocError> {
-        if let Some(row) = self.row_of(&key) {
-            row.numbers.push_back(v)?;
-            return Ok(());
+    // Adds a number to the row at a place.
+    fn push_at(&mut self, at: usize, v: u32) -> bool {
+        let Some(row) = self.rows.get_mut(at) else {
+            return false;
+        };
+        let last = row.last;
+        row.last = v;
+        if row.first.is_none() {
+            row.first = Some(v);
+        } else {
+            self.set_after(last, Some(v));
         }
-        let mut numbers = VecDeque::new(*self.rows.allocator());
-        numbers.push_back(v)?;
-        let put = None;
-        self.rows.push(Row { key, numbers, put })?;
-        Ok(())
+        true
+    }
+
+    // Adds a row with one number.
+    fn push_row(&mut self, key: Key, v: u32) -> bool {
+        if self.rows.len() >= self.rows.capacity() {
+            return false;
+        }
+        let (first, last, put) = (Some(v), v, None);
+        self.rows.push_reserved(Row {
+            key,
+            first,
+            last,
+            put,
+        });
+        true
+    }
+
+    // Takes the next number of the row at a place that is to be put into the queue again; `None` if one was put again already, or none waits.
+    fn next_at(&mut self, at: usize) -> Option<u32> {
+        let Held { rows, after } = self;
+        let row = rows.get_mut(at)?;
+        if row.put.is_some() {
+            return None;
+        }
+        let v = row.first?;
+        row.first = after.get(v as usize).copied().unwrap_or(None);
+        row.put = Some(v);
+        row.put
     }
 
     /// Takes a number that waits for a key which will be free soon; `None` if one was put into the queue again already, or none waits.
     pub(crate) fn next_of(&mut self, key: &Key) -> Option<u32> {
-        self.row_of(key)?.next()
+        let at = self.place_of(key)?;
+        self.next_at(at)
     }
 
     /// Notes that a number was claimed, or refused for a key. Returns the next number of the row that it came from if it was refused for
@@ -74,12 +118,17 @@ impl Held {
         let row = self.rows.get_mut(at)?;
         row.put = None;
         let next = match refused {
-            Some(key) if row.key != *key => row.next(),
+            Some(key) if row.key != *key => self.next_at(at),
             _ => None,
         };
-        if row.is_empty() && at < self.rows.len() {
+        self.drop_empty(at);
+        next
+    }
+
+    // Removes the row at a place if it has no number.
+    fn drop_empty(&mut self, at: usize) {
+        if at < self.rows.len() && self.rows[at].is_empty() {
             self.rows.swap_remove(at);
         }
-        next
     }
 }

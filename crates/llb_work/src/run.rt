@@ -3,13 +3,14 @@
 ghost use Rattle.std.specs.Prelude.{◌≡◌, ◌≤◌, ◌+◌, ◌⊎◌, ℕ, Bool, sum, length, true, false, Some, None};
 ghost use Rattle.llb_model.specs.Run.{is_complete};
 ghost use Rattle.llb_board.specs.Seen.{BoardValue};
-ghost use Rattle.llb_work.specs.Crew.{GoesOn, Counts};
-ghost use Rattle.llb_work.specs.RunEnds.{is_foreign, may_be, StopsSomewhere, Leads};
+ghost use Rattle.llb_work.specs.Crew.{GoesOn, Counts, AreIdle, CancelsNothing};
+ghost use Rattle.llb_work.specs.RunEnds.{is_foreign, may_be, StopsSomewhere, Leads, EndsIdle, LeavesIdle};
 
 use crate::crew::{CrewEnd, CrewStart, run_crew};
 use crate::end::{RunEnd, RunFault};
 use crate::noted::Noted;
-use crate::rest::go_to_end;
+use crate::rest::{cancel_all, go_to_end};
+use llb_board::laws::is_consistent;
 use llb_board::{Board, Gate};
 use std::alloc::Global;
 use std::marker::Brand;
@@ -25,11 +26,12 @@ use std::thread::Threads;
 /// left. A worker that finds the queue empty sleeps until more numbers are put than others are about to take, or until the run is over.
 ///
 /// The fault is the first that is met: 151 `Memory` if memory is refused, 152 `Stopped` if the gate stops a worker, 153 `Thread` if a
-/// thread can't be started. If memory is refused for the copies of the board, the queue or the workers' lists, no thread starts, and the
-/// board is returned as it was given. The worker that meets 151 or 152 cancels what it runs and notes the fault, both in one hold of the
-/// lock; every other worker ends what it runs. The board that is returned goes on from the given one by granted events, and the sum of
-/// `made` is their number. 154 `Foreign` would say that the board which was kept under the lock from the beginning is found to be another
-/// one; it never occurs.
+/// thread can't be started. If memory is refused for the copies of the board, the queue, the workers' lists or the table of numbers that wait
+/// for a key, no thread starts, and the board is returned as it was given. The worker that meets 151 or 152 notes the fault and cancels what
+/// it runs, both in one hold of the lock; every other worker ends what it runs, and the part of a worker without a thread is done by the
+/// caller's thread. So on any other board that is returned no worker runs anything and no cache is held. It goes on from the given board by
+/// granted events, none of which is a cancel unless there is a fault, and the sum of `made` is their number. 154 `Foreign` would say that the
+/// board which was kept under the lock from the beginning is found to be another one; it never occurs.
 pub fn run_workers<G: Gate + Sync, R: Threads + Wait + Sync>(
     rt: &R,
     alloc: Global,
@@ -40,6 +42,8 @@ pub fn run_workers<G: Gate + Sync, R: Threads + Wait + Sync>(
     ensures own { is_foreign result.fault ≡ false }
     ensures complete { result.fault ≡ None → is_complete result.board.build result.board.state ≡ true }
     ensures stopped { result.fault ≡ Some RunFault.Stopped → StopsSomewhere G.may_stop board }
+    ensures idle { EndsIdle board result.fault result.board }
+    ensures uncancelled { result.fault ≡ None → CancelsNothing board result.board }
 {
     let Ok(start) = board.copy() else {
         return refused(board);
@@ -87,6 +91,7 @@ fn workers(board: &Board) -> u32
 fn refused(board: Board) -> RunEnd
     ensures leads { Leads board result.made result.board }
     ensures fault { result.fault ≡ Some RunFault.Memory }
+    ensures kept { result.board ≡ board }
 {
     RunEnd {
         board,
@@ -104,6 +109,8 @@ fn ended(board: Board, made: [u64; 64], noted: Option<Noted>) -> RunEnd
     ensures complete { result.fault ≡ None → is_complete result.board.build result.board.state ≡ true }
     ensures stopped { (may_stop : ℕ → ℕ → Bool) (given : BoardValue) → may_be may_stop given noted ≡ true → result.fault ≡ Some RunFault.Stopped
         → StopsSomewhere may_stop given }
+    ensures idle { (given : BoardValue) → LeavesIdle given noted board → EndsIdle given result.fault result.board }
+    ensures uncancelled { result.fault ≡ None → (noted ≡ None) × CancelsNothing board result.board }
 {
     let Some(noted) = noted else {
         return rest(board, made);
@@ -115,6 +122,7 @@ fn ended(board: Board, made: [u64; 64], noted: Option<Noted>) -> RunEnd
 // Returns what was noted, as a fault.
 fn fault_of(noted: Noted) -> RunFault
     ensures own { is_foreign (Some result) ≡ false }
+    ensures memory { noted ≡ Noted.Memory → result ≡ RunFault.Memory }
     ensures stopped { (may_stop : ℕ → ℕ → Bool) (given : BoardValue) → may_be may_stop given (Some noted) ≡ true → result ≡ RunFault.Stopped
         → StopsSomewhere may_stop given }
 {
@@ -125,17 +133,25 @@ fn fault_of(noted: Noted) -> RunFault
     }
 }
 
-// Does the rest of a run in which nothing is noted, and returns how it ends.
+// Does the rest of a run in which nothing is noted, and returns how it ends. If memory is refused, cancels what a worker then runs.
 fn rest(board: Board, made: [u64; 64]) -> RunEnd
     requires { sum made ≤ length board.events }
     ensures goes { GoesOn board result.board }
     ensures made { sum result.made + length board.events ≡ sum made + length result.board.events }
     ensures complete { result.fault ≡ None → is_complete result.board.build result.board.state ≡ true }
     ensures fault { result.fault ≡ None ⊎ (result.fault ≡ Some RunFault.Memory) }
+    ensures idle { AreIdle result.board.state }
+    ensures uncancelled { result.fault ≡ None → CancelsNothing board result.board }
 {
     let mut board = board;
     let mut made = made;
-    let whole = go_to_end(&mut board, &mut made);
-    let fault = if whole { None } else { Some(RunFault::Memory) };
+    if !go_to_end(&mut board, &mut made) {
+        cancel_all(&mut board, &mut made);
+        let fault = Some(RunFault::Memory);
+        return RunEnd { board, made, fault };
+    }
+    board.is_graph();
+    is_consistent(&board);
+    let fault = None;
     RunEnd { board, made, fault }
 }

@@ -1,14 +1,15 @@
 //! What is under the lock: the board, the board that the run began from, the book of the events that were made, and the fault that was
 //! noted first; which vertices have no cache mount at or before them; and the vertex numbers that wait for a key. An invariant of its type
-//! says that the record goes on from the given board by granted events, each of which is counted.
+//! says that the record goes on from the given board by granted events, each of which is counted, and that none of them is a cancel unless
+//! something is noted.
 
-ghost use Rattle.std.specs.Prelude.{◌≡◌, ◌+◌, ℕ, length, true, Some, IfOk};
+ghost use Rattle.std.specs.Prelude.{◌≡◌, ◌+◌, ℕ, length, true, Some, None, IfOk, IsSome};
 ghost use Rattle.std.specs.Bool.{OnTrue};
 ghost use Rattle.std.specs.Coded.{codes};
 ghost use Rattle.llb_tree.specs.Coded.{coded_tree};
 ghost use Rattle.llb_board.specs.Begun.{IsKnown};
 ghost use Rattle.llb_board.specs.Store.{coded_store};
-ghost use Rattle.llb_work.specs.Crew.{IsAfter};
+ghost use Rattle.llb_work.specs.Crew.{IsAfter, CancelsNothing};
 ghost use Rattle.llb_work.specs.RunEnds.{may_be};
 ghost use Rattle.llb_work.specs.Supplies.{ArePlain};
 ghost use Rattle.llb_work.specs.Turns.{IsBrought, IsClaimed, IsHere};
@@ -39,6 +40,7 @@ pub(crate) struct SharedBoard<S: Gated> {
     pub ghost marks: { ArePlain S.start.build plain.items },
     pub ghost counted: { calls.total + length S.start.events ≡ length board.events },
     pub ghost stops: { may_be S.may_stop S.start noted ≡ true },
+    pub ghost uncancelled: { noted ≡ None → CancelsNothing S.start board },
 }
 
 /// What a worker brings to the lock.
@@ -93,6 +95,7 @@ impl<S: Gated> SharedBoard<S> {
     /// Notes why the run ends, unless something is noted already.
     pub(crate) fn note(&mut self, noted: Noted)
         requires { may_be S.may_stop S.start (Some noted) ≡ true }
+        ensures { IsSome self.new.noted }
     {
         if self.noted.is_none() {
             self.noted = Some(noted);
@@ -149,19 +152,21 @@ impl<S: Gated> SharedBoard<S> {
     }
 
     // Cancels what a worker runs, and counts the event for the worker.
-    fn cancel(&mut self, w: u32, mine: &mut Tally<S>) {
+    fn cancel(&mut self, w: u32, mine: &mut Tally<S>)
+        requires { IsSome self.old.noted }
+    {
         let before = self.board.events().len();
         let _ = granted::cancel(&mut self.board, w);
         count(&mut self.calls, mine, before, self.board.events().len());
     }
 
-    /// Cancels what a worker runs and notes why the run ends, both in one hold of the lock: another worker never sees a ready vertex that
+    /// Notes why the run ends and cancels what a worker runs, both in one hold of the lock: another worker never sees a ready vertex that
     /// is in no queue while nothing is noted.
     pub(crate) fn give_up(&mut self, w: u32, noted: Noted, mine: &mut Tally<S>)
         requires { may_be S.may_stop S.start (Some noted) ≡ true }
     {
-        self.cancel(w, mine);
         self.note(noted);
+        self.cancel(w, mine);
     }
 
     /// Does what a worker has to do in one hold of the lock, by what it brings. Returns what it is to do next, and second owners of the trees
@@ -238,9 +243,7 @@ impl<S: Gated> SharedBoard<S> {
         match settled {
             None => Turn::Again,
             Some(Settled::Done(v) | Settled::Failed(v)) => {
-                if !note_ready(&self.board, v, news) {
-                    return self.stop();
-                }
+                note_ready(&self.board, v, news);
                 if self.is_over() {
                     return Turn::End;
                 }
@@ -252,14 +255,10 @@ impl<S: Gated> SharedBoard<S> {
     // Adds to `news`, for each key of a worker that is about to leave what it runs, one of the numbers that wait for the key.
     fn release(&mut self, w: u32, news: &mut Vec<u32>) {
         let SharedBoard { board, held, .. } = self;
-        let mut whole = true;
         for place in board.places(w) {
             if let Some(v) = held.next_of(&place.key) {
-                whole = whole && news.push(v).is_ok();
+                add(news, v);
             }
-        }
-        if !whole {
-            self.note(Noted::Memory);
         }
     }
 
@@ -268,13 +267,11 @@ impl<S: Gated> SharedBoard<S> {
         ensures { (w : ℕ) → IsHere S.start w result }
     {
         let next = self.held.answered(v, Some(&key));
-        if self.held.push(key, v).is_err() {
-            return self.stop();
+        if !self.held.push(key, v) {
+            add(news, v);
         }
         if let Some(u) = next {
-            if news.push(u).is_err() {
-                return self.stop();
-            }
+            add(news, u);
         }
         Turn::Next
     }
@@ -304,12 +301,19 @@ impl<S: Gated> SharedBoard<S> {
     }
 }
 
-// Adds to `news` the ready vertices that have an edge to a vertex, the greatest first. Returns false if memory is refused.
-fn note_ready(board: &Board, v: u32, news: &mut Vec<u32>) -> bool {
+// Adds to `news` the ready vertices that have an edge to a vertex, the greatest first.
+fn note_ready(board: &Board, v: u32, news: &mut Vec<u32>) {
     for u in board.users(v).iter().rev() {
-        if matches!(board.status(*u), Some(Status::Ready)) && news.push(*u).is_err() {
-            return false;
+        if matches!(board.status(*u), Some(Status::Ready)) {
+            add(news, *u);
         }
     }
-    true
+}
+
+// Adds a number to a worker's list, which has room for as many numbers as there are vertices. No number is there twice, so a full list has
+// every number already. Does not allocate.
+fn add(news: &mut Vec<u32>, v: u32) {
+    if news.len() < news.capacity() {
+        news.push_reserved(v);
+    }
 }

@@ -1,10 +1,11 @@
 //! What the workers are supplied with before any thread starts: the queue with every ready vertex in it, a list for each worker, room for
-//! their threads, and which vertices have no cache mount at or before them.
+//! their threads and for the numbers that wait for a key, and which vertices have no cache mount at or before them.
 
 ghost use Rattle.std.specs.Prelude.{◌≡◌, ◌≤◌, ℕ, vec_len, vec_capacity, IfOk, IfSome};
 ghost use Rattle.llb_work.specs.Passes.{IsUncut};
 ghost use Rattle.llb_work.specs.Supplies.{IsSupplyFor};
 
+use crate::held::Held;
 use crate::plain::plain_marks;
 use crate::worker_thread::WorkerThread;
 use llb_board::{Board, Status};
@@ -13,14 +14,16 @@ use std::alloc::{AllocError, Global};
 use std::sync::Wait;
 use std::sync::ledger::Ledger;
 
-/// A queue with room for as many numbers as there are vertices, its whole pass, a list with as much room for each worker, and room for
-/// the workers' threads; and for each vertex whether no cache mount is at or before it.
+/// A queue with room for as many numbers as there are vertices, its whole pass, a list with as much room for each worker, room for the
+/// workers' threads, and a table with room for every number that waits for a key; and for each vertex whether no cache mount is at or before
+/// it.
 #[derive(Drop)]
 pub(crate) struct Supply<S: Ledger> {
     pub queue: ReadyQueue,
     pub pass: ReadyPass,
     pub lists: Vec<Vec<u32>>,
     pub threads: Vec<WorkerThread<S>>,
+    pub held: Held,
     pub plain: Vec<bool>,
 }
 
@@ -32,12 +35,14 @@ pub(crate) fn make_supply<S: Ledger>(alloc: Global, board: &Board, n: u32) -> Op
     let (queue, pass) = ReadyQueue::new(alloc, room).ok()?;
     let lists = make_lists(alloc, n, room).ok()?;
     let threads = Vec::with_capacity(alloc, n as usize).ok()?;
+    let held = Held::new(alloc, room).ok()?;
     let plain = plain_marks(alloc, board)?;
     Some(Supply {
         queue,
         pass,
         lists,
         threads,
+        held,
         plain,
     })
 }

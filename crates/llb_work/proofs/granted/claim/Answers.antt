@@ -1,6 +1,7 @@
 use Rattle.llb_model.specs.Table.{Claimed}
 use Rattle.llb_work.proofs.Afters.{no_shorter}
 use Rattle.llb_work.proofs.Workers.{claim_goes, claim_here}
+use Rattle.llb_work.proofs.Cancels.{claim_no_cancel}
 use Rattle.llb_work.proofs.granted.claim.Goals as goal
 
 pub returns-clause-goes : goal.returns-clause-goes
@@ -12,3 +13,7 @@ returns-clause-longer c = no_shorter c.args.board.now c.claim.new.self (returns-
 pub returns-clause-claimed : goal.returns-clause-claimed
 returns-clause-claimed c =
     claim_here c.args.board.now c.claim.new.self c.args.w c.args.v c.claim.result c.begun_are_plain.ensures.claims c.claim.ensures.gives
+
+pub returns-clause-uncancelled : goal.returns-clause-uncancelled
+returns-clause-uncancelled c =
+    claim_no_cancel Claimed c.args.board.now c.claim.new.self c.args.w c.args.v c.claim.result c.claim.ensures.gives c.claim.ensures.err

@@ -1,4 +1,4 @@
-use Rattle.std.proofs.Common.{rules}
+use Rattle.std.proofs.Common.{rules, ◌∙◌}
 use Rattle.llb_work.proofs.Crews.{leads_from, never_foreign}
 use Rattle.llb_work.proofs.run.run_workers.Goals as goal
 
@@ -23,3 +23,16 @@ returns-clause-leads g c =
 
 pub returns-clause-stopped : goal.returns-clause-stopped
 returns-clause-stopped g c = c.ended.ensures.stopped g.G.Gate.may_stop c.args.board c.run_crew-left.ensures.stops
+
+pub returns-then-not-same-clause-idle : goal.returns-then-not-same-clause-idle
+returns-then-not-same-clause-idle g c =
+    let differs = c.if-not-same.true in
+    absurd (never_foreign c.same.result c.run_crew-left.result.start c.in-Ok-copy.outside c.args.board
+    (search rules) c.same.ensures c.in-Ok-copy.ensures c.run_crew-left.ensures.start)
+
+pub returns-clause-idle : goal.returns-clause-idle
+returns-clause-idle g c = c.ended.ensures.idle c.args.board c.run_crew-left.ensures.idle
+
+pub returns-clause-uncancelled : goal.returns-clause-uncancelled
+returns-clause-uncancelled g c =
+    λ none. let ended = c.ended.ensures.uncancelled none in ended.1 ∙ c.run_crew-left.ensures.uncancelled ended.0

@@ -2,6 +2,7 @@ use Rattle.std.proofs.Common.{ap, arith, length, refl, sym, ◌∙◌}
 use Rattle.llb_model.specs.Outcome.{is_plain}
 use Rattle.llb_board.specs.Seen.{BoardValue}
 use Rattle.llb_work.proofs.Afters.{after_itself}
+use Rattle.llb_work.proofs.Cancels.{leaves_cancels}
 use Rattle.llb_work.proofs.shared_board.make_shared_board.Goals as goal
 
 pub invariant_of-result : goal.invariant_of-result
@@ -11,4 +12,5 @@ invariant_of-result g c = record {
   marks = λ v. c.requires.plain v ∙ ap (λ (b : BoardValue). is_plain b.build v) c.requires.start;
   counted = omega (arith, c.requires.empty, ap (λ (b : BoardValue). length b.events) c.requires.start);
   stops = refl;
+  uncancelled = λ none. leaves_cancels g.S.Gated.start c.args.board c.requires.start;
 }

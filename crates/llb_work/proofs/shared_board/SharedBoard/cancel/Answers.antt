@@ -1,5 +1,6 @@
 use Rattle.std.proofs.Common.{arith, ap, length, ◌∙◌}
 use Rattle.llb_work.proofs.Afters.{after_more}
+use Rattle.llb_work.proofs.Cancels.{some_noted}
 use Rattle.llb_work.proofs.shared_board.SharedBoard.cancel.Goals as goal
 
 pub invariant_of-self : goal.invariant_of-self
@@ -13,4 +14,5 @@ invariant_of-self g c =
       marks = old.marks;
       counted = omega (arith, before, now, c.count.ensures, old.counted);
       stops = old.stops;
+      uncancelled = λ none. absurd (some_noted old.noted c.requires none);
     }

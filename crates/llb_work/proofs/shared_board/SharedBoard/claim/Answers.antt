@@ -14,6 +14,7 @@ invariant_of-self g c =
       marks = old.marks;
       counted = omega (arith, before, now, c.count.ensures, old.counted);
       stops = old.stops;
+      uncancelled = λ none. c.claim-claimed.ensures.uncancelled ∙ old.uncancelled none;
     }
 
 pub returns : goal.returns

@@ -13,4 +13,5 @@ invariant_of-self g c =
       marks = old.marks;
       counted = omega (arith, before, now, c.count.ensures, old.counted);
       stops = old.stops;
+      uncancelled = λ none. c.land-landed.ensures.uncancelled ∙ old.uncancelled none;
     }

@@ -1,0 +1,14 @@
+-- The record goes on, and each event is counted; the workers so far run nothing.
+use Rattle.std.proofs.Common.{◌≡◌, ◌+◌, ◌<◌, ◌≤◌, ℕ, length}
+use Rattle.std.specs.Prelude.{sum, slice_get, None}
+use Rattle.llb_model.specs.State.{runs}
+use Rattle.llb_work.specs.Crew.{GoesOn}
+use Rattle.llb_work.proofs.rest.cancel_all.Given as goal
+
+abbrev pub invariant-loop-w : goal.invariant-loop-w
+invariant-loop-w l = record {
+  goes : GoesOn l.initial.board l.board;
+  made : sum l.made + length l.initial.board.events ≡ sum l.initial.made + length l.board.events;
+  few : length l.board.state.workers ≤ 64;
+  idle : (i : ℕ) → i < l.w → runs (slice_get l.board.state.workers i) ≡ None;
+}
