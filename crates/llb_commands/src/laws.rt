@@ -9,6 +9,7 @@ use crate::fault::ProgramFault;
 use crate::opening::opened;
 use llb_asm::one_answer;
 use llb_board::Board;
+use llb_board::laws::replies_are_recorded;
 use llb_loader::{Graph, Locals, load, one_answer_in};
 use llb_ops::{Entries, definition_is_read_again};
 use llb_session::laws::go_prints_the_run;
@@ -49,6 +50,7 @@ pub fn aim(
     definition_is_read_again(entries);
     board.replays();
     board.has_workers();
+    replies_are_recorded(board);
     let stepped = stepper.board();
     stepped.replays();
     past_is_the_records(stepper);
