@@ -2,7 +2,6 @@ pub mod Crossing
 pub mod Choices
 pub mod Sound
 pub mod Recorded
-pub mod Replied
 pub mod Spaces
 pub mod Counted
 pub mod Calls

@@ -10,7 +10,6 @@ ghost use Rattle.llb_model.specs.Laws as machine;
 ghost use Rattle.llb_board.specs.Laws.{SettledArePlain, ChosenIsGranted, OthersKeep, OneWorkerEach, ReadyBehindDone, BlockedBehindAFailure, OutcomeByInputs};
 ghost use Rattle.llb_board.specs.Begun.{BegunArePlain, ClaimsArePlain, KnownLand};
 ghost use Rattle.llb_board.specs.Headline.{Headline, StandsInClaimOrder};
-ghost use Rattle.llb_board.specs.Replies.{RepliesAreRecorded};
 
 use crate::board::Board;
 
@@ -22,14 +21,6 @@ pub fn headline(board: &Board)
     ensures { Headline board.now }
 {
     board.is_graph();
-    board.replays();
-}
-
-/// Proves that what a call returns that does an event is the reply that the record has for it: the last of the replies of the board after it. The
-/// calls are `claim`, `step`, `settle`, `cancel`, and `land`, whose steps have their replies before.
-pub fn replies_are_recorded(board: &Board)
-    ensures { RepliesAreRecorded board.now }
-{
     board.replays();
 }
 

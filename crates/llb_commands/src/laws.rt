@@ -9,11 +9,12 @@ use crate::fault::ProgramFault;
 use crate::opening::opened;
 use llb_asm::one_answer;
 use llb_board::Board;
-use llb_board::laws::replies_are_recorded;
 use llb_loader::{Graph, Locals, load, one_answer_in};
 use llb_ops::{Entries, definition_is_read_again};
 use llb_session::laws::go_prints_the_run;
-use llb_stepper::{Stepper, past_is_the_records, record_is_the_run, replay_is_the_run};
+use llb_stepper::{
+    Stepper, past_is_the_records, record_is_the_run, replay_is_the_run, replies_are_recorded,
+};
 use llb_wire::Bytes;
 use std::alloc::Global;
 

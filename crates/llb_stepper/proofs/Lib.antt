@@ -4,5 +4,6 @@ pub mod Recorded
 pub mod Lines
 pub mod Replayed
 pub mod Again
+pub mod Replied
 pub mod Stops
 pub mod Walked

@@ -11,6 +11,6 @@ mod stop;
 pub use fault::StepperFault;
 pub use stepper::{
     Stepper, chosen_is_done, past_is_the_records, record_is_the_run, replay_is_the_run,
-    there_and_back,
+    replies_are_recorded, there_and_back,
 };
 pub use stop::{Break, Stop};

@@ -19,5 +19,6 @@ returns c accepted = record {
   stepper_past = c.past_is_the_records.ensures;
   stepper_lines = c.record_is_the_run.ensures;
   session_lines = c.go_prints_the_run.ensures;
+  record_replays = c.replay_is_the_run.ensures.leads;
   stepper_replays = c.replay_is_the_run.ensures.lines;
 }

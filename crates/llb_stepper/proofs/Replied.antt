@@ -12,7 +12,7 @@ use Rattle.llb_model.specs.Run.{run}
 use Rattle.llb_model.proofs.Runs.{run_on, run_one}
 use Rattle.llb_state.specs.Caches.{rows_after}
 use Rattle.llb_board.specs.Seen.{BoardValue, Replays, after_event, recorded, replies_in}
-use Rattle.llb_board.specs.Replies.{RepliesAreRecorded}
+use Rattle.llb_stepper.specs.Replies.{RepliesAreRecorded}
 
 -- the board after a block of events
 abbrev behind : BoardValue → State → List Row → List Event → BoardValue
