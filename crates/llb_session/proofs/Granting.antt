@@ -20,7 +20,7 @@ pub chosen_comes : (s t : Stepping) (e : own.Event) (r : Result (Vec ℕ Global)
     → Some e ≡ chosen s.board.build s.board.state
     → IsPerformed (ask.Event e) s t r → IsPerformed ask.Next s t r
 chosen_comes s t e (Ok text) law is comes = subst (λ o. GrantsNext o s text.items t) is comes
-chosen_comes s t e (Err fault) law is (same, wanted, refused) = (same, wanted, λ not. absurd (differ (law e fault (sym is) (refused not)) not))
+chosen_comes s t e (Err fault) law is (same, fails) = (same, (fails.0, λ not. absurd (differ (law e fault (sym is) (fails.1 not)) not)))
   where
     differ : stepper_memory fault ≡ true → stepper_memory fault ≡ false → ⊥
     differ a b = cc

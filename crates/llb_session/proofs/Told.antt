@@ -28,4 +28,4 @@ go_prints s here text t granted =
           (is_the_run t stop.records).complete i e r t.board.state ran.0 ran.1 (omega (arith, low)) (omega (arith, low, added, few, back, dropped)) at there in
           ap (λ o. with_line_end (option_map (record_text t.board.build.graph.vertices i) o)) told;
     } in
-    record { run = lines; at_break = granted.stop.at_break; printed = granted.lines }
+    record { lines = lines; at_break = granted.stop.at_break; printed = granted.lines }

@@ -19,7 +19,7 @@ pub record LinesOfTheRun (s t : Stepping) : Type 0 where
 
 -- The text has the lines of the run, one for each event that was added to the record of s, and then `stop` or `end`.
 pub record PrintsTheRun (s : Stepping) (text : List ℕ) (t : Stepping) : Type 0 where
-  pub run : LinesOfTheRun s t
+  pub lines : LinesOfTheRun s t
   pub at_break : Bool
   pub printed : text ≡ record_lines t (length s.board.events) (length t.board.events - length s.board.events) ++ stop_line at_break
 

@@ -31,11 +31,11 @@ meets_none b (e ∷ es) (suc k) = from_none (answered b e) (λ c. meets_at [] c 
 
 -- so a stop is at the end of the list
 at_end : (flag : Bool) (b : BoardValue) (es : List Event) (n : ℕ) → EndsAt flag [] b es n → n ≡ length es
-at_end true b es n (k, count, met) = absurd (differ met (meets_none b es k))
+at_end true b es n met = absurd (differ met.1.1 (meets_none b es met.0))
   where
-    differ : meets_at [] b es k ≡ true → meets_at [] b es k ≡ false → ⊥
+    differ : meets_at [] b es met.0 ≡ true → meets_at [] b es met.0 ≡ false → ⊥
     differ yes no = cc
-at_end false b es n (all, none) = all
+at_end false b es n met = met.0
 
 abbrev runs_with : List Reply → BoardValue → Type 0
 runs_with rs x = run x.build (opening x.build x.opening) x.events ≡ Some (x.state, rs)
