@@ -34,7 +34,7 @@ at_end : (flag : Bool) (b : BoardValue) (es : List Event) (n : ℕ) → EndsAt f
 at_end true b es n met = absurd (differ met.1.1 (meets_none b es met.0))
   where
     differ : meets_at [] b es met.0 ≡ true → meets_at [] b es met.0 ≡ false → ⊥
-    differ yes no = cc
+    differ meets unmet = cc
 at_end false b es n met = met.0
 
 abbrev runs_with : List Reply → BoardValue → Type 0
