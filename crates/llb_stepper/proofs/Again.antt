@@ -8,9 +8,8 @@ use Rattle.llb_model.specs.Table.{Reply}
 use Rattle.llb_model.specs.Run.{run}
 use Rattle.llb_model.proofs.Lists.{inside}
 use Rattle.llb_board.specs.Seen.{BoardValue, Replays, replies_in}
-use Rattle.llb_stepper.specs.declared.stop.Stop.{Stop}
 use Rattle.llb_stepper.specs.Records.{ReplaysOnAStepper}
-use Rattle.llb_stepper.specs.Stepping.{Stepping, IsStop, EndsAt, answered, at_first, meets_at, meets_by, meets_from, run_on, timeline}
+use Rattle.llb_stepper.specs.Stepping.{EndsAt, answered, at_first, meets_at, meets_by, meets_from, run_on, timeline}
 use Rattle.llb_stepper.proofs.Lines.{is_the_run}
 use Rattle.llb_stepper.proofs.Replayed.{replayed, whole}
 
