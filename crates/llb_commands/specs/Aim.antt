@@ -11,7 +11,8 @@ use Rattle.llb_model.specs.Run.{run}
 use Rattle.llb_board.specs.Seen.{BoardValue, Replays}
 use Rattle.llb_board.specs.Laws.{SettledArePlain}
 use Rattle.llb_board.specs.Headline.{LockedOnce}
-use Rattle.llb_stepper.specs.Records.{RecordIsTheRun}
+use Rattle.llb_stepper.specs.Replies.{RepliesAreRecorded}
+use Rattle.llb_stepper.specs.Records.{RecordIsTheRun, ReplaysOnAStepper}
 use Rattle.llb_stepper.specs.Stepping.{Stepping, PastIsTheRecords, IsReplayed}
 use Rattle.llb_session.specs.Told.{GoPrintsTheRun}
 use Rattle.llb_commands.specs.Assembly.{IsAssembled}
@@ -39,8 +40,10 @@ pub record Aim (text definition : List ℕ) (entries : List (List ℕ)) (graph :
   pub some_workers : 0 < length board.state.workers
   pub few_workers : length board.state.workers ≤ 64
   -- after every interleaving of atomic steps the machine's state and replies are the written table's on the recorded events: the record is a run of the table
-  -- from the opening state to this one, with a reply for each event; that a call returned this reply is a clause of the call
+  -- from the opening state to this one, with a reply for each event; what a call returns by its own clause `gives` is the last of the replies of the record
+  -- after it
   pub replays : Replays board
+  pub replies : RepliesAreRecorded board
   -- no two executions hold one locked cache at once
   pub locked_once : AfterAll graph LockedOnce
   -- every settled vertex with no cache mount at or before it has the graph's plain outcome
@@ -53,5 +56,7 @@ pub record Aim (text definition : List ℕ) (entries : List (List ℕ)) (graph :
   pub stepper_past : PastIsTheRecords stepper
   pub stepper_lines : RecordIsTheRun stepper
   pub session_lines : GoPrintsTheRun stepper
-  -- and the machine's record, replayed, leads to the machine's board
-  pub stepper_replays : IsReplayed board
+  -- and each event of the machine's record is granted again on the machine's board as it was opened: a stepper without breakpoints over that board that
+  -- replays the record is then on the machine's board, and its lines are the events and replies of the machine's run
+  pub record_replays : IsReplayed board
+  pub stepper_replays : ReplaysOnAStepper board

@@ -12,7 +12,9 @@ use llb_board::Board;
 use llb_loader::{Graph, Locals, load, one_answer_in};
 use llb_ops::{Entries, definition_is_read_again};
 use llb_session::laws::go_prints_the_run;
-use llb_stepper::{Stepper, past_is_the_records, record_is_the_run, replay_is_the_run};
+use llb_stepper::{
+    Stepper, past_is_the_records, record_is_the_run, replay_is_the_run, replies_are_recorded,
+};
 use llb_wire::Bytes;
 use std::alloc::Global;
 
@@ -49,6 +51,7 @@ pub fn aim(
     definition_is_read_again(entries);
     board.replays();
     board.has_workers();
+    replies_are_recorded(board);
     let stepped = stepper.board();
     stepped.replays();
     past_is_the_records(stepper);

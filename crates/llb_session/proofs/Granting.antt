@@ -13,27 +13,28 @@ use Rattle.llb_session.specs.declared.request.Request.{Request}
 use Rattle.llb_session.specs.declared.request.Request.TheVariants as ask
 use Rattle.llb_session.specs.Request.{request_in}
 use Rattle.llb_session.proofs.Streams.{between}
-use Rattle.llb_session.specs.Answers.{IsPerformed, GrantsNext, AnswersAs, Answers, Quits, IsReplyWritten, Says}
+use Rattle.llb_session.specs.Answers.{IsPerformed, GrantsNext, AnswersAs, Answers, MayFail, Quits, IsReplyWritten, Says}
 
 -- `next` prints what the chosen event prints, which is refused only for want of memory
 pub chosen_comes : (s t : Stepping) (e : own.Event) (r : Result (Vec ℕ Global) StepperFault) → ChosenIsDone s
     → Some e ≡ chosen s.board.build s.board.state
     → IsPerformed (ask.Event e) s t r → IsPerformed ask.Next s t r
 chosen_comes s t e (Ok text) law is comes = subst (λ o. GrantsNext o s text.items t) is comes
-chosen_comes s t e (Err fault) law is (same, refused) = (same, λ not. absurd (differ (law e fault (sym is) (refused not)) not))
+chosen_comes s t e (Err fault) law is (same, fails) = (same, (fails.0, λ not. absurd (differ (law e fault (sym is) (fails.1 not)) not)))
   where
     differ : stepper_memory fault ≡ true → stepper_memory fault ≡ false → ⊥
     differ a b = cc
 
 -- ---- no memory for the line of a refusal
 
-want_as : (s t : Stepping) (n : ℕ) (o : Option Request) → t ≡ s → AnswersAs o s n (codes "fault 174\n") t
-want_as s t n None same = inr (record { fault = Memory; want = refl; printed = refl; same = same })
-want_as s t n (Some r) same = inr (record { fault = Memory; refused = λ not. absurd cc; printed = refl; same = same })
+want_as : (s t : Stepping) (n : ℕ) (o : Option Request) → MayFail o → t ≡ s → AnswersAs o s n (codes "fault 174\n") t
+want_as s t n None may same = record { printed = inr refl; same = same }
+want_as s t n (Some r) may same =
+    inr (record { fault = Memory; fails = (λ is. may, λ not. absurd cc); printed = refl; same = same })
 
--- it is printed as `fault 174`, whatever the line asks for
-pub wants : (s t : Stepping) (n : ℕ) (line : List ℕ) → ¬ Quits line → t ≡ s → Answers s n line (codes "fault 174\n") t
-wants s t n line goes_on same = record { goes_on = goes_on; answers = want_as s t n (request_in line) same }
+-- it is printed as `fault 174`, whatever the line asks for that may be refused
+pub wants : (s t : Stepping) (n : ℕ) (line : List ℕ) → ¬ Quits line → MayFail (request_in line) → t ≡ s → Answers s n line (codes "fault 174\n") t
+wants s t n line goes_on may same = record { goes_on = goes_on; answers = want_as s t n (request_in line) may same }
 
 -- what is put is what is said
 pub says : (s t : Stepping) (n : ℕ) (line text : List ℕ) (out out' : Option (List ℕ)) (r : Result Bool Failed) → Answers s n line text t

@@ -7,7 +7,7 @@ use Rattle.llb_stepper.specs.Records.{record_at, record_text}
 use Rattle.llb_stepper.specs.Stepping.{Stepping, timeline}
 use Rattle.llb_stepper.proofs.Lines.{reached, ran_on, is_the_run}
 use Rattle.llb_session.specs.Texts.{with_line_end}
-use Rattle.llb_session.specs.Told.{GoPrintsTheRun}
+use Rattle.llb_session.specs.Told.{GoPrintsTheRun, LinesOfTheRun}
 
 pub go_prints : (s : Stepping) → Replays s.board → GoPrintsTheRun s
 go_prints s here text t granted =
@@ -20,11 +20,12 @@ go_prints s here text t granted =
     let few : length es ≤ n = omega (arith, length-take n granted.goes.events) in
     let back = ap length stop.past in
     let dropped = length-drop n (timeline t) in
-    record {
+    let lines : LinesOfTheRun s t = record {
       replies = ran.0;
       runs = ran.1;
       each = λ i e r low at there.
           let told : record_at t i ≡ Some (e, r) =
           (is_the_run t stop.records).complete i e r t.board.state ran.0 ran.1 (omega (arith, low)) (omega (arith, low, added, few, back, dropped)) at there in
           ap (λ o. with_line_end (option_map (record_text t.board.build.graph.vertices i) o)) told;
-    }
+    } in
+    record { lines = lines; at_break = granted.stop.at_break; printed = granted.lines }

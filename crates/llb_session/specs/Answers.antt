@@ -1,6 +1,6 @@
 -- The reply to each line of a session, and the stepper after it.
 use Rattle.std.specs.Prelude.{◌≡◌, ◌⊎◌, ◌-◌, ◌++◌, ◌∷◌, ℕ, Bool, true, false, if◌then◌else◌, List, [], length, codes, Option, Some, None, Result, Ok, Err, Vec}
-use Rattle.std.specs.Prelude.{option_map, slice_get}
+use Rattle.std.specs.Prelude.{option_map, slice_get, ⊤}
 use Rattle.std.specs.Global.{Global}
 use Rattle.llb_wire.specs.declared.sink.Failed.{Failed}
 use Rattle.llb_model.specs.State.{Execution, ending_at, runs}
@@ -10,7 +10,7 @@ use Rattle.llb_events.specs.declared.event.Event.{Event}
 use Rattle.llb_state.specs.Looks.{worked_on, cached_at}
 use Rattle.llb_stepper.specs.declared.stop.Stop.{Stop}
 use Rattle.llb_stepper.specs.declared.fault.StepperFault.{StepperFault}
-use Rattle.llb_stepper.specs.declared.fault.StepperFault.TheVariants.{NothingBefore, BadCommand}
+use Rattle.llb_stepper.specs.declared.fault.StepperFault.TheVariants.{NothingBefore, BadCommand, Memory}
 use Rattle.llb_stepper.specs.Rules.{done_of, stepper_memory}
 use Rattle.llb_stepper.specs.Stepping.{Stepping, GoesBack, IsGo}
 use Rattle.llb_session.specs.declared.request.Request.{Request}
@@ -75,31 +75,55 @@ Refuses ask.Caches s fault = ⊥
 Refuses (ask.Cache k i) s fault = ⊥
 Refuses ask.Quit s fault = ⊥
 
--- the result of a request: it is granted, or all is as before, and memory was refused or a cause applies
+-- the fault is one by which the request is refused memory: `clear` and `quit` take none, an event, `next` and `go` take the board's and the stepper's, and
+-- the others the stepper's alone
+abbrev pub Wants : Request → StepperFault → Type 0
+Wants ask.Clear fault = ⊥
+Wants ask.Quit fault = ⊥
+Wants (ask.Event e) fault = stepper_memory fault ≡ true
+Wants ask.Next fault = stepper_memory fault ≡ true
+Wants ask.Go fault = stepper_memory fault ≡ true
+Wants (ask.Break b) fault = fault ≡ Memory
+Wants ask.Back fault = fault ≡ Memory
+Wants ask.Status fault = fault ≡ Memory
+Wants (ask.Tree v i) fault = fault ≡ Memory
+Wants (ask.Work w) fault = fault ≡ Memory
+Wants (ask.WorkTree w i) fault = fault ≡ Memory
+Wants ask.Caches fault = fault ≡ Memory
+Wants (ask.Cache k i) fault = fault ≡ Memory
+
+-- a request fails with the fault: memory was refused to it, or a cause applies
+abbrev pub FailsWith : Request → Stepping → StepperFault → Type 0
+FailsWith r s fault = (stepper_memory fault ≡ true → Wants r fault) × (stepper_memory fault ≡ false → Refuses r s fault)
+
+-- the result of a request: it is granted, or it fails and all is as before
 abbrev pub IsPerformed : Request → Stepping → Stepping → Result (Vec ℕ Global) StepperFault → Type 0
 IsPerformed r s t (Ok text) = Grants r s text.items t
-IsPerformed r s t (Err fault) = (t ≡ s) × (stepper_memory fault ≡ false → Refuses r s fault)
+IsPerformed r s t (Err fault) = (t ≡ s) × FailsWith r s fault
 
 -- ---- a line
 
 -- a refusal prints a line, and changes nothing
 pub record PrintsRefusal (r : Request) (s : Stepping) (text : List ℕ) (t : Stepping) : Type 0 where
   pub fault : StepperFault
-  pub refused : stepper_memory fault ≡ false → Refuses r s fault
+  pub fails : FailsWith r s fault
   pub printed : text ≡ fault_line fault
   pub same : t ≡ s
 
--- memory was refused, and nothing is changed
-pub record PrintsWant (s : Stepping) (text : List ℕ) (t : Stepping) : Type 0 where
-  pub fault : StepperFault
-  pub want : stepper_memory fault ≡ true
-  pub printed : text ≡ fault_line fault
+-- a line that asks for nothing prints its number, or that memory was refused for that, and changes nothing
+pub record PrintsNumber (s : Stepping) (n : ℕ) (text : List ℕ) (t : Stepping) : Type 0 where
+  pub printed : (text ≡ fault_line (BadCommand n)) ⊎ (text ≡ fault_line Memory)
   pub same : t ≡ s
 
--- the reply to line n, by what it asks for, if anything; where memory was refused for the reply itself, that is the reply
+-- the reply to line n, by what it asks for, if anything; where memory was refused for the line of a refusal, the reply says that
 abbrev pub AnswersAs : Option Request → Stepping → ℕ → List ℕ → Stepping → Type 0
-AnswersAs None s n text t = ((t ≡ s) × (text ≡ fault_line (BadCommand n))) ⊎ PrintsWant s text t
+AnswersAs None s n text t = PrintsNumber s n text t
 AnswersAs (Some r) s n text t = Grants r s text t ⊎ PrintsRefusal r s text t
+
+-- what a line asks for may be refused: it is neither `clear` nor `quit`
+abbrev pub MayFail : Option Request → Type 0
+MayFail None = ⊤
+MayFail (Some r) = Wants r Memory
 
 -- the line ends the session
 abbrev pub Quits : List ℕ → Type 0

@@ -1,10 +1,10 @@
 //! A line of a session: what it asks for is done on the stepper, and the reply is a text.
 
-ghost use Rattle.std.specs.Prelude.{◌≡◌, ◌++◌, ◌-◌, length, true, IfOk, IfErr, OnErr, string_bytes};
+ghost use Rattle.std.specs.Prelude.{◌≡◌, ◌++◌, ◌-◌, length, IfOk, IfErr, OnErr, string_bytes};
 ghost use Rattle.llb_session.specs.declared.request.Request.TheVariants as ask;
-ghost use Rattle.llb_session.specs.Answers.{IsPerformed, AnswersAs, IsReplyWritten, Says, stop_line};
+ghost use Rattle.llb_session.specs.Answers.{IsPerformed, Wants, AnswersAs, MayFail, IsReplyWritten, Says, stop_line};
 ghost use Rattle.llb_session.specs.Texts.{record_lines};
-ghost use Rattle.llb_stepper.specs.Rules.{stepper_memory};
+ghost use Rattle.llb_stepper.specs.declared.fault.StepperFault.TheVariants as refusal;
 
 use crate::request::{Request, request_in};
 use crate::text::{
@@ -21,14 +21,6 @@ fn break_at(alloc: Global, stepper: &mut Stepper, stop: Break) -> Result<Vec<u8>
     ensures { IsPerformed (ask.Break stop) stepper.old stepper.new result }
 {
     stepper.break_at(stop)?;
-    Ok(Vec::new(alloc))
-}
-
-// Removes all breakpoints.
-fn clear(alloc: Global, stepper: &mut Stepper) -> Result<Vec<u8>, StepperFault>
-    ensures { IsPerformed ask.Clear stepper.old stepper.new result }
-{
-    stepper.clear();
     Ok(Vec::new(alloc))
 }
 
@@ -74,7 +66,7 @@ fn go_text(
     at_break: bool,
 ) -> Result<String, StepperFault>
     ensures lines { IfOk result (λ s. string_bytes s ≡ record_lines stepper.now from (length stepper.now.board.events - from) ++ stop_line at_break) }
-    ensures memory { IfErr result (λ e. stepper_memory e ≡ true) }
+    ensures memory { IfErr result (λ e. e ≡ refusal.Memory) }
 {
     let to = stepper.board().events().len() as u64;
     let mut text = record_text(alloc, stepper, from, to)?;
@@ -149,13 +141,17 @@ fn cache(alloc: Global, stepper: &mut Stepper, k: u32, i: u32) -> Result<Vec<u8>
     tree_text(alloc, stepper.board().cached(k, i))
 }
 
-// What is asked for, and what it prints.
+// What is asked for, and what it prints; to remove the breakpoints and to end the session never fails.
 fn perform(alloc: Global, stepper: &mut Stepper, request: Request) -> Result<Vec<u8>, StepperFault>
-    ensures { IsPerformed request stepper.old stepper.new result }
+    ensures performed { IsPerformed request stepper.old stepper.new result }
+    ensures fails { IfErr result (λ _. Wants request refusal.Memory) }
 {
     match request {
         Request::Break(stop) => break_at(alloc, stepper, stop),
-        Request::Clear => clear(alloc, stepper),
+        Request::Clear => {
+            stepper.clear();
+            Ok(Vec::new(alloc))
+        }
         Request::Event(event) => do_event(alloc, stepper, event),
         Request::Next => do_next(alloc, stepper),
         Request::Go => go(alloc, stepper),
@@ -170,7 +166,8 @@ fn perform(alloc: Global, stepper: &mut Stepper, request: Request) -> Result<Vec
     }
 }
 
-// What a line prints: 173 and its number where it asks for nothing. Where memory for the line of a refusal is refused, nothing is changed.
+// What a line prints: 173 and its number where it asks for nothing. Where memory for the line of a refusal is refused, nothing is changed; neither
+// `clear` nor `quit` is refused.
 fn respond(
     alloc: Global,
     stepper: &mut Stepper,
@@ -178,6 +175,7 @@ fn respond(
     request: Option<Request>,
 ) -> Result<Vec<u8>, AllocError>
     ensures ok { IfOk result (λ text. AnswersAs request stepper.old number text.items stepper.new) }
+    ensures fails { IfErr result (λ _. MayFail request) }
     ensures err { OnErr result (stepper.new ≡ stepper.old) }
 {
     let fault = match request {

@@ -3,8 +3,8 @@
 //!
 //! Types: `Request` (what a line asks for), `SessionFault` (181, 182, 184, 185).
 //! Promise: `request_in` returns the request that a line spells, or none. `answer` does it and writes its reply; where it is refused, nothing
-//! is changed and the refusal is written. `converse` replies to the lines of a reader in their order, up to one that ends the session or a
-//! device's fault.
+//! is changed and the refusal is written; only an event, `next` and `go` fail with 171 141, and `clear` and `quit` never fail. `converse`
+//! replies to the lines of a reader in their order, up to one that ends the session or a device's fault.
 //!
 //! A caller:
 //!

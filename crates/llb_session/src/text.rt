@@ -1,10 +1,10 @@
 //! The texts that a session prints: how vertices look, lines of the record, trees, what workers work on, caches, and refusals.
 
-ghost use Rattle.std.specs.Prelude.{◌≡◌, ◌++◌, ◌-◌, ◌+◌, true, codes, length, option_map, IfOk, IfErr, string_bytes};
+ghost use Rattle.std.specs.Prelude.{◌≡◌, ◌++◌, ◌-◌, ◌+◌, codes, length, option_map, IfOk, IfErr, string_bytes};
 ghost use Rattle.llb_session.specs.Texts.{status_line, status_lines, record_line, record_lines, tree_lines, fault_line, back_line};
 ghost use Rattle.llb_session.specs.Texts.{role_line, part_lines, work_lines, seed_text, mode_word, key_line, key_lines};
 ghost use Rattle.llb_execution.specs.Looks.{role_in, roles_of};
-ghost use Rattle.llb_stepper.specs.Rules.{stepper_memory};
+ghost use Rattle.llb_stepper.specs.declared.fault.StepperFault.TheVariants as refusal;
 
 use llb_board::{Board, Status, Workspace};
 use llb_cache::{Key, Mode, Seed};
@@ -18,7 +18,7 @@ use std::alloc::{AllocError, Global};
 // The line of a vertex.
 fn push_status(text: &mut String, v: u32, status: Status) -> Result<(), StepperFault>
     ensures line { IfOk result (λ _. string_bytes text.new ≡ string_bytes text.old ++ status_line v status) }
-    ensures memory { IfErr result (λ e. stepper_memory e ≡ true) }
+    ensures memory { IfErr result (λ e. e ≡ refusal.Memory) }
 {
     match status {
         Status::Waiting => writeln!(text, "{v} waiting")?,
@@ -35,7 +35,7 @@ fn push_status(text: &mut String, v: u32, status: Status) -> Result<(), StepperF
 #[tactic(auto, unfolding(crate::specs::Texts::status_lines))]
 pub(crate) fn status_text(alloc: Global, board: &Board) -> Result<String, StepperFault>
     ensures lines { IfOk result (λ s. string_bytes s ≡ status_lines board.now (length board.now.build.graph.vertices)) }
-    ensures memory { IfErr result (λ e. stepper_memory e ≡ true) }
+    ensures memory { IfErr result (λ e. e ≡ refusal.Memory) }
 {
     board.is_graph();
     let mut text = String::new(alloc);
@@ -50,7 +50,7 @@ pub(crate) fn status_text(alloc: Global, board: &Board) -> Result<String, Steppe
 // The line of an event of the record, where it has one.
 fn push_record(text: &mut String, stepper: &Stepper, number: u64) -> Result<(), StepperFault>
     ensures line { IfOk result (λ _. string_bytes text.new ≡ string_bytes text.old ++ record_line stepper.now number) }
-    ensures memory { IfErr result (λ e. stepper_memory e ≡ true) }
+    ensures memory { IfErr result (λ e. e ≡ refusal.Memory) }
 {
     if let Some(line) = stepper.record_line(number)? {
         writeln!(text, "{line}")?;
@@ -65,7 +65,7 @@ pub(crate) fn line_text(
     number: u64,
 ) -> Result<String, StepperFault>
     ensures line { IfOk result (λ s. string_bytes s ≡ record_line stepper.now number) }
-    ensures memory { IfErr result (λ e. stepper_memory e ≡ true) }
+    ensures memory { IfErr result (λ e. e ≡ refusal.Memory) }
 {
     let mut text = String::new(alloc);
     push_record(&mut text, stepper, number)?;
@@ -81,7 +81,7 @@ pub(crate) fn record_text(
     to: u64,
 ) -> Result<String, StepperFault>
     ensures lines { IfOk result (λ s. string_bytes s ≡ record_lines stepper.now from (to - from)) }
-    ensures memory { IfErr result (λ e. stepper_memory e ≡ true) }
+    ensures memory { IfErr result (λ e. e ≡ refusal.Memory) }
 {
     let mut text = String::new(alloc);
     for number in from..to {
@@ -93,7 +93,7 @@ pub(crate) fn record_text(
 /// Returns the text of a tree, and the line for no tree.
 pub(crate) fn tree_text(alloc: Global, tree: Option<&Tree>) -> Result<Vec<u8>, StepperFault>
     ensures lines { IfOk result (λ v. v.items ≡ tree_lines (option_map (λ t. t.now) tree.entry)) }
-    ensures memory { IfErr result (λ e. stepper_memory e ≡ true) }
+    ensures memory { IfErr result (λ e. e ≡ refusal.Memory) }
 {
     let mut text = Vec::new(alloc);
     match tree {
@@ -110,7 +110,7 @@ pub(crate) fn tree_text(alloc: Global, tree: Option<&Tree>) -> Result<Vec<u8>, S
 // The line of tree i of a worker.
 fn push_part(text: &mut String, i: usize, part: Part<'_>) -> Result<(), StepperFault>
     ensures line { IfOk result (λ _. string_bytes text.new ≡ string_bytes text.old ++ role_line i (role_in part.entry)) }
-    ensures memory { IfErr result (λ e. stepper_memory e ≡ true) }
+    ensures memory { IfErr result (λ e. e ≡ refusal.Memory) }
 {
     match part {
         Part::Local => writeln!(text, "{i} local")?,
@@ -129,7 +129,7 @@ fn push_part(text: &mut String, i: usize, part: Part<'_>) -> Result<(), StepperF
 // Returns the line for nothing.
 fn none_text(alloc: Global) -> Result<String, StepperFault>
     ensures lines { IfOk result (λ s. string_bytes s ≡ codes "none\n") }
-    ensures memory { IfErr result (λ e. stepper_memory e ≡ true) }
+    ensures memory { IfErr result (λ e. e ≡ refusal.Memory) }
 {
     let mut text = String::new(alloc);
     text.push_str("none\n")?;
@@ -140,7 +140,7 @@ fn none_text(alloc: Global) -> Result<String, StepperFault>
 #[tactic(auto, unfolding(crate::specs::Texts::role_lines))]
 fn parts_text(alloc: Global, workspace: &Workspace) -> Result<String, StepperFault>
     ensures lines { IfOk result (λ s. string_bytes s ≡ part_lines (roles_of workspace.now)) }
-    ensures memory { IfErr result (λ e. stepper_memory e ≡ true) }
+    ensures memory { IfErr result (λ e. e ≡ refusal.Memory) }
 {
     if workspace.parts() == 0 {
         return none_text(alloc);
@@ -160,7 +160,7 @@ pub(crate) fn work_text(
     workspace: Option<&Workspace>,
 ) -> Result<String, StepperFault>
     ensures lines { IfOk result (λ s. string_bytes s ≡ work_lines (option_map (λ v. v.now) workspace.entry)) }
-    ensures memory { IfErr result (λ e. stepper_memory e ≡ true) }
+    ensures memory { IfErr result (λ e. e ≡ refusal.Memory) }
 {
     match workspace {
         Some(workspace) => parts_text(alloc, workspace),
@@ -181,7 +181,7 @@ fn mode_word(mode: Mode) -> &'static str
 // The text of a seed.
 fn push_seed(text: &mut String, seed: &Option<Seed>) -> Result<(), StepperFault>
     ensures line { IfOk result (λ _. string_bytes text.new ≡ string_bytes text.old ++ seed_text seed.now) }
-    ensures memory { IfErr result (λ e. stepper_memory e ≡ true) }
+    ensures memory { IfErr result (λ e. e ≡ refusal.Memory) }
 {
     match seed {
         Some(seed) => {
@@ -197,7 +197,7 @@ fn push_seed(text: &mut String, seed: &Option<Seed>) -> Result<(), StepperFault>
 // The line of key k, which has n instances.
 fn push_key(text: &mut String, k: usize, key: &Key, n: u32) -> Result<(), StepperFault>
     ensures line { IfOk result (λ _. string_bytes text.new ≡ string_bytes text.old ++ key_line k key.now n) }
-    ensures memory { IfErr result (λ e. stepper_memory e ≡ true) }
+    ensures memory { IfErr result (λ e. e ≡ refusal.Memory) }
 {
     let mode = mode_word(key.mode);
     write!(text, "{k} {mode} {n} ")?;
@@ -210,7 +210,7 @@ fn push_key(text: &mut String, k: usize, key: &Key, n: u32) -> Result<(), Steppe
 #[tactic(auto, unfolding(crate::specs::Texts::key_lines))]
 pub(crate) fn caches_text(alloc: Global, board: &Board) -> Result<String, StepperFault>
     ensures lines { IfOk result (λ s. string_bytes s ≡ key_lines board.now.rows (length board.now.rows)) }
-    ensures memory { IfErr result (λ e. stepper_memory e ≡ true) }
+    ensures memory { IfErr result (λ e. e ≡ refusal.Memory) }
 {
     let caches = board.caches();
     let mut text = String::new(alloc);

@@ -3,5 +3,7 @@ pub mod Grown
 pub mod Recorded
 pub mod Lines
 pub mod Replayed
+pub mod Again
+pub mod Replied
 pub mod Stops
 pub mod Walked

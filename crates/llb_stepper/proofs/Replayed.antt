@@ -74,7 +74,8 @@ taken xs e zero le = refl
 taken [] e (suc n) le = absurd (omega (arith, le))
 taken (x ∷ xs) e (suc n) le = ap (λ l. x ∷ l) (taken xs e n (omega (arith, le)))
 
-whole : (xs : List Event) → take (length xs) xs ≡ xs
+-- all of a list's events are taken
+pub whole : (xs : List Event) → take (length xs) xs ≡ xs
 whole [] = refl
 whole (x ∷ xs) = ap (λ l. x ∷ l) (whole xs)
 

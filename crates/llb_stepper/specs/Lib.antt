@@ -1,8 +1,9 @@
--- Read first Stepping (what a stepper is, what events and stops are), then Records (the lines of a record), Rules (what calls return) and
--- Faults (the texts of refusals); Kept is what the type keeps, Told what the board's own types show of
+-- Read first Stepping (what a stepper is, what events and stops are), then Records (the lines of a record), Replies (what calls on a board return, and the
+-- replies of its record), Rules (what calls return) and Faults (the texts of refusals); Kept is what the type keeps, Told what the board's own types show of
 -- replies, and BreakpointSets what is kept of breakpoints.
 pub mod Stepping
 pub mod Records
+pub mod Replies
 pub mod Rules
 pub mod Faults
 pub mod Kept

@@ -1,5 +1,5 @@
 -- The lines of a record: an event by its number from 1, and its reply.
-use Rattle.std.specs.Prelude.{◌≡◌, ◌≤◌, ◌<◌, ◌+◌, ℕ, ◌-◌, ◌&&◌, nat_le, List, ◌++◌, length, codes, Option, Some, None, option_map, slice_get, if◌then◌else◌}
+use Rattle.std.specs.Prelude.{◌≡◌, ◌≤◌, ◌<◌, ◌+◌, ℕ, ◌-◌, ◌&&◌, nat_le, List, [], ◌++◌, length, codes, Option, Some, None, option_map, slice_get, if◌then◌else◌}
 use Rattle.std.specs.Fmt.{decimal}
 use Rattle.llb_ops.specs.Kinds.{kind_text}
 use Rattle.llb_loader.specs.declared.graph.Vertex.{Vertex}
@@ -14,8 +14,9 @@ use Rattle.llb_model.specs.Run.{run}
 use Rattle.llb_events.specs.declared.event.Event.{Event}
 use Rattle.llb_events.specs.declared.event.Event.TheVariants.{Claim, Step, Settle, Cancel}
 use Rattle.llb_model.specs.Table.{Reply, Claimed, HasStepped, HasSettled, HasCancelled}
-use Rattle.llb_board.specs.Seen.{BoardValue}
-use Rattle.llb_stepper.specs.Stepping.{Stepping, answered}
+use Rattle.llb_board.specs.Seen.{BoardValue, replies_in}
+use Rattle.llb_stepper.specs.declared.stop.Stop.{Stop}
+use Rattle.llb_stepper.specs.Stepping.{Stepping, IsStop, answered, at_first}
 
 -- an event as it is printed
 abbrev pub event_text : Event → List ℕ
@@ -98,3 +99,12 @@ pub record RecordIsTheRun (s : Stepping) : Type 0 where
   pub complete : (i : ℕ) (e : Event) (r : Reply) (t : State) (replies : List Reply)
       → run s.board.build (opening s.board.build s.board.opening) s.board.events ≡ Some (t, replies) → 1 ≤ i → length s.board.events < i + length s.past
       → slice_get s.board.events (i - 1) ≡ Some e → slice_get replies (i - 1) ≡ Some r → record_at s i ≡ Some (e, r)
+
+-- Stepper t did the whole record of board b: it is on b, and its lines are the events of the record with their replies.
+pub record HasRun (b : BoardValue) (t : Stepping) : Type 0 where
+  pub leads : t.board ≡ b
+  pub lines : (i : ℕ) (e : Event) (r : Reply) → slice_get b.events i ≡ Some e → slice_get (replies_in b) i ≡ Some r → record_at t (i + 1) ≡ Some (e, r)
+
+-- Whoever did the events of board b, a stepper without breakpoints over b as it was opened that replays its record has run it.
+abbrev pub ReplaysOnAStepper : BoardValue → Type 0
+ReplaysOnAStepper b = (s t : Stepping) (p : Stop) → s.board ≡ at_first b → s.breaks ≡ [] → IsStop s b.events t p → HasRun b t

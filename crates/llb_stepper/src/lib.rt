@@ -4,7 +4,7 @@
 //! Types: `Stepper` (a board, what undoes each event that was done on it, and breakpoints), `Break`, `Stop`, `StepperFault` (171 to 174).
 //! Promise: `Stepper::back` (`ok`, `fewer`, `none`) restores exactly the board before the last event. `Stepper::go` (`goes`, `err`) and
 //! `Stepper::replay` (`stops`, `err`) stop at the first event that meets a breakpoint. Laws: `record_is_the_run`, `past_is_the_records`,
-//! `replay_is_the_run`.
+//! `replay_is_the_run`, `replies_are_recorded`.
 //!
 //! A caller:
 //!
@@ -23,6 +23,6 @@ mod stop;
 pub use fault::StepperFault;
 pub use stepper::{
     Stepper, chosen_is_done, past_is_the_records, record_is_the_run, replay_is_the_run,
-    there_and_back,
+    replies_are_recorded, there_and_back,
 };
 pub use stop::{Break, Stop};

@@ -5,7 +5,8 @@ ghost use Rattle.std.specs.Prelude.{OnOk, OnErr, Some, string_bytes};
 ghost use Rattle.llb_model.specs.Run.{chosen};
 ghost use Rattle.llb_stepper.specs.Rules.{GivesEvent, done_of, stepper_memory, IsRefusedAt, MeetsOn, ChosenIsDone, ThereAndBack};
 ghost use Rattle.llb_stepper.specs.Stepping.{GoesBack, IsStop, IsGo, IsReplayed, PastIsTheRecords, timeline, lesser};
-ghost use Rattle.llb_stepper.specs.Records.{record_at, record_text, RecordIsTheRun};
+ghost use Rattle.llb_stepper.specs.Records.{record_at, record_text, RecordIsTheRun, ReplaysOnAStepper};
+ghost use Rattle.llb_stepper.specs.Replies.{RepliesAreRecorded};
 ghost use Rattle.llb_stepper.specs.Told.{told_pair};
 ghost use Rattle.llb_stepper.specs.declared.fault.StepperFault.TheVariants as fault;
 
@@ -295,9 +296,19 @@ pub fn record_is_the_run(stepper: &Stepper)
     let _ = &stepper.board;
 }
 
-/// A law: the record of a board, whoever did its events, replayed on a board of the same opening, leads to the board.
+/// A law: the record of a board, whoever did its events, done again on the board as it was opened, leads to the board; and so a stepper without
+/// breakpoints over that opening board that replays the record is then on the board, with a line for each event of the record and its reply.
 pub fn replay_is_the_run(board: &Board)
-    ensures { IsReplayed board.now }
+    ensures leads { IsReplayed board.now }
+    ensures lines { ReplaysOnAStepper board.now }
+{
+    board.replays();
+}
+
+/// A law: what a call on a board returns that does an event is the reply that the record has for it, the last of the replies of the board after it.
+/// The calls are `claim`, `step`, `settle`, `cancel`, and `land`, whose steps have their replies before.
+pub fn replies_are_recorded(board: &Board)
+    ensures { RepliesAreRecorded board.now }
 {
     board.replays();
 }

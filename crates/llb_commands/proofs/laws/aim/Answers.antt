@@ -10,6 +10,7 @@ returns c accepted = record {
   some_workers = c.has_workers.ensures.some;
   few_workers = c.has_workers.ensures.few;
   replays = c.replays.ensures.run;
+  replies = c.replies_are_recorded.ensures;
   locked_once = always.locked_once c.args.graph.now;
   plain = always.plain c.args.graph.now c.is_graph.ensures;
   one_graph = loads_as_one c.args.text.now c.args.definition.now c.args.entries.now c.args.graph.now c.one_answer.ensures
@@ -18,5 +19,6 @@ returns c accepted = record {
   stepper_past = c.past_is_the_records.ensures;
   stepper_lines = c.record_is_the_run.ensures;
   session_lines = c.go_prints_the_run.ensures;
-  stepper_replays = c.replay_is_the_run.ensures;
+  record_replays = c.replay_is_the_run.ensures.leads;
+  stepper_replays = c.replay_is_the_run.ensures.lines;
 }

@@ -1,5 +1,5 @@
 use Rattle.std.proofs.Common.{codes, rules, subst, sym}
-use Rattle.llb_session.specs.Answers.{AnswersAs, Quits}
+use Rattle.llb_session.specs.Answers.{AnswersAs, MayFail, Quits}
 use Rattle.llb_session.proofs.Granting.{wants, says}
 use Rattle.llb_session.proofs.answering.answer.Goals as goal
 
@@ -17,6 +17,7 @@ returns-in-Ok g c =
 pub returns-in-Err : goal.returns-in-Err
 returns-in-Err g c =
     let goes_on : ¬ Quits c.args.line.now = search rules in
+    let may = subst MayFail c.request_in-request.ensures c.in-Err.ensures.fails in
     says c.args.stepper.now c.respond.new.stepper c.args.number c.args.line.now (codes "fault 174\n") (g.W.Write.contents c.args.out.now)
     (g.W.Write.contents c.write_reply-in-Err.new.out) c.write_reply-in-Err.result
-    (wants c.args.stepper.now c.respond.new.stepper c.args.number c.args.line.now goes_on c.in-Err.ensures.err) c.write_reply-in-Err.ensures
+    (wants c.args.stepper.now c.respond.new.stepper c.args.number c.args.line.now goes_on may c.in-Err.ensures.err) c.write_reply-in-Err.ensures

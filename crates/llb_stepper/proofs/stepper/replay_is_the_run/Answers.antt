@@ -1,5 +1,9 @@
+use Rattle.llb_stepper.proofs.Again.{has_run}
 use Rattle.llb_stepper.proofs.Replayed.{replayed}
 use Rattle.llb_stepper.proofs.stepper.replay_is_the_run.Goals as goal
 
-pub returns : goal.returns
-returns c = replayed c.args.board.now c.replays.ensures.run
+pub returns-clause-leads : goal.returns-clause-leads
+returns-clause-leads c = replayed c.args.board.now c.replays.ensures.run
+
+pub returns-clause-lines : goal.returns-clause-lines
+returns-clause-lines c = has_run c.args.board.now c.replays.ensures.run
