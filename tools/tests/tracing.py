@@ -116,7 +116,7 @@ class Traces(Folder):
         done = run("trace-of-record", "--definition", place, text=more)
         self.check_run(done, 2, b"", b"the definition has no vertex 2\n")
         done = run("trace-of-record", "--definition", self.place(b"none"), text=text)
-        self.assertEqual(done.returncode, 3)
+        self.assertEqual(done.returncode, 2)
         done = run("trace-of-record", "--definition", self.file(b"bad", b"\x0b"), text=text)
         self.assertEqual(done.returncode, 2)
 
