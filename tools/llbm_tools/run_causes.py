@@ -6,16 +6,14 @@ import re
 from collections.abc import Iterator
 from typing import NamedTuple
 
-from llbm_tools import op_rules, trees
+from llbm_tools import trees
 from llbm_tools.common import MOST_BYTES, printable, shortened
-from llbm_tools.ops import FileAction
 from llbm_tools.program_words import Words
-from llbm_tools.source_names import missing_notes, ops_of, word_notes
+from llbm_tools.source_names import missing_notes, word_notes
 from llbm_tools.streams import Refused
 
 MOST_CHARACTERS = 80
 FAULT = re.compile(r"fault ([0-9]+)(?: ([0-9]+)\b)?")
-BAD_NAME = re.compile(r"failed ([0-9]+) action ([0-9]+) fault 26")
 TREES, MISSING, UNREAD, WORDS, TOO_LONG, LINES = (31, 32, 33), 121, 181, 183, 185, (161, 162)
 
 
@@ -88,27 +86,8 @@ def of_words(run: Run) -> list[str]:
     return word_notes(data_of(run), run.words.names()) if run.words.sources else []
 
 
-def paths_of(action: FileAction) -> list[str]:
-    """Returns the paths of an action."""
-    if action.copy:
-        return [action.copy.src, action.copy.dest]
-    member = action.mkfile or action.mkdir or action.rm
-    return [member.path] if member else []
-
-
-def of_failure(run: Run, vertex: int, number: int) -> Iterator[str]:
-    """Yields the first path of an action that is not a path."""
-    ops = ops_of(data_of(run))[vertex : vertex + 1]
-    for action in [action for op in ops for action in op_rules.actions_of(op)][number : number + 1]:
-        bad = next((path for path in paths_of(action) if op_rules.path_of(path) is None), None)
-        if bad is not None:
-            yield f"not a path: {bad!r}"
-
-
 def causes_of(run: Run, line: str) -> list[str]:
     """Returns what is known of a line besides its explanation, as lines for a person."""
-    if failure := BAD_NAME.fullmatch(line):
-        return list(of_failure(run, int(failure[1]), int(failure[2])))
     fault = FAULT.match(line)
     number = int(fault[1]) if fault else 0
     if number == WORDS:

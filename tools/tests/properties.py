@@ -30,7 +30,7 @@ def system_has_hypothesis():
 
 
 class Skipped(unittest.TestCase):
-    """What is done where this Python has no hypothesis: that of the system tries the properties, or they are skipped."""
+    """Where this Python has no hypothesis, that of the system tries the properties, or they are skipped."""
 
     def test_properties_are_tried(self):
         if HAS_HYPOTHESIS:

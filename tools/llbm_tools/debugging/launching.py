@@ -16,7 +16,7 @@ import tempfile
 from collections.abc import Callable
 from typing import NamedTuple
 
-from llbm_tools import definition, faults, names
+from llbm_tools import definition, faults, names, source_names
 from llbm_tools.common import MOST_BYTES, os_error_text, program_named
 from llbm_tools.debugging import places
 from llbm_tools.debugging.arguments import Object, Refused, argument, of_kind
@@ -33,6 +33,7 @@ EDITOR_ARGUMENTS = (
     "debugServer", "serverReadyAction", "suppressMultipleSessionWarning", "linux", "osx", "windows", "restart",
 )
 
+UNNAMED = "fault 121 "
 MOST_WORKERS = 64
 USUAL_WORKERS = 2
 
@@ -222,6 +223,11 @@ def start_session(command: list[str], workers: int, vertices: int, entries: faul
     return session
 
 
+def missing_sources(cause: str, data: bytes, given: list[str]) -> list[str]:
+    """Returns a line with all local sources that have no tree, if a run did not begin for want of one."""
+    return source_names.missing_notes(data, given) if cause.startswith(UNNAMED) else []
+
+
 def start(arguments: Object, folder: str, say: Say) -> Launched:
     """Starts what a launch request asks for, with temporary files in a folder."""
     program, workers, given = program_of(arguments), workers_of(arguments), files_of(arguments)
@@ -232,10 +238,16 @@ def start(arguments: Object, folder: str, say: Say) -> Launched:
     named = names.names_of(data)
     graph = places.graph_of(shown, text_of(program, data, text, entries), entries, [one.text for one in named])
     words = source_words(arguments, folder, say)
+    given_names = list(argument(arguments, "sources", dict, {}))
+    for note in source_names.word_notes(data, given_names):
+        say(note)
     file = os.path.join(folder, "definition")
     pathlib.Path(file).write_bytes(data)
     command = [program, "step", file, "--workers", str(workers), *words]
-    session = start_session(command, workers, len(graph.vertices), named_entries)
+    try:
+        session = start_session(command, workers, len(graph.vertices), named_entries)
+    except Refused as fault:
+        raise Refused("; ".join([str(fault), *missing_sources(str(fault), data, given_names)])) from fault
     path, place = argument(arguments, "definition", str, ""), argument(arguments, "text", str, "")
     origins = origins_of(data, given, os.path.dirname(os.path.abspath(path or place)))
     name, text_file = f"{os.path.basename(path)}.text", os.path.abspath(place) if place else None
