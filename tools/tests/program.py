@@ -129,6 +129,7 @@ class WithProgram(Folder):
             self.assertEqual(done.returncode, 2)
             explained = run("explain", "--definition", self.place(b"definition"), *line.split(" "))
             meaning = [f"  {text}" for text in explained.stdout.decode().splitlines()]
+            meaning += ["  without a tree: src (vertex 0)"] * (line == "fault 121 src")
             self.assertEqual(done.stderr.decode().splitlines()[1:], [line, *meaning, "nothing is written"])
 
     def source_name(self, text):
