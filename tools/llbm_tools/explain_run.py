@@ -19,7 +19,7 @@ import tempfile
 from collections.abc import Iterator
 
 from llbm_tools import common, piped
-from llbm_tools.debugging import arguments, launching
+from llbm_tools.debugging import launching
 from llbm_tools.debugging.changes import Change, Compared
 from llbm_tools.debugging.happened import Happened, Watch
 from llbm_tools.debugging.session import Event, Refusal, Session, SessionFailed
@@ -137,7 +137,7 @@ def explain_or_refuse(options: argparse.Namespace) -> int:
     """Runs the definition, prints the lines or why the program ended by itself, and returns the exit status."""
     try:
         return explain(options)
-    except (arguments.Refused, Refusal) as fault:
+    except Refusal as fault:
         raise Refused(str(fault)) from fault
     except SessionFailed as fault:
         for line in [str(fault), *fault.words]:

@@ -8,7 +8,7 @@ import functools
 from collections.abc import Callable
 
 from llbm_tools.debugging import console, launching
-from llbm_tools.debugging.arguments import Object, Refused, argument
+from llbm_tools.debugging.arguments import Object, argument
 from llbm_tools.debugging.breaking import Breaking
 from llbm_tools.debugging.capabilities import CAPABILITIES, FAILED
 from llbm_tools.debugging.holding import Held
@@ -17,6 +17,7 @@ from llbm_tools.debugging.moving import Ended, Motion, Mover, Stop
 from llbm_tools.debugging.session import Event, Refusal, SessionFailed
 from llbm_tools.debugging.views import Views
 from llbm_tools.debugging.wire import Writer
+from llbm_tools.streams import Refused
 
 NEW, OPEN, LAUNCHED, STOPPED, RUNNING, OVER = "new", "open", "launched", "stopped", "running", "over"
 WHY_NOT = {

@@ -2,6 +2,8 @@
 
 from typing import TypeVar, overload
 
+from llbm_tools.streams import Refused
+
 # An object of the protocol: a message, the arguments of a request, or the body of a response.
 Object = dict[str, object]
 
@@ -12,10 +14,6 @@ KINDS: dict[type, str] = {
     int: "a whole number", str: "a text", bool: "true or false", list: "a list", dict: "an object",
 }
 REQUIRED = object()
-
-
-class Refused(Exception):
-    """A request is refused; the message says why, in one line."""
 
 
 @overload

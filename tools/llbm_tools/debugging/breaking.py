@@ -3,7 +3,7 @@
 import re
 
 from llbm_tools.debugging import launching
-from llbm_tools.debugging.arguments import Object, Refused, argument, of_kind
+from llbm_tools.debugging.arguments import Object, argument, of_kind
 from llbm_tools.debugging.breakpoints import (
     Breakpoint, NoBreakpoint, Wanted, made, vertices_at_line, vertices_named, vertices_of_rows, wanted_of,
 )
@@ -11,6 +11,7 @@ from llbm_tools.debugging.capabilities import FAILED
 from llbm_tools.debugging.holding import Holding
 from llbm_tools.debugging.session import Event, Refusal
 from llbm_tools.debugging.wire import Writer
+from llbm_tools.streams import Refused
 
 FUNCTIONS, ENTRIES = "functions", "entries"
 INSIDE = re.compile(r"\{([^{}]*)\}")

@@ -4,11 +4,12 @@ import os
 from typing import NamedTuple
 
 from llbm_tools.debugging import launching
-from llbm_tools.debugging.arguments import Object, Refused, argument
+from llbm_tools.debugging.arguments import Object, argument
 from llbm_tools.debugging.moving import Motion, Mover, Stop
 from llbm_tools.debugging.outgoing import Outgoing
 from llbm_tools.debugging.views import Views
 from llbm_tools.debugging.wire import Writer
+from llbm_tools.streams import Refused
 
 TEXT = 1
 FIRST_FILE = 2

@@ -1,9 +1,10 @@
 """The requests that look at a run: threads, frames, scopes, variables, expressions and sources."""
 
 from llbm_tools.debugging import console
-from llbm_tools.debugging.arguments import Object, Refused, argument
+from llbm_tools.debugging.arguments import Object, argument
 from llbm_tools.debugging.holding import FIRST_FILE, TEXT, Holding
 from llbm_tools.debugging.positions import Span, spans_of, step_shown
+from llbm_tools.streams import Refused
 
 
 class Inspecting(Holding):

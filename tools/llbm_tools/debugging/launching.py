@@ -19,12 +19,12 @@ from typing import NamedTuple
 from llbm_tools import definition, faults, names, source_names
 from llbm_tools.common import MOST_BYTES, os_error_text, program_named
 from llbm_tools.debugging import places
-from llbm_tools.debugging.arguments import Object, Refused, argument, of_kind
+from llbm_tools.debugging.arguments import Object, argument, of_kind
 from llbm_tools.debugging.origins import Origins, origins_of
 from llbm_tools.debugging.readable import readable
 from llbm_tools.debugging.session import Refusal, Session, SessionFailed
 from llbm_tools.paths import TOOLS
-from llbm_tools.streams import why_not
+from llbm_tools.streams import Refused, why_not
 from llbm_tools.wire import Unreadable
 
 ARGUMENTS = ("definition", "text", "sources", "files", "workers", "stopOnEntry", "stopAtEnd", "noDebug", "llbm")

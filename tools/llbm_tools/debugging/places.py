@@ -4,8 +4,8 @@ import re
 from typing import NamedTuple
 
 from llbm_tools import definition
-from llbm_tools.debugging.arguments import Refused
 from llbm_tools.ops import Op
+from llbm_tools.streams import Refused
 from llbm_tools.wire import Unreadable
 
 Lines = list[tuple[int, int]]
