@@ -93,13 +93,15 @@ def files_written(texts: dict[str, bytes]) -> Iterator[None]:
     """Writes files that appear only if the `with` body succeeds; devices and pipes are written at once."""
     parts: dict[str, str] = {}
     try:
-        for place, text in texts.items():
-            place = os.path.realpath(place)
+        for given, text in texts.items():
+            place = os.path.realpath(given)
             if os.path.exists(place) and not os.path.isfile(place):
                 with open(place, "wb") as opened:
                     opened.write(text)
                 continue
             beside = f"{place}.{os.getpid()}.part"
+            if not os.path.isdir(os.path.dirname(place)):
+                raise Refused(f"{given}: there is no such directory to write it in")
             with open(beside, "xb") as opened:
                 parts[beside] = place
                 opened.write(text)

@@ -1,19 +1,20 @@
 """Runs a definition on directories or archives, and writes its result as a new directory or archive.
 
 In: the file DEFINITION, and for each local source NAME=DIRECTORY or NAME=ARCHIVE, split at its first `=`; if a name is
-given twice the later one is used. `-` or /dev/stdin as DEFINITION is standard input, and so it is as ARCHIVE; only one
-input can come from there. What is neither a file nor a directory, as a named pipe, is read once too. A path that is not
-a directory and ends in .tar, .tar.gz, .tgz, .tar.bz2, .tar.xz or .tar.zst is read as an archive, as `tree-of-tar` does
-it, or as an image if it has one, as `tree-of-image` does it; a directory with an OCI layout is an image too. --platform
-OS/ARCHITECTURE picks one of several images. With --strict a source is refused if something of it is left out. The
-program is --llbm PROGRAM, or else crates/llbm/out/llbm of the repository, or else its out/llbm-unproved, which is named
-on standard error as not proved; --workers N sets its number of workers. All entries of sources get the owner 0:0, as
-with `tree-of-directory --owner 0:0`.
+given twice the later one is used. A line names those that are given twice, and those that DEFINITION does not have. `-`
+or /dev/stdin as DEFINITION is standard input, and so it is as ARCHIVE; only one input can come from there. What is
+neither a file nor a directory, as a named pipe, is read once too. A path that is not a directory and ends in .tar,
+.tar.gz, .tgz, .tar.bz2, .tar.xz or .tar.zst is read as an archive, as `tree-of-tar` does it, or as an image if it has
+one, as `tree-of-image` does it; a directory with an OCI layout is an image too. --platform OS/ARCHITECTURE picks one of
+several images. With --strict a source is refused if something of it is left out. The program is --llbm PROGRAM, or else
+crates/llbm/out/llbm of the repository, or else its out/llbm-unproved, which is named on standard error as not proved;
+--workers N sets its number of workers. All entries of sources get the owner 0:0, as with `tree-of-directory --owner
+0:0`.
 
 The program gets a token in the place of each content, and the contents are copied into the result afterwards, so that a
 source can have any size; a file that changed meanwhile is refused. With --by-value the program gets the contents. So it
 does in any case those of sources at or before an exec that calls `sha256` or `listing`, and all of them where a mkfile
-or such a source has the byte 255, with which tokens begin; a source that is too long for that is refused before the
+or such a source has the byte 255, with which tokens begin. A source that is too long for that is refused before the
 program runs.
 
 Out: RESULT, which must not exist yet: an archive as `tar-of-tree` makes it if its name ends like one, packed as its
@@ -49,7 +50,7 @@ import tempfile
 from collections.abc import Iterable, Iterator
 from typing import BinaryIO
 
-from llbm_tools import by_value, faults, packing, piped, progress, shows, sources, times
+from llbm_tools import by_value, faults, packing, piped, progress, shows, source_names, sources, times
 from llbm_tools.common import MOST_BYTES, check_open, discard_output, os_error_text, say, shortened
 from llbm_tools.given_sources import Given, Source, too_long
 from llbm_tools.paths import TOOLS
@@ -65,6 +66,7 @@ PATIENCE = 5
 MOST_OF_A_NAME = 100
 
 OUTPUTS = ("-", "/dev/stdout")
+ASKED, UNNAMED = "--by-value asks for it", "fault 121 "
 NOTHING, CUT_OFF = "nothing is written", "the archive is cut off"
 
 NOT_READ = NOT_DONE = 1
@@ -235,10 +237,11 @@ class Build:
 
     def read_all(self) -> None:
         """Writes the texts of all sources: by reference, unless the options or the graph need all by value."""
-        cause = "" if self.options.by_value else self.give()
+        self.note_names()
+        cause = ASKED if self.options.by_value else self.give()
         if self.given:
             return
-        if cause:
+        if cause and cause != ASKED:
             say(f"all sources are given by value: {cause}")
         for number, source in enumerate(self.sources):
             self.read(number, source)
@@ -246,12 +249,25 @@ class Build:
                 say(too_long(source, cause))
                 raise Ended(REFUSED)
 
+    def data(self) -> bytes:
+        """Returns the bytes of the definition; at most one more than the limit."""
+        with open(self.definition, "rb") as file:
+            return file.read(MOST_BYTES + 1)
+
+    def names(self) -> list[str]:
+        """Returns the names of the sources, in order."""
+        return [source.name for source in self.sources]
+
+    def note_names(self) -> None:
+        """Prints which names no local source has, and which are given twice."""
+        for note in source_names.word_notes(self.data(), self.names()) if self.sources else []:
+            say(note)
+
     def give(self) -> str:
         """Writes the texts of all sources by reference. Returns why all have to be given by value, or nothing."""
         if not self.sources:
             return ""
-        with open(self.definition, "rb") as file:
-            plan = by_value.plan_of(file.read(MOST_BYTES + 1))
+        plan = by_value.plan_of(self.data())
         if not plan or plan.all:
             return plan.all if plan else ""
         given = Given(self.sources, self.text, [self.texts, self.directory], self.reading)
@@ -354,6 +370,9 @@ class Build:
                 explainer = explainer or faults.Explainer(faults.read_page(), self.definition)
                 for meaning in explainer.lines(text):
                     say(f"  {meaning}")
+            if text.startswith(UNNAMED):
+                for note in source_names.missing_notes(self.data(), self.names()):
+                    say(f"  {note}")
 
     def write(self, result: str) -> None:
         """Writes the result from its text."""

@@ -21,7 +21,7 @@ import os
 from collections.abc import Iterable, Iterator
 
 from llbm_tools import times
-from llbm_tools.streams import Failed, Refused, exit_status, input_lines, temporary_file
+from llbm_tools.streams import WRONGLY_NAMED, Failed, Refused, exit_status, input_lines, temporary_file
 from llbm_tools.trees import MOST_OF_AN_OWNER, Entry, Names, check_into, entry_of
 
 OPENING = os.O_RDONLY | os.O_CLOEXEC | os.O_NOFOLLOW | os.O_DIRECTORY
@@ -47,7 +47,8 @@ def open_root(directory: bytes) -> int:
     except NotADirectoryError as fault:
         raise Refused(f"{os.fsdecode(directory)}: not a directory") from fault
     except OSError as fault:
-        raise Failed(f"{os.fsdecode(directory)}: {fault.strerror}") from fault
+        kind = Refused if fault.errno in WRONGLY_NAMED else Failed
+        raise kind(f"{os.fsdecode(directory)}: {fault.strerror}") from fault
 
 
 def check_empty(descriptor: int, directory: bytes) -> None:

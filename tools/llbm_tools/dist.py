@@ -8,7 +8,8 @@ a folder of that name, and the same name with .sha256, which has a digest of the
 `sha256sum` prints them. The archive has the files of `install` in the order of their paths, with owner 0:0 and time 0.
 Both are replaced if they exist. Their names are printed.
 
-Exit status: 0 they are written; 2 the command line is refused, or there is no program; 3 a read or a write failed.
+Exit status: 0 they are written; 2 the command line is refused, or there is no program or no such folder; 3 a read or a
+write failed.
 """
 
 import argparse
@@ -18,7 +19,7 @@ import pathlib
 import sys
 import tarfile
 
-from llbm_tools import common, installing
+from llbm_tools import common, installing, streams
 from llbm_tools.installing import Item, Program
 
 
@@ -88,5 +89,5 @@ def main() -> int:
     except OSError as fault:
         common.say(common.os_error_text(fault))
         common.discard_output()
-        return 3
+        return streams.status_of(fault)
     return 0

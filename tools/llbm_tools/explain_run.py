@@ -1,8 +1,8 @@
 """Runs a definition, and says in words what each step did and which paths it changed.
 
-In: a definition, and NAME=PATH for each local source: a directory, a tar (both with owner 0:0) or a tree text. The
-program is --llbm PROGRAM, else the one on PATH, else crates/llbm/out/llbm of the repository, or else its
-out/llbm-unproved, which is named on standard error as not proved.
+In: a definition (`-` for standard input), and NAME=PATH for each local source: a directory, a tar (both with owner 0:0)
+or a tree text. The program is --llbm PROGRAM, else the one on PATH, else crates/llbm/out/llbm of the repository, or
+else its out/llbm-unproved, which is named on standard error as not proved.
 
 Out: on standard output the run by one worker, vertex by vertex: a line with its number, its kind and its name or what
 it does; below it a line for each micro-step, with the paths that it added, removed or changed, or why it failed; and at
@@ -15,10 +15,11 @@ write failed, or the program ended by itself.
 
 import argparse
 import sys
+import tempfile
 from collections.abc import Iterator
 
-from llbm_tools import common
-from llbm_tools.debugging import arguments, launching
+from llbm_tools import common, piped
+from llbm_tools.debugging import launching
 from llbm_tools.debugging.changes import Change, Compared
 from llbm_tools.debugging.happened import Happened, Watch
 from llbm_tools.debugging.session import Event, Refusal, Session, SessionFailed
@@ -80,11 +81,18 @@ def run_lines(launched: launching.Launched, most: int) -> Iterator[str]:
     yield from blocked_lines(session, views)
 
 
+def launched_by(options: argparse.Namespace) -> launching.Launched:
+    """Starts the run; a definition that can be read only once is stored for that long."""
+    with tempfile.TemporaryDirectory(prefix="llbm-explain-") as folder:
+        file = piped.definition_at(options.definition, folder)
+        given = {"definition": file, "sources": dict(options.source), "workers": 1, "llbm": options.llbm}
+        return launching.launch(given, common.say)
+
+
 def explain(options: argparse.Namespace) -> int:
     """Runs the definition, prints the lines, and returns the exit status."""
     common.check_open(sys.stdout, "standard output")
-    given = {"definition": options.definition, "sources": dict(options.source), "workers": 1, "llbm": options.llbm}
-    launched = launching.launch(given, common.say)
+    launched = launched_by(options)
     try:
         for line in run_lines(launched, options.paths):
             text = common.shortened(common.printable(line), MOST_OF_A_LINE)
@@ -118,7 +126,7 @@ def number_of(word: str) -> int:
 def parse_options() -> argparse.Namespace:
     """Parses the command line."""
     parser = argparse.ArgumentParser(description="Says what each step of a run did.", allow_abbrev=False)
-    parser.add_argument("definition", metavar="DEFINITION", help="the file of the definition")
+    parser.add_argument("definition", metavar="DEFINITION", help="the file of the definition, or -")
     parser.add_argument("source", nargs="*", type=source_of, metavar="NAME=PATH", help="a local source")
     parser.add_argument("--llbm", metavar="PROGRAM", default="", help="the program llbm")
     parser.add_argument("--paths", metavar="N", type=number_of, default=USUAL_PATHS, help="the most paths of a step")
@@ -129,7 +137,7 @@ def explain_or_refuse(options: argparse.Namespace) -> int:
     """Runs the definition, prints the lines or why the program ended by itself, and returns the exit status."""
     try:
         return explain(options)
-    except (arguments.Refused, Refusal) as fault:
+    except Refusal as fault:
         raise Refused(str(fault)) from fault
     except SessionFailed as fault:
         for line in [str(fault), *fault.words]:

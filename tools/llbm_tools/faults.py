@@ -7,9 +7,9 @@ that of failures.
 import re
 from typing import NamedTuple
 
-from llbm_tools import definition, names, op_reading
-from llbm_tools.common import data_in, printable
-from llbm_tools.ops import Op
+from llbm_tools import definition, names, op_reading, op_rules
+from llbm_tools.common import MOST_NAMES, data_in, printable
+from llbm_tools.ops import FileAction, Op
 from llbm_tools.paths import ROOT
 from llbm_tools.streams import Refused
 from llbm_tools.wire import Unreadable
@@ -27,6 +27,7 @@ COMMAND = re.compile(rf"failed {NUMBER} command {NUMBER}(?: status)? {NUMBER}")
 
 MOST_FAULTS = 8
 MOST_ACTIONS = 16
+BAD_NAME = 26
 
 
 class NoPage(Refused):
@@ -72,13 +73,17 @@ class Failure(NamedTuple):
 
 
 class Place(NamedTuple):
-    """The part of a definition that a line names: a row with an input, or a vertex with an action or a command."""
+    """The part of a definition that a line names: a row with an input, or a vertex with an action or a command.
+
+    `fault` is that of the action.
+    """
 
     row: int | None = None
     input: int | None = None
     vertex: int | None = None
     action: int | None = None
     command: int | None = None
+    fault: int | None = None
 
 
 class Answer(NamedTuple):
@@ -248,7 +253,8 @@ def answer_to_action(page: Page, vertex: str, action: str, number: str) -> Answe
     """Explains that an action failed."""
     row = page.failure("failed V action")
     text = f"failed (V = {vertex}, A = {action}, N = {number}): {row.sentence} {row.advice}"
-    return Answer([text, *Reader(page, [number]).fault()], Place(vertex=int(vertex), action=int(action)))
+    place = Place(vertex=int(vertex), action=int(action), fault=int(number))
+    return Answer([text, *Reader(page, [number]).fault()], place)
 
 
 def answer_to_command(page: Page, vertex: str, command: str, status: str) -> Answer:
@@ -293,13 +299,35 @@ def texts_at(op: Op, place: Place) -> list[str]:
     return [*inputs, *done_by(op, place)]
 
 
+def paths_of(action: FileAction) -> list[str]:
+    """Returns the paths of an action."""
+    if action.copy:
+        return [action.copy.src, action.copy.dest]
+    member = action.mkfile or action.mkdir or action.rm
+    return [member.path] if member else []
+
+
+def wrong_paths(op: Op, number: int) -> list[str]:
+    """Names the first path of an action that is no path, or else the destination below which a path is too long."""
+    for action in op_rules.actions_of(op)[number : number + 1]:
+        for path in paths_of(action):
+            if op_rules.path_of(path) is None:
+                return [f"not a path: {path!r}"]
+        if action.copy:
+            return [f"a path below {action.copy.dest!r} would have more than {MOST_NAMES} names"]
+    return []
+
+
 def done_by(op: Op, place: Place) -> list[str]:
     """Describes what an op does: the action or the command that the place names, else everything."""
     if op.source:
         return [f"identifier: {op.source.identifier}"]
     if op.file:
         actions = definition.actions_of(op)
-        return first_actions(actions) if place.action is None else one("action", actions, place.action)
+        if place.action is None:
+            return first_actions(actions)
+        wrong = wrong_paths(op, place.action) if place.fault == BAD_NAME else []
+        return [*one("action", actions, place.action), *wrong]
     if not op.exec:
         return []
     commands = [] if place.command is None else one("command", definition.commands_of(op), place.command)

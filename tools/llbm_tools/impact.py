@@ -32,8 +32,10 @@ read or a write failed; 130 interrupted.
 
 import argparse
 import collections
+import errno
 import io
 import json
+import os
 from typing import NamedTuple
 
 from llbm_tools import common, impacts
@@ -64,6 +66,9 @@ def data_in(place: str) -> bytes:
 def changed_sources(options: argparse.Namespace, known: Names) -> Names:
     """Returns the names of the sources that have another tree for NEW than for OLD."""
     before, after = dict(options.before), dict(options.after)
+    for place in [*before.values(), *after.values()]:
+        if not os.path.exists(place):
+            raise Refused(f"{place}: {os.strerror(errno.ENOENT)}")
     for name in [*options.changed, *before, *after]:
         if name not in known:
             raise Refused(f"{name}: neither definition has this local source")

@@ -22,7 +22,7 @@ import pathlib
 import shutil
 import sys
 
-from llbm_tools import common, installing
+from llbm_tools import common, installing, streams
 from llbm_tools.installing import Item, NotInstalled
 
 
@@ -123,5 +123,5 @@ def main() -> int:
     except OSError as fault:
         common.say(common.os_error_text(fault))
         common.discard_output()
-        return 3
+        return streams.status_of(fault)
     return 0

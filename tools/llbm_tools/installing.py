@@ -17,12 +17,15 @@ from llbm_tools import command_words, common, paths
 
 # The tools that test or prove the repository, or install it, and their tests.
 OF_THE_REPOSITORY = {
-    "claims", "dist", "floors", "fuzz", "install", "lines", "measure", "more-edits", "proved", "refuse", "replay",
-    "style", "test", "tests", "tries", "unproved-program",
+    "claims", "dist", "floors", "fuzz", "gate", "install", "lines", "measure", "minutes", "more-edits", "proved",
+    "refuse", "replay", "style", "test", "tests", "tries", "unproved-program",
 }
 LIBRARY = "lib/llbm"
 PAGES = ("README.md", "CHANGELOG.md")
-EXAMPLES = ("*.definition", "*.text", "*.tree", "*.commands", "*.answers", "launch.json", "nvim-dap.lua", "dape.el")
+EXAMPLES = (
+    "*.definition", "*.text", "*.tree", "*.commands", "*.answers", "*.llb", "*.rules", "launch.json", "nvim-dap.lua",
+    "dape.el",
+)
 RECEIPT = paths.ROOT / "out" / "gate-passed"
 STATE = f"{LIBRARY}/program"
 LISTED = f"{LIBRARY}/{paths.INSTALLED.name}"

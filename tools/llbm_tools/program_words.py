@@ -32,10 +32,9 @@ class Words(NamedTuple):
     refused: str = ""
     asks: bool = False
 
-    def twice(self) -> list[str]:
-        """Returns the names that more than one source has, each once."""
-        names = [source.name for source in self.sources]
-        return list(dict.fromkeys(name for name in names if names.count(name) > 1))
+    def names(self) -> list[str]:
+        """Returns the names of the sources, in order."""
+        return [source.name for source in self.sources]
 
 
 def number_fault(word: str | None) -> str:

@@ -5,12 +5,14 @@ another program than that of the repository or the installation around this fold
 
 Out: what the program writes, unchanged; on standard error, below a line `fault ..` or `failed ..` of the program, lines
 that begin with two spaces: what `explain` says of it, with the entry that it names; and the word that is refused and
-why, the file that could not be opened, the faulty line of a file or of a text, all local sources that have no tree,
-names that no local source has or that are given twice, and the path that is not one.
+why, the file that could not be opened, the faulty line of a file or of a text, all local sources that have no tree, and
+the path that is not one. Names that no local source has or that are given twice are named there, or else after all
+lines of the program, which passes them over.
 
 Exit status: that of the program, or 128 and the number of the signal that ended it; 2 also if there is no such program.
 """
 
+import contextlib
 import os
 import stat
 import subprocess
@@ -21,10 +23,11 @@ from typing import BinaryIO, cast
 from llbm_tools import faults
 from llbm_tools.common import MOST_BYTES, say
 from llbm_tools.program_words import read_words
-from llbm_tools.run_causes import Run, causes_of, data_of
+from llbm_tools.run_causes import MISSING, Run, causes_of, data_of, of_words
 from llbm_tools.streams import PIECE, exit_status, program_at
 
 OPTION = "--llbm"
+UNNAMED = b"fault %d " % MISSING
 
 
 def program_and_words(words: list[str]) -> tuple[str, list[str]]:
@@ -39,6 +42,8 @@ def program_and_words(words: list[str]) -> tuple[str, list[str]]:
 
 def stored_input(file: BinaryIO) -> BinaryIO | None:
     """Returns standard input if it can be read again, a copy of it in a file if it can be read once, or else None."""
+    if sys.stdin is None:
+        return None
     try:
         mode = os.fstat(0).st_mode
         if stat.S_ISDIR(mode):
@@ -79,6 +84,21 @@ def print_errors(run: Run, text: bytes) -> None:
             say(f"  {meaning}")
 
 
+def print_notes(run: Run, text: bytes) -> None:
+    """Prints what the program said, with explanations, and which names it passed over without a word."""
+    if text:
+        print_errors(run, text)
+    if not run.words.refused and not any(line.startswith(UNNAMED) for line in text.splitlines()):
+        for note in of_words(run):
+            say(note)
+
+
+def close_input() -> None:
+    """Closes standard input in a new process, where a temporary file may have taken its place."""
+    with contextlib.suppress(OSError):
+        os.close(0)
+
+
 def run_program(program: str, words: list[str]) -> int:
     """Runs the program, prints what it printed with explanations, and returns its exit status."""
     read = read_words(words)
@@ -86,15 +106,16 @@ def run_program(program: str, words: list[str]) -> int:
         reads = not read.refused and not read.asks and read.command != "step"
         given = stored_input(cast(BinaryIO, file)) if reads else None
         start = given.tell() if given else 0
-        done = subprocess.run([program, *words], stdin=given, stderr=subprocess.PIPE)
+        closing = close_input if sys.stdin is None else None
+        done = subprocess.run([program, *words], stdin=given, stderr=subprocess.PIPE, preexec_fn=closing)
         text = b""
-        if given and done.stderr:
+        if given and (done.stderr or read.sources):
             given.seek(start)
             text = given.read(MOST_BYTES + 1)
     if read.asks:
         os.write(2, done.stderr)
-    elif done.stderr:
-        print_errors(Run(read, text if given else None), done.stderr)
+    else:
+        print_notes(Run(read, text if given else None), done.stderr)
     return done.returncode if done.returncode >= 0 else 128 - done.returncode
 
 

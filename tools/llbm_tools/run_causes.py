@@ -6,24 +6,15 @@ import re
 from collections.abc import Iterator
 from typing import NamedTuple
 
-from llbm_tools import definition, op_rules, trees
+from llbm_tools import trees
 from llbm_tools.common import MOST_BYTES, printable, shortened
-from llbm_tools.ops import FileAction, Op
 from llbm_tools.program_words import Words
+from llbm_tools.source_names import missing_notes, word_notes
 from llbm_tools.streams import Refused
-from llbm_tools.wire import Unreadable
 
 MOST_CHARACTERS = 80
 FAULT = re.compile(r"fault ([0-9]+)(?: ([0-9]+)\b)?")
-BAD_NAME = re.compile(r"failed ([0-9]+) action ([0-9]+) fault 26")
 TREES, MISSING, UNREAD, WORDS, TOO_LONG, LINES = (31, 32, 33), 121, 181, 183, 185, (161, 162)
-
-
-class Local(NamedTuple):
-    """A local source of a definition: its vertex and its name."""
-
-    vertex: int
-    name: str
 
 
 class Run(NamedTuple):
@@ -40,21 +31,6 @@ def data_of(run: Run) -> bytes | None:
     with contextlib.suppress(OSError), open(run.words.file or "", "rb") as file:
         return file.read(MOST_BYTES + 1) if os.path.isfile(run.words.file or "") else None
     return None
-
-
-def ops_of(data: bytes | None) -> list[Op]:
-    """Returns the ops of the vertices, by number; empty if the entries are not a graph."""
-    try:
-        entries = definition.entries_of(data or b"")
-        return [definition.op_of(row, entries[row]) for row in definition.graph_of(entries).rows]
-    except Unreadable:
-        return []
-
-
-def locals_of(ops: list[Op]) -> list[Local]:
-    """Returns the local sources, by vertex."""
-    named = [(vertex, op.source.identifier) for vertex, op in enumerate(ops) if op.source]
-    return [Local(vertex, name[len(op_rules.LOCAL) :]) for vertex, name in named if name.startswith(op_rules.LOCAL)]
 
 
 def line_in(data: bytes, number: int) -> str:
@@ -105,49 +81,19 @@ def of_sources(run: Run, number: int) -> Iterator[str]:
         yield "standard input could not be read"
 
 
-def of_names(run: Run) -> Iterator[str]:
-    """Yields which local sources have no tree, which names no local source has, and which are given twice."""
-    ops = ops_of(data_of(run))
-    known = locals_of(ops)
-    given = {source.name for source in run.words.sources}
-    missing = [f"{name} (vertex {vertex})" for vertex, name in known if name not in given]
-    if missing:
-        yield f"without a tree: {', '.join(missing)}"
-    unknown = sorted(given - {name for _, name in known}) if ops else []
-    if unknown:
-        yield f"no local source has the name: {', '.join(unknown)}"
-    twice = run.words.twice()
-    if twice:
-        yield f"given twice, and the later one is used: {', '.join(twice)}"
-
-
-def paths_of(action: FileAction) -> list[str]:
-    """Returns the paths of an action."""
-    if action.copy:
-        return [action.copy.src, action.copy.dest]
-    member = action.mkfile or action.mkdir or action.rm
-    return [member.path] if member else []
-
-
-def of_failure(run: Run, vertex: int, number: int) -> Iterator[str]:
-    """Yields the first path of an action that is not a path."""
-    ops = ops_of(data_of(run))[vertex : vertex + 1]
-    for action in [action for op in ops for action in op_rules.actions_of(op)][number : number + 1]:
-        bad = next((path for path in paths_of(action) if op_rules.path_of(path) is None), None)
-        if bad is not None:
-            yield f"not a path: {bad!r}"
+def of_words(run: Run) -> list[str]:
+    """Returns which names no local source has, and which are given twice."""
+    return word_notes(data_of(run), run.words.names()) if run.words.sources else []
 
 
 def causes_of(run: Run, line: str) -> list[str]:
     """Returns what is known of a line besides its explanation, as lines for a person."""
-    if failure := BAD_NAME.fullmatch(line):
-        return list(of_failure(run, int(failure[1]), int(failure[2])))
     fault = FAULT.match(line)
     number = int(fault[1]) if fault else 0
     if number == WORDS:
         return [run.words.refused] if run.words.refused else []
     if number == MISSING:
-        return list(of_names(run))
+        return [*missing_notes(data_of(run), run.words.names()), *of_words(run)]
     if number in (*TREES, UNREAD, TOO_LONG):
         return list(of_sources(run, number))
     if number in LINES and fault and fault[2] and run.given is not None:

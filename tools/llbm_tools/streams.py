@@ -56,20 +56,24 @@ def exit_status(work: Callable[[], int | None]) -> int:
         return INTERRUPTED
 
 
+def why_not(named: str) -> str:
+    """Returns why what is named can't be used as the program; empty if it can."""
+    found = shutil.which(named)
+    if found is None:
+        return "is not a program" if os.path.exists(named) else "there is no such program"
+    return not_llbm(found)
+
+
 def program_at(word: str | None, others: str = "--llbm PROGRAM names another one") -> str:
     """Returns the path of the program: the given one, or else that of the repository or the installation.
 
     What is not llbm, by its `--version`, is refused.
     """
     named = program_named(word)
-    found = shutil.which(named)
-    if found is None:
-        cause = "is not a program" if os.path.exists(named) else "there is no such program"
-        raise Refused(f"{named}: {cause}; {others}")
-    cause = not_llbm(found)
+    cause = why_not(named)
     if cause:
         raise Refused(f"{named}: {cause}; {others}")
-    return os.path.abspath(found)
+    return os.path.abspath(shutil.which(named) or named)
 
 
 def is_standard_input(file: str | None) -> bool:

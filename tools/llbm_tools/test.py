@@ -41,6 +41,7 @@ MODULES = [
     "adopting",
     "fuzzing",
     "gating",
+    "minutes",
     "trees",
     "graphs",
     "explaining",
@@ -164,6 +165,15 @@ def program_at(word: str) -> str:
         raise argparse.ArgumentTypeError(str(fault)) from fault
 
 
+def known(word: str) -> str:
+    """Returns the name of a module of tests, or of a part of it, if it is one."""
+    loader = unittest.TestLoader()
+    loader.loadTestsFromName(f"tests.{word}")
+    if word.partition(".")[0] not in MODULES or loader.errors:
+        raise argparse.ArgumentTypeError(f"{word}: there are no such tests")
+    return word
+
+
 def positive(word: str) -> int:
     """Parses a number that is at least 1."""
     if not word.isdecimal() or int(word) == 0:
@@ -178,7 +188,8 @@ def parse_options() -> argparse.Namespace:
     jobs = len(os.sched_getaffinity(0))
     parser.add_argument("--jobs", metavar="N", type=positive, default=jobs, help="the number of processes")
     parser.add_argument("--slowest", metavar="N", type=positive, default=0, help="list the N tests that took longest")
-    parser.add_argument("name", nargs="*", metavar="NAME", default=MODULES, help="a module of tests, or a part of it")
+    named = "a module of tests, or a part of it"
+    parser.add_argument("name", nargs="*", metavar="NAME", type=known, default=MODULES, help=named)
     return parser.parse_args()
 
 

@@ -19,10 +19,10 @@ import re
 from typing import NamedTuple
 
 from llbm_tools import definition, names
-from llbm_tools.common import MOST_BYTES, os_error_text, printable, shortened
+from llbm_tools.common import MOST_BYTES, printable, shortened
 from llbm_tools.ops import Op
 from llbm_tools.records import Event, Work, events_of, works_of
-from llbm_tools.streams import Failed, Refused, exit_status, input_lines, write_output
+from llbm_tools.streams import Refused, exit_status, input_lines, write_output
 from llbm_tools.wire import Unreadable
 
 PROCESS = 0
@@ -123,8 +123,6 @@ def convert(file: str | None) -> None:
         vertices = None if file is None else vertices_in(file)
     except Unreadable as fault:
         raise Refused(f"{file}: {fault}") from fault
-    except OSError as fault:
-        raise Failed(os_error_text(fault)) from fault
     trace = trace_of(works_of(events_of(input_lines())), vertices)
     write_output(io.BytesIO(json_of(trace).encode("utf-8")), "the trace")
 

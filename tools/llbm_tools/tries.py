@@ -11,15 +11,13 @@ a write failed.
 
 import argparse
 import os
-import pathlib
-import shutil
 import subprocess
 import sys
 from typing import NamedTuple
 
-from llbm_tools.common import NOT_PROVED, PROVER, check_open, printable, say, shortened
+from llbm_tools.common import NOT_PROVED, PROVER, check_open, printable, shortened
 from llbm_tools.paths import ROOT
-from llbm_tools.streams import exit_status
+from llbm_tools.streams import exit_status, program_at
 
 EXAMPLES = ROOT / "examples"
 VERSION = f"1.0, proved with {PROVER}"
@@ -291,17 +289,19 @@ def try_all() -> int:
     return 1 if failed else 0
 
 
+def try_program(word: str) -> int:
+    """Makes all tries with a program, and returns the exit status."""
+    global program
+    program = program_at(word, "PROGRAM names another one")
+    return try_all()
+
+
 def main() -> int:
     """Runs the tool, and returns its exit status."""
-    global program, is_unproved
+    global is_unproved
     parser = argparse.ArgumentParser(description="Tests the program llbm as a process.", allow_abbrev=False)
     parser.add_argument("program", metavar="PROGRAM", help="the program llbm")
     parser.add_argument("--unproved", action="store_true", help="the version has to say that it is not proved")
     options = parser.parse_args()
-    word, is_unproved = options.program, options.unproved
-    found = shutil.which(word)
-    if not found:
-        say(f"{word}: there is no such program")
-        return 2
-    program = str(pathlib.Path(found).absolute())
-    return exit_status(try_all)
+    is_unproved = options.unproved
+    return exit_status(lambda: try_program(options.program))

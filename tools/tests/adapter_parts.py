@@ -284,7 +284,7 @@ class Crashes(WithFake):
         self.set_behavior(DONE)
         for words, message in [
             ({"llbm": "/nowhere/llbm"}, "/nowhere/llbm: there is no such program"),
-            ({"llbm": self.definition}, f"{self.definition}: there is no such program"),
+            ({"llbm": self.definition}, f"{self.definition}: is not a program"),
         ]:
             self.assertEqual(client.refused("launch", **{**self.given, **words}), message)
         client.ask("launch", **self.given)

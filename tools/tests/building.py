@@ -90,7 +90,8 @@ class Build(Builds):
         self.assertEqual(done.returncode, 2)
         done = self.build("--workers", "3", "definition", "out/", "src=in/a", "b=in/b", "src=in/a")
         self.assertEqual((done.returncode, done.stdout), (0, b""))
-        lines = ["reading src from in/a", "left out: nothing", "reading b from in/b", "left out: nothing"]
+        lines = ["no local source has the name: b", "given twice, and the later one is used: src"]
+        lines += ["reading src from in/a", "left out: nothing", "reading b from in/b", "left out: nothing"]
         lines += ["reading src from in/a", "left out: nothing", "running definition", "writing out", "out is written"]
         self.assertEqual(done.stderr.decode().splitlines(), lines)
         one, two = "d 0755 0 0 /\nf 0600 0 0 ff00000000 /x\n", "d 0755 0 0 /\n"

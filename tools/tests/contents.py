@@ -287,6 +287,10 @@ class Forced(Builds):
         reading = "reading src from in by value: vertex 1, an exec, calls sha256"
         self.check_end(self.build("definition", "out", "src=in"), 2, reading, line, "nothing is written")
         self.assertFalse((self.at / "given").exists())
+        line = "src is too long to be given by value, over 67,108,864 bytes: --by-value asks for it"
+        done = self.build("--by-value", "definition", "out", "src=in")
+        self.assertEqual(done.stderr.decode().splitlines()[-2:], [line, "nothing is written"])
+        self.assertEqual(done.returncode, 2)
         self.define(self.origin)
         self.set_behavior(PRINTS_SOURCE)
         self.assertEqual(self.build("definition", "out", "src=in").returncode, 0)

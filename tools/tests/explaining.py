@@ -280,6 +280,20 @@ class ExplainWithDefinition(Folder):
         wanted = [f"vertex 2, row 0: {base.digest(self.words)}, exec", "command 1: cp /none /b"]
         self.assertEqual(self.explained("failed 2 command 1 status 1"), [*wanted, "script: true && cp /none /b"])
 
+    def test_the_path_that_is_none_is_named(self):
+        long, deep, odd = "/" + "n" * 256, "/d" * 128, "/a" * 129 + "/.."
+        for action, found in [
+            (base.copy(long, "/b"), f"not a path: {long!r}"), (base.copy("/a", long), f"not a path: {long!r}"),
+            (base.mkfile(long), f"not a path: {long!r}"), (base.mkdir("/a\t/b"), "not a path: '/a\\t/b'"),
+            (base.rm(odd), f"not a path: {odd!r}"),
+            (base.copy("/a", deep), f"a path below {deep!r} would have more than 128 names"),
+        ]:
+            given = self.file(b"other", base.ending(base.file_op(base.mkfile("/c"), action)))
+            *_, last = self.explained("failed 0 action 1 fault 26", given)
+            self.assertEqual(last, found)
+            *_, last = self.explained("failed 0 action 1 fault 25", given)
+            self.assertTrue(last.startswith("action 1: "), last)
+
     def test_numbers_outside_the_definition_are_reported(self):
         self.assertEqual(self.explained("fault 84 5"), ["the definition: it has no row 5"])
         self.assertEqual(self.explained("failed 3 action 0 fault 21"), ["the definition: it has no vertex 3"])

@@ -1,7 +1,6 @@
 """Tests of `gate`, and of `tries` and `replay`, which it runs."""
 
 import contextlib
-import importlib.machinery
 import importlib.util
 import io
 import os
@@ -9,6 +8,7 @@ import pathlib
 import signal
 import subprocess
 import sys
+import tempfile
 import unittest
 from unittest import mock
 
@@ -18,10 +18,10 @@ from tests.base import ROOT, Folder, run
 
 
 def loaded(name):
-    """Loads a tool as a module."""
-    loader = importlib.machinery.SourceFileLoader(name, str(ROOT / name))
-    module = importlib.util.module_from_spec(importlib.util.spec_from_loader(name, loader))
-    loader.exec_module(module)
+    """Loads a tool's module anew, so that a test can change it."""
+    spec = importlib.util.find_spec(f"llbm_tools.{name}")
+    module = importlib.util.module_from_spec(spec)
+    spec.loader.exec_module(module)
     return module
 
 
@@ -129,7 +129,7 @@ class Gate(WithPrograms):
 
     def test_command_lines_are_refused(self):
         for words in [("--nosuch",), ("--quick", "--after"), ("--quick", "--llbm", "/p")]:
-            done = subprocess.run([sys.executable, ROOT / "gate", *words], capture_output=True, timeout=60)
+            done = subprocess.run([ROOT / "gate", *words], capture_output=True, timeout=60)
             self.assertEqual((done.returncode, done.stdout), (2, b""), words)
 
 
@@ -271,3 +271,12 @@ class Scripts(unittest.TestCase):
 
     def test_the_gate_can_be_run(self):
         self.assertTrue(os.access(pathlib.Path(ROOT, "gate"), os.X_OK))
+
+    def test_the_gate_is_found_by_a_link_and_from_any_folder(self):
+        with tempfile.TemporaryDirectory() as folder:
+            link = pathlib.Path(folder, "link")
+            link.symlink_to(ROOT / "gate")
+            for place in (link, ROOT / "gate", ROOT / "tools" / "gate"):
+                done = subprocess.run([place, "--help"], cwd=folder, capture_output=True, text=True, timeout=60)
+                self.assertEqual((done.returncode, done.stderr), (0, ""), place)
+                self.assertTrue(done.stdout.startswith("usage: gate "), done.stdout)

@@ -129,6 +129,7 @@ class WithProgram(Folder):
             self.assertEqual(done.returncode, 2)
             explained = run("explain", "--definition", self.place(b"definition"), *line.split(" "))
             meaning = [f"  {text}" for text in explained.stdout.decode().splitlines()]
+            meaning += ["  without a tree: src (vertex 0)"] * (line == "fault 121 src")
             self.assertEqual(done.stderr.decode().splitlines()[1:], [line, *meaning, "nothing is written"])
 
     def source_name(self, text):
@@ -231,9 +232,14 @@ class WithProgram(Folder):
         base.skip_if_slow(self)
         self.make(b"a", b"")
         os.truncate(self.place(b"in", b"a"), 1 << 25)
-        done = self.build(base.ending(base.source("local://src")), "--by-value", f"src={self.at / 'in'}")
+        given = base.ending(base.source("local://src"))
+        done = self.build(given, "--by-value", f"src={self.at / 'in'}")
         self.assertEqual(done.returncode, 2)
-        self.assertRegex(done.stderr, rb"\nthe text has [0-9,]+ bytes: .*\n(.*\n)*fault 185\n  185: ")
+        self.assertIn(b"\nthe text has ", done.stderr)
+        self.assertTrue(done.stderr.endswith(b": --by-value asks for it\nnothing is written\n"), done.stderr)
+        text = self.file(b"text", self.read(b"in").stdout)
+        done = self.llbm("run", f"src={os.fsdecode(text)}", given=given)
+        self.assertEqual((done.returncode, done.stdout, done.stderr), (2, b"", b"fault 185\n"))
 
     def with_little_memory(self):
         """Returns the settings of a run that is refused more than a gigabyte, or more than a megabyte at once."""

@@ -1,9 +1,12 @@
 """Properties of records and messages, tried by hypothesis, which makes a failing example small; else skipped."""
 
+import functools
+import subprocess
 import unittest
 
 from llbm_tools import messages, op_reading, rewriting, wire
 from llbm_tools.ops import Op
+from tests import base
 
 try:
     from hypothesis import given, settings, strategies
@@ -13,12 +16,31 @@ else:
     HAS_HYPOTHESIS = True
 
 
-class Skipped(unittest.TestCase):
-    """What is said where hypothesis is missing."""
+PYTHON_OF_THE_SYSTEM = "/usr/bin/python3"
 
-    @unittest.skipUnless(HAS_HYPOTHESIS, "hypothesis is needed (Debian: python3-hypothesis)")
-    def test_hypothesis_is_there(self):
-        self.assertTrue(HAS_HYPOTHESIS)
+
+@functools.cache
+def system_has_hypothesis():
+    """Returns whether the Python of the system has hypothesis, for which Debian packs it."""
+    try:
+        done = subprocess.run([PYTHON_OF_THE_SYSTEM, "-c", "import hypothesis"], capture_output=True, timeout=60)
+    except OSError:
+        return False
+    return done.returncode == 0
+
+
+class Skipped(unittest.TestCase):
+    """Where this Python has no hypothesis, that of the system tries the properties, or they are skipped."""
+
+    def test_properties_are_tried(self):
+        if HAS_HYPOTHESIS:
+            return
+        if not system_has_hypothesis():
+            self.skipTest("hypothesis is needed (Debian: python3-hypothesis)")
+        words = [PYTHON_OF_THE_SYSTEM, base.TOOLS / "test", "properties"]
+        done = subprocess.run(words, capture_output=True, text=True, timeout=600)
+        self.assertEqual(done.returncode, 0, done.stderr)
+        self.assertRegex(done.stdout, "^[0-9]+ tests, .*: all passed\\n$")
 
 
 if HAS_HYPOTHESIS:

@@ -18,7 +18,7 @@ class CommandLine(unittest.TestCase):
     def test_words_that_the_program_takes_are_read(self):
         words = read_words(["run", "a=x", "--workers", "2", "b=y=z", "a=w"])
         self.assertEqual(words.sources, (Source("a", "x"), Source("b", "y=z"), Source("a", "w")))
-        self.assertEqual((words.refused, words.twice()), ("", ["a"]))
+        self.assertEqual((words.refused, words.names()), ("", ["a", "b", "a"]))
         session = read_words(["step", "--workers=4294967295", "d", "a=x"])
         self.assertEqual((session.file, session.sources, session.refused), ("d", (Source("a", "x"),), ""))
         for given in [[], ["show"], ["asm"], ["dis"], ["run"], ["step", "d"]]:
@@ -93,6 +93,30 @@ class Run(Folder):
             "without a tree: a (vertex 0), b (vertex 1)", "no local source has the name: c",
             "given twice, and the later one is used: c",
         ])
+
+    def test_a_source_that_no_word_can_name_is_named(self):
+        data = base.ending(base.source("local://a=b"))
+        lines = self.added("fault 121 a=b", "run", text=data)
+        self.assertEqual(lines[-2:], [
+            "without a tree: a=b (vertex 0)", "no word NAME=FILE names it, and tools/adopt gives it another name: a=b",
+        ])
+
+    def test_names_that_the_program_passes_over_are_named_after_its_lines(self):
+        data = base.ending(base.source("local://a"))
+        notes = b"no local source has the name: b\ngiven twice, and the later one is used: a\n"
+        for words in (["run"], ["run", "--workers", "2"], ["step", os.fsdecode(self.file(b"definition", data))]):
+            done = run("run", "--llbm", self.program("", 0), *words, "a=x", "b=y", "a=z", text=data)
+            self.check_success(done, data, notes)
+        done = run("run", "--llbm", self.program("fault 31 1"), "run", "b=/dev/null", text=data)
+        self.assertTrue(done.stderr.endswith(b"\nno local source has the name: b\n"), done.stderr)
+        self.assertEqual(done.returncode, 2)
+
+    def test_closed_input_is_closed_for_the_program(self):
+        lines = [base.FAKE_PYTHON, "sys.exit(7 if sys.stdin is None else 8)", ""]
+        place = self.file(b"program", "\n".join(lines).encode())
+        os.chmod(place, 0o755)
+        for words in (["run"], ["show"], ["step", "/none"]):
+            self.assertEqual(run_closed(0, "run", "--llbm", place, *words).returncode, 7)
 
     def test_the_path_that_is_none_is_named(self):
         bad = "/" + "n" * 256

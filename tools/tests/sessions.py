@@ -138,6 +138,7 @@ class Progress(Builds):
             self.set_behavior(f'sys.stderr.write("{line}\\n")\nsys.exit({status})\n')
             explained = run("explain", "--definition", self.place(b"definition"), *line.split(" "))
             meaning = [f"  {text}" for text in explained.stdout.decode().splitlines()]
+            meaning += ["  without a tree: src (vertex 0)"] * (line == "fault 121 src")
             self.check_end(self.follow(), status, "running definition", line, *meaning, "nothing is written")
 
     def test_a_session_that_ends_too_early_is_an_error(self):

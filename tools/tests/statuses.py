@@ -22,12 +22,29 @@ class Statuses(Folder):
                 ("diff-of-trees", place, TOUR), ("tree-of-directory", place), ("replay", place),
                 ("fuzz", "1", "--llbm", place), ("measure", "--llbm", place), ("tries", place),
                 ("replay", "--llbm", place, ROOT / "README.md"), ("run", "--llbm", place),
+                ("trace-of-record", "--definition", place), ("explain-run", place), ("tree-of-image", place),
+                ("directory-of-tree", self.place(b"none", b"none", b"out")), ("impact", place, TOUR),
+                ("impact", TOUR, TOUR, "--before", b"source=" + place), ("build", place, self.place(b"out")),
+                ("tar-of-tree", self.place(b"none", b"none", b"out")), ("test", place), ("more-edits", place),
             ]:
                 done = run(tool, *words, text=SHOWN)
                 self.assertEqual((done.returncode, done.stdout), (2, b""), (tool, words, done.stderr))
                 self.assertTrue(done.stderr, tool)
         for tool in ["adopt", "lint", "tree-of-tar"]:
             self.assertEqual(run(tool, self.folder).returncode, 2, tool)
+        done = run("adopt", TOUR, "-o", self.place(b"none", b"out"))
+        self.assertEqual(done.stderr, self.place(b"none", b"out") + b": there is no such directory to write it in\n")
+
+    def test_a_directory_is_no_program(self):
+        for tool, *words in [
+            ("build", TOUR, self.place(b"out")), ("explain-run", TOUR), ("fuzz", "1"), ("measure", "chain"), ("run",),
+            ("replay", ROOT / "README.md"), ("test", "statuses"),
+        ]:
+            done = run(tool, "--llbm", self.folder, *words, text=SHOWN)
+            self.assertEqual((done.returncode, done.stdout), (2, b""), (tool, done.stderr))
+            self.assertIn(self.folder + b": is not a program", done.stderr, tool)
+        done = run("tries", self.folder)
+        self.check_run(done, 2, b"", self.folder + b": is not a program; PROGRAM names another one\n")
 
     def test_a_program_that_is_not_llbm_is_named(self):
         for tool, *words in [
@@ -38,6 +55,7 @@ class Statuses(Folder):
             done = run(tool, *option, *words, text=SHOWN)
             self.assertEqual((done.returncode, done.stdout), (2, b""), (tool, done.stderr))
             self.assertIn(b"/bin/true: this is not the program llbm", done.stderr, tool)
+        self.assertIn(b"/bin/true: this is not the program llbm", run("tries", "/bin/true").stderr)
         for tool, *words in [("install", self.place(b"here")), ("dist", "-o", self.folder)]:
             done = run(tool, "--llbm", "/bin/true", *words)
             self.assertEqual((done.returncode, done.stdout), (2, b""), (tool, done.stderr))
@@ -58,6 +76,9 @@ class Statuses(Folder):
             done = run("lint", *words, text=data)
             self.assertEqual((done.returncode, done.stdout), (1, wanted.stdout), words)
             self.assertEqual(run("adopt", "--all", *words, text=data).returncode, 0, words)
+        for words in [("-",), ("/dev/stdin",)]:
+            done = run("explain-run", "--llbm", "/bin/true", *words, text=data)
+            self.assertIn(b"/bin/true: this is not", done.stderr)
         self.assertIn(b"entry 0", run("adopt", "--all", "-", "-o", "-", text=data).stderr)
         done = run("explain", "--definition", "-", "fault", "88", "0", "Source", text=data)
         self.assertIn(b"docker-image://docker.io/library/alpine", done.stdout)

@@ -116,7 +116,7 @@ class Traces(Folder):
         done = run("trace-of-record", "--definition", place, text=more)
         self.check_run(done, 2, b"", b"the definition has no vertex 2\n")
         done = run("trace-of-record", "--definition", self.place(b"none"), text=text)
-        self.assertEqual(done.returncode, 3)
+        self.assertEqual(done.returncode, 2)
         done = run("trace-of-record", "--definition", self.file(b"bad", b"\x0b"), text=text)
         self.assertEqual(done.returncode, 2)
 
@@ -195,6 +195,9 @@ class Explained(Folder):
             done = self.explain(*words)
             self.assertEqual((done.returncode, done.stdout), (2, b""))
             self.assertTrue(done.stderr.startswith(cause), done.stderr)
+        self.assertTrue(done.stderr.endswith(b"; without a tree: source (vertex 0)\n"), done.stderr)
+        done = self.explain(EXAMPLES / "tour.definition", "source=/dev/null", "x=/dev/null")
+        self.assertIn(b"no local source has the name: x\n", done.stderr)
         done = run("explain-run", EXAMPLES / "tour.definition", "source", "--llbm", base.llbm)
         self.assertEqual((done.returncode, done.stdout), (2, b""))
 

@@ -305,7 +305,7 @@ class DirectoryOfTree(Folder):
         self.assertEqual(os.listdir(self.place(b"in", b"empty")), [])
 
     def test_a_directory_that_cannot_be_made_is_reported(self):
-        self.assertEqual(self.write(b"d 0755 0 0 /\n", b"none/out").returncode, 3)
+        self.assertEqual(self.write(b"d 0755 0 0 /\n", b"none/out").returncode, 2)
 
     def test_no_temporary_file_remains(self):
         held = self.place(b"held")

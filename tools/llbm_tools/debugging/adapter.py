@@ -4,17 +4,20 @@ Requests are handled one after another. While a run is in progress, one event at
 waiting, so that the run can be paused between any two events.
 """
 
+import functools
 from collections.abc import Callable
 
 from llbm_tools.debugging import console, launching
-from llbm_tools.debugging.arguments import Refused, argument
+from llbm_tools.debugging.arguments import Object, argument
 from llbm_tools.debugging.breaking import Breaking
 from llbm_tools.debugging.capabilities import CAPABILITIES, FAILED
+from llbm_tools.debugging.holding import Held
 from llbm_tools.debugging.inspecting import Inspecting
 from llbm_tools.debugging.moving import Ended, Motion, Mover, Stop
 from llbm_tools.debugging.session import Event, Refusal, SessionFailed
 from llbm_tools.debugging.views import Views
 from llbm_tools.debugging.wire import Writer
+from llbm_tools.streams import Refused
 
 NEW, OPEN, LAUNCHED, STOPPED, RUNNING, OVER = "new", "open", "launched", "stopped", "running", "over"
 WHY_NOT = {
@@ -35,7 +38,7 @@ class Adapter(Inspecting, Breaking):
         super().__init__(writer)
         self.state = NEW
         self.then: list[Callable[[], None]] = []
-        self.given: dict = {}
+        self.given: Object = {}
         self.stops_on_entry = self.stops_at_end = False
         self.stopped_at_end: int | None = None
         self.left = False
@@ -63,13 +66,13 @@ class Adapter(Inspecting, Breaking):
             for action in self.then:
                 self.guarded(action)
 
-    def answer(self, request: dict, name: str) -> dict | None:
+    def answer(self, request: Object, name: str) -> Object | None:
         """Returns the body of the response to a request."""
         if request.get("type") != "request" or not name:
             raise Refused("the message is not a request")
         if name not in REQUESTS:
             raise Refused(f"the request {name} is not known")
-        arguments = argument(request, "arguments", dict, {})
+        arguments: Object = argument(request, "arguments", dict, {})
         handler, states = REQUESTS[name]
         if self.state not in states:
             raise Refused(f"{name}: {WHY_NOT[self.state]}")
@@ -92,7 +95,7 @@ class Adapter(Inspecting, Breaking):
     def move(self) -> None:
         """Does one event of the motion; the run stops or ends where the motion does."""
         try:
-            stop = self.motion()
+            stop = self.motion() if self.motion else None
         except Ended:
             self.complete()
             return
@@ -107,14 +110,21 @@ class Adapter(Inspecting, Breaking):
     def halt(self, stop: Stop) -> None:
         """Stops the run, and reports why."""
         self.state, self.motion, self.stop = STOPPED, None, stop
-        body = {"reason": stop.reason, "description": stop.description, "threadId": stop.worker + 1}
+        body: Object = {"reason": stop.reason, "description": stop.description, "threadId": stop.worker + 1}
         body["allThreadsStopped"] = True
         if stop.reason == "exception":
-            vertex = self.views.vertex_of(stop.worker)
+            vertex = self.settled_by(stop.worker)
             body["text"] = ": ".join(filter(None, [self.failure_of(vertex), self.views.why(vertex)]))
         if stop.hits:
             body["hitBreakpointIds"] = list(stop.hits)
         self.event("stopped", body)
+
+    def settled_by(self, worker: int) -> int:
+        """Returns the vertex that a worker has just settled."""
+        vertex = self.views.vertex_of(worker)
+        if vertex is None:
+            raise Refused(f"worker {worker} is idle")
+        return vertex
 
     def report(self, event: Event, line: str) -> None:
         """Reports an event that was done or undone, with the line of its vertex."""
@@ -170,12 +180,12 @@ class Adapter(Inspecting, Breaking):
 
     def dismiss(self) -> None:
         """Stops the program without a report. It may have ended already."""
-        if self.launched:
-            self.launched.session.end()
+        if self.held:
+            self.held.launched.session.end()
 
     # ---- requests: start and end
 
-    def initialize(self, arguments: dict) -> dict:
+    def initialize(self, arguments: Object) -> Object:
         """Stores the client's settings, and returns the capabilities of the adapter."""
         argument(arguments, "adapterID", str)
         for name in ("linesStartAt1", "columnsStartAt1", "supportsVariableType"):
@@ -186,29 +196,31 @@ class Adapter(Inspecting, Breaking):
         self.state = OPEN
         return CAPABILITIES
 
-    def start(self, arguments: dict) -> None:
+    def start(self, arguments: Object) -> None:
         """Starts the program with the arguments of a launch; what is refused changes nothing."""
-        stops_on_entry, no_debug = [argument(arguments, name, bool, False) for name in ("stopOnEntry", "noDebug")]
+        stops_on_entry = argument(arguments, "stopOnEntry", bool, False)
+        no_debug = argument(arguments, "noDebug", bool, False)
         stops_at_end = argument(arguments, "stopAtEnd", bool, not no_debug)
         launched = launching.launch(arguments, self.output)
         self.dismiss()
-        self.launched, self.given = launched, arguments
+        self.given = arguments
         self.stops_on_entry, self.stops_at_end, self.stopped_at_end = stops_on_entry, stops_at_end, None
-        stops_at_failures = self.mover is not None and self.mover.stops_at_failures
-        self.mover = Mover(launched.session, self.report, self.log)
-        self.mover.stops_at_breakpoints, self.mover.stops_at_failures = not no_debug, stops_at_failures
-        self.views = Views(launched)
-        self.then = [lambda line=line: self.output(line) for line in launching.unknown_arguments(arguments)]
+        mover = Mover(launched.session, self.report, self.log)
+        mover.stops_at_breakpoints = not no_debug
+        mover.stops_at_failures = self.held is not None and self.held.mover.stops_at_failures
+        self.held = Held(launched, mover, Views(launched))
+        self.then = [functools.partial(self.output, line) for line in launching.unknown_arguments(arguments)]
 
-    def launch(self, arguments: dict) -> None:
+    def launch(self, arguments: Object) -> None:
         """Starts the program."""
         self.start(arguments)
         self.state = LAUNCHED
         self.then.append(lambda: self.event("initialized"))
 
-    def restart(self, arguments: dict) -> None:
+    def restart(self, arguments: Object) -> None:
         """Starts the run anew, by the same arguments or by new ones; the files are read again."""
-        self.start(argument(arguments, "arguments", dict, None) or self.given)
+        again: Object = argument(arguments, "arguments", dict, {})
+        self.start(again or self.given)
         self.state, self.motion, self.stop = STOPPED, None, None
         self.then += [self.set_again, self.run]
 
@@ -219,55 +231,55 @@ class Adapter(Inspecting, Breaking):
         else:
             self.begin(self.mover.forwards())
 
-    def configuration_done(self, _: dict) -> None:
+    def configuration_done(self, _: Object) -> None:
         """Starts the run."""
         self.state = RUNNING
         self.then = [self.run]
 
-    def terminate(self, _: dict) -> None:
+    def terminate(self, _: Object) -> None:
         """Ends the run."""
         self.then = [lambda: self.close(self.exit_code())]
 
-    def disconnect(self, _: dict) -> None:
+    def disconnect(self, _: Object) -> None:
         """Ends the run if it is not over; the client leaves."""
         self.left = True
         if self.state in READY:
             self.close(self.exit_code())
 
-    def exception_info(self, arguments: dict) -> dict:
+    def exception_info(self, arguments: Object) -> Object:
         """Returns which vertex failed, with an explanation."""
         worker = self.worker(arguments)
         if not self.stop or self.stop.reason != "exception" or self.stop.worker != worker:
             raise Refused(f"worker {worker} has not stopped at a failure")
-        vertex = self.views.vertex_of(worker)
+        vertex = self.settled_by(worker)
         line = self.failure_of(vertex)
         details = {"message": line, "typeName": FAILED, "stackTrace": "\n".join(self.meaning(line, vertex))}
         return {"exceptionId": FAILED, "description": line, "breakMode": "always", "details": details}
 
     # ---- requests: moving forwards and back
 
-    def continue_run(self, arguments: dict) -> dict:
+    def continue_run(self, arguments: Object) -> Object:
         """Continues the run, with events that the program chooses."""
         self.worker(arguments)
         self.begin(self.mover.forwards())
         return {"allThreadsContinued": True}
 
-    def step_over(self, arguments: dict) -> None:
+    def step_over(self, arguments: Object) -> None:
         """Does the next event of a running worker, or the next whole vertex of an idle one."""
         self.begin(self.mover.over(self.worker(arguments)))
 
-    def step_in(self, arguments: dict) -> None:
+    def step_in(self, arguments: Object) -> None:
         """Does a worker's next event."""
         self.begin(self.mover.into(self.worker(arguments)))
 
-    def step_out(self, arguments: dict) -> None:
+    def step_out(self, arguments: Object) -> None:
         """Continues a worker up to its settle."""
         worker = self.worker(arguments)
         if self.launched.session.runs[worker] is None:
             raise Refused(f"worker {worker} is idle: it has no vertex to step out of")
         self.begin(self.mover.out(worker))
 
-    def go_back(self, arguments: dict, motion: Callable[[], Motion]) -> None:
+    def go_back(self, arguments: Object, motion: Callable[[], Motion]) -> None:
         """Goes back, if there is an event to undo."""
         self.worker(arguments)
         if not self.launched.session.record:
@@ -275,35 +287,37 @@ class Adapter(Inspecting, Breaking):
         self.stopped_at_end = None
         self.begin(motion())
 
-    def step_back(self, arguments: dict) -> None:
+    def step_back(self, arguments: Object) -> None:
         """Undoes the last event of the record, whichever worker did it."""
         self.go_back(arguments, self.mover.one_back)
 
-    def reverse_continue(self, arguments: dict) -> None:
+    def reverse_continue(self, arguments: Object) -> None:
         """Undoes events back to the state after one that meets a breakpoint, or to the beginning."""
         self.go_back(arguments, self.mover.backwards)
 
-    def evaluate_or_do(self, arguments: dict) -> dict:
+    def evaluate_or_do(self, arguments: Object) -> Object:
         """Evaluates an expression; in the console it may be a command of a session that adds an event."""
         command = argument(arguments, "expression", str).strip()
         if argument(arguments, "context", str, "") == "repl" and console.EVENT.fullmatch(command):
             return self.do(command)
         return self.evaluate(arguments)
 
-    def do(self, command: str) -> dict:
+    def do(self, command: str) -> Object:
         """Does a command that adds an event, and stops the run after it."""
         event = self.mover.do(command)
         stop = self.mover.met(event) or Stop("step", event.line, event.worker)
         self.then = [lambda: self.halt(stop)]
         return {"result": event.line, "variablesReference": 0}
 
-    def pause(self, arguments: dict) -> None:
+    def pause(self, arguments: Object) -> None:
         """Stops a continuing run between two events."""
         worker = self.worker(arguments)
         self.then = [lambda: self.halt(Stop("pause", "paused between two events", worker))]
 
 
-REQUESTS = {
+Handler = Callable[[Adapter, Object], Object | None]
+
+REQUESTS: dict[str, tuple[Handler, tuple[str, ...]]] = {
     "initialize": (Adapter.initialize, (NEW,)),
     "launch": (Adapter.launch, (OPEN,)),
     "configurationDone": (Adapter.configuration_done, (LAUNCHED,)),

@@ -46,9 +46,9 @@ def node_in(root: Node, names: Names) -> Node | None:
     """Returns the node at a path of a tree, or None."""
     node = root
     for name in names:
-        if not node.is_directory() or name not in node.names:
+        if not node.is_directory() or name not in node.entries:
             return None
-        node = node.names[name]
+        node = node.entries[name]
     return node
 
 

@@ -3,7 +3,7 @@
 import re
 
 from llbm_tools.debugging import launching
-from llbm_tools.debugging.arguments import Refused, argument, of_kind
+from llbm_tools.debugging.arguments import Object, argument, of_kind
 from llbm_tools.debugging.breakpoints import (
     Breakpoint, NoBreakpoint, Wanted, made, vertices_at_line, vertices_named, vertices_of_rows, wanted_of,
 )
@@ -11,6 +11,7 @@ from llbm_tools.debugging.capabilities import FAILED
 from llbm_tools.debugging.holding import Holding
 from llbm_tools.debugging.session import Event, Refusal
 from llbm_tools.debugging.wire import Writer
+from llbm_tools.streams import Refused
 
 FUNCTIONS, ENTRIES = "functions", "entries"
 INSIDE = re.compile(r"\{([^{}]*)\}")
@@ -23,13 +24,13 @@ class Breaking(Holding):
         super().__init__(writer)
         self.breakpoint_count = 0
         self.asked: dict[str, list[Wanted]] = {}
-        self.answers: dict[str, list[dict]] = {}
+        self.answers: dict[str, list[Object]] = {}
         self.valid: dict[str, list[Breakpoint]] = {}
 
-    def set_breakpoints(self, arguments: dict) -> dict:
+    def set_breakpoints(self, arguments: Object) -> Object:
         """Replaces the breakpoints of a source; each gets an answer."""
         source = argument(arguments, "source", dict)
-        given = argument(arguments, "breakpoints", list, [])
+        given: list[object] = argument(arguments, "breakpoints", list, [])
         wanted = [wanted_of(one, 0, int, "line") for one in given]
         file = None if self.is_text(source) else self.file_of(source)
         if file is None and not self.is_text(source):
@@ -40,19 +41,19 @@ class Breaking(Holding):
         name = ENTRIES if file is None else f"file {self.launched.origins.files[file].name}"
         return {"breakpoints": self.replace(name, wanted)}
 
-    def set_function_breakpoints(self, arguments: dict) -> dict:
+    def set_function_breakpoints(self, arguments: Object) -> Object:
         """Replaces the breakpoints on functions, which are vertices by name, digest, number or label."""
         given = argument(arguments, "breakpoints", list)
         return {"breakpoints": self.replace(FUNCTIONS, [wanted_of(one, 0, str, "name") for one in given])}
 
-    def replace(self, name: str, wanted: list[Wanted]) -> list[dict]:
+    def replace(self, name: str, wanted: list[Wanted]) -> list[Object]:
         """Replaces the breakpoints of a source by name, and returns the answers; each gets a new number."""
         first = self.breakpoint_count + 1
         self.breakpoint_count += len(wanted)
         self.asked[name] = [one._replace(number=number) for number, one in enumerate(wanted, first)]
         return self.set_named(name)
 
-    def set_named(self, name: str) -> list[dict]:
+    def set_named(self, name: str) -> list[Object]:
         """Sets the breakpoints that were asked for a source by name, and returns the answers."""
         found: list[Breakpoint] = []
         self.answers[name] = [self.breakpoint(name, wanted, found) for wanted in self.asked[name]]
@@ -67,9 +68,9 @@ class Breaking(Holding):
         for new in [new for old, new in zip(before, after) if new != old]:
             self.event("breakpoint", {"reason": "changed", "breakpoint": new})
 
-    def breakpoint(self, name: str, wanted: Wanted, found: list[Breakpoint]) -> dict:
+    def breakpoint(self, name: str, wanted: Wanted, found: list[Breakpoint]) -> Object:
         """Returns the answer to a breakpoint, and adds it to `found` if it is valid."""
-        answer = {"id": wanted.number, "verified": False}
+        answer: Object = {"id": wanted.number, "verified": False}
         if name != FUNCTIONS:
             answer |= {"line": wanted.place, "source": self.source_named(name)}
         try:
@@ -89,7 +90,7 @@ class Breaking(Holding):
             raise NoBreakpoint("the definition was not made from this file")
         return names.index(name)
 
-    def source_named(self, name: str) -> dict:
+    def source_named(self, name: str) -> Object:
         """Returns the DAP source with the name under which its breakpoints are."""
         try:
             return self.source() if name == ENTRIES else self.file_source(self.file_named(name)) or {}
@@ -99,14 +100,14 @@ class Breaking(Holding):
     def vertices(self, name: str, wanted: Wanted) -> list[int]:
         """Returns the vertices of a breakpoint."""
         graph, origins = self.launched.graph, self.launched.origins
-        if name == FUNCTIONS:
+        if isinstance(wanted.place, str):
             return vertices_named(graph, wanted.place)
         line = wanted.place + 1 - self.line(1)
         if name == ENTRIES:
             return vertices_at_line(graph, line)
         return vertices_of_rows(graph, origins.rows_at(self.file_named(name), line))
 
-    def set_exception_breakpoints(self, arguments: dict) -> None:
+    def set_exception_breakpoints(self, arguments: Object) -> None:
         """Sets whether the run stops after a vertex that fails."""
         filters = [of_kind(one, "a filter", str) for one in argument(arguments, "filters", list)]
         for one in filters:
@@ -124,7 +125,7 @@ class Breaking(Holding):
     def value_of(self, expression: str) -> str:
         """Returns the value of an expression, or why it has none."""
         try:
-            return self.views.evaluate(expression)["result"]
+            return str(self.views.evaluate(expression)["result"])
         except (Refused, Refusal) as cause:
             return f"<{cause}>"
 

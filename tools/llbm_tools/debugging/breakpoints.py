@@ -74,10 +74,10 @@ def condition_of(text: str) -> Condition:
     }[match[1]]
 
 
-def wanted_of(given: object, number: int, kind: type, name: str) -> Wanted:
+def wanted_of(given: object, number: int, kind: type[int] | type[str], name: str) -> Wanted:
     """Returns a breakpoint that a client asks for; its place is the argument with this name and type."""
     one = of_kind(given, "a breakpoint", dict)
-    place = argument(one, name, kind)
+    place: int | str = argument(one, name, int) if kind is int else argument(one, name, str)
     texts = [argument(one, text, str, "") for text in ("condition", "hitCondition", "logMessage")]
     return Wanted(number, place, texts[0].strip(), texts[1], texts[2])
 
@@ -110,7 +110,7 @@ def vertices_of_rows(graph: Graph, rows: list[int]) -> list[int]:
     """Returns the vertices of the entries that come from a line of a file."""
     if not rows:
         raise NoBreakpoint("no entry comes from this line")
-    vertices = [graph.vertex_of[row] for row in rows if graph.vertex_of[row] is not None]
+    vertices = [vertex for row in rows if (vertex := graph.vertex_of[row]) is not None]
     return vertices or [vertex_of(graph, rows[0])]
 
 
@@ -126,9 +126,8 @@ def vertices_named(graph: Graph, name: str) -> list[int]:
     if number and not number[1] and int(number[2]) < len(graph.vertices):
         return [int(number[2])]
     digest = DIGEST.fullmatch(name)
-    begin = f"sha256:{digest[1]}" if digest else None
-    digests = [definition.digest_of(vertex.data) for vertex in graph.vertices] if begin else []
-    found = [number for number, one in enumerate(digests) if one.startswith(begin)]
+    digests = [definition.digest_of(vertex.data) for vertex in graph.vertices] if digest else []
+    found = [number for number, one in enumerate(digests) if digest and one.startswith(f"sha256:{digest[1]}")]
     if not found:
         raise NoBreakpoint(f"no vertex has the name, the digest, the number or the label {name!r}")
     return found

@@ -24,11 +24,9 @@ class Change(NamedTuple):
 
     def shown(self) -> str:
         """Describes the change in one line."""
-        if self.before is None:
-            return f"{ADDED} {entry_text(self.after)}"
-        if self.after is None:
-            return f"{REMOVED} {entry_text(self.before)}"
-        return f"{CHANGED} " + ", ".join(differences(self.before, self.after))
+        if self.before and self.after:
+            return f"{CHANGED} " + ", ".join(differences(self.before, self.after))
+        return f"{self.kind} {entry_text(self.after or self.before)}"
 
 
 class Compared(NamedTuple):
@@ -47,8 +45,10 @@ class Compared(NamedTuple):
         return self.left or ", ".join(f"{count:,} {kind}" for kind, count in self.counts.items() if count) or "nothing"
 
 
-def entry_text(node: trees.Node) -> str:
-    """Describes an entry in one line."""
+def entry_text(node: trees.Node | None) -> str:
+    """Describes an entry in one line; empty if there is none."""
+    if node is None:
+        return ""
     kind = "directory" if node.is_directory() else "file"
     what, content = ("", "") if node.is_directory() else trees.shown(node)
     text = f"{kind} {node.mode} {node.owner}" + (f", {what}" if what else "")

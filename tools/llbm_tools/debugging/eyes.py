@@ -1,10 +1,12 @@
 """The scopes of what runs and of what changed: the trees of a worker, caches, the last event, and failed vertices."""
 
+import functools
 from collections.abc import Callable
 from typing import Protocol
 
 from llbm_tools.common import printable, shortened
 from llbm_tools.debugging import changes, happened, looks, trees
+from llbm_tools.debugging.arguments import Object
 from llbm_tools.debugging.changes import Change, Compared
 from llbm_tools.debugging.happened import Happened, Tree, Watch
 from llbm_tools.debugging.places import Graph
@@ -12,8 +14,8 @@ from llbm_tools.debugging.session import Session
 
 MOST_OF_A_VALUE = 2_000
 
-Variable = dict
-Variables = list[dict]
+Variable = Object
+Variables = list[Object]
 
 
 class Host(Protocol):
@@ -84,7 +86,7 @@ class Eyes:
             count = trees.counted(key.instances, "instance", "instances")
             variable = plain(f"{key.number} {key.id}", f"{key.mode}, {count}, seed {key.seed}")
             if key.instances:
-                opener = self.views.reference(lambda key=key: self.instances(key))
+                opener = self.views.reference(functools.partial(self.instances, key))
                 variable |= {"variablesReference": opener, "namedVariables": key.instances}
             found.append(variable)
         return found or [plain("caches", "none")]

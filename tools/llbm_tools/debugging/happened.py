@@ -72,9 +72,10 @@ def mount_name(part: looks.Part, mount: Mount) -> str:
 
 def compared(name: str, before: Flat, after: Flat, most: int) -> Compared:
     """Compares two trees, or says why they are not compared."""
-    for one in (before, after):
-        if isinstance(one, str):
-            return Compared(name, [], {}, f"not compared: {one}")
+    if isinstance(before, str):
+        return Compared(name, [], {}, f"not compared: {before}")
+    if isinstance(after, str):
+        return Compared(name, [], {}, f"not compared: {after}")
     return changes.compared(name, before, after, most)
 
 

@@ -1,22 +1,23 @@
 """The requests that look at a run: threads, frames, scopes, variables, expressions and sources."""
 
 from llbm_tools.debugging import console
-from llbm_tools.debugging.arguments import Refused, argument
+from llbm_tools.debugging.arguments import Object, argument
 from llbm_tools.debugging.holding import FIRST_FILE, TEXT, Holding
 from llbm_tools.debugging.positions import Span, spans_of, step_shown
+from llbm_tools.streams import Refused
 
 
 class Inspecting(Holding):
     """An adapter's answers to requests that look."""
 
-    def worker(self, arguments: dict) -> int:
+    def worker(self, arguments: Object) -> int:
         """Returns the worker of a thread."""
         thread = argument(arguments, "threadId", int)
         if not 1 <= thread <= len(self.launched.session.runs):
             raise Refused(f"there is no thread {thread}")
         return thread - 1
 
-    def threads(self, _: dict) -> dict:
+    def threads(self, _: Object) -> Object:
         """Returns the workers, each with the vertex that it runs."""
         threads = []
         for worker, run in enumerate(self.launched.session.runs):
@@ -24,7 +25,7 @@ class Inspecting(Holding):
             threads.append({"id": worker + 1, "name": f"worker {worker}, {doing}"})
         return {"threads": threads}
 
-    def stack_trace(self, arguments: dict) -> dict:
+    def stack_trace(self, arguments: Object) -> Object:
         """Returns the frames of a worker: the vertex that it runs, or has just settled, and where that comes from."""
         worker = self.worker(arguments)
         first, most = argument(arguments, "startFrame", int, 0), argument(arguments, "levels", int, 0)
@@ -32,10 +33,10 @@ class Inspecting(Holding):
         frames = [] if vertex is None else [self.frame(worker, vertex), *self.file_frames(worker, vertex)]
         return {"stackFrames": frames[max(first, 0) :][: most if most > 0 else None], "totalFrames": len(frames)}
 
-    def frame(self, worker: int, vertex: int) -> dict:
+    def frame(self, worker: int, vertex: int) -> Object:
         """Returns the frame of a vertex, at its micro-step in the text of the entries."""
         span = self.span(worker, vertex)
-        frame = {
+        frame: Object = {
             "id": worker + 1,
             "name": f"{self.views.title(vertex)} ({self.views.progress(worker)})",
             "source": self.source(),
@@ -53,18 +54,18 @@ class Inspecting(Holding):
             return Span(known.first, known.last)
         return spans_of(self.launched.graph, known)[step]
 
-    def file_frames(self, worker: int, vertex: int) -> list[dict]:
+    def file_frames(self, worker: int, vertex: int) -> list[Object]:
         """Returns the frame of a vertex in the file that it was made from, if that is known."""
         known, origins = self.launched.graph.vertices[vertex], self.launched.origins
         for one in origins.ranges[known.entry]:
             source = self.file_source(one.file)
             if source:
-                frame = {"id": len(self.launched.session.runs) + worker + 1, "name": self.views.title(vertex)}
+                frame: Object = {"id": len(self.launched.session.runs) + worker + 1, "name": self.views.title(vertex)}
                 lines = {"line": self.line(one.first), "endLine": self.line(one.last), "column": self.column(1)}
                 return [{**frame, "source": source, **lines}]
         return []
 
-    def scopes(self, arguments: dict) -> dict:
+    def scopes(self, arguments: Object) -> Object:
         """Returns the scopes of a frame; both frames of a worker have the same."""
         frame, count = argument(arguments, "frameId", int), len(self.launched.session.runs)
         worker = (frame - 1) % count
@@ -73,12 +74,12 @@ class Inspecting(Holding):
             raise Refused(f"frameId {frame} is not known")
         return {"scopes": self.views.scopes(worker)}
 
-    def typed(self, variable: dict) -> dict:
+    def typed(self, variable: Object) -> Object:
         """Removes the type of a variable or a result if the client does not support types."""
         knows = self.client.get("supportsVariableType") is True
         return variable if knows else {name: value for name, value in variable.items() if name != "type"}
 
-    def variables(self, arguments: dict) -> dict:
+    def variables(self, arguments: Object) -> Object:
         """Returns the variables of a reference, or some of them. All variables have names, none is indexed."""
         reference = argument(arguments, "variablesReference", int)
         first, most = argument(arguments, "start", int, 0), argument(arguments, "count", int, 0)
@@ -87,7 +88,7 @@ class Inspecting(Holding):
         found = self.views.variables(reference)[max(first, 0) :]
         return {"variables": list(map(self.typed, found[:most] if most > 0 else found))}
 
-    def evaluate(self, arguments: dict) -> dict:
+    def evaluate(self, arguments: Object) -> Object:
         """Evaluates an expression; in the console it may be a command of a session that looks."""
         expression = argument(arguments, "expression", str)
         if argument(arguments, "context", str, "") == "repl":
@@ -96,9 +97,9 @@ class Inspecting(Holding):
                 return {"result": result, "variablesReference": 0}
         return self.typed(self.views.evaluate(expression))
 
-    def source_text(self, arguments: dict) -> dict:
+    def source_text(self, arguments: Object) -> Object:
         """Returns the text of the entries, or that of a file that the definition was made from."""
-        source = argument(arguments, "source", dict, {})
+        source: Object = argument(arguments, "source", dict, {})
         reference = argument(arguments, "sourceReference", int, 0) or argument(source, "sourceReference", int, 0)
         files = self.launched.origins.files
         if not self.launched.file and reference == TEXT:
@@ -107,7 +108,7 @@ class Inspecting(Holding):
             return {"content": files[reference - FIRST_FILE].text}
         raise Refused(f"sourceReference {reference} is not known")
 
-    def loaded_sources(self, _: dict) -> dict:
+    def loaded_sources(self, _: Object) -> Object:
         """Returns the text of the entries, and the files that the definition was made from as far as they are known."""
         files = [self.file_source(number) for number in range(len(self.launched.origins.files))]
         return {"sources": [self.source(), *(source for source in files if source)]}

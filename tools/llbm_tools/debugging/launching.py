@@ -16,14 +16,16 @@ import tempfile
 from collections.abc import Callable
 from typing import NamedTuple
 
-from llbm_tools import definition, faults, names
-from llbm_tools.common import MOST_BYTES, not_llbm, os_error_text, program_named
+from llbm_tools import definition, faults, names, source_names
+from llbm_tools.common import MOST_BYTES, os_error_text, program_named
 from llbm_tools.debugging import places
-from llbm_tools.debugging.arguments import Refused, argument, of_kind
+from llbm_tools.debugging.arguments import Object, argument, of_kind
 from llbm_tools.debugging.origins import Origins, origins_of
 from llbm_tools.debugging.readable import readable
 from llbm_tools.debugging.session import Refusal, Session, SessionFailed
 from llbm_tools.paths import TOOLS
+from llbm_tools.streams import Refused, why_not
+from llbm_tools.wire import Unreadable
 
 ARGUMENTS = ("definition", "text", "sources", "files", "workers", "stopOnEntry", "stopAtEnd", "noDebug", "llbm")
 EDITOR_ARGUMENTS = (
@@ -31,6 +33,7 @@ EDITOR_ARGUMENTS = (
     "debugServer", "serverReadyAction", "suppressMultipleSessionWarning", "linux", "osx", "windows", "restart",
 )
 
+UNNAMED = "fault 121 "
 MOST_WORKERS = 64
 USUAL_WORKERS = 2
 
@@ -80,16 +83,14 @@ def cause_of(words: list[str], otherwise: str, entries: faults.Entries | None = 
     return f"{words[0]}: {' '.join(meaning)}" if meaning else words[0]
 
 
-def program_of(arguments: dict) -> str:
+def program_of(arguments: Object) -> str:
     """Returns the program: the one that is named, else the one on PATH, else that of this folder."""
     named = argument(arguments, "llbm", str, "")
-    found = shutil.which(named or "llbm") or shutil.which(named or program_named(None))
-    cause = not_llbm(found) if found else ""
-    if found and not cause:
-        return found
+    word = named or shutil.which("llbm") or program_named(None)
+    cause = why_not(word)
     if cause:
-        raise Refused(f"{named or found}: {cause}" + ("" if named else "; the argument llbm names one"))
-    raise Refused(f"{named or 'llbm'}: there is no such program" + ("" if named else "; the argument llbm names one"))
+        raise Refused(f"{word}: {cause}" + ("" if named else "; the argument llbm names one"))
+    return shutil.which(word) or word
 
 
 def file_content(place: str) -> bytes:
@@ -111,11 +112,11 @@ def entries_of(data: bytes, name: str) -> list[bytes]:
     """Returns the entries of a definition."""
     try:
         return definition.entries_of(data)
-    except definition.Unreadable as fault:
+    except Unreadable as fault:
         raise Refused(f"{name}: {fault}") from fault
 
 
-def definition_of(program: str, arguments: dict) -> tuple[bytes, bytes | None]:
+def definition_of(program: str, arguments: Object) -> tuple[bytes, bytes | None]:
     """Returns the bytes of the definition, and the text of its entries if the launch names its file."""
     file, text_file = argument(arguments, "definition", str, ""), argument(arguments, "text", str, "")
     if not file and not text_file:
@@ -175,7 +176,7 @@ def source_file(name: str, path: str, place: str, say: Say) -> str:
     return place
 
 
-def source_words(arguments: dict, folder: str, say: Say) -> list[str]:
+def source_words(arguments: Object, folder: str, say: Say) -> list[str]:
     """Returns the command-line words for the program's local sources."""
     words = []
     for number, (name, path) in enumerate(argument(arguments, "sources", dict, {}).items()):
@@ -186,7 +187,7 @@ def source_words(arguments: dict, folder: str, say: Say) -> list[str]:
     return words
 
 
-def workers_of(arguments: dict) -> int:
+def workers_of(arguments: Object) -> int:
     """Returns the number of workers."""
     workers = argument(arguments, "workers", int, USUAL_WORKERS)
     if not 1 <= workers <= MOST_WORKERS:
@@ -194,13 +195,13 @@ def workers_of(arguments: dict) -> int:
     return workers
 
 
-def files_of(arguments: dict) -> dict[str, str]:
+def files_of(arguments: Object) -> dict[str, str]:
     """Returns the paths of files that the definition was made from, by the names that it has for them."""
-    given = argument(arguments, "files", dict, {})
+    given: Object = argument(arguments, "files", dict, {})
     return {name: of_kind(path, f"files: {name}", str) for name, path in given.items()}
 
 
-def unknown_arguments(arguments: dict) -> list[str]:
+def unknown_arguments(arguments: Object) -> list[str]:
     """Returns a line for each argument of a launch that is neither known nor an editor's own."""
     lines = []
     for name in arguments:
@@ -222,7 +223,12 @@ def start_session(command: list[str], workers: int, vertices: int, entries: faul
     return session
 
 
-def start(arguments: dict, folder: str, say: Say) -> Launched:
+def missing_sources(cause: str, data: bytes, given: list[str]) -> list[str]:
+    """Returns a line with all local sources that have no tree, if a run did not begin for want of one."""
+    return source_names.missing_notes(data, given) if cause.startswith(UNNAMED) else []
+
+
+def start(arguments: Object, folder: str, say: Say) -> Launched:
     """Starts what a launch request asks for, with temporary files in a folder."""
     program, workers, given = program_of(arguments), workers_of(arguments), files_of(arguments)
     data, text = definition_of(program, arguments)
@@ -232,17 +238,23 @@ def start(arguments: dict, folder: str, say: Say) -> Launched:
     named = names.names_of(data)
     graph = places.graph_of(shown, text_of(program, data, text, entries), entries, [one.text for one in named])
     words = source_words(arguments, folder, say)
+    given_names = list(argument(arguments, "sources", dict, {}))
+    for note in source_names.word_notes(data, given_names):
+        say(note)
     file = os.path.join(folder, "definition")
     pathlib.Path(file).write_bytes(data)
     command = [program, "step", file, "--workers", str(workers), *words]
-    session = start_session(command, workers, len(graph.vertices), named_entries)
+    try:
+        session = start_session(command, workers, len(graph.vertices), named_entries)
+    except Refused as fault:
+        raise Refused("; ".join([str(fault), *missing_sources(str(fault), data, given_names)])) from fault
     path, place = argument(arguments, "definition", str, ""), argument(arguments, "text", str, "")
     origins = origins_of(data, given, os.path.dirname(os.path.abspath(path or place)))
     name, text_file = f"{os.path.basename(path)}.text", os.path.abspath(place) if place else None
     return Launched(session, graph, named_entries, name, text_file, origins)
 
 
-def launch(arguments: dict, say: Say) -> Launched:
+def launch(arguments: Object, say: Say) -> Launched:
     """Starts what a launch request asks for. If that fails it is refused, and no temporary file remains."""
     try:
         with tempfile.TemporaryDirectory(prefix="llbm-debug-") as folder:

@@ -45,7 +45,7 @@ def parts_of(session: Session, worker: int) -> list[Part]:
     lines = session.lines_by(f"work {worker}")
     if lines == [b"none"]:
         return []
-    found = []
+    found: list[Part] = []
     for line in lines:
         text = line.decode("utf-8", "backslashreplace")
         match = PART.fullmatch(text)

@@ -53,7 +53,7 @@ class Origins(NamedTuple):
     def file_at(self, path: str) -> int | None:
         """Returns the file with a path: the one that is known by it, or else the first whose name ends it."""
         place = os.path.realpath(path)
-        known = [bool(file.path) and os.path.realpath(file.path) == place for file in self.files]
+        known = [file.path is not None and os.path.realpath(file.path) == place for file in self.files]
         named = [ends_in(path, file.name) for file in self.files]
         return known.index(True) if any(known) else named.index(True) if any(named) else None
 

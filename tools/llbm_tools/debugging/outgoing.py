@@ -1,6 +1,7 @@
 """What an adapter sends: responses and events of the protocol."""
 
 from llbm_tools.common import printable
+from llbm_tools.debugging.arguments import Object
 from llbm_tools.debugging.wire import Writer
 
 FAILURE = 1
@@ -12,7 +13,7 @@ class Outgoing:
     def __init__(self, writer: Writer) -> None:
         self.writer = writer
 
-    def event(self, name: str, body: dict | None = None) -> None:
+    def event(self, name: str, body: Object | None = None) -> None:
         """Sends an event."""
         self.writer.send({"type": "event", "event": name, **({} if body is None else {"body": body})})
 
@@ -20,7 +21,7 @@ class Outgoing:
         """Sends a line of output to the client."""
         self.event("output", {"category": category, "output": f"{printable(text)}\n", **more})
 
-    def respond(self, request: int, command: str, body: dict | None) -> None:
+    def respond(self, request: int, command: str, body: Object | None) -> None:
         """Sends the response to a request that succeeded."""
         more = {} if body is None else {"body": body}
         self.writer.send({"type": "response", "request_seq": request, "success": True, "command": command, **more})

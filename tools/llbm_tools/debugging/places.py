@@ -4,8 +4,9 @@ import re
 from typing import NamedTuple
 
 from llbm_tools import definition
-from llbm_tools.debugging.arguments import Refused
 from llbm_tools.ops import Op
+from llbm_tools.streams import Refused
+from llbm_tools.wire import Unreadable
 
 Lines = list[tuple[int, int]]
 
@@ -97,7 +98,7 @@ def graph_of(shown: str, text: Text, entries: list[bytes], names: list[str]) -> 
         raise Refused(f"the text has {len(lines)} entries, and the definition {len(entries)}")
     try:
         rows = definition.graph_of(entries).rows
-    except definition.Unreadable as fault:
+    except Unreadable as fault:
         raise Refused(f"the definition: {fault}") from fault
     *vertex_lines, last = shown.splitlines() or [""]
     if len(vertex_lines) != len(rows) or not last.startswith("result "):

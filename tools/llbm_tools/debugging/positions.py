@@ -60,7 +60,9 @@ def words_places(lines: list[str]) -> list[int]:
 def command_spans(script: str, line: str, number: int) -> list[Span]:
     """Returns the places of the commands of a script on its line."""
     column = line.find('"') + 1
-    found, begin, end, place = [], None, 0, 0
+    found: list[Span] = []
+    begin: int | None = None
+    end = place = 0
     for word in [*script.split(" "), ";"]:
         if word in SEPARATORS:
             if begin is not None:
@@ -89,9 +91,8 @@ def spans_of(graph: Graph, vertex: Vertex) -> list[Span]:
     return found if len(found) == vertex.steps else [whole] * vertex.steps
 
 
-def is_finished(session: Session, worker: int, vertex: Vertex) -> bool:
+def is_finished(session: Session, worker: int, steps: int, vertex: Vertex) -> bool:
     """Returns whether what a worker runs has no micro-step left: all are done, or one failed that ends it."""
-    steps = session.runs[worker].steps
     place = reasons.last_step(session.record, worker, len(session.record))
     if steps >= vertex.steps:
         return True
@@ -106,7 +107,7 @@ def step_shown(session: Session, worker: int, vertex: Vertex) -> int | None:
     """Returns the micro-step that a worker does next, or the one that failed; None where neither is."""
     count = len(session.record)
     run = session.runs[worker]
-    if run is not None and not is_finished(session, worker, vertex):
+    if run is not None and not is_finished(session, worker, run.steps, vertex):
         return run.steps
     place = reasons.last_step(session.record, worker, count if run is not None else count - 1)
     return None if place is None else reasons.failed_part(session.record[place])

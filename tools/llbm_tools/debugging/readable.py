@@ -22,7 +22,8 @@ def value_text(field: Field, record: Record, labels: dict[bytes, int]) -> str:
     if field.kind == "bool":
         return str(bool(record.number)).lower()
     if isinstance(record.held, int):
-        return str(number_in(field.kind, record.held) if field.kind in NUMBERS else record.held)
+        is_number = isinstance(field.kind, str) and field.kind in NUMBERS
+        return str(number_in(str(field.kind), record.held) if is_number else record.held)
     if field.kind != "string":
         return record.held.hex() or "-"
     if field.name == "digest" and record.held in labels:

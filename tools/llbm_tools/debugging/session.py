@@ -11,8 +11,7 @@ import re
 import subprocess
 import tempfile
 from collections.abc import Iterator
-from typing import NamedTuple
-
+from typing import BinaryIO, NamedTuple, cast
 
 LINE = re.compile(r"([0-9]+) (claim|step|settle|cancel) ([0-9]+)(?: ([0-9]+))? -> (.+)")
 
@@ -69,7 +68,7 @@ def after(event: Event) -> Run | None:
     if event.kind == "claim":
         return Run(event.vertex, 0)
     if event.kind == "step":
-        return Run(event.vertex, event.before.steps + 1)
+        return Run(event.vertex, event.before.steps + 1 if event.before else 1)
     return None
 
 
@@ -83,19 +82,20 @@ class Session:
         self.lines = 0
         self.words = tempfile.TemporaryFile()
         self.child = subprocess.Popen(command, stdin=subprocess.PIPE, stdout=subprocess.PIPE, stderr=self.words)
+        self.given, self.printed = cast(BinaryIO, self.child.stdin), cast(BinaryIO, self.child.stdout)
 
     def send(self, *lines: str) -> None:
         """Sends lines to the program."""
         self.lines += len(lines)
         try:
-            self.child.stdin.write("".join(f"{line}\n" for line in lines).encode("ascii"))
-            self.child.stdin.flush()
+            self.given.write("".join(f"{line}\n" for line in lines).encode("ascii"))
+            self.given.flush()
         except OSError as fault:
             raise self.ended() from fault
 
     def raw(self) -> bytes:
         """Returns the program's next line, without its line end."""
-        line = self.child.stdout.readline()
+        line = self.printed.readline()
         if not line.endswith(b"\n"):
             raise self.ended()
         return line[:-1]
@@ -126,7 +126,7 @@ class Session:
         claims = match[2] == "claim"
         if claims != bool(match[4]) or claims != (before is None):
             raise self.broken(line)
-        vertex = int(match[4]) if claims else before.vertex
+        vertex = before.vertex if before else int(match[4])
         event = Event(line, match[2], worker, vertex, match[5], before)
         self.record.append(event)
         self.runs[worker] = after(event)
@@ -196,7 +196,8 @@ class Session:
     def lines_by(self, command: str, most: int | None = None) -> list[bytes]:
         """Returns the lines that a command prints, whatever their number; raises TooLarge above `most` bytes."""
         self.send(command, "")
-        lines, size = [], 0
+        lines: list[bytes] = []
+        size = 0
         while not self.is_end(line := self.raw()):
             if not lines and line.startswith(b"fault "):
                 self.check_end(self.raw())
@@ -241,6 +242,6 @@ class Session:
         if self.child.poll() is None:
             self.child.kill()
         with contextlib.suppress(OSError):
-            self.child.stdin.close()
-        self.child.stdout.close()
+            self.given.close()
+        self.printed.close()
         return self.child.wait()

@@ -28,6 +28,11 @@ class Node(NamedTuple):
         """Returns whether it is a directory."""
         return self.names is not None
 
+    @property
+    def entries(self) -> dict[str, "Node"]:
+        """The entries of a directory by name; none for a file."""
+        return {} if self.names is None else self.names
+
 
 def path_and_head(line: bytes) -> tuple[str, bytes]:
     """Splits a line of a tree's text: returns its path, and all that is before it."""
@@ -59,7 +64,7 @@ def tree_of(lines: list[bytes]) -> Node:
         path, head = path_and_head(line)
         node = node_of(head)
         above, _, name = path.rpartition("/")
-        directories[above].names[name] = node
+        directories[above].entries[name] = node
         if node.is_directory():
             directories[path] = node
     return root
@@ -83,9 +88,9 @@ def node_at(root: Node, text: str) -> Node:
         if not node.is_directory():
             raise NoPath(f"{path} is a file")
         path = f"{path}/{name}"
-        if name not in node.names:
+        if name not in node.entries:
             raise NoPath(f"nothing is at {path}")
-        node = node.names[name]
+        node = node.entries[name]
     return node
 
 
@@ -120,7 +125,7 @@ def summary_of(node: Node) -> str:
     """Describes a node in one line: mode, owner, and the number of names or the content."""
     prefix = f"{node.mode} {node.owner}"
     if node.is_directory():
-        return f"{prefix}, {counted(len(node.names), 'name', 'names')}"
+        return f"{prefix}, {counted(len(node.entries), 'name', 'names')}"
     what, content = shown(node)
     return f"{prefix}, {what}: {printable(content)}" if content else f"{prefix}, {what}"
 
@@ -130,7 +135,7 @@ def description_of(node: Node) -> str:
     if not node.is_directory():
         what, content = shown(node)
         return f"{what}:\n{content}" if content else what
-    names = [name + "/" * below.is_directory() for name, below in node.names.items()]
+    names = [name + "/" * below.is_directory() for name, below in node.entries.items()]
     left = len(names) - MOST_NAMES_SHOWN
     lines = [*names[:MOST_NAMES_SHOWN], *([f"and {left:,} more"] if left > 0 else [])]
     return "\n".join([counted(len(names), "name", "names") + (":" if names else ""), *lines])

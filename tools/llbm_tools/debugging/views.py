@@ -1,14 +1,16 @@
 """What can be inspected in a run that has stopped: scopes and variables, and expressions."""
 
+import functools
 import re
 from collections.abc import Callable
 
 from llbm_tools import definition
 from llbm_tools.common import printable, shortened
 from llbm_tools.debugging import looks, reasons, trees
-from llbm_tools.debugging.arguments import Refused
+from llbm_tools.debugging.arguments import Object
 from llbm_tools.debugging.eyes import Eyes
 from llbm_tools.debugging.launching import Launched
+from llbm_tools.streams import Refused
 
 MOST_OF_A_NAME = 60
 OUTPUT = re.compile(r"\s*([0-9]{1,9})\.([0-9]{1,9})(?:\s*|:(.*))", re.DOTALL)
@@ -17,7 +19,7 @@ LABEL = re.compile(r"\s*%([0-9]{1,9})\s*")
 LOOK = re.compile(r"\s*((?:work|cache) [0-9]{1,9} [0-9]{1,9})(?:\s*|:(.*))", re.DOTALL)
 FORMS = "V.I:/path, V, %k, work W I:/path and cache K I:/path"
 
-Variables = list[dict]
+Variables = list[Object]
 
 
 class Views:
@@ -106,28 +108,28 @@ class Views:
             self.looked[command] = looks.tree_by(self.session, command)
         return self.looked[command]
 
-    def node(self, name: str, node: trees.Node, expression: str | None) -> dict:
+    def node(self, name: str, node: trees.Node, expression: str | None) -> Object:
         """Returns the variable for a node of a tree; a directory expands to its entries."""
-        variable = {"name": name, "value": trees.summary_of(node), "variablesReference": 0}
+        variable: Object = {"name": name, "value": trees.summary_of(node), "variablesReference": 0}
         if expression is not None:
             variable["evaluateName"] = expression
         if not node.is_directory():
             return {**variable, "type": "file"}
         return {**variable, "type": "directory", **self.opening(node, expression)}
 
-    def opening(self, node: trees.Node, expression: str | None) -> dict:
+    def opening(self, node: trees.Node, expression: str | None) -> Object:
         """Returns the fields that make a directory expandable, if it has entries."""
-        if not node.names:
+        if not node.entries:
             return {}
 
-        def entry(name: str, below: trees.Node) -> dict:
+        def entry(name: str, below: trees.Node) -> Object:
             """Returns the variable for an entry of the directory."""
             return self.node(name, below, None if expression is None else f"{expression.rstrip('/')}/{name}")
 
-        opener = self.reference(lambda: [entry(name, below) for name, below in node.names.items()])
-        return {"variablesReference": opener, "namedVariables": len(node.names)}
+        opener = self.reference(lambda: [entry(name, below) for name, below in node.entries.items()])
+        return {"variablesReference": opener, "namedVariables": len(node.entries)}
 
-    def output(self, name: str, vertex: int, output: int) -> dict:
+    def output(self, name: str, vertex: int, output: int) -> Object:
         """Returns the variable for an output."""
         node = self.tree(vertex, output)
         if node is None:
@@ -169,30 +171,34 @@ class Views:
     def graph_variables(self) -> Variables:
         """Returns the variables for all vertices with their status; each expands to its outputs, or to what it left."""
         openers = {"done": self.outputs, "failed": self.eyes.left}
-        found = []
+        found: Variables = []
         for vertex, status in enumerate(self.session.status()):
             opens = openers.get(status.partition(" ")[0])
-            opener = self.reference(lambda opens=opens, vertex=vertex: opens(vertex)) if opens else 0
+            opener = self.reference(functools.partial(opens, vertex)) if opens else 0
             found.append({"name": self.title(vertex), "value": status, "variablesReference": opener})
         return found
 
-    def scopes(self, worker: int) -> list[dict]:
+    def scopes(self, worker: int) -> list[Object]:
         """Returns the scopes of a worker's frame."""
         vertex = self.vertex_of(worker)
         if vertex is None:
             raise Refused(f"frameId {worker + 1} is not known: worker {worker} is idle")
         known, progress = self.graph.vertices[vertex], self.progress(worker)
         return [
-            self.scope("Vertex", lambda: self.facts(vertex, progress), presentationHint="locals"),
+            self.scope("Vertex", functools.partial(self.facts, vertex, progress), presentationHint="locals"),
             self.scope("Changed by the last step", self.eyes.changed, expensive=True),
             *self.work_scopes(worker, vertex),
-            self.scope("Inputs", lambda: self.inputs(vertex), len(known.inputs), presentationHint="arguments"),
-            self.scope("Outputs", lambda: self.outputs(vertex), known.outputs, presentationHint="returnValue"),
+            self.scope(
+                "Inputs", functools.partial(self.inputs, vertex), len(known.inputs), presentationHint="arguments"
+            ),
+            self.scope(
+                "Outputs", functools.partial(self.outputs, vertex), known.outputs, presentationHint="returnValue"
+            ),
             self.scope("Caches", self.eyes.caches, expensive=True),
             self.scope("All vertices", self.graph_variables, len(self.graph.vertices), expensive=True),
         ]
 
-    def work_scopes(self, worker: int, vertex: int) -> list[dict]:
+    def work_scopes(self, worker: int, vertex: int) -> list[Object]:
         """Returns the scope of what a worker has made so far, or had made when its vertex failed."""
         if self.session.runs[worker] is not None:
             return [self.scope("Work", lambda: self.eyes.work(worker), expensive=True)]
@@ -200,12 +206,12 @@ class Views:
             return []
         return [self.scope("Work when it failed", lambda: self.eyes.left(vertex), expensive=True)]
 
-    def scope(self, name: str, opener: Callable[[], Variables], count: int | None = None, **more: object) -> dict:
+    def scope(self, name: str, opener: Callable[[], Variables], count: int | None = None, **more: object) -> Object:
         """Returns a scope, with the number of its variables if that is known."""
         counted = {} if count is None else {"namedVariables": count}
         return {"name": name, "variablesReference": self.reference(opener), "expensive": False, **counted, **more}
 
-    def evaluate(self, expression: str) -> dict:
+    def evaluate(self, expression: str) -> Object:
         """Evaluates `V.I:/path` or a tree of a worker or of a cache, `V` (a vertex) or `%k` (the vertex of entry k)."""
         output, look, vertex, label = (form.fullmatch(expression) for form in (OUTPUT, LOOK, VERTEX, LABEL))
         if output:
@@ -223,7 +229,7 @@ class Views:
         if number >= len(self.graph.vertices):
             raise Refused(f"there is no vertex {number}")
 
-    def evaluated_output(self, vertex: int, output: int, path: str) -> dict:
+    def evaluated_output(self, vertex: int, output: int, path: str) -> Object:
         """Returns what is at a path of an output."""
         self.check_vertex(vertex)
         root = self.tree(vertex, output)
@@ -231,21 +237,21 @@ class Views:
             raise Refused(f"there is no output {vertex}.{output}" + self.why_no_output(vertex, output))
         return self.evaluated_node(f"{vertex}.{output}", root, path)
 
-    def evaluated_look(self, command: str, path: str) -> dict:
+    def evaluated_look(self, command: str, path: str) -> Object:
         """Returns what is at a path of a tree of a worker or of a cache."""
         root = self.tree_by(command)
         if root is None:
             raise Refused(f"there is no tree {command}")
         return self.evaluated_node(command, root, path)
 
-    def evaluated_node(self, expression: str, root: trees.Node, path: str) -> dict:
+    def evaluated_node(self, expression: str, root: trees.Node, path: str) -> Object:
         """Returns what is at a path of a tree."""
         try:
             node = trees.node_at(root, path)
         except trees.NoPath as fault:
             raise Refused(f"{expression}: {fault}") from fault
         names = trees.names_in(path)
-        shown = {"result": trees.description_of(node), "variablesReference": 0, "type": "file"}
+        shown: Object = {"result": trees.description_of(node), "variablesReference": 0, "type": "file"}
         if not node.is_directory():
             return shown
         return shown | {"type": "directory"} | self.opening(node, f"{expression}:/" + "/".join(names))
@@ -256,7 +262,7 @@ class Views:
             return ""
         return f": vertex {vertex} is {self.session.status()[vertex]}"
 
-    def evaluated_vertex(self, number: int) -> dict:
+    def evaluated_vertex(self, number: int) -> Object:
         """Describes a vertex: its status, what the program prints for it, and what it does."""
         self.check_vertex(number)
         vertex = self.graph.vertices[number]
@@ -267,8 +273,9 @@ class Views:
             lines += filter(None, [self.why(number)])
         return {"result": "\n".join(lines), "variablesReference": 0, "type": "vertex"}
 
-    def evaluated_entry(self, number: int) -> dict:
+    def evaluated_entry(self, number: int) -> Object:
         """Describes the vertex of an entry."""
-        if number >= len(self.graph.vertex_of) or self.graph.vertex_of[number] is None:
+        vertex = self.graph.vertex_of[number] if number < len(self.graph.vertex_of) else None
+        if vertex is None:
             raise Refused(f"entry {number} is not a vertex")
-        return self.evaluated_vertex(self.graph.vertex_of[number])
+        return self.evaluated_vertex(vertex)

@@ -70,7 +70,7 @@ class Writer:
         self.descriptor = descriptor
         self.count = 0
 
-    def send(self, message: dict) -> None:
+    def send(self, message: dict[str, object]) -> None:
         """Sends a message with the next number."""
         self.count += 1
         content = json.dumps({"seq": self.count, **message}).encode("ascii")
