@@ -48,6 +48,7 @@ MODULES = [
     "building",
     "contents",
     "repository",
+    "pages",
     "floors",
     "buildkit",
     "refusing",
