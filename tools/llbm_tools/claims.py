@@ -86,8 +86,9 @@ def edits(library: Library) -> list[str]:
     """Returns the table of wrong bodies."""
     rows = ["| Crate | Wrong body | Where | Tried by |", "|---|---|---|---|"]
     for line in (library.root / "crates.txt").read_text("utf-8").splitlines():
-        crate = library.root / "crates" / line.partition(":")[0].strip()
-        for edit in edits_of(crate) if line.strip() else []:
+        names = line.partition(":")[0].split()
+        crate = library.root / "crates" / "".join(names[:1])
+        for edit in edits_of(crate) if names else []:
             words = edit.stem.replace("_", " ")
             by = "the gate" if edit.parent.name == "must-fail" else "`tools/more-edits`"
             rows.append(f"| `{crate.name}` | {words[0].upper()}{words[1:]}. | {edited(crate, edit)} | {by} |")

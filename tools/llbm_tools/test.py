@@ -58,6 +58,7 @@ MODULES = [
     "sessions",
     "naming",
     "compiling",
+    "embedding",
     "installing",
     "words",
     "running",

@@ -12,7 +12,7 @@ struct Handle {
 
 type Copy = unsafe extern "C" fn(*mut Handle, *mut u8, usize) -> usize;
 
-unsafe extern "C" {
+extern "C" {
     fn llb_local(it: *mut Handle, name: *const u8, n: usize, text: *const u8, m: usize) -> u8;
     fn llb_open(it: *mut Handle, definition: *const u8, n: usize, workers: u32) -> u8;
     fn llb_line(it: *mut Handle, line: *const u8, n: usize) -> u8;

@@ -1,5 +1,5 @@
 -- What each call does to what is held, by the definition of the program's own command: from what the call starts with to what it leaves, and its status.
-use Rattle.std.specs.Prelude.{◌≡◌, ◌+◌, ◌⊎◌, ℕ, Bool, true, false, List, [], Option, Some, None, Result, Ok, Err, MatchOption, IsUtf8}
+use Rattle.std.specs.Prelude.{◌≡◌, ◌+◌, ◌⊎◌, ℕ, Bool, true, List, [], Option, Some, None, Result, Ok, Err, MatchOption, IsUtf8}
 use Rattle.llb_wire.specs.declared.sink.Failed.{Failed}
 use Rattle.llb_tree.specs.Tree.{TreeMap}
 use Rattle.llb_loader.specs.Graph.{Numbered}
@@ -10,7 +10,7 @@ use Rattle.llb_session.specs.Answers.{Says, Quits}
 use Rattle.llb_commands.specs.declared.fault.ProgramFault.TheVariants as fault
 use Rattle.llb_commands.specs.declared.sources.SourceFault.{SourceFault}
 use Rattle.llb_commands.specs.declared.words.WordsFault.TheVariants.{Words}
-use Rattle.llb_commands.specs.Io.{Io, Stream, IsKept}
+use Rattle.llb_commands.specs.Io.{Io, Stream}
 use Rattle.llb_commands.specs.Answer.{Runs, Draws, IsNotRun}
 use Rattle.llb_commands.specs.Assembly.{Assembles, Disassembles}
 use Rattle.llb_commands.specs.CommandLine.{TellsWords}
@@ -94,8 +94,8 @@ abbrev pub Leads : List ℕ → Stepping → Held → Held → Result Bool Faile
 Leads line s old new result = (t : Stepping) × (new.session ≡ Some t) × (new.lines ≡ old.lines + 1)
     × Says s (old.lines + 1) line t (written new.output.items) result
 
--- A line is sent to session s. 0: its reply is the output. 1: it ends the session, and none is open. 3: memory for the copy of its reply was refused; what it asks
--- for is done, and the output is a prefix of its reply. A session has no more than 2^64 - 1 lines: a further one is refused, and changes nothing.
+-- A line is sent to session s. 0: its reply is the output. 1: it ends the session, and none is open. 3: memory for the copy of its reply was refused; what it
+-- asks for is done, and the output is a prefix of its reply. A session has no more than 2^64 - 1 lines: a further one is refused, and changes nothing.
 abbrev pub RepliesOn : List ℕ → Stepping → Held → Held → ℕ → Type 0
 RepliesOn line s old new status =
     ((status ≡ 0) × (new.messages.items ≡ []) × Leads line s old new (Ok true))

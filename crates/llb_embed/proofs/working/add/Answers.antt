@@ -1,4 +1,4 @@
-use Rattle.std.proofs.Common.{◌≡◌, ◌∙◌, ap}
+use Rattle.std.proofs.Common.{◌∙◌, ap}
 use Rattle.llb_loader.specs.Locals.{with_local}
 use Rattle.llb_embed.proofs.working.add.Goals as goal
 

@@ -1,4 +1,4 @@
-use Rattle.std.proofs.Common.{◌≡◌, ◌∙◌, ap, refl, inl}
+use Rattle.std.proofs.Common.{◌∙◌, ap, refl, inl}
 use Rattle.llb_loader.specs.Locals.{with_local}
 use Rattle.llb_embed.proofs.working.local.Goals as goal
 

@@ -1,4 +1,4 @@
-use Rattle.std.proofs.Common.{◌≡◌, ◌∙◌, ap, subst, inr, Some}
+use Rattle.std.proofs.Common.{◌∙◌, ap, subst, inr, Some}
 use Rattle.llb_commands.specs.Answer.{IsNotRun}
 use Rattle.llb_commands.specs.Faults.{Tells}
 use Rattle.llb_commands.specs.Running.{TellsRefusal}

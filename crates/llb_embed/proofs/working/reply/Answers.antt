@@ -1,4 +1,4 @@
-use Rattle.std.proofs.Common.{◌≡◌, ◌∙◌, ◌+◌, ℕ, Bool, List, [], Some, Ok, Err, refl, sym, ap, subst, inl, inr}
+use Rattle.std.proofs.Common.{◌∙◌, ◌+◌, ℕ, Bool, List, [], Some, Ok, Err, refl, sym, ap, subst, inl, inr}
 use Rattle.llb_session.specs.Answers.{Says}
 use Rattle.llb_embed.specs.declared.held.Held.{Held}
 use Rattle.llb_embed.proofs.Telling.{replies, three_either}
@@ -21,7 +21,8 @@ pub returns-in-Err : goal.returns-in-Err
 returns-in-Err c =
     let held = c.clear.new.held in let s = c.in-Some.stepper in let t = c.answer.new.stepper in let old = c.args.held.now in
     let rest = c.clear.ensures.rest in
-    let new : Held = record { locals = held.locals; session = Some t; lines = held.lines + 1; output = c.answer.new.out; messages = c.refusal-in-Err.new.err } in
+    let messages = c.refusal-in-Err.new.err in
+    let new : Held = record { locals = held.locals; session = Some t; lines = held.lines + 1; output = c.answer.new.out; messages = messages } in
     let Said : List ℕ → ℕ → Type 0 =
     λ out n. Says s n c.args.line.now t (record { before = Some out; after = Some c.answer.new.out.items }) (Err c.in-Err.field-0) in
     let first = subst (λ out. Said out (held.lines + 1)) c.clear.ensures.output c.in-Err.ensures in
