@@ -40,6 +40,7 @@ LENDERS = {
     "llb_loader": {"llb_contents", "llb_sharing"},
     "llb_board": {"llb_contents"},
     "llb_stepper": {"llb_session"},
+    "llb_commands": {"llb_embed"},
 }
 # The crate of what a head says that it does not know.
 CRATE_OF = {

@@ -2,7 +2,8 @@
 
 In: the repository around this folder. The parts are, in this order: `tools/lines` (if this is a git repository),
 `tools/style`, `tools/claims --check` and `tools/floors`; `rt ci`, which does every proof from nothing, unless --after
-is given; `tools/refuse`, on the tests of `llb_refusals` that `rt ci` built; on each of the two programs that `rt ci`
+is given; `tools/refuse`, on the tests of `llb_refusals` that `rt ci` built; `tools/library`, which builds the static
+library, and `tools/bindings`, which tries it in each language that is there; on each of the two programs that `rt ci`
 left in crates/llbm/out, or on --llbm PROGRAM alone: `examples/check` and `tools/tries`; on the first of them
 `tools/test`, `tools/replay` on the pages with commands (README.md, and docs/ARCHITECTURE.md, FORMATS.md and TOOLS.md),
 and `tools/fuzz`, for a minute or for --fuzz SECONDS, with the seed 1 or --seed N. With --more-edits `tools/more-edits`
@@ -10,12 +11,13 @@ follows on `rt ci`.
 
 With --quick nothing is proved, and no wrong body is tried. `tools/unproved-program` compiles the program, and `rt try
 --test` the tests of the crates of tests, as many at a time as there are processors, or --jobs N; the other parts follow
-on the program without proof, with `tools/fuzz` for 20 seconds. `rt ci` and `tools/refuse` are left out.
+on the program without proof, with `tools/fuzz` for 20 seconds. `rt ci`, `tools/refuse`, `tools/library` and
+`tools/bindings` are left out, since nothing builds a static library without a proof.
 
 Out: on standard output a line for each part, its output, and its counts; after the output of `rt ci` the processor
 minutes of each crate, as `tools/minutes` prints them. The last line is `N passed, M failed`, the sum
-over all parts; with --quick a line before it says what was not done, and the last line has `, K skipped` too: the parts
-that are left out, the tests that were skipped, and those that need more time than `rt try` gives a test. A part that
+over all parts, with `, K skipped` where tests were skipped; with --quick a line before it says what was not done, and
+the parts that are left out and the tests that need more time than `rt try` gives a test are skipped too. A part that
 counts nothing is one test. If all passed, without --after, --llbm and --quick, out/gate-passed has the digest of the
 program that `rt ci` left.
 
@@ -47,7 +49,7 @@ MINUTE = 60
 SHORT = 20
 PAUSE = 0.2
 
-COUNTS = re.compile(r"([0-9]+) passed, ([0-9]+) failed(?: .*)?")
+COUNTS = re.compile(r"([0-9]+) passed, ([0-9]+) failed(?:, ([0-9]+) skipped)?(?: .*)?")
 TRIED = re.compile(r"test result: \w+\. ([0-9]+) passed; ([0-9]+) failed; ([0-9]+) ignored; .*")
 NO_ANSWER = re.compile(r"test (\S+) \.\.\. FAILED\n +checked: no-answer: ")
 TESTS = re.compile(r"([0-9]+) tests, .*: (?:all passed|some failed)")
@@ -57,9 +59,10 @@ WRONG = re.compile(r"(?:failures|errors|unexpected successes)=([0-9]+)")
 FUZZED = re.compile(r"[0-9]+ cases in .*: ([0-9]+) failed")
 
 PROOFS = ["rt", "ci"]
-LEFT_OUT = ("rt ci", "tools/refuse")
+LEFT_OUT = ("rt ci", "tools/refuse", "tools/library", "tools/bindings")
 NOT_DONE = (
     "not done: proofs, wrong bodies and the second compiler's program (rt ci), refused memory (tools/refuse), "
+    "the static library and its bindings (tools/library, tools/bindings), "
     "and the chain of 65,535 vertices in llb_stories, unless it ended in 60 seconds"
 )
 
@@ -100,7 +103,7 @@ def counts_in(lines: list[str], status: int) -> Counts:
     counts = None
     for line in lines:
         if found := COUNTS.fullmatch(line):
-            counts = Counts(int(found[1]), int(found[2]))
+            counts = Counts(int(found[1]), int(found[2]), int(found[3] or 0))
         elif found := TRIED.fullmatch(line):
             late = too_long(lines)
             counts = Counts(int(found[1]), int(found[2]) - late, int(found[3]) + late)
@@ -257,6 +260,8 @@ def parts(options: argparse.Namespace) -> Iterator[Part]:
     if options.more_edits:
         yield tool("more-edits")
     yield tool("refuse")
+    yield tool("library")
+    yield tool("bindings")
     programs = [os.path.abspath(options.llbm)] if options.llbm else list(map(str, PROGRAMS))
     yield from parts_with(programs, options.fuzz or MINUTE, options.seed)
 
@@ -314,5 +319,5 @@ def main() -> int:
     else:
         if not failed and not options.after and not options.llbm:
             keep_receipt()
-        print(f"{passed} passed, {failed} failed")
+        print(f"{passed} passed, {failed} failed" + (f", {skipped} skipped" if skipped else ""))
     return 1 if failed else 0

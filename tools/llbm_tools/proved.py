@@ -1,7 +1,7 @@
 """Prints the public calls of crates: for each its signature, a sentence, and the names of its clauses.
 
 In: the sources in crates/, of the crates that are named, or of all that crates.txt names, in its order. A call is a
-public function that a crate exports, or a function of a public trait, whose contract every implementation meets. The
+public function that a crate exports, also to C, or a function of a public trait, whose contract every implementation meets. The
 sentence is the first one of its docstring. Clauses without a name are written `one clause` (or `N clauses`); `asks`
 names the conditions that the caller has to meet. The clauses are at the call, over the definitions of specs/.
 
@@ -29,7 +29,7 @@ WITHOUT = {"Many::allocator": "contracts see a list by its items alone, and not 
 COLUMNS = 156
 
 OWNER = re.compile(r"(?:pub (trait)|impl)(?:<.*?>)? (?:.* for )?(\w+)")
-START = re.compile(r"(\s*)(pub )?(?:const |unsafe )?fn (\w+)")
+START = re.compile(r'(\s*)(pub )?(?:const |unsafe |extern "C" )?fn (\w+)')
 CLAUSE = re.compile(r"\s*(ensures|requires)(?: (\w+))? ?\{")
 
 
@@ -53,6 +53,7 @@ def exported(crate: pathlib.Path) -> set[str]:
     names = {f"mod {module}" for module in re.findall(r"^pub mod (\w+);", root, re.M)}
     for group, single in re.findall(r"^pub use [\w:]+::(?:\{([^}]*)\}|(\w+));", root, re.M | re.S):
         names.update(name.strip() for name in (group or single).split(",") if name.strip())
+    names.update(re.findall(r'^pub extern "C" fn (\w+)', root, re.M))
     return names
 
 
@@ -123,7 +124,8 @@ def item(call: Call, full: str) -> str:
     asks = f"; asks {clauses(call.requires)}" if call.requires else ""
     promised = clauses(call.ensures) or f"no clause: {WITHOUT.get(full, '')}"
     where = f"{full.rpartition('::')[0]}::" if "::" in full else ""
-    signature = call.signature.removeprefix("const ").removeprefix("unsafe ").removeprefix("fn ")
+    signature = call.signature.removeprefix("const ").removeprefix("unsafe ").removeprefix('extern "C" ')
+    signature = signature.removeprefix("fn ")
     text = f"- `{where}{signature}`: {sentence(call.doc)} *{promised}{asks}*"
     return textwrap.fill(text, COLUMNS, subsequent_indent="  ", break_long_words=False, break_on_hyphens=False)
 

@@ -60,6 +60,7 @@ MODULES = [
     "sessions",
     "naming",
     "compiling",
+    "embedding",
     "installing",
     "words",
     "running",

@@ -54,7 +54,7 @@ class Gate(WithPrograms):
             ([], 0, 1, 0), ([], 1, 0, 1), (["190 passed, 0 failed"], 0, 190, 0),
             (["3 passed, 2 failed"], 1, 3, 2), (["3 passed, 0 failed"], 1, 3, 1),
             (["5 passed, 0 failed"], 0, 5, 0), (["190 passed, 0 failed (162 edits refused)"], 0, 190, 0),
-            (["1 passed, 1 failed", "2 passed, 0 failed"], 0, 2, 0),
+            (["1 passed, 1 failed", "2 passed, 0 failed"], 0, 2, 0), (["6 passed, 0 failed, 1 skipped"], 0, 6, 0, 1),
             (["FAILED (failures=2, errors=1, skipped=4)", f"90 {TESTS}: some failed"], 1, 87, 3),
             (["OK", f"90 {TESTS}: all passed"], 0, 90, 0),
             ([f"90 {TESTS}: all passed", "3 of them skipped: a", "4 of them skipped: b"], 0, 83, 0, 7),
@@ -77,7 +77,8 @@ class Gate(WithPrograms):
             commands = [part.command for part in gate.parts(words)]
             self.assertEqual(["rt", "ci"] in commands, given is None)
             self.assertEqual(gate.tool("more-edits").command in commands, more)
-            self.assertIn(gate.tool("refuse").command, commands)
+            for name in ("refuse", "library", "bindings"):
+                self.assertIn(gate.tool(name).command, commands)
             self.assertEqual([command[-1] for command in commands if command[0].endswith("check")], programs)
             self.assertEqual(commands[-1][2:], ["7", "--llbm", programs[0], "--seed", "3"])
 
@@ -117,6 +118,7 @@ class Gate(WithPrograms):
     def test_the_last_line_has_the_sums(self):
         self.assertEqual(self.run_main(whole=[(2, 0), (3, 0)]), (0, ["5 passed, 0 failed"], ["receipt"]))
         self.assertEqual(self.run_main(whole=[(2, 1), (3, 0)]), (1, ["5 passed, 1 failed"], []))
+        self.assertEqual(self.run_main(whole=[(2, 0, 1)])[1], ["2 passed, 0 failed, 1 skipped"])
         self.assertEqual(self.run_main("--after", whole=[(2, 0)]), (0, ["2 passed, 0 failed"], []))
         self.assertEqual(self.run_main("--llbm", "/p", whole=[(2, 0)]), (0, ["2 passed, 0 failed"], []))
 

@@ -1,0 +1,3 @@
+module llbm
+
+go 1.19

@@ -1,0 +1,143 @@
+// Package llbm assembles, shows, runs and steps through definitions of LLB, in this process.
+// docs/EMBEDDING.md of the repository describes each call.
+package llbm
+
+// #cgo CFLAGS: -I${SRCDIR}/..
+// #cgo LDFLAGS: ${SRCDIR}/../../out/libllbm.a
+// #include "llbm.h"
+import "C"
+
+import (
+	"fmt"
+	"runtime"
+	"strings"
+)
+
+// A Fault is why a call failed.
+type Fault struct {
+	// 1: a vertex failed; 2: what was handed in is refused; 3: memory was refused; 4: no session is open.
+	Status int
+	// The number of the fault; 0 where the messages have none.
+	Number int
+	// The lines of the fault, or of the vertices that failed.
+	Messages string
+}
+
+func (f *Fault) Error() string {
+	return fmt.Sprintf("status %d: %s", f.Status, strings.TrimRight(f.Messages, "\n"))
+}
+
+// A Machine has local trees and at most one session. Its calls are made by a thread of its own, one after
+// another, so goroutines may share it.
+type Machine struct {
+	calls chan func(*C.llb)
+}
+
+// New makes a machine without local trees. It ends with Close.
+func New() *Machine {
+	m := &Machine{calls: make(chan func(*C.llb))}
+	go func() {
+		runtime.LockOSThread()
+		var it C.llb
+		for call := range m.calls {
+			call(&it)
+		}
+	}()
+	return m
+}
+
+// Close frees the local trees and the session, and ends the machine.
+func (m *Machine) Close() {
+	m.do(func(it *C.llb) C.uint8_t { C.llb_close(it); return 0 })
+	close(m.calls)
+}
+
+// AddLocal adds a local tree, by its text; of two under one name, the later holds.
+func (m *Machine) AddLocal(name, tree string) error {
+	_, _, err := m.do(func(it *C.llb) C.uint8_t {
+		n, t := []byte(name), []byte(tree)
+		return C.llb_local(it, first(n), size(n), first(t), size(t))
+	})
+	return err
+}
+
+// Run returns the text of the result of a definition, run by one worker on the local trees.
+func (m *Machine) Run(definition []byte) (string, error) {
+	_, output, err := m.do(func(it *C.llb) C.uint8_t { return C.llb_run(it, first(definition), size(definition)) })
+	return string(output), err
+}
+
+// Show returns the text of the graph of a definition.
+func (m *Machine) Show(definition []byte) (string, error) {
+	_, output, err := m.do(func(it *C.llb) C.uint8_t { return C.llb_show(it, first(definition), size(definition)) })
+	return string(output), err
+}
+
+// Assemble returns the definition of a text.
+func (m *Machine) Assemble(text string) ([]byte, error) {
+	t := []byte(text)
+	_, output, err := m.do(func(it *C.llb) C.uint8_t { return C.llb_asm(it, first(t), size(t)) })
+	return output, err
+}
+
+// Disassemble returns the text of the entries of a definition.
+func (m *Machine) Disassemble(definition []byte) (string, error) {
+	_, output, err := m.do(func(it *C.llb) C.uint8_t { return C.llb_dis(it, first(definition), size(definition)) })
+	return string(output), err
+}
+
+// Open opens a session on a definition and the local trees, in the place of the one that was open.
+func (m *Machine) Open(definition []byte, workers int) error {
+	_, _, err := m.do(func(it *C.llb) C.uint8_t {
+		return C.llb_open(it, first(definition), size(definition), C.uint32_t(workers))
+	})
+	return err
+}
+
+// Line returns the reply to a line of the session, and whether the session goes on.
+func (m *Machine) Line(line string) (string, bool, error) {
+	words := []byte(line)
+	status, output, err := m.do(func(it *C.llb) C.uint8_t { return C.llb_line(it, first(words), size(words)) })
+	if status == 1 {
+		return "", false, nil
+	}
+	return string(output), true, err
+}
+
+// do makes a call on the machine's thread, and returns its status and its output.
+func (m *Machine) do(call func(*C.llb) C.uint8_t) (status int, output []byte, err error) {
+	done := make(chan struct{})
+	m.calls <- func(it *C.llb) {
+		defer close(done)
+		status = int(call(it))
+		output = make([]byte, int(C.llb_output(it, first(nil), 0)))
+		C.llb_output(it, first(output), size(output))
+		if status != 0 {
+			messages := make([]byte, int(C.llb_messages(it, first(nil), 0)))
+			C.llb_messages(it, first(messages), size(messages))
+			err = fault(status, string(messages))
+		}
+	}
+	<-done
+	return
+}
+
+func fault(status int, messages string) *Fault {
+	number := 0
+	_, _ = fmt.Sscanf(messages, "fault %d", &number)
+	return &Fault{status, number, messages}
+}
+
+var none [1]byte
+
+// first returns a pointer to the first byte, and to some byte where there is none: the library takes no null pointer.
+func first(bytes []byte) *C.uint8_t {
+	if len(bytes) == 0 {
+		bytes = none[:]
+	}
+	return (*C.uint8_t)(&bytes[0])
+}
+
+func size(bytes []byte) C.size_t {
+	return C.size_t(len(bytes))
+}

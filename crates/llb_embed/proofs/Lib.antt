@@ -1,0 +1,4 @@
+pub mod Pieces
+pub mod Glued
+pub mod Calling
+pub mod Telling

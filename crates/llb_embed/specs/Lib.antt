@@ -1,0 +1,6 @@
+-- Read first Working (what each call does, by the definition of the program's command), then Handle (what a handle holds, and what a call leaves there), Copied
+-- (what a copy leaves in a buffer) and Kept (what the handle's pointer owns).
+pub mod Kept
+pub mod Handle
+pub mod Copied
+pub mod Working

@@ -1,0 +1,110 @@
+-- What each call does to what is held, by the definition of the program's own command: from what the call starts with to what it leaves, and its status.
+use Rattle.std.specs.Prelude.{◌≡◌, ◌+◌, ◌⊎◌, ℕ, Bool, true, List, [], Option, Some, None, Result, Ok, Err, MatchOption, IsUtf8}
+use Rattle.llb_wire.specs.declared.sink.Failed.{Failed}
+use Rattle.llb_tree.specs.Tree.{TreeMap}
+use Rattle.llb_loader.specs.Graph.{Numbered}
+use Rattle.llb_loader.specs.Load.{IsGraphIn}
+use Rattle.llb_loader.specs.Locals.{Local, with_local}
+use Rattle.llb_stepper.specs.Stepping.{Stepping}
+use Rattle.llb_session.specs.Answers.{Says, Quits}
+use Rattle.llb_commands.specs.declared.fault.ProgramFault.TheVariants as fault
+use Rattle.llb_commands.specs.declared.sources.SourceFault.{SourceFault}
+use Rattle.llb_commands.specs.declared.words.WordsFault.TheVariants.{Words}
+use Rattle.llb_commands.specs.Io.{Io, Stream}
+use Rattle.llb_commands.specs.Answer.{Runs, Draws, IsNotRun}
+use Rattle.llb_commands.specs.Assembly.{Assembles, Disassembles}
+use Rattle.llb_commands.specs.CommandLine.{TellsWords}
+use Rattle.llb_commands.specs.Faults.{Tells, TellsWhy}
+use Rattle.llb_commands.specs.Sources.{ReadsTree, TellsSource}
+use Rattle.llb_commands.specs.Stepping.{begun}
+use Rattle.llb_embed.specs.declared.held.Held.{Held}
+
+-- bytes in the place of what the call before wrote
+abbrev pub written : List ℕ → Stream
+written bytes = record { before = Some []; after = Some bytes }
+
+-- what a command reads and writes: it reads these bytes, and the rest of them are left
+abbrev pub streams : List ℕ → Option (List ℕ) → Held → Io
+streams bytes rest new = record {
+  input = record { before = Some bytes; after = rest };
+  output = written new.output.items;
+  errors = written new.messages.items;
+}
+
+-- the local trees and the session are as they were
+abbrev pub KeepsRest : Held → Held → Type 0
+KeepsRest old new = (new.locals ≡ old.locals) × (new.session ≡ old.session) × (new.lines ≡ old.lines)
+
+-- ---- whole commands
+
+-- a command on these bytes ends so, and the local trees and the session are as they were
+abbrev pub EndsBy : (Io → ℕ → Type 0) → List ℕ → Held → Held → ℕ → Type 0
+EndsBy Ends bytes old new status = KeepsRest old new × ((rest : Option (List ℕ)) × Ends (streams bytes rest new) status)
+
+-- a definition is run on the local trees with one worker
+abbrev pub Ran : List ℕ → Held → Held → ℕ → Type 0
+Ran definition old new status = EndsBy (Runs 1 old.locals) definition old new status
+
+-- the graph of a definition is drawn
+abbrev pub Shown : List ℕ → Held → Held → ℕ → Type 0
+Shown = EndsBy Draws
+
+-- a text is assembled
+abbrev pub Assembled : List ℕ → Held → Held → ℕ → Type 0
+Assembled = EndsBy Assembles
+
+-- a definition is disassembled
+abbrev pub Disassembled : List ℕ → Held → Held → ℕ → Type 0
+Disassembled = EndsBy Disassembles
+
+-- ---- local trees
+
+-- a text is read as a tree, which is added under the name; or it is not, and nothing is added
+abbrev pub IsAdded : List ℕ → List ℕ → List Local → List Local → Result (Unit {0}) SourceFault → Type 0
+IsAdded name text old new (Ok u) = (t : TreeMap) × ReadsTree text (Ok t) × (new ≡ with_local old name t)
+IsAdded name text old new (Err e) = ReadsTree text (Err e) × (new ≡ old)
+
+-- why nothing is added, with its line and its status: a name that is not UTF-8, or a text that is read as no tree
+abbrev pub TellsWhyNot : List ℕ → List ℕ → Held → ℕ → Type 0
+TellsWhyNot name text new status =
+    ((¬ (IsUtf8 name)) × TellsWords (Some []) (Some new.messages.items) (Words None) status)
+    ⊎ ((e : SourceFault) × ReadsTree text (Err e) × TellsSource (Some []) (Some new.messages.items) e status)
+
+-- 0: the tree of the text is added under the name. Else the local trees are as they were, and the messages have a line that says why.
+abbrev pub Added : List ℕ → List ℕ → Held → Held → ℕ → Type 0
+Added name text old new status = (new.session ≡ old.session) × (new.lines ≡ old.lines) × (new.output.items ≡ []) × (
+    ((status ≡ 0) × (new.messages.items ≡ []) × ((t : TreeMap) × ReadsTree text (Ok t) × (new.locals ≡ with_local old.locals name t)))
+    ⊎ ((new.locals ≡ old.locals) × TellsWhyNot name text new status))
+
+-- ---- sessions
+
+-- a session is begun on the graph of the definition, with the local trees and this number of workers, and none of its lines is sent yet
+abbrev pub IsBegun : List ℕ → ℕ → Held → Held → Type 0
+IsBegun definition workers old new = (g : Numbered) × IsGraphIn definition g × (new.session ≡ Some (begun old.locals g workers)) × (new.lines ≡ 0)
+
+-- 0: a session is begun. Else the session is the one that was, if any: 2, and the messages have the line that says why, or 3.
+abbrev pub Opened : List ℕ → ℕ → Held → Held → ℕ → Type 0
+Opened definition workers old new status = (new.locals ≡ old.locals) × (new.output.items ≡ []) × (
+    ((status ≡ 0) × (new.messages.items ≡ []) × IsBegun definition workers old new)
+    ⊎ ((new.session ≡ old.session) × (new.lines ≡ old.lines)
+    × (((status ≡ 2) × TellsWhy (IsNotRun workers old.locals) (Some definition) (written new.messages.items)) ⊎ (status ≡ 3))))
+
+-- the next line of session s leads to a session and a result, and its reply, or a prefix of it, is the output
+abbrev pub Leads : List ℕ → Stepping → Held → Held → Result Bool Failed → Type 0
+Leads line s old new result = (t : Stepping) × (new.session ≡ Some t) × (new.lines ≡ old.lines + 1)
+    × Says s (old.lines + 1) line t (written new.output.items) result
+
+-- A line is sent to session s. 0: its reply is the output. 1: it ends the session, and none is open. 3: memory for the copy of its reply was refused; what it
+-- asks for is done, and the output is a prefix of its reply. A session has no more than 2^64 - 1 lines: a further one is refused, and changes nothing.
+abbrev pub RepliesOn : List ℕ → Stepping → Held → Held → ℕ → Type 0
+RepliesOn line s old new status =
+    ((status ≡ 0) × (new.messages.items ≡ []) × Leads line s old new (Ok true))
+    ⊎ (((status ≡ 1) × (new.messages.items ≡ []) × (new.output.items ≡ []) × (new.session ≡ None) × Quits line)
+    ⊎ (((status ≡ 3) × Leads line s old new (Err (record {})))
+    ⊎ ((old.lines ≡ 18446744073709551615) × KeepsRest old new × (new.output.items ≡ []) × Tells (Some []) (Some new.messages.items) fault.TooLong status)))
+
+-- a line is sent to the session; 4: none is open, and nothing is changed
+abbrev pub Replied : List ℕ → Held → Held → ℕ → Type 0
+Replied line old new status = (new.locals ≡ old.locals) × MatchOption old.session
+    ((status ≡ 4) × KeepsRest old new × (new.output.items ≡ []) × (new.messages.items ≡ []))
+    (λ s. RepliesOn line s old new status)

@@ -1,0 +1,57 @@
+//! The handle that a caller keeps: a struct of zeroes, or what a call left there.
+
+ghost use Rattle.std.specs.Prelude.{◌≡◌, Some, None, false, true, IsTrue, option_map, MatchOption};
+ghost use Rattle.llb_embed.specs.Handle.{held_in, IsSound, StartsWith};
+
+use crate::held::Held;
+use crate::kept::Kept;
+use std::alloc::Global;
+use std::mem::replace;
+
+/// Nothing, or a value in memory of its own.
+#[repr(C)]
+#[derive(Drop)]
+pub struct Llb {
+    is_set: bool,
+    kept: Kept,
+}
+
+/// Takes out what is held.
+pub(crate) fn take(it: &mut Llb, alloc: Global) -> Option<Box<Held>>
+    requires { IsSound it.old }
+    ensures sound { IsSound it.new }
+    ensures left { held_in it.new ≡ None }
+    ensures taken { option_map (λ b. b.value) result ≡ held_in it.old }
+{
+    if !it.is_set {
+        return None;
+    }
+    it.is_set = false;
+    let kept = replace(&mut it.kept, Kept::none());
+    Some(kept.into_box(alloc))
+}
+
+/// Holds a value. What was held has been taken out.
+pub(crate) fn put(it: &mut Llb, held: Box<Held>)
+    ensures sound { IsSound it.new }
+    ensures holds { held_in it.new ≡ Some held.value }
+{
+    it.kept = Kept::of(held);
+    it.is_set = true;
+}
+
+/// Takes out what is held, or makes a new box where nothing is held; returns `None` where memory for the box is refused.
+pub(crate) fn start(it: &mut Llb, alloc: Global) -> Option<Box<Held>>
+    requires { IsSound it.old }
+    ensures sound { IsSound it.new }
+    ensures left { held_in it.new ≡ None }
+    ensures starts { MatchOption result (held_in it.old ≡ None) (λ b. StartsWith (held_in it.old) b.value) }
+{
+    match take(it, alloc) {
+        Some(held) => Some(held),
+        None => match Box::new(alloc, Held::new(alloc)) {
+            Ok(held) => Some(held),
+            Err(_) => None,
+        },
+    }
+}

@@ -1,0 +1,44 @@
+//! What a caller's handle holds: local trees, a session, and what the last call wrote.
+
+ghost use Rattle.llb_embed.specs.Handle.{IsEmpty};
+
+use llb_loader::Locals;
+use llb_stepper::Stepper;
+use std::alloc::Global;
+
+/// Local trees, a session if one is open, how many lines were sent to it, and what the last call wrote.
+pub struct Held {
+    pub locals: Locals,
+    pub session: Option<Stepper>,
+    pub lines: u64,
+    pub output: Vec<u8>,
+    pub messages: Vec<u8>,
+}
+
+// Written out, so that a proof by hand can name it.
+impl Drop for Held {
+    fn drop(self) {
+        let Held {
+            locals: _,
+            session: _,
+            lines: _,
+            output: _,
+            messages: _,
+        } = self;
+    }
+}
+
+impl Held {
+    /// Returns what a handle holds at first: no tree, no session, no output. Does not allocate.
+    pub fn new(alloc: Global) -> Held
+        ensures { IsEmpty result }
+    {
+        Held {
+            locals: Locals::new(alloc),
+            session: None,
+            lines: 0,
+            output: Vec::new(alloc),
+            messages: Vec::new(alloc),
+        }
+    }
+}

@@ -1,0 +1,53 @@
+//! A value behind a pointer that C keeps: none, or a box that was taken apart.
+
+ghost use Rattle.std.specs.Prelude.{◌≡◌};
+ghost use Rattle.std.specs.declared.option.Option.{Option};
+ghost use Rattle.std.specs.declared.option.Option.TheVariants.{None, Some};
+ghost use Rattle.std.specs.declared.alloc.Global.{Global};
+ghost use Rattle.llb_embed.specs.declared.held.Held.{Held};
+ghost use Rattle.llb_embed.specs.Kept.{kept_owns, coded_kept, IsKept};
+
+use crate::held::Held;
+use std::alloc::Global;
+use std::marker::Model;
+
+/// No value, or one whose memory is at the pointer. Contracts see the value.
+#[repr(C)]
+#[derive(Drop)]
+pub struct Kept {
+    at: *mut u8,
+    pub ghost alloc: { Global },
+    pub ghost value: { Option Held } by { coded_kept },
+}
+
+impl Model for Kept {
+    ghost also_owns = { λ k. kept_owns k.alloc k.at k.value };
+}
+
+impl Kept {
+    /// Takes a box apart.
+    pub fn of(value: Box<Held>) -> Kept
+        ensures { result.value ≡ Some value.value }
+    {
+        let at = Box::into_raw(value);
+        Kept { at: at as *mut u8 }
+    }
+
+    /// Makes the box again.
+    pub fn into_box(self, alloc: Global) -> Box<Held>
+        requires { IsKept self.value }
+        ensures { self.value ≡ Some result.value }
+    {
+        let Kept { at } = self;
+        unsafe { Box::from_raw(alloc, at as *mut Held) }
+    }
+
+    /// Returns no value.
+    pub fn none() -> Kept
+        ensures { result.value ≡ None }
+    {
+        Kept {
+            at: std::ptr::null_mut(),
+        }
+    }
+}

@@ -1,0 +1,192 @@
+//! The library for C: a handle holds local trees, a session and what the last call wrote, and each call has the contract of the program's
+//! command. It is built on `llb_commands`, and is linked as a static library; what its caller has to promise is in bindings/llbm.h.
+//!
+//! Types: `Llb`, a handle: a struct of zeroes, or what a call left there.
+//! Promise: `llb_run` (`ran`), `llb_open` (`opened`) and `llb_line` (`replied`) do what the program's commands do, on the bytes handed in and
+//! what the handle holds; `llb_output` (`copied`, `all`) copies what fits, and returns the length of the whole.
+//!
+//! A caller, in C:
+//!
+//!     llb it = {0};
+//!     uint8_t status = llb_run(&it, definition, length);
+//!     size_t whole = llb_output(&it, room, size);
+//!     llb_close(&it);
+#![tactic(auto)]
+
+ghost use Rattle.std.specs.Prelude.{◌≡◌, length, None};
+ghost use Rattle.llb_embed.specs.Copied.{copied};
+ghost use Rattle.llb_embed.specs.Handle.{held_in, messages_in, output_in, Calls, IsSound};
+ghost use Rattle.llb_embed.specs.Working.{Added, Opened, Replied, Ran, Shown, Assembled, Disassembled};
+
+mod handle;
+mod held;
+mod kept;
+mod opening;
+mod working;
+
+pub use handle::Llb;
+use handle::{put, start, take};
+use std::alloc::Global;
+use working::{assemble, copy_out, disassemble, local, open, reply, run, show};
+
+/// Memory for what the handle holds was refused.
+const NO_MEMORY: u8 = 3;
+
+/// Adds the tree of a text as the local tree of a name; of two under one name, the later holds. Returns 0; or 2 or 3, with a line of messages: 2 where the
+/// text is refused (31 to 33, 185) or the name is not UTF-8 (183), 3 where memory is (34, 92, 184), and then no tree is added.
+#[unsafe(no_mangle)]
+pub extern "C" fn llb_local(alloc: Global, it: &mut Llb, name: &[u8], text: &[u8]) -> u8
+    requires { IsSound it.old }
+    ensures sound { IsSound it.new }
+    ensures added { Calls (Added name.now text.now) (held_in it.old) (held_in it.new) result }
+{
+    let Some(mut held) = start(it, alloc) else {
+        return NO_MEMORY;
+    };
+    let status = local(alloc, held.as_mut(), name, text);
+    put(it, held);
+    status
+}
+
+/// Opens a session on a definition, with this number of workers, on the local trees. Returns 0; or 2 or 3, with a line of messages, and then the session
+/// that was open before, if any, is as it was: 2 where the definition is refused (81 to 90), a local source has no tree (121), or the number of workers
+/// is not 1 to 64 (122); 3 where memory is (91, 92, 123, 184).
+#[unsafe(no_mangle)]
+pub extern "C" fn llb_open(alloc: Global, it: &mut Llb, definition: &[u8], workers: u32) -> u8
+    requires { IsSound it.old }
+    ensures sound { IsSound it.new }
+    ensures opened { Calls (Opened definition.now workers) (held_in it.old) (held_in it.new) result }
+{
+    let Some(mut held) = start(it, alloc) else {
+        return NO_MEMORY;
+    };
+    let status = open(alloc, held.as_mut(), definition, workers);
+    put(it, held);
+    status
+}
+
+/// Sends a line, without its end, to the session; the output is its reply. Returns 0 where the session goes on; 1 where the line ends it, and then no
+/// session is open; 4 where none is open. 3 where memory for the copy of the reply was refused: then the line was done, and the output is a prefix of
+/// its reply. A refusal of what the line asks for is a reply (171 to 174).
+#[unsafe(no_mangle)]
+pub extern "C" fn llb_line(alloc: Global, it: &mut Llb, line: &[u8]) -> u8
+    requires { IsSound it.old }
+    ensures sound { IsSound it.new }
+    ensures replied { Calls (Replied line.now) (held_in it.old) (held_in it.new) result }
+{
+    let Some(mut held) = start(it, alloc) else {
+        return NO_MEMORY;
+    };
+    let status = reply(alloc, held.as_mut(), line);
+    put(it, held);
+    status
+}
+
+/// Runs a definition on the local trees with one worker; the output is the text of its result. Returns the status of `llbm run`: 0; 1 where a vertex
+/// failed, with its line in the messages; 2 where the definition is refused, or a local source has no tree, and 3 where memory is, with a line of messages.
+#[unsafe(no_mangle)]
+pub extern "C" fn llb_run(alloc: Global, it: &mut Llb, definition: &[u8]) -> u8
+    requires { IsSound it.old }
+    ensures sound { IsSound it.new }
+    ensures ran { Calls (Ran definition.now) (held_in it.old) (held_in it.new) result }
+{
+    let Some(mut held) = start(it, alloc) else {
+        return NO_MEMORY;
+    };
+    let status = run(alloc, held.as_mut(), definition);
+    put(it, held);
+    status
+}
+
+/// Writes the text of a definition's graph to the output. Returns the status of `llbm show`: 0, 2 or 3.
+#[unsafe(no_mangle)]
+pub extern "C" fn llb_show(alloc: Global, it: &mut Llb, definition: &[u8]) -> u8
+    requires { IsSound it.old }
+    ensures sound { IsSound it.new }
+    ensures shown { Calls (Shown definition.now) (held_in it.old) (held_in it.new) result }
+{
+    let Some(mut held) = start(it, alloc) else {
+        return NO_MEMORY;
+    };
+    let status = show(alloc, held.as_mut(), definition);
+    put(it, held);
+    status
+}
+
+/// Assembles a text: the output is the definition of its entries. Returns the status of `llbm asm`: 0, 2 or 3.
+#[unsafe(no_mangle)]
+pub extern "C" fn llb_asm(alloc: Global, it: &mut Llb, text: &[u8]) -> u8
+    requires { IsSound it.old }
+    ensures sound { IsSound it.new }
+    ensures assembled { Calls (Assembled text.now) (held_in it.old) (held_in it.new) result }
+{
+    let Some(mut held) = start(it, alloc) else {
+        return NO_MEMORY;
+    };
+    let status = assemble(alloc, held.as_mut(), text);
+    put(it, held);
+    status
+}
+
+/// Disassembles a definition: the output is the text of its entries. Returns the status of `llbm dis`: 0, 2 or 3.
+#[unsafe(no_mangle)]
+pub extern "C" fn llb_dis(alloc: Global, it: &mut Llb, definition: &[u8]) -> u8
+    requires { IsSound it.old }
+    ensures sound { IsSound it.new }
+    ensures disassembled { Calls (Disassembled definition.now) (held_in it.old) (held_in it.new) result }
+{
+    let Some(mut held) = start(it, alloc) else {
+        return NO_MEMORY;
+    };
+    let status = disassemble(alloc, held.as_mut(), definition);
+    put(it, held);
+    status
+}
+
+/// Copies what fits of the last call's output to the front of a buffer, and returns the length of the whole.
+#[unsafe(no_mangle)]
+pub extern "C" fn llb_output(alloc: Global, it: &mut Llb, out: &mut [u8]) -> usize
+    requires { IsSound it.old }
+    ensures sound { IsSound it.new }
+    ensures same { held_in it.new ≡ held_in it.old }
+    ensures copied { out.new ≡ copied (output_in (held_in it.old)) out.old }
+    ensures all { result ≡ length (output_in (held_in it.old)) }
+{
+    match take(it, alloc) {
+        None => 0,
+        Some(held) => {
+            let n = copy_out(held.as_ref().output.as_slice(), out);
+            put(it, held);
+            n
+        }
+    }
+}
+
+/// Copies what fits of the last call's messages to the front of a buffer, and returns the length of the whole.
+#[unsafe(no_mangle)]
+pub extern "C" fn llb_messages(alloc: Global, it: &mut Llb, out: &mut [u8]) -> usize
+    requires { IsSound it.old }
+    ensures sound { IsSound it.new }
+    ensures same { held_in it.new ≡ held_in it.old }
+    ensures copied { out.new ≡ copied (messages_in (held_in it.old)) out.old }
+    ensures all { result ≡ length (messages_in (held_in it.old)) }
+{
+    match take(it, alloc) {
+        None => 0,
+        Some(held) => {
+            let n = copy_out(held.as_ref().messages.as_slice(), out);
+            put(it, held);
+            n
+        }
+    }
+}
+
+/// Frees what is held. The handle may be used again, and closed again.
+#[unsafe(no_mangle)]
+pub extern "C" fn llb_close(alloc: Global, it: &mut Llb)
+    requires { IsSound it.old }
+    ensures sound { IsSound it.new }
+    ensures none { held_in it.new ≡ None }
+{
+    let _held = take(it, alloc);
+}
