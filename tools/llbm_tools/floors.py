@@ -57,7 +57,8 @@ CRATE_OF = {
 
 USED = re.compile(r"\b(\w+)(?:::|\.specs\b|\.proofs\b)")
 CITED = re.compile(r"^\s*(?:pub )?use Rattle\.(\w+)\.proofs\.", re.M)
-NAMED = re.compile(r"\bllb\w+")
+# A word before a parenthesis is a call.
+NAMED = re.compile(r"\bllb\w+\b(?!\()")
 BUILT = re.compile(r"\bbuilt on\b((?:(?:,| and)? `\w+`)*)|\b[Ss]tands on\b")
 UNKNOWN = re.compile(r"\bknows (?:about )?(?:an? |no )([^.;:]*)")
 

@@ -1,9 +1,10 @@
 """Prints the public calls of crates: for each its signature, a sentence, and the names of its clauses.
 
 In: the sources in crates/, of the crates that are named, or of all that crates.txt names, in its order. A call is a
-public function that a crate exports, also to C, or a function of a public trait, whose contract every implementation meets. The
-sentence is the first one of its docstring. Clauses without a name are written `one clause` (or `N clauses`); `asks`
-names the conditions that the caller has to meet. The clauses are at the call, over the definitions of specs/.
+public function that a crate exports, also to C, or a function of a public trait, whose contract every implementation
+meets. The sentence is the first one of its docstring. Clauses without a name are written `one clause` (or `N
+clauses`); `asks` names the conditions that the caller has to meet. The clauses are at the call, over the definitions
+of specs/.
 
 Out: on standard output, for each crate, its name and a list. `tools/test repository` fails for a call without a clause
 or a docstring, and for a clause that a page names and no call has.

@@ -70,7 +70,7 @@ def tables(page: Path) -> Iterator[list[str]]:
 def crates() -> dict[str, set[str]]:
     """Returns the crates of crates.txt, each with those that its line names."""
     lines = (line.partition("#")[0] for line in (ROOT / "crates.txt").read_text("utf-8").split("\n"))
-    named = {line.partition(":")[0].strip(): set(line.partition(":")[2].split()) for line in lines if ":" in line}
+    named = {line.partition(":")[0].split()[0]: set(line.partition(":")[2].split()) for line in lines if ":" in line}
     return {name: others & named.keys() for name, others in named.items()}
 
 

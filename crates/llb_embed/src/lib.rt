@@ -2,10 +2,10 @@
 //! command. It is built on `llb_commands`, and is linked as a static library; what its caller has to promise is in bindings/llbm.h.
 //!
 //! Types: `Llb`, a handle: a struct of zeroes, or what a call left there.
-//! Promise: `llb_run` (`ran`), `llb_open` (`opened`) and `llb_line` (`replied`) do what the program's commands do, on the bytes handed in and
-//! what the handle holds; `llb_output` (`copied`, `all`) copies what fits, and returns the length of the whole.
+//! Promise: each export does what the program's command does, on the bytes handed in and what the handle holds (`ran`, `opened`, `replied` and
+//! the like); output and messages are copied as far as they fit, and the length of the whole is returned (`copied`, `all`).
 //!
-//! A caller, in C:
+//! A caller:
 //!
 //!     llb it = {0};
 //!     uint8_t status = llb_run(&it, definition, length);
