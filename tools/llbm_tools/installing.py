@@ -17,8 +17,8 @@ from llbm_tools import command_words, common, paths
 
 # The tools that test or prove the repository, or install it, and their tests.
 OF_THE_REPOSITORY = {
-    "claims", "dist", "floors", "fuzz", "install", "lines", "measure", "more-edits", "proved", "refuse", "replay",
-    "style", "test", "tests", "tries", "unproved-program",
+    "claims", "dist", "floors", "fuzz", "install", "lines", "measure", "more-edits", "page-tests", "proved", "refuse",
+    "replay", "style", "test", "tests", "tries", "unproved-program", "wasm",
 }
 LIBRARY = "lib/llbm"
 PAGES = ("README.md", "CHANGELOG.md")
