@@ -44,7 +44,7 @@ export function sideBySide(old, fresh) {
   return [...same(old.slice(0, start)), ...middle, ...same(old.slice(old.length - end))];
 }
 
-// What stands at one place on both sides is put into one row.
+// Lines that are at the same place on both sides are put into one row.
 function apart(a, b) {
   return Array.from({ length: Math.max(a.length, b.length) }, (_, i) => [a[i] ?? null, b[i] ?? null]);
 }

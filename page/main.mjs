@@ -52,7 +52,7 @@ class Page {
     this.update();
   }
 
-  /** Tells something; nothing where the text is empty. */
+  /** Shows a message; none where the text is empty. */
   say(text) {
     by('said').textContent = text;
     by('said').hidden = text === '';

@@ -101,7 +101,7 @@ export class OpenView {
     try {
       names = localsOf(this.definition());
     } catch {
-      // What is not a definition yet is told when it is opened.
+      // Why it is no definition is shown once it is to be opened.
     }
     const none = make('p', { class: 'note', text: 'The definition needs none.' });
     by('locals').replaceChildren(...(names.length ? names.map((name) => this.row(name)) : [none]));
@@ -133,7 +133,7 @@ export class OpenView {
     return row;
   }
 
-  /** Opens what the view has; tells why where it is refused. */
+  /** Opens what the view has, or shows why that is refused. */
   submit() {
     try {
       const definition = this.definition();
@@ -142,12 +142,12 @@ export class OpenView {
       this.onOpen({ definition, locals, workers: Number(by('workers').value) });
       this.dialog.close();
     } catch (fault) {
-      this.tell(fault);
+      this.showFault(fault);
     }
   }
 
-  /** Tells why something was refused. */
-  tell(fault) {
+  /** Shows why something was refused. */
+  showFault(fault) {
     const why = explained(fault.message);
     const what = fault.what ? `${fault.what}: ` : '';
     const line = make('p', { class: 'fault', text: what + fault.message });

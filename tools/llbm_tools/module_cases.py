@@ -14,7 +14,7 @@ import tempfile
 from collections.abc import Iterator
 from typing import Any, NamedTuple
 
-from llbm_tools import page_files, paths
+from llbm_tools import page_files, paths, wasm_module
 from llbm_tools.streams import Failed
 
 NODE = "node"
@@ -25,6 +25,8 @@ COMMANDS = ("run", "show", "asm", "dis", "step")
 USUAL_WORKERS = {"run": 1, "step": 2}
 MOST_SECONDS = 120
 AT_A_TIME = 100
+# The fault of the program's words.
+WORDS_FAULT = "fault 183"
 LOOKS = b"next\nstatus\nwork %d\nwork %d 0\ncaches\ncache 0 0\ntree 0 0\n"
 
 
@@ -90,6 +92,8 @@ def stored_case(folder: pathlib.Path) -> Case | None:
         return None
     status = int((folder / "status").read_text("utf-8"))
     stored = Answer(status, (folder / "stdout").read_bytes(), (folder / "stderr").read_text("utf-8"))
+    if stored.err.startswith(WORDS_FAULT):
+        return None
     return Case(f"{folder.parent.name}/{folder.name}", command, definition, given, workers, stdin, stored)
 
 
@@ -182,6 +186,57 @@ def differences(module: pathlib.Path, program: str | None, cases: list[Case]) ->
 def cases_for(folder: pathlib.Path | None, program: str) -> list[Case]:
     """Returns the cases of the examples, and those of a folder if one is given."""
     return [*example_cases(program), *(stored_cases(folder) if folder else ())]
+
+
+# A file that each command doubles, and the lines of a session over it.
+DOUBLED = """op {
+  exec {
+    meta {
+      args "/bin/sh"
+      args "-c"
+      args "write /a 0123456789abcdef%s"
+      cwd "/"
+    }
+    mounts {
+      input -1
+      dest "/"
+    }
+  }
+}
+op {
+  inputs {
+    digest %%0
+  }
+}
+"""
+DOUBLINGS = 10
+EVENTS = 2 * DOUBLINGS + 3
+PAGES = 64
+
+
+def refused_memory(module: pathlib.Path, program: str) -> str:
+    """Returns what is wrong in a session whose module has 4 MiB of memory to grow by, or nothing.
+
+    The refusal of an event changes nothing and ends nothing: the record up to it is the program's, each event that is
+    tried again is refused again, the vertex is still running, and the last event can be taken back.
+    """
+    text = DOUBLED % (" && concat /b /a /a && concat /a /b /b" * DOUBLINGS)
+    definition = program_answer(program, Case("", "asm", text.encode(), [], 1, b"")).out
+    commands = b"next\n" * EVENTS + b"status\nback\n"
+    case = Case("refused memory", "step", definition, [], 1, commands)
+    wanted = program_answer(program, case).out.decode().splitlines()
+    with tempfile.TemporaryDirectory(prefix="llbm-module-") as folder:
+        small = pathlib.Path(folder, "small.wasm")
+        small.write_bytes(wasm_module.with_most_memory(module.read_bytes(), PAGES))
+        answer = next(module_answers(small, [case]))
+    if isinstance(answer, str):
+        return f"the module stopped: {answer}"
+    found = answer.out.decode().splitlines()
+    done = next((number for number, line in enumerate(found) if line.startswith("fault ")), EVENTS)
+    if not 1 < done < EVENTS:
+        return f"{done} of {EVENTS} events were done"
+    rest = ["fault 171 141"] * (EVENTS - done) + ["0 running 0", f"back {done - 1}"]
+    return "" if found == wanted[:done] + rest else f"the session's lines are {found}"
 
 
 MODULE = paths.ROOT / "out" / "page" / page_files.MODULE

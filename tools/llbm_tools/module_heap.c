@@ -1,5 +1,5 @@
-/* The heap of the module, in the place of malloc, realloc and free: blocks of size classes, four to each power of two, out of memory that
- * grows by 1 MiB at least. The 16 bytes before a block have its size. No proof covers this file. */
+/* The heap of the module, in the place of malloc, realloc and free: blocks of size classes, four to each power of two,
+ * from memory that grows by 1 MiB at least. The 16 bytes before a block have its size. No proof covers this file. */
 typedef unsigned long size_t;
 typedef unsigned char u8;
 
@@ -42,7 +42,8 @@ static int grow(size_t bytes) {
     if ((size_t)(end - next) >= bytes) return 1;
     size_t pages = (bytes - (size_t)(end - next) + PAGE - 1) / PAGE;
     if (pages < LEAST_PAGES) pages = LEAST_PAGES;
-    if (__builtin_wasm_memory_grow(0, pages) == (size_t)-1) return 0;
+    /* A refusal is -1 in 32 bits once the module is lowered to a memory of 32 bits, and in 64 before. */
+    if ((unsigned)__builtin_wasm_memory_grow(0, pages) == (unsigned)-1) return 0;
     end += pages * PAGE;
     return 1;
 }
@@ -83,7 +84,8 @@ struct tried rattle_realloc(void *at, size_t kept, size_t bytes, size_t align) {
     (void)align;
     struct head *block = (struct head *)at - 1;
     size_t size;
-    if (bytes > 0 && bytes <= block->size && class_of(bytes, &size) == class_of(block->size, &size)) return (struct tried){1, at};
+    unsigned class = class_of(block->size, &size);
+    if (bytes > 0 && bytes <= block->size && class_of(bytes, &size) == class) return (struct tried){1, at};
     void *moved = take(bytes);
     if (moved) {
         __builtin_memcpy(moved, at, kept < bytes ? kept : bytes);
@@ -109,7 +111,8 @@ typedef unsigned __int128 u128;
 
 u128 __multi3(u128 a, u128 b) {
     const unsigned long LOW = 0xffffffff;
-    unsigned long al = (unsigned long)a, ah = (unsigned long)(a >> 64), bl = (unsigned long)b, bh = (unsigned long)(b >> 64);
+    unsigned long al = (unsigned long)a, ah = (unsigned long)(a >> 64);
+    unsigned long bl = (unsigned long)b, bh = (unsigned long)(b >> 64);
     unsigned long low = (al & LOW) * (bl & LOW), left = (al >> 32) * (bl & LOW), right = (al & LOW) * (bl >> 32);
     unsigned long middle = (low >> 32) + (left & LOW) + (right & LOW);
     unsigned long high = (al >> 32) * (bl >> 32) + (left >> 32) + (right >> 32) + (middle >> 32) + al * bh + ah * bl;

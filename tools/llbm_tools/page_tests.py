@@ -1,10 +1,11 @@
 """Tests the page: its module in Node against the program, and the page itself in a browser.
 
-In: the page that `tools/wasm` made, in --page FOLDER or out/page of the repository; the program, as for `test`; Node
-for the first part, and Chromium for the second. The module and the program answer the same cases: each command on each
-example and sessions over it, and with --cases FOLDER the stored cases of a folder (`args`, `stdin`, `stdout`, `stderr`,
-`status` and the files of the words). In the browser the page is used as a person uses it, and each answer of its
-session is compared with that of `llbm step` to the same line. --pictures FOLDER writes pictures of its views there.
+In: the module that `tools/wasm` made, in --page FOLDER or out/page of the repository, and page/; the program, as for
+`test`; Node for the first part, and Chromium for the second. The module and the program answer the same cases: each
+command on each example and sessions over it, and with --cases FOLDER the stored cases of a folder (`args`, `stdin`,
+`stdout`, `stderr`, `status` and the files of the words). In the browser the page is used as a person uses it, and each
+answer of its session is compared with that of `llbm step` to the same line. --pictures FOLDER writes pictures of its
+views there.
 
 Out: on standard output a line for each test that failed, measured times, and then how many tests there were. Where
 Node, a browser, or the page is missing, the tests that need it are counted as skipped, and the line says why.
@@ -16,6 +17,7 @@ failed, or Node or the browser did.
 import argparse
 import pathlib
 import sys
+import tempfile
 from collections.abc import Callable, Iterator
 
 from llbm_tools import browser, common, module_cases, page_cases, page_files, page_pictures, streams
@@ -64,10 +66,12 @@ def module_tests(options: argparse.Namespace, program: str, outcome: Outcome) ->
     cases = module_cases.cases_for(options.cases, program)
     why = missing(options) or ("" if module_cases.node() else "Node is not installed")
     if why:
-        outcome.leave(len(cases), why)
+        outcome.leave(len(cases) + 1, why)
         return
-    for case, wrong in module_cases.differences(options.page / page_files.MODULE, program, cases):
+    module = options.page / page_files.MODULE
+    for case, wrong in module_cases.differences(module, program, cases):
         outcome.take(case.name, wrong)
+    outcome.take("refused memory", module_cases.refused_memory(module, program))
     print(f"module: {len(cases)} cases answered as by the program, byte for byte, but for those that are named above")
 
 
@@ -78,7 +82,12 @@ def browser_tests(options: argparse.Namespace, program: str, outcome: Outcome) -
     if why or path is None:
         outcome.leave(len(page_cases.CASES), why)
         return
-    with browser.served(options.page) as url, browser.opened(path) as opened:
+    with (
+        tempfile.TemporaryDirectory(prefix="llbm-page-") as folder,
+        browser.served(pathlib.Path(folder)) as url,
+        browser.opened(path) as opened,
+    ):
+        page_files.write(pathlib.Path(folder), (options.page / page_files.MODULE).read_bytes())
         page = Page(opened, url, program)
         for case in page_cases.CASES:
             outcome.take(f"in the browser: {case.__name__}", result(lambda case=case: case(page)))  # type: ignore[misc]

@@ -64,6 +64,7 @@ MODULES = [
     "statuses",
     "properties",
     "impacting",
+    "paging",
 ]
 
 

@@ -35,7 +35,7 @@ COMPILED = (
 FEATURES = ("memory64", "bulk-memory", "sign-ext", "mutable-globals", "nontrapping-float-to-int")
 
 MAGIC = 8
-TABLE, ELEMENTS = 4, 9
+TABLE, MEMORY, ELEMENTS = 4, 5, 9
 
 
 def run(words: list[str | os.PathLike[str]], what: str) -> None:
@@ -82,6 +82,28 @@ def without_empty_table(data: bytes) -> bytes:
     if any(number == ELEMENTS for number, _ in found):
         return data
     return data[:MAGIC] + b"".join(part for number, part in found if number != TABLE)
+
+
+def varint(number: int) -> bytes:
+    """Returns a number in LEB128."""
+    found = bytearray()
+    while number > 0x7F:
+        found.append(number & 0x7F | 0x80)
+        number >>= 7
+    return bytes([*found, number])
+
+
+def with_most_memory(data: bytes, more: int) -> bytes:
+    """Returns a module, with one memory, that can grow by this number of pages at most; it had no limit before."""
+    found = data[:MAGIC]
+    for number, part in sections(data):
+        if number == MEMORY:
+            _, at = number_at(part, 1)
+            least, _ = number_at(part, at + 2)
+            body = b"\1\1" + varint(least) + varint(least + more)
+            part = bytes([MEMORY]) + varint(len(body)) + body
+        found += part
+    return found
 
 
 class Maker:
