@@ -21,5 +21,6 @@ function sentences(words) {
 /** Returns what is known of a line such as `fault 81 1`; empty where nothing is. */
 export function explained(line) {
   const found = /^fault ([0-9].*)$/.exec(line.trim());
-  return found ? sentences(found[1].split(' ')).join(' ') : '';
+  const known = found ? sentences(found[1].split(' ')) : [];
+  return known.map((sentence) => sentence[0].toUpperCase() + sentence.slice(1)).join(' ');
 }

@@ -142,12 +142,19 @@ class Page {
 
   next() {
     this.move(() => {
-      if (!this.session.event('next')) this.say('The run is complete.');
+      if (!this.session.event('next')) this.sayEnd();
     });
   }
 
   go() {
-    this.move(() => this.say(this.session.go() === 'end' ? 'The run is complete.' : ''));
+    this.move(() => {
+      if (this.session.go() === 'end') this.sayEnd();
+    });
+  }
+
+  sayEnd() {
+    const failed = this.session.statuses().filter((status) => status.word === 'failed').length;
+    this.say(failed ? `The run is complete: ${failed} failed.` : 'The run is complete.');
   }
 
   cancel() {

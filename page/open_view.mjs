@@ -57,11 +57,14 @@ export class OpenView {
   async takeExample(name) {
     const example = this.examples.find((one) => one.name === name);
     if (!example) return;
-    const text = async (path) => (await fetch(`examples/${path}`)).text();
+    const given = (path) => fetch(`examples/${path}`);
+    const definition = await (await given(example.definition)).arrayBuffer();
     this.trees.clear();
-    for (const [local, from] of Object.entries(example.locals)) this.trees.set(local, { text: await text(from), from });
+    for (const [local, from] of Object.entries(example.locals)) {
+      this.trees.set(local, { text: await (await given(from)).text(), from });
+    }
     by('workers').value = example.workers;
-    this.take(new TextEncoder().encode(await text(example.definition)));
+    this.take(new Uint8Array(definition), example.title);
   }
 
   async takeFile(file) {

@@ -141,7 +141,8 @@ export class TimeView {
     const name = event.kind === 'claim' ? [draw('text', { y: -9, text: event.vertex })] : [];
     const words = wordsOf(event);
     return draw('g', {
-      class: `${classOf(event)}${isAt ? ' at' : ''}${isAhead ? ' ahead' : ''}`, role: 'button', 'aria-label': words,
+      class: `${classOf(event)}${isAt ? ' at' : ''}${isAhead ? ' ahead' : ''}`, role: 'button', tabindex: -1,
+      'aria-label': words,
       transform: `translate(${this.x(number)} ${y})`, 'data-number': number, onclick: () => this.onPlace(place),
     }, draw('title', { text: words }), draw('rect', { class: 'target', x: -11, y: -11, width: 22, height: 22 }),
     shape, ...name);

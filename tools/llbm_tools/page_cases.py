@@ -124,6 +124,17 @@ def a_failing_definition(page: Page) -> None:
     page.check_answers()
 
 
+def a_definition_of_a_client(page: Page) -> None:
+    """Opens bytes that BuildKit's client made: vertices have their names from its metadata."""
+    page.example("from-buildkit/dockerfile")
+    page.browser.wait("document.querySelectorAll('.box').length === 5")
+    labels = page.run("[...document.querySelectorAll('.vertex')].map(v => v.getAttribute('aria-label'))")
+    check(any("[build 2/3] COPY . ." in label for label in labels), f"the names {labels}")
+    page.click("go")
+    check("complete" in page.text("said"), "nothing says that the run is complete")
+    page.check_answers()
+
+
 def refused_files(page: Page) -> None:
     """Gives files that are refused: the fault's line and its cause are told, and a faulty line is selected."""
     page.load()
@@ -131,7 +142,7 @@ def refused_files(page: Page) -> None:
     page.browser.wait("document.getElementById('definition-said').textContent !== ''")
     page.submit()
     told = page.text("open-said")
-    check("fault 81 1" in told and "the bytes end inside the record" in told, told)
+    check("fault 81 1" in told and "The bytes end inside the record." in told, told)
     page.give_file("no.text", b"op {\n  nonsense 1\n}\n", "#definition-file")
     page.browser.wait("definition.value !== ''")
     page.submit()
@@ -326,7 +337,7 @@ WebAssembly.Instance = function (...given) {
 
 
 CASES = (
-    the_start, the_tour_step_by_step, forth_and_back, another_way, a_failing_definition, refused_files,
-    a_source_without_a_tree, what_changed, caches_and_who_holds_them, sharing, the_keyboard, names_for_screen_readers,
-    wide_and_narrow, a_trap, page_large.many_vertices, page_large.many_files,
+    the_start, the_tour_step_by_step, forth_and_back, another_way, a_failing_definition, a_definition_of_a_client,
+    refused_files, a_source_without_a_tree, what_changed, caches_and_who_holds_them, sharing, the_keyboard,
+    names_for_screen_readers, wide_and_narrow, a_trap, page_large.many_vertices, page_large.many_files,
 )  # fmt: skip
