@@ -50,7 +50,8 @@ function opened(node) {
 /** Returns an element for a node of a tree, which opens by a click. */
 export function elementOf(node, isOpen = false) {
   const { kind, mode, owner, content: digits } = entryOf(node.line);
-  const count = kind === 'd' ? `${node.inside.size} entries` : `${digits.length / 2} bytes`;
+  const entries = node.inside?.size === 1 ? '1 entry' : `${node.inside?.size} entries`;
+  const count = kind === 'd' ? entries : `${digits.length / 2} bytes`;
   const mark = kind === 'd' ? `${node.name}${node.name === '/' ? '' : '/'}` : node.name;
   const summary = make('summary', {}, make('span', { class: 'path', text: mark }),
     make('span', { class: 'note', text: ` ${mode} ${owner}, ${count}` }));

@@ -118,8 +118,9 @@ class Page {
     const entry = this.entries[vertex];
     const { word, rest } = this.statuses[vertex];
     const edges = inputs.map((edge) => `${edge.vertex}.${edge.output}`).join(' ') || 'none';
+    const status = `${word} ${rest}`.trim();
     by('vertex-details').replaceChildren(
-      make('p', {}, make('strong', { text: `${vertex} ${kind}` }), ` ${word} ${rest}, ${steps} steps, inputs ${edges}`),
+      make('p', {}, make('strong', { text: `${vertex} ${kind}` }), ` ${status}, steps ${steps}, inputs ${edges}`),
       ...(entry?.name ? [make('p', { text: entry.name })] : []),
       ...(entry?.line ? [make('code', { text: entry.line })] : []),
     );
