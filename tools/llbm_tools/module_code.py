@@ -1,13 +1,11 @@
 """The IR of the library for C, kept while the kit's compiler builds it.
 
-The compiler writes an IR and hands it to the `clang` of a toolchain's folder. Here that is a script, which keeps the IR
-and calls the kit's clang. A proof of the library comes first, over the libraries that `rt ci` left; without proof the
-same sources are compiled as `rt try` compiles them, with checks of memory that are taken out again.
+The compiler proves the library, over the libraries that `rt ci` left; then it writes an IR and hands it to the `clang` of
+a toolchain's folder. Here that is a script, which keeps the IR and calls the kit's clang.
 """
 
 import os
 import pathlib
-import re
 import shlex
 import subprocess
 from collections.abc import Iterator
@@ -16,7 +14,6 @@ from typing import NamedTuple
 from llbm_tools.streams import Failed, Refused
 
 CRATE = "llb_embed"
-STANDARD = ("std", "core")
 KEPT = "*.kept"
 MOST_LINES = 12
 
@@ -97,20 +94,6 @@ def built_words(crates: Crates, kit: pathlib.Path, libraries: pathlib.Path) -> I
         yield from ["-L", f"dependency={library}"]
     yield from ["--antt-project", f"{kit}/rattle/logic/antt-project.json", "--logic-built", f"{kit}/logic_built"]
     yield from ["--links", f"{CRATE}="]
-
-
-def source_words(crates: Crates, kit: pathlib.Path) -> Iterator[str]:
-    """Yields the words that name the sources of all libraries."""
-    below = crates.below(CRATE)
-    for name in below:
-        uses = ",".join(dict.fromkeys([*STANDARD, *crates.uses[name]]))
-        yield from ["--lib", f"{name}:{uses}={crates.root(name)}"]
-    names = list(dict.fromkeys([*STANDARD, *crates.of_kit([CRATE, *below])]))
-    for name in names:
-        format_of = (kit / "rlibs" / f"{name}.rlib" / "format").read_text("utf-8")
-        used: list[str] = re.findall(r"^dep (\w+)$", format_of, re.M)
-        names += [use for use in used if use not in names]
-        yield from ["--lib", f"{name}:{','.join(used)}={kit}/rattle/{name}/src/lib.rt"]
 
 
 def run_compiler(words: list[str], crate: pathlib.Path, what: str) -> None:
