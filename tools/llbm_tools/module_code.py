@@ -1,7 +1,7 @@
 """The IR of the library for C, kept while the kit's compiler builds it.
 
-The compiler proves the library, over the libraries that `rt ci` left; then it writes an IR and hands it to the `clang` of
-a toolchain's folder. Here that is a script, which keeps the IR and calls the kit's clang.
+The compiler proves the library, over the libraries that `rt ci` left; then it writes an IR and hands it to the `clang`
+of a toolchain's folder. Here that is a script, which keeps the IR and calls the kit's clang.
 """
 
 import os
