@@ -5,9 +5,9 @@ In: the repository around this folder. The parts are, in this order: `tools/line
 is given; `tools/refuse`, on the tests of `llb_refusals` that `rt ci` built; `tools/library`, which builds the static
 library, and `tools/bindings`, which tries it in each language that is there; on each of the two programs that `rt ci`
 left in crates/llbm/out, or on --llbm PROGRAM alone: `examples/check` and `tools/tries`; on the first of them
-`tools/test`, `tools/replay` on the pages with commands (README.md, and docs/ARCHITECTURE.md, FORMATS.md and TOOLS.md),
-and `tools/fuzz`, for a minute or for --fuzz SECONDS, with the seed 1 or --seed N. With --more-edits `tools/more-edits`
-follows on `rt ci`.
+`tools/test`, `tools/page-tests` on the page that `tools/wasm` made, if it is there, `tools/replay` on the pages with
+commands (README.md, and docs/ARCHITECTURE.md, FORMATS.md and TOOLS.md), and `tools/fuzz`, for a minute or for --fuzz
+SECONDS, with the seed 1 or --seed N. With --more-edits `tools/more-edits` follows on `rt ci`.
 
 With --quick nothing is proved, and no wrong body is tried. `tools/unproved-program` compiles the program, and `rt try
 --test` the tests of the crates of tests, as many at a time as there are processors, or --jobs N; the other parts follow
@@ -248,6 +248,7 @@ def parts_with(programs: list[str], fuzz: int, seed: str, *tried: str) -> Iterat
         yield tool("tries", *tried, program)
     first = programs[0]
     yield tool("test", "--llbm", first)
+    yield tool("page-tests", "--llbm", first)
     yield tool("replay", "--llbm", first, *PAGES)
     yield tool("fuzz", str(fuzz), "--llbm", first, "--seed", seed)
 

@@ -17,8 +17,9 @@ from llbm_tools import command_words, common, paths
 
 # The tools that test or prove the repository, or install it, and their tests.
 OF_THE_REPOSITORY = {
-    "claims", "dist", "floors", "fuzz", "gate", "install", "lines", "measure", "minutes", "more-edits", "proved",
-    "refuse", "replay", "style", "test", "tests", "tries", "unproved-program",
+    "bindings", "claims", "dist", "floors", "fuzz", "gate", "install", "library", "lines", "measure", "minutes",
+    "more-edits", "page-tests", "proved", "refuse", "replay", "style", "test", "tests", "tries", "unproved-program",
+    "wasm",
 }
 LIBRARY = "lib/llbm"
 PAGES = ("README.md", "CHANGELOG.md")

@@ -67,6 +67,7 @@ MODULES = [
     "statuses",
     "properties",
     "impacting",
+    "paging",
 ]
 
 

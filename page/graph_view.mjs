@@ -1,0 +1,211 @@
+/** The view *Graph*: vertices as boxes in layers. Only boxes and edges inside the window are in the page. */
+
+import { by, draw, make, oncePerFrame } from './dom.mjs';
+import { BOX, boxesIn, layout, neighbor } from './layout.mjs';
+
+const AROUND = 120;
+const MOST_OF_A_LINE = 60;
+const MARKS = { none: '○', claim: '◐', settle: '●' };
+const BREAK_WORDS = { none: 'no breakpoint', claim: 'stops when it is claimed', settle: 'stops when it is settled' };
+const NEXT_BREAK = { none: 'claim', claim: 'settle', settle: 'none' };
+
+function short(text) {
+  return text.length > MOST_OF_A_LINE ? `${text.slice(0, MOST_OF_A_LINE - 1)}…` : text;
+}
+
+/** The view of a session's graph. `onSelect` is called with a vertex, `onBreak` with a vertex and a kind. */
+export class GraphView {
+  constructor(onSelect, onBreak) {
+    this.frame = by('graph');
+    this.space = by('graph-space');
+    this.edges = by('graph-edges');
+    this.onSelect = onSelect;
+    this.onBreak = onBreak;
+    this.shown = new Map();
+    this.refresh = oncePerFrame(() => {
+      const start = performance.now();
+      this.render();
+      this.frame.dataset.drawing = (performance.now() - start).toFixed(2);
+    });
+    this.frame.addEventListener('scroll', this.refresh, { passive: true });
+    new ResizeObserver(this.refresh).observe(this.frame);
+  }
+
+  /** Shows another graph. `entries` has what the definition says of each vertex. */
+  open(graph, entries) {
+    this.graph = graph;
+    this.entries = entries;
+    this.placed = layout(graph);
+    this.selected = null;
+    this.statuses = [];
+    this.breaks = { claim: new Set(), settle: new Set() };
+    for (const box of this.shown.values()) box.remove();
+    this.shown.clear();
+    this.spans = this.edgeSpans();
+    this.lines = new Map();
+    this.near = null;
+    this.edges.replaceChildren();
+    this.space.style.width = `${this.placed.width}px`;
+    this.space.style.height = `${this.placed.height}px`;
+    this.edges.setAttribute('width', this.placed.width);
+    this.edges.setAttribute('height', this.placed.height);
+    this.frame.scrollTo(Math.max(0, (this.placed.width - this.frame.clientWidth) / 2), 0);
+    this.render();
+  }
+
+  /** Shows the statuses of the vertices, and breakpoints. */
+  update(statuses, breaks) {
+    this.statuses = statuses;
+    this.breaks = breaks;
+    this.refresh();
+  }
+
+  /** Selects a vertex, and scrolls to it if it is not seen. */
+  select(vertex, focus = false) {
+    this.selected = vertex;
+    if (vertex !== null) this.reveal(vertex);
+    this.render();
+    if (focus) this.shown.get(vertex)?.querySelector('.vertex').focus({ preventScroll: true });
+  }
+
+  reveal(vertex) {
+    const { x, y } = this.placed.boxes[vertex];
+    const { scrollLeft, scrollTop, clientWidth, clientHeight } = this.frame;
+    const isIn = x >= scrollLeft && x + BOX.width <= scrollLeft + clientWidth
+      && y >= scrollTop && y + BOX.height <= scrollTop + clientHeight;
+    if (isIn) return;
+    this.frame.scrollTo(x + BOX.width / 2 - clientWidth / 2, y + BOX.height / 2 - clientHeight / 2);
+  }
+
+  window() {
+    const { scrollLeft, scrollTop, clientWidth, clientHeight } = this.frame;
+    return {
+      left: scrollLeft - AROUND, right: scrollLeft + clientWidth + AROUND,
+      top: scrollTop - AROUND, bottom: scrollTop + clientHeight + AROUND,
+    };
+  }
+
+  // The edges with the window that each of them lies in.
+  edgeSpans() {
+    return this.graph.vertices.flatMap(({ number, inputs }) => inputs.map(({ vertex }) => {
+      const from = this.placed.boxes[vertex];
+      const to = this.placed.boxes[number];
+      return {
+        from: vertex, to: number, left: Math.min(from.x, to.x), right: Math.max(from.x, to.x) + BOX.width,
+        top: from.y + BOX.height, bottom: to.y,
+      };
+    }));
+  }
+
+  /** Draws what is inside the window. */
+  render() {
+    if (!this.graph) return;
+    const window = this.window();
+    const seen = new Set(boxesIn(this.placed, window));
+    if (this.selected !== null) seen.add(this.selected);
+    for (const [vertex, box] of this.shown) {
+      if (!seen.has(vertex)) {
+        box.remove();
+        this.shown.delete(vertex);
+      }
+    }
+    for (const vertex of seen) {
+      if (!this.shown.has(vertex)) {
+        this.shown.set(vertex, this.box(vertex));
+        this.space.append(this.shown.get(vertex));
+      }
+      this.dress(vertex);
+    }
+    this.renderEdges(window);
+  }
+
+  // Edges stay in the page while any part of the window that they lie in is seen.
+  renderEdges(window) {
+    this.spans.forEach((edge, number) => {
+      const isSeen = edge.right >= window.left && edge.left <= window.right
+        && edge.bottom >= window.top && edge.top <= window.bottom;
+      const line = this.lines.get(number);
+      if (!isSeen && line) {
+        line.remove();
+        this.lines.delete(number);
+      } else if (isSeen && !line) {
+        this.lines.set(number, this.edge(edge));
+        this.edges.append(this.lines.get(number));
+      }
+    });
+    if (this.near === this.selected) return;
+    for (const [number, line] of this.lines) line.setAttribute('class', this.edgeClass(this.spans[number]));
+    this.near = this.selected;
+  }
+
+  edgeClass({ from, to }) {
+    return this.selected === from || this.selected === to ? 'edge near' : 'edge';
+  }
+
+  edge(span) {
+    const a = this.placed.boxes[span.from];
+    const b = this.placed.boxes[span.to];
+    const [x, y] = [a.x + BOX.width / 2, a.y + BOX.height];
+    const [u, v] = [b.x + BOX.width / 2, b.y];
+    const bend = Math.max(20, (v - y) / 2);
+    return draw('path', { d: `M${x} ${y}C${x} ${y + bend} ${u} ${v - bend} ${u} ${v}`, class: this.edgeClass(span) });
+  }
+
+  box(vertex) {
+    const { x, y } = this.placed.boxes[vertex];
+    const { kind } = this.graph.vertices[vertex];
+    const entry = this.entries[vertex];
+    const said = entry?.name || entry?.line || '';
+    const main = make(
+      'button', { class: 'vertex', type: 'button', title: said, onclick: () => this.onSelect(vertex) },
+      make('span', { class: 'vertex-name', text: `${vertex} ${kind}` }), make('span', { class: 'vertex-status' }),
+      make('span', { class: 'vertex-line', text: short(said) }),
+    );
+    main.addEventListener('keydown', (event) => this.key(event, vertex));
+    const mark = make('button', { class: 'mark', type: 'button', onclick: () => this.turn(vertex) });
+    return make('div', { class: 'box', style: `left:${x}px;top:${y}px`, 'data-vertex': vertex }, main, mark);
+  }
+
+  breakOf(vertex) {
+    if (this.breaks.claim.has(vertex)) return 'claim';
+    return this.breaks.settle.has(vertex) ? 'settle' : 'none';
+  }
+
+  turn(vertex) {
+    const next = NEXT_BREAK[this.breakOf(vertex)];
+    this.onBreak(vertex, next === 'none' ? null : next);
+  }
+
+  dress(vertex) {
+    const box = this.shown.get(vertex);
+    const status = this.statuses[vertex] ?? { word: 'waiting', worker: null, rest: '' };
+    const words = status.worker === null ? status.word : `running, worker ${status.worker}`;
+    const isResult = this.graph.result.startsWith(`${vertex}.`);
+    const at = this.breakOf(vertex);
+    const key = `${status.word} ${status.rest} ${at} ${this.selected === vertex}`;
+    if (box.dataset.key === key) return;
+    box.dataset.key = key;
+    box.className = `box ${status.word}${this.selected === vertex ? ' selected' : ''}${isResult ? ' result' : ''}`;
+    const [main, mark] = box.children;
+    box.querySelector('.vertex-status').textContent = status.worker === null ? status.word : `worker ${status.worker}`;
+    const entry = this.entries[vertex];
+    const failed = status.word === 'failed' ? ` at ${status.rest}` : '';
+    main.setAttribute('aria-label', `vertex ${vertex}, ${this.graph.vertices[vertex].kind}, ${words}${failed}`
+      + `${entry?.name ? `, ${entry.name}` : ''}${isResult ? ', the result' : ''}`);
+    main.setAttribute('aria-pressed', String(this.selected === vertex));
+    mark.textContent = MARKS[at];
+    mark.className = `mark ${at}`;
+    mark.title = BREAK_WORDS[at];
+    mark.setAttribute('aria-label', `breakpoint of vertex ${vertex}: ${BREAK_WORDS[at]}`);
+  }
+
+  key(event, vertex) {
+    const direction = { ArrowUp: 'up', ArrowDown: 'down', ArrowLeft: 'left', ArrowRight: 'right' }[event.key];
+    if (event.ctrlKey || event.altKey || event.metaKey) return;
+    if (event.key === '.') this.turn(vertex);
+    if (!direction) return;
+    event.preventDefault();
+    event.stopPropagation();
+    this.onSelect(neighbor(this.placed, this.graph, vertex, direction), true);
+  }
+}

@@ -1,0 +1,101 @@
+/** Where the boxes of a graph are: in layers, each vertex below all that it needs; a wide layer has several rows. */
+
+export const BOX = { width: 168, height: 54, across: 24, down: 46, margin: 24 };
+
+const SWEEPS = 6;
+const MOST_IN_ROW = 24;
+
+// The layer of a vertex is the length of the longest way to it. Inputs have smaller numbers than their users.
+function layersOf(vertices) {
+  const level = [];
+  const layers = [];
+  for (const { number, inputs } of vertices) {
+    level[number] = inputs.reduce((most, { vertex }) => Math.max(most, level[vertex] + 1), 0);
+    (layers[level[number]] ??= []).push(number);
+  }
+  return layers;
+}
+
+function usersOf(vertices) {
+  const users = vertices.map(() => []);
+  for (const { number, inputs } of vertices) for (const { vertex } of inputs) users[vertex].push(number);
+  return users;
+}
+
+// Each layer is put in the order of the middles of what its vertices are joined with, down and up in turn.
+function ordered(layers, above, below) {
+  const place = [];
+  const put = (layer) => layer.forEach((vertex, i) => { place[vertex] = i - (layer.length - 1) / 2; });
+  layers.forEach(put);
+  const middle = (vertex, joined) => {
+    const near = joined[vertex];
+    return near.length ? near.reduce((sum, other) => sum + place[other], 0) / near.length : place[vertex];
+  };
+  for (let sweep = 0; sweep < SWEEPS; sweep += 1) {
+    const isDown = sweep % 2 === 0;
+    for (const layer of isDown ? layers : [...layers].reverse()) {
+      const keys = new Map(layer.map((vertex) => [vertex, middle(vertex, isDown ? above : below)]));
+      layer.sort((a, b) => keys.get(a) - keys.get(b) || a - b);
+      put(layer);
+    }
+  }
+}
+
+// The rows of layers, none of which has too many boxes.
+function rowsOf(layers) {
+  return layers.flatMap((layer) => {
+    const count = Math.ceil(layer.length / MOST_IN_ROW);
+    const length = Math.ceil(layer.length / count);
+    return Array.from({ length: count }, (_, i) => layer.slice(i * length, (i + 1) * length));
+  });
+}
+
+/** Returns the rows of a graph, each box's place by vertex, and the size of the whole. */
+export function layout(graph) {
+  const layers = layersOf(graph.vertices);
+  const above = graph.vertices.map(({ inputs }) => inputs.map(({ vertex }) => vertex));
+  const below = usersOf(graph.vertices);
+  ordered(layers, above, below);
+  const rows = rowsOf(layers);
+  const widest = rows.reduce((most, vertices) => Math.max(most, vertices.length), 1);
+  const step = BOX.width + BOX.across;
+  const boxes = [];
+  rows.forEach((vertices, row) => {
+    const indent = ((widest - vertices.length) * step) / 2;
+    vertices.forEach((vertex, column) => {
+      boxes[vertex] = {
+        x: Math.round(BOX.margin + indent + column * step), y: BOX.margin + row * (BOX.height + BOX.down), row, column,
+      };
+    });
+  });
+  return {
+    rows, boxes, below, width: 2 * BOX.margin + widest * step - BOX.across,
+    height: 2 * BOX.margin + rows.length * (BOX.height + BOX.down) - BOX.down,
+  };
+}
+
+/** Returns the vertices whose boxes touch a window of the layout, found by rows. */
+export function boxesIn(placed, window) {
+  const step = BOX.height + BOX.down;
+  const first = Math.max(0, Math.floor((window.top - BOX.margin - BOX.height) / step));
+  const last = Math.min(placed.rows.length - 1, Math.ceil((window.bottom - BOX.margin) / step));
+  const found = [];
+  for (let row = first; row <= last; row += 1) {
+    for (const vertex of placed.rows[row]) {
+      const { x } = placed.boxes[vertex];
+      if (x + BOX.width >= window.left && x <= window.right) found.push(vertex);
+    }
+  }
+  return found;
+}
+
+/** Returns the vertex beside another one: an input of it (`up`), a user of it (`down`), or one of its row. */
+export function neighbor(placed, graph, vertex, direction) {
+  const box = placed.boxes[vertex];
+  const row = placed.rows[box.row];
+  if (direction === 'left') return row[box.column - 1] ?? vertex;
+  if (direction === 'right') return row[box.column + 1] ?? vertex;
+  const joined = direction === 'up' ? graph.vertices[vertex].inputs.map((one) => one.vertex) : placed.below[vertex];
+  const far = (other) => Math.abs(placed.boxes[other].x - box.x) + Math.abs(placed.boxes[other].y - box.y);
+  return [...joined].sort((a, b) => far(a) - far(b))[0] ?? vertex;
+}

@@ -1,0 +1,64 @@
+/** What a session shows of its trees: those that a worker works on, the outputs of vertices, and caches. */
+
+const PART = /^([0-9]+) (local|input|result [0-9]+|laid|mount \/.*)$/;
+const KEY = /^([0-9]+) (shared|locked|private) ([0-9]+) (\S+) (.*)$/;
+
+/** Returns the trees that a worker works on: each with its role in words and the line that asks for it. */
+export function partsOf(session, worker) {
+  const found = [];
+  for (const line of session.lines(`work ${worker}`)) {
+    const part = PART.exec(line);
+    if (part) {
+      const name = part[2] === 'input' ? `input ${part[1]}` : part[2];
+      found.push({ number: Number(part[1]), role: part[2], name, line: `work ${worker} ${part[1]}` });
+    }
+  }
+  return found;
+}
+
+/** Returns the keys of the caches: number, mode, count of instances, seed and ID. An ID can have line ends. */
+export function keysOf(session) {
+  const found = [];
+  for (const line of session.lines('caches')) {
+    const key = KEY.exec(line);
+    if (key && Number(key[1]) === found.length) {
+      const [, number, mode, instances, seed, id] = key;
+      found.push({ number: Number(number), mode, instances: Number(instances), seed, id });
+    } else if (found.length) found.at(-1).id += `\n${line}`;
+  }
+  return found;
+}
+
+/** Returns the workers whose vertices mount a key, as `worker 0 (vertex 2, at /cache)`. */
+export function holdersOf(key, statuses, vertices) {
+  const found = [];
+  statuses.forEach((status, vertex) => {
+    if (status.worker === null) return;
+    const isOf = (mount) => mount.isCache && mount.id === key.id && mount.mode === key.mode && mount.seed === key.seed;
+    for (const mount of vertices[vertex]?.mounts.filter(isOf) ?? []) {
+      found.push(`worker ${status.worker} (vertex ${vertex}, at ${mount.dest})`);
+    }
+  });
+  return found;
+}
+
+/** Returns all trees that can be shown: of running workers, outputs of vertices that are done, and caches. */
+export function allTrees(session) {
+  const found = [];
+  const statuses = session.statuses();
+  const workers = statuses.map((status) => status.worker).filter((worker) => worker !== null);
+  for (const worker of workers.sort((a, b) => a - b)) {
+    for (const { name, line } of partsOf(session, worker)) found.push({ name: `worker ${worker}, ${name}`, line });
+  }
+  for (const key of keysOf(session)) {
+    for (let i = 0; i < key.instances; i += 1) {
+      found.push({ name: `cache ${key.id}, instance ${i} (${key.mode})`, line: `cache ${key.number} ${i}` });
+    }
+  }
+  statuses.forEach((status, vertex) => {
+    if (status.word !== 'done') return;
+    const { outputs } = session.graph.vertices[vertex];
+    for (let i = 0; i < outputs; i += 1) found.push({ name: `output ${vertex}.${i}`, line: `tree ${vertex} ${i}` });
+  });
+  return found;
+}

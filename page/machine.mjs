@@ -1,0 +1,164 @@
+/**
+ * The machine: the module of WebAssembly, and handles on it. Bytes and numbers go in, bytes come out.
+ *
+ * Each handle has an instance of its own, so that its memory goes with it. After a trap nothing is known of the
+ * memory of its instance, and no call of that handle is made again.
+ */
+
+const PREFIX = 'llb_';
+const HANDLE_BYTES = 16;
+
+/** The module stopped: its stack or its memory has ended. The answer of the call is not known. */
+export class Trap extends Error {
+  constructor(cause) {
+    super(`the machine stopped in the middle of a call, since its stack or its memory has ended (${cause.message})`);
+    this.name = 'Trap';
+  }
+}
+
+/** The statuses of calls. */
+export const STATUS = { done: 0, ended: 1, refused: 2, failed: 3, noSession: 4 };
+
+/** A module that is compiled. */
+export class Machine {
+  constructor(module) {
+    this.module = module;
+  }
+
+  /** Returns the machine of a response of `fetch`, or of bytes. */
+  static async from(source) {
+    const given = await source;
+    const streams = typeof Response !== 'undefined' && given instanceof Response;
+    if (!streams) return new Machine(await WebAssembly.compile(given));
+    if (!given.ok) throw new Error(`${given.url}: ${given.status} ${given.statusText}`);
+    const type = given.headers.get('content-type') ?? '';
+    if (type.startsWith('application/wasm')) return new Machine(await WebAssembly.compileStreaming(given));
+    return new Machine(await WebAssembly.compile(await given.arrayBuffer()));
+  }
+
+  /** Returns a new handle, which holds nothing. */
+  handle() {
+    return new Handle(new WebAssembly.Instance(this.module, {}).exports);
+  }
+}
+
+const encoder = new TextEncoder();
+const decoder = new TextDecoder();
+
+/** Returns bytes as they are, and the UTF-8 of a string. */
+export function bytesOf(given) {
+  return typeof given === 'string' ? encoder.encode(given) : given;
+}
+
+/** What a caller of the library holds: local trees, a session, and what the last call wrote. */
+export class Handle {
+  constructor(exports) {
+    this.exports = exports;
+    this.trapped = null;
+    this.at = this.guarded(() => exports.page_alloc(BigInt(HANDLE_BYTES)));
+    this.view(this.at, HANDLE_BYTES).fill(0);
+  }
+
+  // A view is made anew for each use, since a call can move the memory when it grows.
+  view(at, length) {
+    return new Uint8Array(this.exports.memory.buffer, Number(at), Number(length));
+  }
+
+  guarded(call) {
+    if (this.trapped) throw this.trapped;
+    try {
+      return call();
+    } catch (cause) {
+      if (!(cause instanceof WebAssembly.RuntimeError) && !(cause instanceof RangeError)) throw cause;
+      this.trapped = new Trap(cause);
+      throw this.trapped;
+    }
+  }
+
+  place(bytes) {
+    const at = this.exports.page_alloc(BigInt(bytes.length || 1));
+    if (!at) throw new RangeError('no memory is left for an argument');
+    this.view(at, bytes.length).set(bytes);
+    return at;
+  }
+
+  call(name, parts, ...more) {
+    return this.guarded(() => {
+      const given = parts.map(bytesOf);
+      const places = given.map((bytes) => this.place(bytes));
+      const words = places.flatMap((at, i) => [at, BigInt(given[i].length)]);
+      const status = this.exports[PREFIX + name](this.at, ...words, ...more);
+      places.forEach((at) => this.exports.page_free(at));
+      return status;
+    });
+  }
+
+  written(name) {
+    return this.guarded(() => {
+      const call = this.exports[PREFIX + name];
+      const length = call(this.at, this.at, 0n);
+      if (!length) return new Uint8Array(0);
+      const at = this.exports.page_alloc(length);
+      if (!at) throw new RangeError('no memory is left for an answer');
+      call(this.at, at, length);
+      const copy = this.view(at, length).slice();
+      this.exports.page_free(at);
+      return copy;
+    });
+  }
+
+  /** Adds the tree of a local source by its text, and returns the status. */
+  local(name, text) {
+    return this.call('local', [name, text]);
+  }
+
+  /** Opens a session with the local trees that were added, and returns the status. */
+  open(definition, workers) {
+    return this.call('open', [definition], workers);
+  }
+
+  /** Sends a line to the session, and returns the status. */
+  line(line) {
+    return this.call('line', [line]);
+  }
+
+  /** Writes the graph of a definition, and returns the status. */
+  show(definition) {
+    return this.call('show', [definition]);
+  }
+
+  /** Assembles a text to a definition, and returns the status. */
+  asm(text) {
+    return this.call('asm', [text]);
+  }
+
+  /** Writes the text of a definition, and returns the status. */
+  dis(definition) {
+    return this.call('dis', [definition]);
+  }
+
+  /** Runs a definition with the local trees that were added, and returns the status: 1 where a vertex failed. */
+  run(definition) {
+    return this.call('run', [definition]);
+  }
+
+  /** Returns the bytes that the last call wrote. */
+  output() {
+    return this.written('output');
+  }
+
+  /** Returns the text that the last call wrote. */
+  text() {
+    return decoder.decode(this.output());
+  }
+
+  /** Returns the messages of the last call, such as the line of a fault. */
+  messages() {
+    return decoder.decode(this.written('messages'));
+  }
+
+  /** Returns how many bytes of memory the instance has. */
+  memory() {
+    return this.exports.memory.buffer.byteLength;
+  }
+}

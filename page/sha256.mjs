@@ -1,0 +1,66 @@
+/** SHA-256 of bytes: a page that is not served securely has no `crypto.subtle`. */
+
+function primes(count) {
+  const found = [];
+  for (let n = 2; found.length < count; n += 1) if (found.every((p) => n % p)) found.push(n);
+  return found;
+}
+
+// The first 32 bits of the part of a root after its point.
+const bitsOf = (root) => Math.floor((root - Math.floor(root)) * 2 ** 32) | 0;
+const ROUNDS = primes(64).map((p) => bitsOf(Math.cbrt(p)));
+const FIRST = primes(8).map((p) => bitsOf(Math.sqrt(p)));
+
+const turned = (word, bits) => (word >>> bits) | (word << (32 - bits));
+
+function padded(bytes) {
+  const length = Math.ceil((bytes.length + 9) / 64) * 64;
+  const data = new Uint8Array(length);
+  data.set(bytes);
+  data[bytes.length] = 0x80;
+  const view = new DataView(data.buffer);
+  view.setUint32(length - 8, Math.floor(bytes.length / 2 ** 29));
+  view.setUint32(length - 4, (bytes.length << 3) >>> 0);
+  return view;
+}
+
+const given = new Int32Array(64);
+
+function fill(view, at) {
+  for (let i = 0; i < 16; i += 1) given[i] = view.getInt32(at + 4 * i);
+  for (let i = 16; i < 64; i += 1) {
+    const a = given[i - 15];
+    const b = given[i - 2];
+    const low = turned(a, 7) ^ turned(a, 18) ^ (a >>> 3);
+    const high = turned(b, 17) ^ turned(b, 19) ^ (b >>> 10);
+    given[i] = given[i - 16] + low + given[i - 7] + high;
+  }
+}
+
+function mix(state, view, at) {
+  fill(view, at);
+  let [a, b, c, d, e, f, g, h] = state;
+  for (let i = 0; i < 64; i += 1) {
+    const one = turned(e, 6) ^ turned(e, 11) ^ turned(e, 25);
+    const first = (h + one + ((e & f) ^ (~e & g)) + ROUNDS[i] + given[i]) | 0;
+    const two = turned(a, 2) ^ turned(a, 13) ^ turned(a, 22);
+    const second = (two + ((a & b) ^ (a & c) ^ (b & c))) | 0;
+    h = g;
+    g = f;
+    f = e;
+    e = (d + first) | 0;
+    d = c;
+    c = b;
+    b = a;
+    a = (first + second) | 0;
+  }
+  [a, b, c, d, e, f, g, h].forEach((word, i) => { state[i] += word; });
+}
+
+/** Returns the digest of bytes in hexadecimal. */
+export function sha256(bytes) {
+  const view = padded(bytes);
+  const state = Int32Array.from(FIRST);
+  for (let at = 0; at < view.byteLength; at += 64) mix(state, view, at);
+  return [...state].map((word) => (word >>> 0).toString(16).padStart(8, '0')).join('');
+}

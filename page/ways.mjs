@@ -1,0 +1,87 @@
+/**
+ * The ways that a session went: a tree of events, in which each path from the root is a record. Going back and on with
+ * another event begins a way of its own; what was done before stays.
+ */
+
+/** A place on a way: the event that leads to it, null at the beginning, and the places after it. */
+class Place {
+  constructor(before, event, way) {
+    this.before = before;
+    this.event = event;
+    this.after = [];
+    this.number = before ? before.number + 1 : 0;
+    this.way = way;
+  }
+}
+
+/** All ways of a session, and the place where it is. */
+export class Ways {
+  constructor() {
+    this.root = new Place(null, null, 0);
+    this.at = this.root;
+    this.count = 1;
+    this.newest = [this.root];
+    this.last = this.root;
+  }
+
+  /** Adds an event after the place where the session is, or finds it there, and goes to it. */
+  add(event) {
+    let next = this.at.after.find((place) => place.event.command === event.command);
+    if (!next) {
+      const way = this.at.after.length ? this.count : this.at.way;
+      if (this.at.after.length) this.count += 1;
+      next = new Place(this.at, event, way);
+      this.at.after.push(next);
+    }
+    this.at = next;
+    this.keep(next);
+    this.end();
+    return next;
+  }
+
+  // Each way remembers where it was last: the slider goes over the places up to there.
+  keep(place) {
+    const newest = this.newest[place.way];
+    if (!newest || newest.number < place.number) this.newest[place.way] = place;
+  }
+
+  /** Goes to the place that has a number of events on the way here. */
+  back(number) {
+    while (this.at.number > number) this.at = this.at.before;
+  }
+
+  /** Returns the places from the root to a place, the root too. */
+  path(place = this.at) {
+    const found = [];
+    for (let one = place; one; one = one.before) found.push(one);
+    return found.reverse();
+  }
+
+  /** Returns the last place of the way that the session was last on, if the present one is on it, or of its own way. */
+  end() {
+    const isOn = (place) => {
+      let one = place;
+      while (one.number > this.at.number) one = one.before;
+      return one === this.at;
+    };
+    if (!isOn(this.last)) this.last = isOn(this.newest[this.at.way]) ? this.newest[this.at.way] : this.at;
+    return this.last;
+  }
+
+  /** Returns for each way the places that are its own, in order, with the place that it began at. */
+  branches() {
+    return this.newest.map((newest, way) => {
+      const places = this.path(newest).filter((place) => place.way === way && place.event);
+      return { way, places, from: places[0]?.before ?? this.root };
+    });
+  }
+
+  /** Returns how to get to a place: how many events back, and the commands of the events from there. */
+  route(place) {
+    const here = new Set(this.path());
+    const commands = [];
+    let one = place;
+    for (; !here.has(one); one = one.before) commands.push(one);
+    return { back: this.at.number - one.number, forth: commands.reverse() };
+  }
+}
