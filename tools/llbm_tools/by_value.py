@@ -3,7 +3,8 @@
 The program hands contents on without looking at them, except for `sha256`, and a content that it writes must not be
 mistaken for a token. So the sources at or before an exec that calls `sha256` or `listing` are given by value, and all
 sources where a mkfile writes the byte 255. Execs that mount caches may see each other's contents without an edge
-between them: beside an exec of the first kind all of them are treated like it.
+between them: beside an exec of the first kind all of them are treated like it. That this is enough is the clause
+`tokens` of `contents_are_handed_on` in crates/llb_contents, except for `listing` and caches, of which it says nothing.
 """
 
 from collections.abc import Iterator

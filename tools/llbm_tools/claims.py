@@ -16,12 +16,14 @@ import argparse
 import pathlib
 import re
 import sys
+import textwrap
 
 from llbm_tools.definitions import Definition, Library, contract
 from llbm_tools.paths import ROOT
 from llbm_tools.streams import exit_status
 
 PAGE = ROOT / "docs" / "CLAIMS.md"
+COLUMNS = 160
 FUNCTION = re.compile(r"\s*(?:pub(?:\(\w+\))? )?(?:const |unsafe )?fn (\w+)")
 STATEMENTS = {
     "aim": ("llb_commands", "laws.rt", "aim"),
@@ -83,15 +85,19 @@ def edits_of(crate: pathlib.Path) -> list[pathlib.Path]:
 
 
 def edits(library: Library) -> list[str]:
-    """Returns the table of wrong bodies."""
-    rows = ["| Crate | Wrong body | Where | Tried by |", "|---|---|---|---|"]
+    """Returns the list of wrong bodies, crate by crate."""
+    items, count = [], 0
     for line in (library.root / "crates.txt").read_text("utf-8").splitlines():
         crate = library.root / "crates" / line.partition(":")[0].strip()
-        for edit in edits_of(crate) if line.strip() else []:
-            words = edit.stem.replace("_", " ")
-            by = "the gate" if edit.parent.name == "must-fail" else "`tools/more-edits`"
-            rows.append(f"| `{crate.name}` | {words[0].upper()}{words[1:]}. | {edited(crate, edit)} | {by} |")
-    return [f"{len(rows) - 2} wrong bodies.", "", *rows]
+        found = edits_of(crate) if line.strip() else []
+        if not found:
+            continue
+        by = "the gate" if found[0].parent.name == "must-fail" else "`tools/more-edits`"
+        bodies = "; ".join(f"{edit.stem.replace('_', ' ')} ({edited(crate, edit)})" for edit in found)
+        text = f"- `{crate.name}`, tried by {by}: {bodies}."
+        items += textwrap.wrap(text, COLUMNS, subsequent_indent="  ", break_long_words=False, break_on_hyphens=False)
+        count += len(found)
+    return [f"{count} wrong bodies.", "", *items]
 
 
 def page_of(text: str, lists: dict[str, list[str]]) -> tuple[str, list[str]]:

@@ -1,11 +1,12 @@
 """Runs all tests of the repository, and counts what passed and what failed.
 
 In: the repository around this folder. The parts are, in this order: `tools/lines` (if this is a git repository),
-`tools/style`, `tools/proved --check`, `tools/claims --check` and `tools/floors`; `rt ci`, which does every proof from
-nothing, unless --after is given; `tools/refuse`, on the tests of `llb_refusals` that `rt ci` built; on each of the two
-programs that `rt ci` left in crates/llbm/out, or on --llbm PROGRAM alone: `examples/check` and `tools/tries`; on the
-first of them `tools/test`, `tools/replay README.md docs/TOOLS.md`, and `tools/fuzz`, for a minute or for --fuzz
-SECONDS, with the seed 1 or --seed N. With --more-edits `tools/more-edits` follows on `rt ci`.
+`tools/style`, `tools/claims --check` and `tools/floors`; `rt ci`, which does every proof from nothing, unless --after
+is given; `tools/refuse`, on the tests of `llb_refusals` that `rt ci` built; on each of the two programs that `rt ci`
+left in crates/llbm/out, or on --llbm PROGRAM alone: `examples/check` and `tools/tries`; on the first of them
+`tools/test`, `tools/replay` on the pages with commands (README.md, and docs/ARCHITECTURE.md, FORMATS.md and TOOLS.md),
+and `tools/fuzz`, for a minute or for --fuzz SECONDS, with the seed 1 or --seed N. With --more-edits `tools/more-edits`
+follows on `rt ci`.
 
 With --quick nothing is proved, and no wrong body is tried. `tools/unproved-program` compiles the program, and `rt try
 --test` the tests of the crates of tests, as many at a time as there are processors, or --jobs N; the other parts follow
@@ -38,6 +39,7 @@ from llbm_tools import installing, minutes, paths
 from llbm_tools.paths import ROOT
 
 PROGRAMS = [ROOT / "crates" / "llbm" / "out" / name for name in ("llbm", "llbm.by-rattle")]
+PAGES = ("README.md", "docs/ARCHITECTURE.md", "docs/FORMATS.md", "docs/TOOLS.md")
 TESTED = ("llb_refusals", "llb_stories", "llb_examples", "llbm")
 # Tests that need more than the 60 seconds that `rt try` gives each.
 TOO_LONG = {"chain::a_chain_of_65535_vertices_is_evaluated_run_and_walked"}
@@ -232,7 +234,6 @@ def parts_without_program() -> Iterator[Part]:
     if is_repository():
         yield tool("lines")
     yield tool("style")
-    yield tool("proved", "--check")
     yield tool("claims", "--check")
     yield tool("floors")
 
@@ -244,7 +245,7 @@ def parts_with(programs: list[str], fuzz: int, seed: str, *tried: str) -> Iterat
         yield tool("tries", *tried, program)
     first = programs[0]
     yield tool("test", "--llbm", first)
-    yield tool("replay", "--llbm", first, "README.md", "docs/TOOLS.md")
+    yield tool("replay", "--llbm", first, *PAGES)
     yield tool("fuzz", str(fuzz), "--llbm", first, "--seed", seed)
 
 

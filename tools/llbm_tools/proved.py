@@ -1,15 +1,14 @@
-"""Maintains the lists of public calls in docs/PROVED.md: for each call its signature, a sentence, and its clauses.
+"""Prints the public calls of crates: for each its signature, a sentence, and the names of its clauses.
 
-In: the sources in crates/, of the crates that crates.txt names, in its order. A call is a public function that a crate
-exports, or a function of a public trait, whose contract every implementation meets. The sentence is the first one of
-its docstring. Clauses without a name are written `one clause` (or `N clauses`); `asks` names the conditions that the
-caller has to meet.
+In: the sources in crates/, of the crates that are named, or of all that crates.txt names, in its order. A call is a
+public function that a crate exports, or a function of a public trait, whose contract every implementation meets. The
+sentence is the first one of its docstring. Clauses without a name are written `one clause` (or `N clauses`); `asks`
+names the conditions that the caller has to meet. The clauses are at the call, over the definitions of specs/.
 
-Out: with --write the lists in docs/PROVED.md; with --check a line for each crate whose list differs, and for each call
-without a clause or a docstring; else the lists on standard output.
+Out: on standard output, for each crate, its name and a list. `tools/test repository` fails for a call without a clause
+or a docstring, and for a clause that a page names and no call has.
 
-Exit status: 0 done, or the page agrees with the sources; 1 it does not; 2 the command line is refused; 3 a read or a
-write failed.
+Exit status: 0 done; 2 the command line is refused; 3 a read or a write failed.
 """
 
 import argparse
@@ -18,16 +17,16 @@ import pathlib
 import re
 import sys
 import textwrap
+from collections.abc import Iterator
 
+from llbm_tools.common import check_open
 from llbm_tools.paths import ROOT
 from llbm_tools.streams import exit_status
 
-PAGE = ROOT / "docs" / "PROVED.md"
 OUTSIDE = {"llb_examples", "llb_stories", "llb_refusals"}
 # The calls that need no clause, each with the reason.
 WITHOUT = {"Many::allocator": "contracts see a list by its items alone, and not where its memory comes from"}
 COLUMNS = 156
-HEAD = re.compile(r"^The public calls\b[^\n]*:\n", re.M)
 
 OWNER = re.compile(r"(?:pub (trait)|impl)(?:<.*?>)? (?:.* for )?(\w+)")
 START = re.compile(r"(\s*)(pub )?(?:const |unsafe )?fn (\w+)")
@@ -129,22 +128,26 @@ def item(call: Call, full: str) -> str:
     return textwrap.fill(text, COLUMNS, subsequent_indent="  ", break_long_words=False, break_on_hyphens=False)
 
 
-def listed(crate: pathlib.Path) -> tuple[list[str], list[str]]:
-    """Returns the list of a crate, and what is wrong with its calls."""
-    names, items, wrong = exported(crate), [], []
+def public(crate: pathlib.Path) -> Iterator[tuple[str, Call]]:
+    """Yields the public calls of a crate, each with its full name."""
+    names = exported(crate)
     for path in sorted((crate / "src").rglob("*.rt")):
         for call in [] if "tests" in path.parts else calls(path):
             module = f"mod {call.module}" in names
             if not (call.owner in names or (not call.owner and (call.name in names or module))):
                 continue
             before = call.owner or (call.module if module else "")
-            full = f"{before}::{call.name}" if before else call.name
+            yield f"{before}::{call.name}" if before else call.name, call
+
+
+def wrong() -> Iterator[str]:
+    """Yields what is wrong with the public calls of all crates."""
+    for crate in crates():
+        for full, call in public(crate):
             if not call.ensures and full not in WITHOUT:
-                wrong.append(f"{crate.name}: `{full}` has no clause")
+                yield f"{crate.name}: `{full}` has no clause"
             if not call.doc:
-                wrong.append(f"{crate.name}: `{full}` has no docstring")
-            items.append(item(call, full))
-    return items, wrong
+                yield f"{crate.name}: `{full}` has no docstring"
 
 
 def crates() -> list[pathlib.Path]:
@@ -153,60 +156,30 @@ def crates() -> list[pathlib.Path]:
     return [ROOT / "crates" / it[0] for it in names if it and not it[0].startswith("#") and it[0] not in OUTSIDE]
 
 
-def with_lists(page: str, lists: dict[str, list[str]]) -> tuple[str, list[str]]:
-    """Returns the page with these lists, and the crates whose list differed."""
-    differing = []
-    for crate, items in lists.items():
-        section = re.search(rf"^## `{crate}`\n.*?(?=^## |\Z)", page, re.M | re.S)
-        head = HEAD.search(section[0]) if section else None
-        if not section or not head:
-            differing += [crate] if items else []
-            continue
-        made = section[0][: head.end()] + "\n" + "\n".join(items) + "\n"
-        made += "\n" if section.end() < len(page) else ""
-        if made != section[0]:
-            differing.append(crate)
-        page = page[: section.start()] + made + page[section.end() :]
-    return page, differing
-
-
 def parse_options() -> argparse.Namespace:
     """Parses the command line."""
     parser = argparse.ArgumentParser(
-        description="Maintains the lists of public calls in docs/PROVED.md.", allow_abbrev=False
+        description="Prints the public calls of crates, with their clauses.", allow_abbrev=False
     )
-    what = parser.add_mutually_exclusive_group()
-    what.add_argument("--check", action="store_true", help="compare docs/PROVED.md with the sources")
-    what.add_argument("--write", action="store_true", help="write its lists")
-    return parser.parse_args()
+    parser.add_argument("crates", metavar="CRATE", nargs="*", help="default: all")
+    options = parser.parse_args()
+    known = {crate.name for crate in crates()}
+    if unknown := [name for name in options.crates if name not in known]:
+        parser.error(f"there is no crate {unknown[0]} with public calls")
+    return options
 
 
-def write_or_check(options: argparse.Namespace) -> int:
-    """Prints, writes or compares the lists, and returns the exit status."""
-    found = {crate.name: listed(crate) for crate in crates()}
-    lists = {crate: items for crate, (items, _) in found.items()}
-    if not options.check and not options.write:
-        for crate, items in lists.items():
-            print(f"## `{crate}`", "", *items, "", sep="\n")
-        return 0
-    page, differing = with_lists(PAGE.read_text("utf-8"), lists)
-    if options.write:
-        PAGE.write_text(page, "utf-8")
-    wrong = [line for _, lines in found.values() for line in lines]
-    if options.check:
-        wrong += [f"{crate}: its list differs from the sources: run tools/proved --write" for crate in differing]
-    print("\n".join(wrong), end="\n" if wrong else "")
-    return 1 if wrong else 0
-
-
-def work(options: argparse.Namespace) -> int:
-    """Writes or checks the lists, and returns the exit status."""
-    status = write_or_check(options)
+def show(names: list[str]) -> int:
+    """Prints the lists of these crates, or of all, and returns the exit status."""
+    check_open(sys.stdout, "standard output")
+    for crate in crates():
+        if not names or crate.name in names:
+            print(f"## `{crate.name}`", "", *(item(call, full) for full, call in public(crate)), "", sep="\n")
     sys.stdout.flush()
-    return status
+    return 0
 
 
 def main() -> int:
     """Runs the tool, and returns its exit status."""
-    options = parse_options()
-    return exit_status(lambda: work(options))
+    names = parse_options().crates
+    return exit_status(lambda: show(names))

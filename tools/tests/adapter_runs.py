@@ -381,14 +381,13 @@ class Failures(WithRun):
 
 
 class Documented(WithRun):
-    """The session in the documentation, and the launch files of the examples."""
+    """The sessions and the launch files of the examples."""
 
     def transcripts(self):
-        """Returns the messages of each documented session, each with its arrow."""
-        text = (ROOT / "docs" / "TOOLS.md").read_text("utf-8")
-        blocks = [block for block in text.split("```text\n")[1:] if block.startswith('-> {"seq": 1,')]
-        for block in blocks:
-            joined = block[: block.index("\n```")].replace("\n   ", " ").replace("$ROOT", str(ROOT))
+        """Yields the messages of each session, each with its arrow."""
+        for name in ("back-and-on", "failure", "dockerfile"):
+            text = (EXAMPLES / "debugger" / f"{name}.session").read_text("utf-8").rstrip("\n")
+            joined = text.replace("\n   ", " ").replace("$ROOT", str(ROOT))
             yield [line.split(" ", 1) for line in joined.split("\n")]
 
     def test_the_documented_sessions_are_what_the_adapter_sends(self):

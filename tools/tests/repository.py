@@ -274,11 +274,25 @@ class WrongBodies(unittest.TestCase):
 
 
 class Proved(unittest.TestCase):
-    """The lists of docs/PROVED.md."""
+    """The tool `proved`."""
 
-    def test_the_lists_agree_with_the_sources(self):
-        done = run("proved", "--check")
-        self.assertEqual((done.returncode, done.stdout, done.stderr), (0, b"", b""))
+    def test_the_calls_of_a_crate_are_printed_with_their_clauses(self):
+        done = run("proved", "llb_plain")
+        self.assertEqual((done.returncode, done.stderr), (0, b""))
+        lines = done.stdout.decode().split("\n")
+        self.assertEqual(lines[:2], ["## `llb_plain`", ""])
+        self.assertTrue(any(line.startswith("- `evaluate(alloc: Global, graph: &Graph, ") for line in lines))
+        self.assertIn("*`gives`, `last`*", done.stdout.decode())
+
+    def test_all_crates_are_printed_in_the_order_of_crates_txt(self):
+        done = run("proved")
+        found = re.findall(r"^## `(\w+)`$", done.stdout.decode(), re.M)
+        order = [line.partition(":")[0] for line in (ROOT / "crates.txt").read_text("utf-8").split("\n")]
+        self.assertEqual(found, [crate for crate in order if crate in found])
+        self.assertIn("llb_board", found)
+
+    def test_an_unknown_crate_is_refused(self):
+        self.assertEqual(run("proved", "nothing").returncode, 2)
 
 
 class Callers(unittest.TestCase):

@@ -25,7 +25,7 @@ names_word (Err (Usage number)) = false
 names_word (Err (ShellSyntax place)) = false
 names_word (Err Memory) = false
 
--- `Memory` comes last: a call fails with it only where the rule has no refusal, or one that holds a text
+-- `Memory` comes last: a call fails with it only if the rule has no refusal, or one that holds a text
 abbrev pub MemoryLast : {X Y : Type 0} → Result X ScriptFault → Result Y ScriptFault → Type 0
 MemoryLast (Ok x) rule = Unit {0}
 MemoryLast (Err e) rule = is_memory e ≡ true → (is_ok rule || names_word rule) ≡ true

@@ -1,4 +1,4 @@
--- What holds for a text with no bad place: what its calls are, and that they are read again from the text that they make; and what the
+-- What holds for a text with no bad position: what its calls are, and that they are read again from the text that they make; and what the
 -- calls are if every separator is `&&`.
 use Rattle.std.specs.Prelude.{◌≡◌, ℕ, ◌==◌, Bool, true, false, ◌&&◌, ◌||◌, not, IsTrue, List, [], ◌∷◌, ◌++◌, length, map, codes}
 use Rattle.std.specs.List.{list_all, join_with_byte, slice_split}
@@ -45,7 +45,7 @@ pub record IsShellText (text : List ℕ) : Type 0 where
 abbrev pub is_and : List ℕ → Bool
 is_and word = spells (codes "&&") word
 
--- the words of a text, without their places
+-- the words of a text, without their positions
 abbrev pub texts_of : List ℕ → List (List ℕ)
 texts_of text = map (λ w. w.bytes) (words_of text)
 

@@ -1,4 +1,4 @@
--- Calls while they are read from a text, part by part: what is known of the call at hand, and what the rest of the words makes of it.
+-- Calls while they are read from a text, part by part: what is known of the current call, and what the rest of the words makes of it.
 use Rattle.std.specs.Prelude.{◌≡◌, ℕ, ◌==◌, true, false, if◌then◌else◌, List, [], ◌∷◌, ◌++◌, length, Result, Ok, Err, slice_index_or}
 use Rattle.llb_wire.specs.Answer.{◌>>=◌}
 use Rattle.llb_applet.specs.declared.fault.ScriptFault.{ScriptFault}
@@ -23,7 +23,7 @@ behind commands rest = rest >>= λ more. Ok (commands ++ more)
 abbrev pub ahead : Reading → List (List ℕ) → Result (List Joined) ScriptFault
 ahead reading words = behind reading.commands.items (commands_of (length reading.commands.items) (calls_from words reading.join reading.words.items))
 
--- the commands that were read, with that of the call at hand after them
+-- the commands that were read, with that of the current call after them
 abbrev pub with_call : Reading → Result (List Joined) ScriptFault
 with_call reading = command_of (length reading.commands.items) reading.words.items >>= λ c. Ok (reading.commands.items ++ joined reading.join c ∷ [])
 
@@ -58,7 +58,7 @@ Judges (Ok _) part call old new = (next : List (List ℕ)) × IsBegun next new
     × ((rest : List (List ℕ)) → judged old.number call (some_word part ++ rest) ≡ judged new.number next rest)
 Judges (Err e) part call old new = (rest : List (List ℕ)) → Refuses e (judged old.number call (some_word part ++ rest))
 
--- the call at hand is judged: it is right, or the refusal is its fault or `Memory`
+-- the current call is judged: it is right, or the refusal is its fault or `Memory`
 abbrev pub JudgesCall : Result (Unit {0}) ScriptFault → ℕ → List (List ℕ) → Type 0
 JudgesCall (Ok _) number call = verdict (command_of number call) ≡ Ok tt
 JudgesCall (Err e) number call = Refuses e (verdict (command_of number call))

@@ -67,7 +67,7 @@ with_dir view spot meta = with_change view spot.mount (put_dir (tree_at view spo
 abbrev pub without_spot : Mounts → Spot → Option Mounts
 without_spot view spot = if is_dest spot then None else with_change view spot.mount (remove (tree_at view spot) spot.place)
 
--- the view with a new directory at a spot below the dest, where there is no entry
+-- the view with a new directory at a spot below the dest, if there is no entry
 abbrev pub with_new_dir : Mounts → Spot → Option Mounts
 with_new_dir view spot = if is_dest spot || is_some (entry_at view spot) then
     None else with_change view spot.mount (put_dir (tree_at view spot) spot.place new_dir_meta)

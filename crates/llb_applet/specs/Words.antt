@@ -1,5 +1,5 @@
--- The words of a script's text with their places, and the first place at which the text is not a list of calls with a separator
--- between each two. A place is the number of bytes before it.
+-- The words of a script's text with their positions, and the first position at which the text is not a list of calls with a separator
+-- between each two. A position is the number of bytes before it.
 use Rattle.std.specs.Prelude.{ℕ, ◌+◌, ◌==◌, nat_le, Bool, false, ◌&&◌, ◌||◌, not, if◌then◌else◌, List, [], ◌∷◌, ◌++◌, length, map, filter}
 use Rattle.std.specs.Prelude.{Option, Some, None, is_some, option_map, codes}
 use Rattle.std.specs.List.{slice_split, position, list_any}
@@ -8,7 +8,7 @@ use Rattle.llb_applet.specs.declared.join.Join.{Join}
 use Rattle.llb_applet.specs.declared.join.Join.TheVariants.{Then, And, Or}
 use Rattle.llb_applet.specs.Applets.{spells}
 
--- a word, and the place of its first byte
+-- a word, and the position of its first byte
 pub record Word : Type 0 where
   pub place : ℕ
   pub bytes : List ℕ
@@ -17,7 +17,7 @@ pub record Word : Type 0 where
 abbrev pub parts_of : List ℕ → List (List ℕ)
 parts_of = slice_split (λ b. b == 32)
 
--- parts with one byte between them, each with the place of its first byte; the first part is at `at`
+-- parts with one byte between them, each with the position of its first byte; the first part is at `at`
 abbrev pub placed : ℕ → List (List ℕ) → List Word
 placed at [] = []
 placed at (part ∷ parts) = record { place = at; bytes = part } ∷ placed (at + length part + 1) parts
@@ -47,7 +47,7 @@ is_word_byte b =
     (nat_le 48 b && nat_le b 57) || (nat_le 65 b && nat_le b 90) || (nat_le 97 b && nat_le b 122)
     || list_any (λ c. c == b) (codes "_-./,:+@%=") || nat_le 128 b
 
--- the place of a word's first bad byte: for a separator with no call before it, its first byte; for another word, the first byte that
+-- the position of a word's first bad byte: for a separator with no call before it, its first byte; for another word, the first byte that
 -- words may not have
 abbrev pub bad_in : Bool → List ℕ → Option ℕ
 bad_in called word = if is_separator word then (if called then None else Some 0) else position (λ b. not (is_word_byte b)) word
@@ -56,13 +56,13 @@ bad_in called word = if is_separator word then (if called then None else Some 0)
 abbrev pub called_after : Bool → List ℕ → Bool
 called_after called part = if length part == 0 then called else not (is_separator part)
 
--- the first bad place among words, in a text of `end` bytes, where `called` says whether a word of a call comes right before them; at
+-- the first bad position among words, in a text of `end` bytes, where `called` says whether a word of a call comes right before them; at
 -- the end a call must have begun
 abbrev pub bad_place : ℕ → Bool → List Word → Option ℕ
 bad_place end called [] = if called then None else Some end
 bad_place end called (w ∷ ws) = option_or (option_map (λ k. w.place + k) (bad_in called w.bytes)) (bad_place end (not (is_separator w.bytes)) ws)
 
--- the first place at which a text is not a list of calls with a separator between each two; none if it is such a list
+-- the first position at which a text is not a list of calls with a separator between each two; none if it is such a list
 abbrev pub bad_place_of : List ℕ → Option ℕ
 bad_place_of text = bad_place (length text) false (words_of text)
 
@@ -79,12 +79,12 @@ call_by join words = record { join = join; words = words }
 abbrev pub first_call : List (List ℕ) → Call
 first_call words = call_by Then words
 
--- what the next word does: a separator ends the call at hand and begins the next, and another word is added to the call at hand
+-- what the next word does: a separator ends the current call and begins the next, and another word is added to the current call
 abbrev pub at_word : Join → List (List ℕ) → List ℕ → Option Join → (Join → List (List ℕ) → List Call) → List Call
 at_word join call word (Some next) rest = call_by join call ∷ rest next []
 at_word join call word None rest = rest join (call ++ word ∷ [])
 
--- the calls of words, where the call at hand has this join, and has these words already
+-- the calls of words, if the current call has this join, and has these words already
 abbrev pub calls_from : List (List ℕ) → Join → List (List ℕ) → List Call
 calls_from [] join call = call_by join call ∷ []
 calls_from (word ∷ words) join call = at_word join call word (join_of word) (λ next begun. calls_from words next begun)

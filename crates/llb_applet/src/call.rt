@@ -1,4 +1,5 @@
-//! Judges the calls of a text without memory: for a call it is enough to know how many words it has, and the first two.
+//! Judges the calls of a text without making them: for a call it is enough to know how many words it has, and the first
+//! two.
 
 ghost use Rattle.std.specs.Prelude.{◌≡◌, ◌+◌, ◌≤◌, ◌<◌, ◌^◌, ◌++◌, ◌∷◌, [], List, ℕ};
 ghost use Rattle.llb_applet.specs.Faults.{Gives, MemoryLast};
@@ -41,7 +42,8 @@ impl<'a> Begun<'a> {
         }
     }
 
-    // Takes what is between two spaces: a separator ends the call, another word is added to it, and an empty part is no word.
+    // Reads what is between two spaces: a separator ends the call, another word is added to it, and an empty part is no
+    // word.
     fn take(&mut self, alloc: Global, part: &'a str) -> Result<(), ScriptFault>
         requires { self.old.number + self.old.count < 2 ^ 63 }
         ensures judges { (call : List (List ℕ)) → IsBegun call self.old → Judges result part.now call self.old self.new }

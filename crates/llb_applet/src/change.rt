@@ -42,7 +42,8 @@ fn settled(change: Result<(), TreeFault>) -> Result<bool, Memory>
     }
 }
 
-/// Puts a file at a spot; at a dest it only replaces an entry that is there.
+/// Puts a file at a spot; at a dest it only replaces an entry that is there. Returns false, and leaves the view as it
+/// was, if that is refused. Fails with 75 `Memory` alone; then too the view is as it was.
 pub fn put_file(
     alloc: Global,
     view: &mut View,
@@ -82,7 +83,8 @@ fn put_there(
     }
 }
 
-/// Puts a file at a spot, as `put_file` does, with a content that another file has; copies no byte.
+/// Puts a file at a spot, as `put_file` does, with a content that another file has, which is shared and not copied.
+/// Fails as `put_file` does.
 pub fn put_shared(
     alloc: Global,
     view: &mut View,
@@ -122,7 +124,8 @@ fn share_there(
     }
 }
 
-/// Gives the directory at a spot another mode and owner, or makes one in its parent.
+/// Sets the mode and the owner of the directory at a spot, or makes one in its parent. Returns false, and leaves the
+/// view as it was, if that is refused. Fails with 75 `Memory` alone; then too the view is as it was.
 pub fn put_dir(alloc: Global, view: &mut View, spot: &Spot, meta: Meta) -> Result<bool, Memory>
     requires { spot.now.mount < length view.old }
     ensures { Does result (with_dir view.old spot.now meta) view.old view.new }
@@ -137,7 +140,8 @@ pub fn put_dir(alloc: Global, view: &mut View, spot: &Spot, meta: Meta) -> Resul
     }
 }
 
-/// Removes what is at and below a spot; refuses a dest.
+/// Removes what is at and below a spot. Returns false, and leaves the view as it was, if that is refused, as it is at a
+/// dest. Fails with 75 `Memory` alone; then too the view is as it was.
 pub fn remove(alloc: Global, view: &mut View, spot: &Spot) -> Result<bool, Memory>
     requires { spot.now.mount < length view.old }
     ensures { Does result (without_spot view.old spot.now) view.old view.new }
@@ -155,7 +159,8 @@ pub fn remove(alloc: Global, view: &mut View, spot: &Spot) -> Result<bool, Memor
     }
 }
 
-/// Makes a directory at a spot below the dest; refuses if there is an entry.
+/// Makes a directory at a spot below the dest. Returns false, and leaves the view as it was, if there is an entry or it
+/// is refused otherwise. Fails with 75 `Memory` alone; then too the view is as it was.
 pub fn make_dir(alloc: Global, view: &mut View, spot: &Spot) -> Result<bool, Memory>
     requires { spot.now.mount < length view.old }
     ensures { Does result (with_new_dir view.old spot.now) view.old view.new }
@@ -169,7 +174,8 @@ pub fn make_dir(alloc: Global, view: &mut View, spot: &Spot) -> Result<bool, Mem
     put_dir(alloc, view, spot, Meta::new_dir())
 }
 
-/// Makes a directory and its missing parents below the dest, if it is not there.
+/// Makes a directory and its missing parents below the dest, if it is not there. Returns false, and leaves the view as
+/// it was, if that is refused. Fails with 75 `Memory` alone; then too the view is as it was.
 pub fn make_dirs(alloc: Global, view: &mut View, spot: &Spot) -> Result<bool, Memory>
     requires { IsSpot view.old spot.now }
     ensures { Does result (with_dirs view.old spot.now) view.old view.new }
@@ -192,7 +198,8 @@ pub fn make_dirs(alloc: Global, view: &mut View, spot: &Spot) -> Result<bool, Me
     }
 }
 
-// Makes a directory for each of the names, one below the other, where there is none. After a refusal the tree is unchanged.
+// Makes a directory for each of the names, one below the other, if it is not there. After a refusal the tree is
+// unchanged.
 fn dirs_below(alloc: Global, tree: &mut Tree, at: &Path, names: &[Name]) -> Result<(), TreeFault>
     requires { length at.now + length names.now ≤ 128 }
     ensures gives { Gives (λ _. tree.new) result (dirs_below tree.old at.now names.now) }
@@ -211,7 +218,8 @@ fn dirs_below(alloc: Global, tree: &mut Tree, at: &Path, names: &[Name]) -> Resu
     }
 }
 
-// Makes a directory where there is none, and below it one for each of the names, in one edit. After a refusal the tree is unchanged.
+// Makes a directory at a path that has none, and below it one for each of the names, in one edit. After a refusal the
+// tree is unchanged.
 fn put_dirs(alloc: Global, tree: &mut Tree, path: &Path, names: &[Name]) -> Result<(), TreeFault>
     requires short { length path.now + length names.now ≤ 128 }
     requires missing { is_dir (finite.get tree.old path.now) ≡ false }

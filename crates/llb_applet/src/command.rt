@@ -86,7 +86,7 @@ fn both(first: &Text, second: &Text) -> Result<(Text, Text), ScriptFault>
 }
 
 impl Command {
-    /// Returns an equal second owner. Fails with 74 `Memory` alone.
+    /// Copies the command. Fails with 74 `Memory` alone.
     pub fn copy(&self) -> Result<Command, ScriptFault>
         ensures { Gives (λ c. c) result (Ok self.now) }
     {
@@ -323,8 +323,8 @@ fn form(applet: Applet, words: Vec<Text>) -> Option<Command>
     }
 }
 
-/// Makes the command of the call of this number. Fails with 71 `NoApplet` where its first word is no applet's name, with 72 `Usage` where
-/// the others are none of its forms, with 74 `Memory`.
+/// Makes the command of the call of this number. Fails with 71 `NoApplet` if its first word is no applet's name, with
+/// 72 `Usage` if the others are none of its forms, with 74 `Memory`.
 pub fn command_of(alloc: Global, number: usize, words: Vec<Text>) -> Result<Command, ScriptFault>
     ensures { Gives (λ c. c) result (command_of number words.items) }
 {

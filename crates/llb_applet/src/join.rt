@@ -35,7 +35,7 @@ impl Drop for Joined {
 }
 
 impl Joined {
-    /// Returns an equal second owner. Fails with 74 `Memory` alone.
+    /// Copies the command and its join. Fails with 74 `Memory` alone.
     pub fn copy(&self) -> Result<Joined, ScriptFault>
         ensures { Gives (λ c. c) result (Ok self.now) }
     {

@@ -1,6 +1,18 @@
-//! Scripts of applets: a text is read as calls of small commands, and a command is a function on the trees of a view.
-//! This crate reads a script, which it refuses if a call of it could not run, and runs one command.
-//! Nothing here knows a process, a shell beyond `;`, `&&` and `||`, or an operation.
+//! Scripts of thirteen small commands, joined by `;`, `&&` and `||`. A script is read, or refused if a call of it could not run, and one
+//! command is run at a time on a view. It is built on `llb_mount`; there is no process and no shell beyond these.
+//!
+//! Types: `Script` (commands, each with how it is joined to those before it), `Command`, `Setting` (working directory and environment),
+//! `ScriptFault` (71 to 74).
+//! Promise: `read_script` (`gives`, `last`) returns the commands of the arguments, or their first fault. `run_command` (`status`, `view`,
+//! `kept`, `err`) leaves of the view exactly what one definition by cases leaves; with a status other than 0 the view is as it was.
+//!
+//! A caller:
+//!
+//!     let script = read_script(alloc, args).ok()?;
+//!     let first = script.commands().first()?;
+//!     let cwd = Path::root(alloc);
+//!     let setting = Setting { cwd, env: Many::new(Vec::new(alloc)) };
+//!     run_command(alloc, &first.command, &setting, view).ok()
 #![tactic(auto)]
 
 mod applet;

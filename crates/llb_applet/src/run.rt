@@ -138,7 +138,8 @@ fn cp(
     put_shared(alloc, view, &target, meta, content)
 }
 
-// Returns the spot to which a file is copied: the path's, or in the directory there under the last name of the source.
+// Returns the spot to which a file is copied: that of the path or, if a directory is there, the one in it under the
+// last name of the source.
 fn target_of(view: &View, source: &Path, path: Path) -> Result<Option<Spot>, Memory>
     ensures means { IfOk result (λ s. s ≡ target_of view.now source.now path) }
     ensures spot { IfOk result (λ s. IfSome s (λ spot. IsSpot view.now spot)) }
@@ -160,7 +161,7 @@ fn target_of(view: &View, source: &Path, path: Path) -> Result<Option<Spot>, Mem
     }
 }
 
-// Gives the entry at a path another mode.
+// Sets the mode of the entry at a path.
 fn chmod(
     alloc: Global,
     mode: Mode,
@@ -176,7 +177,7 @@ fn chmod(
     }
 }
 
-// Gives the entry at a spot another mode.
+// Sets the mode of the entry at a spot.
 fn chmod_at(alloc: Global, view: &mut View, spot: &Spot, mode: Mode) -> Result<bool, Memory>
     requires { IsSpot view.old spot.now }
     ensures { Does result (with_mode view.old spot.now mode (entry_at view.old spot.now)) view.old view.new }

@@ -1,5 +1,5 @@
-//! Scripts. A text is first checked without memory, so that a refusal is not mistaken for want of memory, and then its
-//! calls are made into commands.
+//! Scripts. A text is first checked without allocating, so that a refusal is not mistaken for want of memory, and then
+//! its calls are made into commands.
 
 ghost use Rattle.std.specs.Prelude.{◌≡◌, ◌+◌, ◌<◌, ◌++◌, ◌∷◌, [], List, ℕ, length, OnOk, IsTrue, slice_index_or, Ok};
 ghost use Rattle.llb_applet.specs.Faults.{Gives, MemoryLast};
@@ -53,14 +53,14 @@ impl Script {
         self.commands.as_slice()
     }
 
-    /// Recalls the type's invariant: there is a first command, and it always runs.
+    /// Proves that there is a first command, and that it always runs.
     pub fn begins_with_then(&self)
         ensures { BeginsWithThen self.now }
     {
         let _ = &self.commands;
     }
 
-    /// Returns an equal second owner, which shares the commands. Fails with 74 `Memory` alone.
+    /// Copies the script, which shares the commands. Fails with 74 `Memory` alone.
     pub fn copy(&self) -> Result<Script, ScriptFault>
         ensures { Gives (λ s. s) result (Ok self.now) }
     {
@@ -75,7 +75,7 @@ impl Same for Script {
     }
 }
 
-// Calls while they are read: the commands of the calls that are whole, the join of the call at hand, and its words.
+/// Calls while they are read: the commands of the calls that are whole, the join of the current call, and its words.
 #[derive(Drop)]
 pub struct Reading {
     commands: Vec<Joined>,
@@ -86,7 +86,8 @@ pub struct Reading {
 impl Reading {
     ghost use Rattle.llb_applet.specs.Reading.{some_word, ahead, with_call, Reads};
 
-    // Takes what is between two spaces: a separator ends the call at hand, another word is added to it, and an empty part is no word.
+    // Reads what is between two spaces: a separator ends the current call, another word is added to it, and an empty
+    // part is no word.
     fn take(&mut self, alloc: Global, part: &str) -> Result<(), ScriptFault>
         ensures { (rest : List (List ℕ)) → Reads result (ahead self.old (some_word part.now ++ rest)) (ahead self.new rest) }
     {
@@ -103,7 +104,7 @@ impl Reading {
         Ok(())
     }
 
-    // Makes the words of the call at hand into a command.
+    // Makes the words of the current call into a command.
     fn end_call(&mut self, alloc: Global) -> Result<(), ScriptFault>
         ensures gives { Gives (λ _. self.new.commands.items) result (with_call self.old) }
         ensures words { OnOk result (self.new.words.items ≡ []) }
@@ -203,12 +204,14 @@ fn read_commands(alloc: Global, args: &[Text]) -> Result<Vec<Joined>, ScriptFaul
     }
 }
 
-/// Reads arguments as a script: `/bin/sh`, `-c` and one text, or else one call, an applet's name and its words. In a text
-/// words are between spaces, and a separator, a word `;`, `&&` or `||`, is between two calls; another word has only ASCII letters
-/// and digits, `_ - . / , : + @ % =` and characters past ASCII. Fails with 73 `ShellSyntax` at the first bad place of the text: a byte
-/// that no word may have, a separator with no call before it, or the text's end where the last call is missing. Otherwise fails, for
-/// the first such call, with 71 `NoApplet` where its first word is no applet's name, or with 72 `Usage` where the others are none of the
-/// applet's forms. Fails with 74 `Memory` where there is no other fault, or in place of 71 if there is no memory for its text.
+/// Reads arguments as a script: `/bin/sh`, `-c` and one text, or else one call, an applet's name and its words. In a
+/// text words are between spaces, and a separator, a word `;`, `&&` or `
+/// `, is between two calls; another word has only ASCII letters and digits, `_ - . / , : + @ % =` and characters past
+/// ASCII. Fails with 73 `ShellSyntax` at the first bad position of the text, in bytes from 0: a byte that no word may
+/// have, a separator with no call before it, or the text's end if the last call is missing. Otherwise fails, for the
+/// first such call, with 71 `NoApplet` if its first word is no applet's name, or with 72 `Usage` if the others are none
+/// of the applet's forms. Fails with 74 `Memory` if there is no other fault, or in place of 71 if there is no memory
+/// for its text.
 pub fn read_script(alloc: Global, args: &[Text]) -> Result<Script, ScriptFault>
     requires { 0 < length args.now }
     ensures gives { Gives (λ s. s) result (script_of args.now) }

@@ -21,7 +21,7 @@ impl Drop for Setting {
 }
 
 impl Setting {
-    /// Returns an equal second owner. Fails with 75 `Memory` alone.
+    /// Copies the setting. Fails with 75 `Memory` alone.
     pub fn copy(&self) -> Result<Setting, Memory>
         ensures { IfOk result (λ s. s ≡ self.now) }
     {

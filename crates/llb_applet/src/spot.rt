@@ -1,5 +1,5 @@
-//! What a path means on a view: a mount, and a place in its tree. A word that is no path, or whose place has more names than
-//! a path can have, means nothing.
+//! What a path means on a view: a mount, and a path in its tree. A word that is no path, or whose path in the tree
+//! would have more than 128 names, means nothing.
 
 ghost use Rattle.std.specs.Prelude.{◌≡◌, ◌<◌, ◌++◌, length, IfOk, IfSome, option_map, is_some};
 ghost use Rattle.llb_tree.specs.Tree.{meta_in, is_dir};
@@ -14,7 +14,7 @@ use llb_tree::{Bytes, Content, Entry, Meta, Name, Path, TreeFault};
 use llb_wire::Text;
 use std::alloc::Global;
 
-/// A place in a mount's tree; its first `base` names are the mount's selector.
+/// A path in a mount's tree, `place`; its first `base` names are the mount's selector.
 pub struct Spot {
     pub mount: u32,
     pub base: usize,
@@ -43,7 +43,8 @@ pub fn path_by(alloc: Global, setting: &Setting, word: &Text) -> Result<Option<P
     }
 }
 
-/// Returns the spot that a path means; `None` if its place has more names than a path can have. Fails with 75 `Memory` alone.
+/// Returns the spot that a path means; `None` if the path in the mount's tree would have more than 128 names. Fails
+/// with 75 `Memory` alone.
 pub fn spot_of(view: &View, path: &Path) -> Result<Option<Spot>, Memory>
     ensures means { IfOk result (λ s. s ≡ spot_of view.now path.now) }
     ensures spot { IfOk result (λ s. IfSome s (λ spot. IsSpot view.now spot)) }
@@ -59,7 +60,7 @@ pub fn spot_of(view: &View, path: &Path) -> Result<Option<Spot>, Memory>
     Ok(Some(Spot { mount, base, place }))
 }
 
-// Returns a path with more names after it.
+// Appends names to a path.
 fn extended(path: &Path, names: &[Name]) -> Result<Path, Memory>
     ensures { IfOk result (λ p. p ≡ path.now ++ names.now) }
 {

@@ -5,7 +5,7 @@ ghost use Rattle.std.specs.Prelude.{◌≡◌, IfOk};
 use llb_wire::{Memory, Text};
 use std::alloc::Global;
 
-/// Returns an equal second owner of each of these texts, in their order. Fails only for want of memory.
+/// Copies texts, in their order. Fails with 5 `Memory` alone.
 pub fn copies(alloc: Global, texts: &[Text]) -> Result<Vec<Text>, Memory>
     ensures { IfOk result (λ v. v.items ≡ texts.now) }
 {

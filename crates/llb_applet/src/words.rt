@@ -1,4 +1,4 @@
-//! Checks a script's text without memory: where it has its first bad place.
+//! Checks a script's text without allocating: the position of its first fault.
 
 ghost use Rattle.std.specs.Prelude.{◌≡◌, ◌+◌, ◌<◌, length, IfSome};
 ghost use Rattle.llb_applet.specs.Words.{join_of, is_separator, is_word_byte, bad_in, called_after, bad_place_of};
@@ -40,7 +40,7 @@ pub fn is_separator(word: &str) -> bool
     join_of(word).is_some()
 }
 
-// Returns the place of a word's first bad byte; `called` says whether a word of a call comes right before the word.
+// Returns the index of a word's first bad byte; `called` says whether a word of a call comes right before the word.
 fn bad_in(called: bool, word: &str) -> Option<usize>
     ensures value { result ≡ bad_in called word.now }
     ensures inside { IfSome result (λ k. k < length word.now) }
@@ -61,7 +61,8 @@ fn called_after(called: bool, part: &str) -> bool
     !is_separator(part)
 }
 
-/// Returns the first place at which a text is not a list of calls with a separator between each two, in bytes from 0.
+/// Returns the first position, in bytes from 0, at which a text is not a list of calls with a separator between each
+/// two; `None` if it is one.
 pub fn bad_place(text: &str) -> Option<usize>
     ensures { result ≡ bad_place_of text.now }
 {

@@ -1,4 +1,4 @@
--- What a fault of a text of entries prints: its number, and its line and rule where it has them.
+-- What a fault of a text of entries prints: its number, and its line and rule if it has them.
 use Rattle.std.specs.Prelude.{ℕ, List, ◌++◌, codes}
 use Rattle.std.specs.Fmt.{decimal}
 use Rattle.llb_asm.specs.declared.fault.Rule.{Rule}

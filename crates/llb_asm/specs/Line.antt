@@ -1,4 +1,4 @@
--- One line in an entry: what it adds to the message at hand, or why it is refused.
+-- One line in an entry: what it adds to the current message, or why it is refused.
 use Rattle.std.specs.Prelude.{ℕ, ◌+◌, ◌==◌, ◌&&◌, ◌||◌, not, nat_le, nat_eq, if◌then◌else◌, Bool, true, false, List, [], length, take, drop, position}
 use Rattle.std.specs.Prelude.{codes, slice_get, Option, Some, None, Result, Ok, Err, option_map}
 use Rattle.std.specs.Str.{is_utf8}
@@ -33,7 +33,7 @@ guard e false = Err e
 
 -- ---- the name and the value of an item, with one space between them
 
--- a line parted at a place, without the byte there
+-- a line parted at a position, without the byte there
 abbrev pub parted_at : List ℕ → Option ℕ → Option (List ℕ × List ℕ)
 parted_at line None = None
 parted_at line (Some at) = Some (take at line, drop 1 (drop at line))
@@ -96,13 +96,13 @@ held_by labels row kind.Bool text = or_else (Breaks BadValue) (option_map (numbe
 unfoldable pub held_in : List (List ℕ) → Row → List ℕ → Result Held Refusal
 held_in labels row text = held_by labels row row.1.kind text
 
--- ---- the place of a line: the message, its last field, whether a member of its oneof is set, and how often the last field occurred
+-- ---- the context of a line: the message, its last field, whether a member of its oneof is set, and how often the last field occurred
 
--- the place of the first line of a message
+-- the context of the first line of a message
 abbrev pub inside : MessageName → Here
 inside m = record { message = m; last = 0; set = false; count = 0; ended = false }
 
--- the place after a line of field f
+-- the context after a line of field f
 abbrev pub behind : Here → NamedField → Here
 behind here f = record {
   message = here.message;
@@ -112,7 +112,7 @@ behind here f = record {
   ended = false;
 }
 
--- the place after a line of extra bytes, after which no more lines of the message may follow
+-- the context after a line of extra bytes, after which no more lines of the message may follow
 abbrev pub at_end : Here → Here
 at_end here = record { message = here.message; last = here.last; set = here.set; count = here.count; ended = true }
 
@@ -143,7 +143,7 @@ field_in labels here p = do
   _ ← guard (Breaks OverLimit) (has_room here row.1)
   Ok (record { next = behind here row.1; held = held })
 
--- the item that a line adds at its place in a message, or why it is refused
+-- the item that a line adds in its context, or why it is refused
 unfoldable pub line_in : List (List ℕ) → Here → List ℕ → Result Item Refusal
 line_in labels here line = do
   p ← or_else (Breaks Syntax) (parted line)

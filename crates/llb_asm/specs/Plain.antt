@@ -59,7 +59,7 @@ opening = codes "{"
 abbrev pub closing_line : ℕ → PlainLine
 closing_line depth = (depth, codes "}")
 
--- the extra bytes, where there are any
+-- the extra bytes, if there are any
 abbrev pub extra_lines : ℕ → List ℕ → List PlainLine
 extra_lines depth [] = []
 extra_lines depth (b ∷ more) = item_line depth (codes "extra") (hex_text (b ∷ more)) ∷ []
@@ -74,7 +74,7 @@ field_lines labels depth (message row inner rest) =
 
 -- ---- entries
 
--- an entry is written as an op where it is read as one whose canonical bytes it is
+-- an entry is written as an op if it is read as one whose canonical bytes it is
 abbrev pub IsStructured : List ℕ → Type 0
 IsStructured entry = (op : Op) × (op_of entry ≡ Ok op) × (op_bytes op ≡ entry)
 
@@ -83,7 +83,7 @@ pub data Form : Type 0 where
   structured : (op : Op) → HasFields op → Form
   raw : Form
 
--- this is the form of an entry: `structured` by an op that the entry is read as and whose canonical bytes it is, or `raw` where there is no such op
+-- this is the form of an entry: `structured` by an op that the entry is read as and whose canonical bytes it is, or `raw` if there is no such op
 abbrev pub HasForm : List ℕ → Form → Type 0
 HasForm entry (structured op has) = (op_of entry ≡ Ok op) × (op_bytes op ≡ entry)
 HasForm entry raw = ¬ IsStructured entry

@@ -1,4 +1,4 @@
--- What is written of the text of entries where the writing stops.
+-- How much of the text of entries is written when the writing stops.
 use Rattle.std.specs.Prelude.{◌≡◌, ◌≢◌, ℕ, List, [], ◌∷◌, length, take, drop, Bool, true, ◌==◌, ◌&&◌, if◌then◌else◌, Option, Some, None, Result, Ok, Err}
 use Rattle.std.specs.Io.KnownBytes.{Appends}
 use Rattle.llb_wire.specs.declared.fault.WireFault.{WireFault}
@@ -11,7 +11,7 @@ use Rattle.llb_asm.specs.declared.fault.AsmFault.TheVariants as fault
 use Rattle.llb_asm.specs.declared.print.Front.{Front}
 use Rattle.llb_asm.specs.Plain.{PlainLine, item_line, held_text}
 
--- the whole text is written; or a prefix of it, where memory was refused or the sink has failed
+-- the whole text is written; or a prefix of it, if memory was refused or the sink has failed
 abbrev pub Prints : Option (List ℕ) → Option (List ℕ) → Bool → List ℕ → Result (Unit {0}) AsmFault → Type 0
 Prints taken taken' failed' text (Ok u) = Appends taken taken' text
 Prints taken taken' failed' text (Err fault.Memory) = PartOut taken taken' text
@@ -21,7 +21,7 @@ Prints taken taken' failed' text (Err (fault.UnknownLabel n)) = ⊥
 
 -- ---- one record at a time
 
--- the result of a reading of the next record where it reads this one
+-- the result of reading the next record, if it is this one
 abbrev pub found : Field → Result (Option Field) WireFault
 found f = Ok (Some f)
 

@@ -40,10 +40,10 @@ record_length number size = length (tag_text number wire.Len) + (length (varint_
 abbrev pub is_within : List (List ℕ) → ℕ → Bool
 is_within earlier size = nat_le size entry_limit && nat_le (length (definition_bytes earlier) + record_length 1 size) definition_limit
 
--- ---- the message at hand
+-- ---- the current message
 
--- the message at hand: the place of its next line, its bytes so far, and `room`, which says whether the entry is within the limits if this message has n bytes
--- and all messages are then closed
+-- the current message: the context of its next line, its bytes so far, and `room`, which says whether the entry is within the limits if this message has n
+-- bytes and all messages are then closed
 pub record Hand : Type 0 where
   pub here : Here
   pub bytes : List ℕ
@@ -54,18 +54,18 @@ abbrev pub added : Held → ℕ
 added (Record bytes) = length bytes
 added (Opens number m) = record_length number 0
 
--- the item that a line adds to the message at hand, if the entry is then within the limits
+-- the item that a line adds to the current message, if the entry is then within the limits
 abbrev pub item_at : List (List ℕ) → Hand → List ℕ → Result Item Refusal
 item_at labels hand line = do
   i ← line_in labels hand.here line
   _ ← guard (Breaks OverLimit) (hand.room (length hand.bytes + added i.held))
   Ok i
 
--- the message at hand after some more bytes
+-- the current message after some more bytes
 abbrev pub beyond : Hand → Here → List ℕ → Hand
 beyond hand next bytes = record { here = next; bytes = hand.bytes ++ bytes; room = hand.room }
 
--- the message that a line of the message at hand opens
+-- the message that a line of the current message opens
 abbrev pub within : Hand → ℕ → MessageName → Hand
 within hand number sub = record { here = inside sub; bytes = []; room = λ size. hand.room (length hand.bytes + record_length number size) }
 
@@ -104,11 +104,11 @@ IsWhole (single line next bytes rest) = IsWhole rest
 IsWhole (nested line next number sub inner rest) = IsWhole rest
 IsWhole (unclosed line next number sub inner) = ⊥
 
--- an item with this next place, which holds this
+-- the item that holds this, with the context of the line after it
 abbrev pub item : Here → Held → Item
 item next held = record { next = next; held = held }
 
--- each line adds its item to the message that is at hand there
+-- each line adds its item to the message that is current there
 abbrev pub AreItems : List (List ℕ) → Hand → Items → Type 0
 AreItems labels hand done = Unit {0}
 AreItems labels hand (single line next bytes rest) = (item_at labels hand line ≡ Ok (item next (Record bytes))) × AreItems labels (beyond hand next bytes) rest
@@ -118,7 +118,7 @@ AreItems labels hand (nested line next number sub inner rest) =
 AreItems labels hand (unclosed line next number sub inner) = (item_at labels hand line ≡ Ok (item next (Opens number sub)))
     × AreItems labels (within hand number sub) inner
 
--- the message at hand after some items
+-- the current message after some items
 abbrev pub at_hand : Hand → Items → Hand
 at_hand hand done = hand
 at_hand hand (single line next bytes rest) = at_hand (beyond hand next bytes) rest
@@ -171,7 +171,7 @@ pub record IsKept (entries labels : List (List ℕ)) (size : ℕ) : Type 0 where
   pub bytes : size ≡ length (definition_bytes entries)
   pub small : size ≤ definition_limit
 
--- the message at hand at the start of an op
+-- the current message at the start of an op
 abbrev pub outermost : List (List ℕ) → Hand
 outermost earlier = record { here = inside named.Op; bytes = []; room = is_within earlier }
 
@@ -223,7 +223,7 @@ pub record SpellsEntries (lines : List Line) (entries : List (List ℕ)) : Type 
 
 -- ---- the first line that is refused
 
--- A line is refused with e in an op that is not closed: it closes the op, whose entry is refused, or its item is refused in the message at hand.
+-- A line is refused with e in an op that is not closed: it closes the op, whose entry is refused, or its item is refused in the current message.
 abbrev pub IsRefusedIn : List (List ℕ) → Items → List ℕ → Refusal → Type 0
 IsRefusedIn earlier items line e =
     ((line ≡ closing) × IsWhole items × (entry_in earlier (records_of items) ≡ Err e))

@@ -25,26 +25,26 @@ use Rattle.llb_asm.specs.Reading.{Hand, closing, record_length, is_within, item_
 
 -- ---- an op that is open
 
--- the message at hand and its bytes, and the messages that it is in, the innermost first
+-- the current message and its bytes, and the messages that it is in, the innermost first
 pub record OpenOp : Type 0 where
   pub here : Here
   pub bytes : List ℕ
   pub below : List Frame
 
--- an open op as the code holds it, where the innermost of the messages around the one at hand is the last
+-- an open op as the code stores it: the enclosing messages, innermost last
 abbrev pub open_op_of : Open → OpenOp
 open_op_of s = record { here = s.here; bytes = s.bytes; below = reverse s.below }
 
--- an op at its start: the message `Op` is at hand, has no bytes yet, and is in no other message
+-- an op at its start: the message `Op` is current, has no bytes yet, and is in no other message
 abbrev pub at_front : OpenOp
 at_front = record { here = inside named.Op; bytes = []; below = [] }
 
--- whether the entry has room for the message at hand where that has `size` bytes
+-- whether the entry has room for the current message if that has `size` bytes
 abbrev pub room_in : (ℕ → Bool) → List Frame → ℕ → Bool
 room_in room [] size = room size
 room_in room (f ∷ below) size = room_in room below (length f.bytes + record_length f.number size)
 
--- the message at hand of an open op, with its room worked out of the argument, which says whether an entry of so many bytes is within the limits
+-- the current message of an open op, with its room worked out of the argument, which says whether an entry of so many bytes is within the limits
 abbrev pub hand_of : (ℕ → Bool) → OpenOp → Hand
 hand_of room s = record { here = s.here; bytes = s.bytes; room = room_in room s.below }
 
@@ -53,25 +53,25 @@ abbrev pub with_held : OpenOp → Here → Held → OpenOp
 with_held s next (Record bytes) = record { here = next; bytes = s.bytes ++ bytes; below = s.below }
 with_held s next (Opens number sub) = record { here = inside sub; bytes = []; below = record { here = next; number = number; bytes = s.bytes } ∷ s.below }
 
--- the open op after this item: its record is added to the message at hand, or the message that it opens is at hand
+-- the open op after this item: its record is added to the current message, or the message that it opens is current
 abbrev pub with_item : OpenOp → Item → OpenOp
 with_item s i = with_held s i.next i.held
 
--- the message at hand ends: with it the op and its records, or the next message outwards is at hand
+-- the current message ends: with it the op and its records, or the next message outwards is current
 pub data Ending : Type 0 where
   whole : List ℕ → Ending
   still : OpenOp → Ending
 
--- what is there after a message of these bytes ends: the records of the op if it is in no other, else the next message outwards, with its record added
+-- what is open after a message of these bytes ends: the next message outwards, with its record added; or the records of the op if there is none
 abbrev pub closing_on : List ℕ → List Frame → Ending
 closing_on bytes [] = whole bytes
 closing_on bytes (f ∷ below) = still (record { here = f.here; bytes = f.bytes ++ set_bytes f.number bytes; below = below })
 
--- what is there after the message at hand of an open op ends
+-- what is open after the current message of an open op ends, or the records of the op
 abbrev pub closing_of : OpenOp → Ending
 closing_of s = closing_on s.bytes s.below
 
--- what is there after a closing line, as the code holds it
+-- what is open after a closing line, as the code stores it
 abbrev pub ended : Closed → Ending
 ended (Whole bytes) = whole bytes
 ended (Still s) = still (open_op_of s)
@@ -96,7 +96,7 @@ abbrev pub with_begun : List (List ℕ) → Begun → Progress
 with_begun earlier (Raw bytes) = between (earlier ++ bytes ∷ [])
 with_begun earlier Structured = amid earlier at_front
 
--- the progress where these entries are whole and the code holds this open op, or none
+-- the progress if these entries are whole and the code holds this open op, or none
 abbrev pub progress_of : List (List ℕ) → Option Open → Progress
 progress_of earlier current = record { earlier = earlier; current = option_map open_op_of current }
 
@@ -105,12 +105,12 @@ abbrev pub progresses : List (List ℕ) → Result (Option Open) Refusal → Res
 progresses earlier (Ok current) = Ok (progress_of earlier current)
 progresses earlier (Err e) = Err e
 
--- the message at hand ends
+-- the current message ends
 abbrev pub closed_on : List (List ℕ) → List ℕ → List Frame → Result Progress Refusal
 closed_on earlier bytes [] = entry_in earlier bytes >>= λ entry. Ok (between (earlier ++ entry ∷ []))
 closed_on earlier bytes (f ∷ below) = Ok (amid earlier (record { here = f.here; bytes = f.bytes ++ set_bytes f.number bytes; below = below }))
 
--- the progress after a line in an open op, or why it is refused: `}` ends the message at hand, and any other line adds its item there
+-- the progress after a line in an open op, or why it is refused: `}` ends the current message, and any other line adds its item there
 abbrev pub step_in : List (List ℕ) → OpenOp → List ℕ → Result Progress Refusal
 step_in earlier s line =
     if is_text line closing then closed_on earlier s.bytes s.below

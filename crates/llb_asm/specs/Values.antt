@@ -98,12 +98,12 @@ lower_digit b = where_so (is_lower b) (digit_of b)
 abbrev pub escape_of : ℕ → ℕ → Option ℕ
 escape_of a b = where_so (is_lower a && is_lower b && nat_lt (digit_of a) 8) (16 * digit_of a + digit_of b)
 
--- after what was read before, a text goes on to the byte that is spelled there and the text after it, or it spells no string
+-- from this escape on, a text spells a byte and then a string, or it spells no string
 abbrev pub Continues : Escape → List ℕ → Option (ℕ × Bor (List ℕ)) → Type 0
 Continues e text None = string_from e text ≡ None
 Continues e text (Some x) = (string_from e text ≡ after_it x.0 (string_from closed x.1.now)) × (length x.1.now < length text)
 
--- a text leads to what its first byte is, as it is spelled, and the text after it; or it spells no byte there
+-- outside an escape, a text spells a byte and then a string; or it is a closing quote, or spells no string
 abbrev pub Leads : List ℕ → Option (ℕ × Bor (List ℕ)) → Type 0
 Leads text None = (text ≢ 34 ∷ []) → string_from closed text ≡ None
 Leads text (Some x) = (string_from closed text ≡ after_it x.0 (string_from closed x.1.now)) × (length x.1.now < length text)

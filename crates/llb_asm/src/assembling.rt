@@ -47,7 +47,7 @@ fn begin(
 }
 
 #[tactic(auto, using(crate::proofs::Room::entry_room))]
-/// Reads the closing line of the message at hand, and returns the op that is still open, if any.
+// Reads the closing line of the current message, and returns the op that is still open, if any.
 fn close(
     alloc: Global,
     earlier: &mut Earlier,
@@ -134,13 +134,14 @@ fn run_lines(alloc: Global, text: &[u8]) -> Result<Entries, AsmFault>
     Ok(Entries::new(earlier.into_entries()))
 }
 
-/// Returns the entries that a text is read as.
+/// Reads the entries that a text spells.
 ///
-/// There is one item on a line; spaces, tabs and carriage returns at its ends, empty lines and lines that begin with `#` are dropped.
-/// An entry is `raw HEX`, or `op {`, items and `}`; docs/FORMATS.md has the grammar. The entry of an op is its canonical bytes. The call
-/// fails at the first faulty line, with the first of its faults in this order: `Line` (161) with `Syntax`, `UnknownField`, `Order` or
-/// `BadValue`, `UnknownLabel` (162), `Line` with `OverLimit`; and, after all of these, `Line` with `Unclosed` and the last line that is
-/// not dropped. Fails with `Memory` (163) where memory is refused.
+/// There is one item on a line; spaces, tabs and carriage returns at its ends, empty lines and lines that begin with
+/// `#` are dropped. An entry is `raw HEX`, or `op {`, items and `}`; docs/FORMATS.md has the grammar. The entry of an
+/// op is its canonical bytes. The call fails at the first faulty line, with the first of its faults in this order: 161
+/// `Line` with `Syntax`, `UnknownField`, `Order` or `BadValue`, 162 `UnknownLabel`, 161 `Line` with `OverLimit`; and,
+/// after all of these, 161 `Line` with `Unclosed` and the last line that is not dropped. Fails with 163 `Memory` if
+/// memory is refused.
 pub fn assemble(alloc: Global, text: &[u8]) -> Result<Entries, AsmFault>
     ensures { Assembles text.now result }
 {

@@ -65,7 +65,6 @@ impl Model for Earlier {
 }
 
 impl Earlier {
-    // No entries.
     pub(crate) fn new(alloc: Global) -> Earlier
         ensures { result ≡ [] }
     {
@@ -97,7 +96,7 @@ impl Earlier {
         size <= ENTRY_LIMIT && self.size + record_length(1, size) <= DEFINITION_LIMIT
     }
 
-    /// Puts an entry after them.
+    // Appends an entry, which is within the limits.
     pub(crate) fn push(&mut self, alloc: Global, entry: Bytes) -> Result<(), Memory>
         requires { is_within self.old (length entry) ≡ true }
         ensures { OnOk result (self.new ≡ self.old ++ entry ∷ []) }
@@ -111,7 +110,7 @@ impl Earlier {
         Ok(())
     }
 
-    /// Returns the entries.
+    // Returns the entries as a vector, without a copy.
     pub(crate) fn into_entries(self) -> Vec<Bytes>
         ensures { result.items ≡ self }
     {

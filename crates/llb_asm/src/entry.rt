@@ -17,7 +17,9 @@ use std::alloc::Global;
 /// How an entry begins: `raw` and its bytes, or `op {`.
 #[derive(Drop)]
 pub enum Begun {
+    /// `raw`, with the bytes of the entry.
     Raw(Bytes),
+    /// `op {`.
     Structured,
 }
 
@@ -64,7 +66,7 @@ pub(crate) fn begun_in(
     }
 }
 
-/// Returns the canonical bytes of the op that some bytes are read as, where they are read as one.
+// Reads bytes as an op, and returns its canonical bytes; `None` if they are no op.
 pub(crate) fn canonical(alloc: Global, bytes: &[u8]) -> Result<Option<Bytes>, Memory>
     ensures { IfOk result (λ o. o ≡ canonical_of (op_of bytes.now)) }
 {
@@ -85,7 +87,7 @@ fn written(alloc: Global, op: Op) -> Result<Option<Bytes>, Memory>
     }
 }
 
-/// Returns the canonical bytes of the op that the records are; refused where they are past the limits.
+// Returns the canonical bytes of the op that the records are; refused if they are past the limits.
 #[tactic(auto, unfolding(crate::specs::Reading::entry_in))]
 pub(crate) fn entry_in(
     alloc: Global,

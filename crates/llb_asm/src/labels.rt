@@ -19,7 +19,7 @@ pub(crate) fn digest_of(alloc: Global, entry: &[u8]) -> Result<Text, Memory>
     text_of_digest(alloc, &Sha256::digest(entry))
 }
 
-/// Puts a text after those that an index finds, where it isn't one of them.
+// Enters a text into an index under the number of the texts before it, unless the index has the text.
 fn learn(first: &mut BTreeMap<String, u64>, texts: &[Text], text: &Text) -> Result<(), Memory>
     requires { IsIndex texts.now first.old }
     ensures learnt { OnOk result (IsIndex (texts.now ++ text.now ∷ []) first.new) }
@@ -74,7 +74,7 @@ impl Labels {
         self.first.get(digest).copied()
     }
 
-    /// Puts the label of an entry after them.
+    // Appends the label of an entry.
     pub(crate) fn push(&mut self, alloc: Global, entry: &[u8]) -> Result<(), Memory>
         ensures { OnOk result (self.new ≡ self.old ++ digest_text entry.now ∷ []) }
     {

@@ -1,18 +1,18 @@
-//! Laws of texts and entries, whatever they are.
+//! Laws of all texts and all entries.
 
 ghost use Rattle.llb_asm.specs.Reading.{HasOneAnswer};
 ghost use Rattle.llb_asm.specs.Plain.{ReadsBack};
 
 use llb_ops::Entries;
 
-/// A law: a text is read as one list of entries at most, or it has one first fault, and never both.
+/// Proves that a text either is read as one list of entries or has one first fault, and never both.
 pub fn one_answer(text: &[u8])
     ensures { HasOneAnswer text.now }
 {
     let _ = text;
 }
 
-/// A law: what is written of the entries of a definition is read as these entries.
+/// Proves that what `disassemble` writes of the entries of a definition is read as these entries.
 pub fn reads_back(entries: &Entries)
     ensures { ReadsBack entries.now }
 {

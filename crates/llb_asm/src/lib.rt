@@ -1,4 +1,15 @@
-//! Entries of a definition are one text: assembled from it, and disassembled into it.
+//! The text of a definition's entries, which a person can read and write. It is built on `llb_ops`.
+//!
+//! Types: `AsmFault` (161 to 164) and `Rule` (what is wrong with a line).
+//! Promise: `assemble` returns the entries that the text spells, or the first faulty line with its first fault: one relation of lines, apart
+//! from the reader. `disassemble` (`prints`, `some`) writes exactly the one text of the entries. Laws: `one_answer`, `reads_back`.
+//!
+//! A caller:
+//!
+//!     let entries = assemble(alloc, b"raw 00\n".as_slice()).ok()?;
+//!     let mut text = Vec::new(alloc);
+//!     disassemble(alloc, &entries, &mut Over::new(&mut text)).ok()?;
+//!     Some(text.len())
 #![tactic(auto)]
 
 mod assembling;

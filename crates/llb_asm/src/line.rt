@@ -1,4 +1,4 @@
-//! One line in an entry: what it adds to the message at hand, or why it is refused.
+//! One line in an entry: what it adds to the current message, or why it is refused.
 
 ghost use Rattle.std.specs.Prelude.{◌≡◌, ◌==◌, ◌++◌, ◌≤◌, IfOk, OnOk, map, position, nat_eq, Ok, true, not, length, ◌&&◌, if◌then◌else◌};
 ghost use Rattle.std.specs.Option.{option_map};
@@ -21,15 +21,17 @@ use std::alloc::Global;
 /// Why a line is refused: it breaks a rule, or its label names no earlier entry.
 #[derive(Clone, Copy)]
 pub enum Refusal {
+    /// The line breaks this rule.
     Breaks(Rule),
+    /// The line's label names no earlier entry.
     UnknownLabel,
 }
 
-/// The place of a line.
+/// Where a line is in its message.
 #[derive(Clone, Copy)]
 pub struct Here {
     pub message: MessageName,
-    /// The number of the last field, 0 where there is none.
+    /// The number of the last field, 0 if there is none.
     pub last: u32,
     /// Whether a member of the message's oneof is set.
     pub set: bool,
@@ -42,18 +44,20 @@ pub struct Here {
 /// What a line holds: a record, which may be empty, or the opening of a message in the field of that number.
 #[derive(Drop)]
 pub enum Held {
+    /// A record, which may be empty.
     Record(Bytes),
+    /// The opening of a message, in the field of that number.
     Opens(u32, MessageName),
 }
 
-/// What a line adds, and the place of the line after it in the same message.
+/// What a line adds, and where the line after it is in the same message.
 #[derive(Drop)]
 pub struct Item {
     pub next: Here,
     pub held: Held,
 }
 
-/// Returns the place at the start of a message.
+// Returns the position at the start of a message.
 pub(crate) fn inside(message: MessageName) -> Here
     ensures { result ≡ inside message }
 {
@@ -67,7 +71,7 @@ pub(crate) fn inside(message: MessageName) -> Here
 }
 
 impl Here {
-    /// Returns the place after one more field, which has room.
+    // Returns the position after one more field, which has room.
     fn behind(self, field: NamedField) -> Here
         requires { has_room self field ≡ true }
         ensures { result ≡ behind self field }
@@ -86,7 +90,7 @@ impl Here {
         }
     }
 
-    /// Returns the place after the extra bytes.
+    // Returns the position after the extra bytes.
     fn at_end(self) -> Here
         ensures { result ≡ at_end self }
     {
@@ -99,7 +103,8 @@ impl Here {
         }
     }
 
-    /// Returns whether a field may follow: numbers ascend, a repeated field may recur, at most one member of a oneof is set, and the extra bytes are last.
+    // Returns whether a field may follow: numbers ascend, a repeated field may recur, at most one member of a oneof is
+    // set, and the extra bytes are last.
     fn is_followed_by(self, field: NamedField) -> bool
         ensures { result ≡ follows self field }
     {
@@ -116,14 +121,15 @@ impl Here {
     }
 }
 
-/// Returns where the first space is.
+// Returns the index of the first space.
 fn space(line: &[u8]) -> Option<usize>
     ensures { result ≡ position (λ b. nat_eq b 32) line.now }
 {
     line.iter().position(|b| *b == b' ')
 }
 
-/// Returns the name and the value of an item, which has one space between them.
+// Splits an item, at its first space, into the name and the value; `None` if there is no space or the line is not
+// UTF-8.
 #[tactic(auto, unfolding(crate::specs::Line::parted))]
 pub(crate) fn parted(line: &[u8]) -> Option<(&[u8], &[u8])>
     ensures { option_map (λ p. (p.0.now, p.1.now)) result ≡ parted line.now }
@@ -146,7 +152,7 @@ fn may_be_empty(field: NamedField) -> bool
     field.member || field.repeated || field.of_entry
 }
 
-/// Returns whether a value is left out: one that is 0 or empty where it may not be so.
+// Returns whether a value is left out: one that is 0 or empty and may not be so.
 fn is_left_out(field: NamedField, is_default: bool) -> bool
     ensures { result ≡ is_default && not (may_be_empty field) }
 {
@@ -165,7 +171,7 @@ fn number_record(alloc: Global, field: NamedField, value: u64) -> Result<Held, M
     Ok(Held::Record(Bytes::new(out)))
 }
 
-/// Writes a record with a length, at the end of some bytes.
+// Appends a record with a length to some bytes.
 #[tactic(auto, using(crate::proofs::Records::bytes_spelled))]
 pub(crate) fn put_bytes(out: &mut Vec<u8>, number: u32, bytes: &[u8]) -> Result<(), Memory>
     ensures { OnOk result (out.new.items ≡ out.old.items ++ set_bytes number bytes.now) }
@@ -309,7 +315,8 @@ fn field_in(
     }
 }
 
-/// Returns what a line adds to the message at hand, or why it is refused. The labels are the texts of the digests of the entries before.
+// Returns what a line adds to the current message, or why it is refused. The labels are the texts of the digests of the
+// entries before.
 #[tactic(auto, unfolding(crate::specs::Line::line_in))]
 pub(crate) fn line_in(
     alloc: Global,

@@ -1,4 +1,4 @@
-//! The lines of a text that are looked at.
+//! The lines of a text that are read: all that are neither empty nor comments.
 
 ghost use Rattle.std.specs.Prelude.{◌≡◌};
 ghost use Rattle.std.specs.Str.{is_utf8};
@@ -17,7 +17,7 @@ pub(crate) fn is_text(bytes: &[u8]) -> bool
     }
 }
 
-/// Spaces, tabs and carriage returns.
+// Returns whether a byte is a space, a tab or a carriage return.
 fn is_blank(byte: u8) -> bool
     ensures { result ≡ is_blank byte }
 {
@@ -60,7 +60,7 @@ pub(crate) fn stripped(line: &[u8]) -> &[u8]
     without_end(without_front(line))
 }
 
-/// Returns whether a line is empty, or a comment. A comment that is not UTF-8 is none.
+// Returns whether a line is empty, or a comment. What is not UTF-8 is no comment.
 pub(crate) fn is_dropped(line: &[u8]) -> bool
     ensures { result ≡ is_dropped line.now }
 {

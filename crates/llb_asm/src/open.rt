@@ -1,4 +1,4 @@
-//! An op that is open: the message at hand, and those that it is in.
+//! An op that is open: the current message, and those that it is in.
 
 ghost use Rattle.std.specs.Prelude.{◌≡◌, ◌<◌, ◌^◌, ◌++◌, ◌∷◌, IfOk, length, reverse};
 ghost use Rattle.llb_asm.specs.Reading.{is_within, item_at, labels_of, added};
@@ -11,7 +11,8 @@ use llb_ops::{ENTRY_LIMIT, MessageName};
 use llb_wire::{Bytes, Many, Memory};
 use std::alloc::Global;
 
-/// A message with another one in it that is open: the place of its next line, its bytes so far, and the number of the field that is open.
+/// A message with another one in it that is open: the position of its next line, its bytes so far, and the number of
+/// the field that is open.
 #[derive(Drop)]
 pub struct Frame {
     pub here: Here,
@@ -19,7 +20,7 @@ pub struct Frame {
     pub bytes: Bytes,
 }
 
-/// The message at hand, its bytes so far, and the messages that it is in, the innermost last.
+/// The current message, its bytes so far, and the messages that it is in, the innermost last.
 #[derive(Drop)]
 pub struct Open {
     pub here: Here,
@@ -30,12 +31,14 @@ pub struct Open {
 /// What is there after a closing line: the records of a whole op, or a message that is still open.
 #[derive(Drop)]
 pub enum Closed {
+    /// The op is closed: the bytes of its records.
     Whole(Bytes),
+    /// A message is still open.
     Still(Open),
 }
 
 #[tactic(auto, using(crate::proofs::Lengths::no_room, crate::proofs::Lengths::turned_below))]
-/// Returns whether the entry is within the limits where the message at hand has `size` bytes, all messages closed.
+// Returns whether the entry is within the limits if the current message has `size` bytes and all messages are closed.
 fn has_room(earlier: &Earlier, below: &[Frame], size: usize) -> bool
     ensures { result ≡ room_in (is_within earlier.now) (reverse below.now) size }
 {
@@ -95,7 +98,7 @@ impl Open {
         }
     }
 
-    /// Returns the op with an item more.
+    // Adds an item to the op.
     pub(crate) fn with_item(self, alloc: Global, item: Item) -> Result<Open, Memory>
         ensures { IfOk result (λ s. open_op_of s ≡ with_item (open_op_of self) item) }
     {
@@ -131,7 +134,7 @@ impl Open {
         }
     }
 
-    /// Closes the message at hand.
+    // Closes the current message.
     pub(crate) fn close(self) -> Result<Closed, Memory>
         ensures { IfOk result (λ c. ended c ≡ closing_of (open_op_of self)) }
     {

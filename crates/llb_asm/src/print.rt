@@ -52,7 +52,7 @@ fn front_of(bytes: &[u8]) -> Option<Front<'_>>
     }
 }
 
-// Begins a line: two spaces a level, and a name.
+// Begins a line: appends two spaces a level, and a name.
 fn push_name(out: &mut Vec<u8>, depth: usize, name: &[u8]) -> Result<(), Memory>
     requires { depth < 2 ^ 62 }
     ensures { OnOk result (out.new.items ≡ out.old.items ++ (replicate (2 * depth) 32 ++ name.now)) }
@@ -64,7 +64,7 @@ fn push_name(out: &mut Vec<u8>, depth: usize, name: &[u8]) -> Result<(), Memory>
     Ok(())
 }
 
-// The line that opens a message.
+// Appends the line that opens a message.
 fn push_opening(out: &mut Vec<u8>, depth: usize, name: &str) -> Result<(), Memory>
     requires { depth < 2 ^ 62 }
     ensures { OnOk result (out.new.items ≡ out.old.items ++ line_text (item_line depth name.now opening)) }
@@ -74,7 +74,7 @@ fn push_opening(out: &mut Vec<u8>, depth: usize, name: &str) -> Result<(), Memor
     Ok(())
 }
 
-// The line that closes a message.
+// Appends the line that closes a message.
 fn push_closing(out: &mut Vec<u8>, depth: usize) -> Result<(), Memory>
     requires { depth < 2 ^ 62 }
     ensures { OnOk result (out.new.items ≡ out.old.items ++ line_text (closing_line depth)) }
@@ -84,7 +84,7 @@ fn push_closing(out: &mut Vec<u8>, depth: usize) -> Result<(), Memory>
     Ok(())
 }
 
-// The line of a number.
+// Appends the line of a number.
 fn push_number_line(
     alloc: Global,
     out: &mut Vec<u8>,
@@ -102,7 +102,7 @@ fn push_number_line(
     Ok(())
 }
 
-// A string between quotes, or a label where it is the digest of an entry before.
+// Appends a string between quotes, or a label if it is the digest of an entry before.
 fn push_text(
     alloc: Global,
     out: &mut Vec<u8>,
@@ -122,7 +122,7 @@ fn push_text(
     push_string(alloc, out, text)
 }
 
-// A string or bytes.
+// Appends a string or bytes.
 fn push_held(
     alloc: Global,
     out: &mut Vec<u8>,
@@ -139,7 +139,7 @@ fn push_held(
     }
 }
 
-// The line of a string or of bytes. An empty key or value of an entry of a map has none.
+// Appends the line of a string or of bytes. An empty key or value of an entry of a map has none.
 fn push_held_line(
     alloc: Global,
     out: &mut Vec<u8>,
@@ -162,7 +162,7 @@ fn push_held_line(
     Ok(())
 }
 
-// The line of the extra bytes, where there are any.
+// Appends the line of the extra bytes, if there are any.
 fn push_extra(alloc: Global, out: &mut Vec<u8>, depth: usize, extra: &[u8]) -> Result<(), Memory>
     requires { depth < 2 ^ 62 }
     ensures { OnOk result (out.new.items ≡ out.old.items ++ text_of_lines (extra_lines depth extra.now)) }
@@ -176,7 +176,7 @@ fn push_extra(alloc: Global, out: &mut Vec<u8>, depth: usize, extra: &[u8]) -> R
     Ok(())
 }
 
-// Puts the lines of a message's canonical bytes at the end of a text.
+// Appends the lines of a message's canonical bytes.
 fn push_fields(
     alloc: Global,
     out: &mut Vec<u8>,
@@ -214,7 +214,7 @@ fn push_fields(
     Ok(())
 }
 
-// Puts an op with these canonical bytes at the end of a text.
+// Appends the lines of an op with these canonical bytes.
 fn push_op(alloc: Global, out: &mut Vec<u8>, labels: &Labels, bytes: &[u8]) -> Result<(), Memory>
     requires { length bytes.now < 2 ^ 32 }
     ensures { (fs : Fields) → AreFields named.Op 0 false fs → bytes.now ≡ bytes_of fs
@@ -226,7 +226,7 @@ fn push_op(alloc: Global, out: &mut Vec<u8>, labels: &Labels, bytes: &[u8]) -> R
     push_closing(out, 0)
 }
 
-// Puts the bytes of an entry at the end of a text.
+// Appends the line of an entry's bytes.
 fn push_raw(alloc: Global, out: &mut Vec<u8>, entry: &[u8]) -> Result<(), Memory>
     ensures { OnOk result (out.new.items ≡ out.old.items ++ text_of_lines (entry_lines [] entry.now Form.raw)) }
 {
@@ -236,7 +236,7 @@ fn push_raw(alloc: Global, out: &mut Vec<u8>, entry: &[u8]) -> Result<(), Memory
     Ok(())
 }
 
-// Whether an entry is the canonical bytes of the op that it is read as.
+// Returns whether an entry is the canonical bytes of the op that it is read as.
 fn is_structured(alloc: Global, entry: &[u8]) -> Result<bool, Memory>
     ensures { IfOk result (λ yes. IsTrue yes ↔ IsStructured entry.now) }
 {
@@ -246,7 +246,7 @@ fn is_structured(alloc: Global, entry: &[u8]) -> Result<bool, Memory>
     }
 }
 
-// The text of an entry.
+// Returns the text of an entry.
 fn entry_text(alloc: Global, labels: &Labels, entry: &[u8]) -> Result<Vec<u8>, Memory>
     ensures { (form : Form) → HasForm entry.now form → IfOk result (λ text. text.items ≡ text_of_lines (entry_lines labels.now entry.now form)) }
 {
@@ -259,7 +259,7 @@ fn entry_text(alloc: Global, labels: &Labels, entry: &[u8]) -> Result<Vec<u8>, M
     Ok(text)
 }
 
-// The text of an entry, whose label is put after those of the entries before.
+// Returns the text of an entry, and appends its label to those of the entries before.
 fn labelled_text(alloc: Global, labels: &mut Labels, entry: &[u8]) -> Result<Vec<u8>, Memory>
     ensures text { (form : Form) → HasForm entry.now form → IfOk result (λ text. text.items ≡ text_of_lines (entry_lines labels.old entry.now form)) }
     ensures labels { OnOk result (labels.new ≡ labels.old ++ digest_text entry.now ∷ []) }
@@ -307,7 +307,7 @@ fn print_entries<W: Sink>(
     Ok(())
 }
 
-// Each entry has a form.
+// Proves that each entry has a form.
 fn entries_have_forms(entries: &[Bytes])
     ensures { (xs : List Formed) × AreFormed entries.now xs }
 {
@@ -316,10 +316,11 @@ fn entries_have_forms(entries: &[Bytes])
     }
 }
 
-/// Writes the text of entries to a sink, one entry at a time: an entry that is the canonical bytes of an op as that op, field by field, else
-/// `raw` and its bytes.
+/// Writes the text of entries to a sink, one entry at a time: an entry that is the canonical bytes of an op as that op,
+/// field by field, else `raw` and its bytes.
 ///
-/// Fails with 163 where memory is refused, and with 164 where the sink failed: a prefix of the text is written then.
+/// Fails with 163 `Memory` if memory is refused, and with 164 `Write` if the sink failed: a prefix of the text is
+/// written then.
 pub fn disassemble<W: Sink>(alloc: Global, entries: &Entries, out: &mut W) -> Result<(), AsmFault>
     ensures prints { (xs : List Formed) → AreFormed entries.now xs → Prints (W.taken out.old) (W.taken out.new) (W.failed out.new) (plain_text xs) result }
     ensures some { (xs : List Formed) × AreFormed entries.now xs }

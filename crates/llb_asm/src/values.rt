@@ -15,7 +15,7 @@ use llb_wire::{Bytes, Memory, is_hex, magnitude, read_hex};
 use std::alloc::Global;
 use std::str::from_utf8;
 
-/// Reads a number from minus the limit up to below the limit, in two's complement.
+// Reads a number from `-limit` up to `limit - 1`, in two's complement.
 #[tactic(auto, unfolding(crate::specs::Values::signed_in))]
 fn signed_in(limit: u64, text: &[u8]) -> Option<u64>
     requires { limit ≤ 2 ^ 63 }
@@ -79,7 +79,7 @@ fn digit_of(byte: u8) -> Option<u8>
     }
 }
 
-/// Returns the value of two lower-case hexadecimal digits, where that is at most 7f.
+// Returns the value of two lower-case hexadecimal digits, if that is at most 7f.
 fn escape_of(high: u8, low: u8) -> Option<u8>
     ensures { result ≡ escape_of high low }
 {
@@ -149,7 +149,7 @@ pub(crate) fn string_in(alloc: Global, text: &[u8]) -> Result<Option<Bytes>, Mem
     }
 }
 
-/// Reads the bytes that lower-case hexadecimal digits spell, and none of `-`.
+// Reads the bytes that lower-case hexadecimal digits spell, and no bytes of `-`.
 #[tactic(auto, unfolding(crate::specs::Values::bytes_spelled))]
 pub(crate) fn bytes_spelled(alloc: Global, text: &[u8]) -> Result<Option<Bytes>, Memory>
     ensures { IfOk result (λ o. o ≡ bytes_spelled text.now) }
@@ -207,7 +207,7 @@ fn push_flag(out: &mut Vec<u8>, number: u64) -> Result<(), Memory>
     Ok(())
 }
 
-/// Puts a number of a field of the kind at the end of a text.
+// Appends a number of a field of the kind to a text.
 pub(crate) fn push_number(
     alloc: Global,
     out: &mut Vec<u8>,
@@ -225,7 +225,7 @@ pub(crate) fn push_number(
     }
 }
 
-/// Puts bytes at the end of a text, in lower-case hexadecimal, `-` for none.
+// Appends bytes to a text, in lower-case hexadecimal, `-` for none.
 pub(crate) fn push_bytes(alloc: Global, out: &mut Vec<u8>, bytes: &[u8]) -> Result<(), Memory>
     ensures { OnOk result (out.new.items ≡ out.old.items ++ hex_text bytes.now) }
 {
@@ -259,7 +259,7 @@ fn push_escaped(alloc: Global, out: &mut Vec<u8>, byte: u8) -> Result<(), Memory
     Ok(())
 }
 
-/// Puts a string between quotes at the end of a text: quotes, backslashes and control characters escaped.
+// Appends a string to a text, between quotes: quotes, backslashes and control characters are escaped.
 pub(crate) fn push_string(alloc: Global, out: &mut Vec<u8>, string: &[u8]) -> Result<(), Memory>
     ensures { OnOk result (out.new.items ≡ out.old.items ++ string_text string.now) }
 {
@@ -271,7 +271,7 @@ pub(crate) fn push_string(alloc: Global, out: &mut Vec<u8>, string: &[u8]) -> Re
     Ok(())
 }
 
-/// Puts the label of an entry at the end of a text.
+// Appends the label of an entry to a text.
 pub(crate) fn push_label(alloc: Global, out: &mut Vec<u8>, entry: u64) -> Result<(), Memory>
     ensures { OnOk result (out.new.items ≡ out.old.items ++ label_text entry) }
 {
@@ -279,7 +279,7 @@ pub(crate) fn push_label(alloc: Global, out: &mut Vec<u8>, entry: u64) -> Result
     push_decimal(alloc, out, entry)
 }
 
-/// A law: what is written for a value is read as the value, and fits on one line as it is.
+// Proves that what is written for a value is read as the value, and fits on one line as it is.
 pub(crate) fn values_are_read_back()
     ensures read_back { ValuesAreReadBack }
     ensures solid { ValuesAreSolid }

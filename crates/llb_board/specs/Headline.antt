@@ -40,7 +40,7 @@ OthersIgnore b = (w : ℕ) (p : Instance) → HoldsInstance b w p → IsExclusiv
 abbrev pub StandsInClaimOrder : BoardValue → Type 0
 StandsInClaimOrder b = StandsIn b.state (order b.build (at_first b.build b.opening.store) (claims_in (replies_in b)))
 
--- what stands of every board
+-- what holds of every board
 pub record Headline (b : BoardValue) : Type 0 where
   -- after every interleaving of events the record is a run of the written table from the opening state to this one, with a reply for each event
   pub replays : Replays b

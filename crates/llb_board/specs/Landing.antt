@@ -60,7 +60,7 @@ land_fault cause.NotRunning o = fault.NotRunning o
 land_fault cause.HasShared o = fault.HasShared o
 land_fault cause.Stranger o = fault.Stranger o
 
--- the refusal e of an outcome says the first cause that stands in its way
+-- the refusal e of an outcome has the first cause
 pub record IsRefused (b : BoardValue) (w : ℕ) (o : OutcomeValue) (e : LandFault) : Type 0 where
   pub cause : LandCause
   pub stands : StandsInWay b w o.job cause

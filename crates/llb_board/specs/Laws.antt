@@ -28,7 +28,7 @@ abbrev pub OneWorkerEach : BoardValue → Type 0
 OneWorkerEach b = (u w : ℕ) (x y : Execution) → slice_get b.state.workers u ≡ Some (Runs x) → slice_get b.state.workers w ≡ Some (Runs y)
     → x.vertex ≡ y.vertex → u ≡ w
 
--- a vertex is Ready exactly where it waits, and all its inputs are done
+-- a vertex is Ready exactly if it waits, and all its inputs are done
 abbrev pub ReadyBehindDone : BoardValue → Type 0
 ReadyBehindDone b = (v : ℕ) (x : Vertex) → slice_get b.build.graph.vertices v ≡ Some x
     → is_ready b.build b.state.statuses v
@@ -38,7 +38,7 @@ ReadyBehindDone b = (v : ℕ) (x : Vertex) → slice_get b.build.graph.vertices 
 abbrev pub is_failed_or_blocked : BoardValue → ℕ → Bool
 is_failed_or_blocked b v = is_failed (ending_at b.state.statuses v) || is_blocked b.build b.state.statuses v
 
--- a vertex is blocked exactly where it waits, and an input of it has failed or is blocked
+-- a vertex is blocked exactly if it waits, and an input of it has failed or is blocked
 abbrev pub BlockedBehindAFailure : BoardValue → Type 0
 BlockedBehindAFailure b = (v : ℕ) (x : Vertex) → slice_get b.build.graph.vertices v ≡ Some x
     → is_blocked b.build b.state.statuses v

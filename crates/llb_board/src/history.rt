@@ -90,7 +90,7 @@ impl History {
         }
     }
 
-    /// Removes the last event, of vertex v, which has this number of events: gives up the room that a claim took, and no longer counts a cancel.
+    /// Removes the last event, which is of vertex v. The room that a claim reserved for `events` events is released; the count of a cancel is decremented.
     pub(crate) fn take_back(&mut self, v: u32, events: usize)
         ensures list { self.new.list ≡ front self.old.list }
         ensures space { self.new.space ≡ space_back (last_of self.old.list) v events self.old.space }

@@ -47,11 +47,11 @@ with_trees (r ∷ rows) key trees = if same_key key r.0 then (r.0, trees) ∷ ro
 abbrev pub tree_at : List Row → Instance → Option TreeMap
 tree_at rows p = slice_get (trees_of rows p.key) p.number
 
--- the rows where an instance has this tree
+-- the rows, with this tree in an instance
 abbrev pub put : List Row → Instance → TreeMap → List Row
 put rows p tree = with_trees rows p.key (slice_set (trees_of rows p.key) p.number tree)
 
--- the rows where an instance that is not there is made with a tree, after the others of its key
+-- the rows after an instance that is missing is made with a tree, after the others of its key
 abbrev pub made : List Row → Instance → TreeMap → List Row
 made rows p tree = if nat_lt p.number (length (trees_of rows p.key)) then rows else with_trees rows p.key (trees_of rows p.key ++ tree ∷ [])
 
@@ -103,7 +103,7 @@ number_for out key Private = first_free out key 0 (leases out)
 abbrev pub place_for : Leases → Key → Instance
 place_for out key = place key (number_for out key key.mode)
 
--- for each need an instance, and the tree that it holds where it is new
+-- for each need an instance, and the tree that it holds if it is new
 abbrev pub Taken : Type 0
 Taken = Instance × TreeMap
 
@@ -111,7 +111,7 @@ Taken = Instance × TreeMap
 abbrev pub taken : Leases → List Need → List Taken
 taken out needs = map (λ n. (place_for out n.key, n.tree)) needs
 
--- the caches with the instances that were not there
+-- the rows after the instances that are missing are made
 abbrev pub made_all : List Row → List Taken → List Row
 made_all rows ts = fold (λ rows t. made rows t.0 t.1) rows ts
 
@@ -143,7 +143,7 @@ granted c needs = (
   },
 )
 
--- where a need is refused, all are
+-- if one need is refused, all are
 abbrev pub lease_by : CachesValue → List Need → Option Need → Result (ℕ × CachesValue) LeaseFault
 lease_by c needs None = Ok (granted c needs)
 lease_by c needs (Some n) = Err (Held n.key)
@@ -169,13 +169,13 @@ trimmed [] = []
 trimmed (Some ps ∷ out) = Some ps ∷ trimmed out
 trimmed (None ∷ out) = before (trimmed out)
 
--- the caches where a lease is out no more; all trees stay
+-- the caches after a lease is given back; all trees stay
 abbrev pub given_back : CachesValue → ℕ → CachesValue
 given_back c lease = record c { out = trimmed (slice_set c.out lease None) }
 
 -- ---- what holds of caches
 
--- a way of sharing in which one lease at a time, or one execution, has an instance
+-- an exclusive mode: at most one lease at a time has an instance
 abbrev pub IsExclusive : Mode → Type 0
 IsExclusive Shared = ⊥
 IsExclusive Private = Unit {0}
@@ -202,7 +202,7 @@ AreThere rows out = (a : ℕ) (ps : List Instance) → Has out a ps → All (λ 
 abbrev pub AreFew : List Row → Type 0
 AreFew rows = (key : Key) → length (trees_of rows key) ≤ 65536
 
--- what stands of all caches
+-- what holds of all caches
 pub record IsCaches (c : CachesValue) : Type 0 where
   pub exclusive : AreExclusive c.out
   pub apart : AreApart c.out

@@ -13,6 +13,6 @@ is_memory (Held key) = false
 abbrev pub Gives : {X Y : Type 0} → (X → Y) → Result X LeaseFault → Result Y LeaseFault → Type 0
 Gives = answer.Gives is_memory
 
--- and `Memory` is last: a call fails with it only where its rule has no refusal
+-- and `Memory` is last: a call fails with it only if its rule has no refusal
 abbrev pub MemoryLast : {X Y : Type 0} → Result X LeaseFault → Result Y LeaseFault → Type 0
 MemoryLast = answer.MemoryLast is_memory

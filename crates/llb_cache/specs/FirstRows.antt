@@ -1,4 +1,4 @@
--- Whether a key is at none of the rows, or at which first; and the rows with other trees at one place.
+-- The first row that has a key, if one has; and the rows with other trees in one of them.
 use Rattle.std.specs.Prelude.{◌≡◌, ℕ, zero, suc, true, false, List, [], ◌∷◌}
 use Rattle.std.specs.List.{AllByRecursion}
 use Rattle.std.specs.Map.{keys_of}

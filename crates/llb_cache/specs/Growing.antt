@@ -7,7 +7,7 @@ use Rattle.llb_cache.specs.declared.fault.LeaseFault.{LeaseFault}
 use Rattle.llb_cache.specs.declared.fault.LeaseFault.TheVariants.{Held}
 use Rattle.llb_cache.specs.Caches.{Taken}
 
--- what is ready for a need, as taken
+-- what is ready for a need: the instance that it takes, and a tree for a new one
 abbrev pub shown : Ready → Taken
 shown r = (r.place, r.tree)
 
@@ -27,7 +27,7 @@ pub record HasRoomFor (p : Instance) (marks : List Bool) : Type 0 where
   pub mark : p.number < length marks
   pub clear : (k : ℕ) → slice_index_or marks k false ≡ false
 
--- for each instance there is the room of its mark
+-- for each instance there is room for its mark
 abbrev pub FitEach : List Instance → List (List Bool) → Type 0
 FitEach [] [] = Unit {0}
 FitEach [] (m ∷ rooms) = ⊥

@@ -29,7 +29,7 @@ growth_at rows p = growth_by (lookup (same_key p.key) rows) p.number
 abbrev pub growths : CachesValue → List Need → List Growth
 growths c needs = map (λ (n : Need). growth_at c.rows (place_for c.out n.key)) needs
 
--- the rows where a key that has these trees has one less
+-- the rows without the last of a key's trees, which are these
 abbrev pub shorter : List Row → Key → Option (List TreeMap) → List Row
 shorter rows key None = rows
 shorter rows key (Some ts) = with_trees rows key (front ts)

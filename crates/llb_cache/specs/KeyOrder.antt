@@ -9,7 +9,7 @@ use Rattle.llb_cache.specs.declared.key.Seed.{Seed}
 use Rattle.llb_cache.specs.declared.key.Mode.{Mode}
 use Rattle.llb_cache.specs.declared.key.Mode.TheVariants.{Shared, Private, Locked}
 
--- the place of a mode among the modes
+-- the position of a mode among the modes
 abbrev pub mode_place : Mode → ℕ
 mode_place Shared = 0
 mode_place Private = 1

@@ -1,4 +1,4 @@
--- Where a key stands among rows: at the first row that has it, or nowhere. What a write of a key's trees is at either.
+-- The row of a key: the first that has it, or none. What a write of a key's trees changes in either case.
 use Rattle.std.proofs.Common.{◌≡◌, ℕ, zero, suc, ◌+◌, ◌<◌, Bool, true, false, cond, not, nat_lt, List, [], ◌∷◌, ◌++◌, length, Some, None, is_some}
 use Rattle.std.proofs.Common.{position, slice_get, unwrap_or, refl, sym, ap, ◌∙◌, subst, arith, inl, inr, ◌⊎◌, lt-ltb, le-ltb, true≢false}
 use Rattle.std.specs.List.{position_or_len}

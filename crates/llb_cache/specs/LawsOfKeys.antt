@@ -30,7 +30,7 @@ mode_itself Locked = refl
 text_itself : (xs : List ℕ) → pointwise nat_eq xs xs ≡ true
 text_itself xs = (bytes_decides xs xs).1 refl
 
--- where two tests hold together, each does
+-- if two tests hold together, each holds
 pub both : (a b : Bool) → (a && b) ≡ true → (a ≡ true) × (b ≡ true)
 both true b e = (refl, e)
 both false b e = absurd cc
@@ -65,7 +65,7 @@ key_itself k =
     ap (λ b. b && same_seeds k.seed k.seed && pointwise nat_eq k.id k.id) (mode_itself k.mode)
     ∙ ap (λ b. b && pointwise nat_eq k.id k.id) (seed_itself k.seed) ∙ text_itself k.id
 
--- a key, and another or the same
+-- the test of two keys holds exactly if they are equal
 pub key_test : (k l : Key) → (same_key k l ≡ true) ↔ (k ≡ l)
 key_test k l = (same_keys k l, λ e. ap (same_key k) (sym e) ∙ key_itself k)
 

@@ -99,7 +99,7 @@ some_same ps qs e = ap (λ o. unwrap_or o ps) e
 pub free_within : (out : Leases) → free_lease out ≤ length out
 free_within out = prefix_len-le-length _ out
 
--- where all numbers are taken, there are as many leases as numbers
+-- if all numbers are taken, there are as many leases as numbers
 pub all_out : (out : Leases) → length out ≤ free_lease out → leases out ≡ length out
 all_out [] h = refl
 all_out (None ∷ out) h = absurd (omega (arith, h))
@@ -229,7 +229,7 @@ trimmed_lease out n ps same = go (nat_lt n (length out))
     go true = trimmed_set out n ps same
     go false = trimmed_some out ps
 
--- where no lease is out, there is nothing
+-- if no lease is out, the list of leases is empty
 pub none_out : (out : Leases) → trimmed out ≡ out → leases out ≡ 0 → out ≡ []
 unfolding trimmed
 none_out [] same none = refl

@@ -114,7 +114,7 @@ private_free out key apart = go (first_free out key 0 (leases out)) (least out k
         let free = l.free (omega (arith, all)) in
         true≢false (sym is ∙ free))
 
--- a number that no lease has, where leases have all below it, is the one that is chosen for the key
+-- if no lease has a number, and leases have all below it, it is the one that is chosen for the key
 pub first_unheld : (out : Leases) (key : Key) (r : ℕ) → AreApart out → ((k : ℕ) → k < r → is_held out (place key k) ≡ true)
     → is_held out (place key r) ≡ false → first_free out key 0 (leases out) ≡ r
 first_unheld out key r apart below free =

@@ -1,4 +1,4 @@
--- An instance that is made and removed again leaves the rows as they were, and the making of it is not seen by another key.
+-- An instance that is made and removed again leaves the rows as they were, and making it changes nothing of another key.
 use Rattle.std.proofs.Common.{◌≡◌, ◌-◌, Bool, true, false, cond, List, [], ◌∷◌, ◌++◌, length, take, Option, Some, None, is_some}
 use Rattle.std.proofs.Common.{unwrap_or, nat_lt, refl, sym, ap, ◌∙◌, arith, length-append, le-ltb}
 use Rattle.std.specs.Map.{lookup}
@@ -65,7 +65,7 @@ unmade_made rows p tree = by_look (lookup (same_key p.key) rows) refl
     by_look (Some ts) at =
         (λ i. unmade_one (made_by (Some ts) at i) p (growth_by (at i) p.number)) ∙ there ts (nat_lt p.number (length ts)) at
 
--- the making of an instance of another key is not seen
+-- making an instance of another key changes no row of this one
 pub look_made : (rows : List Row) (p : Instance) (tree : TreeMap) (k : Key) → same_key k p.key ≡ false
     → lookup (same_key k) (made rows p tree) ≡ lookup (same_key k) rows
 look_made rows p tree k apart = go (nat_lt p.number (length (trees_of rows p.key)))

@@ -1,4 +1,4 @@
--- The numbers of the rows in the order of their keys, and where a key stands among them.
+-- The numbers of the rows in the order of their keys, and where a key belongs among them.
 use Rattle.std.specs.Prelude.{◌≡◌, ℕ, ◌+◌, ◌<◌, ◌≤◌, ◌&&◌, nat_lt, Bool, true, false, List, [], length, slice_index_or, None, vec_len, vec_capacity}
 use Rattle.std.specs.List.{IsDistinct}
 use Rattle.std.specs.Map.{keys_of}
@@ -26,7 +26,7 @@ has_key rows i key = nat_lt i (length rows) && same_key key (key_at rows i)
 abbrev pub is_before : List Row → ℕ → Key → Bool
 is_before rows i key = is_lt (key_cmp (key_at rows i) key)
 
--- the row at a place of the order
+-- the row at a position of the order
 abbrev pub row_at : List ℕ → ℕ → ℕ
 row_at order j = slice_index_or order j 0
 
@@ -37,7 +37,7 @@ pub record IsOrdered (rows : List Row) (order : List ℕ) : Type 0 where
   pub each : (i : ℕ) → i < length rows → (j : ℕ) × (j < length order) × (row_at order j ≡ i)
   pub rising : (j k : ℕ) → j < k → k < length order → is_before rows (row_at order j) (key_at rows (row_at order k)) ≡ true
 
--- a place of the order where the rows before it come before a key, and no others do
+-- a position in the order: the rows before it come before a key, and no others do
 pub record IsPlace (rows : List Row) (order : List ℕ) (key : Key) (place : ℕ) : Type 0 where
   pub within : place ≤ length order
   pub before : (j : ℕ) → j < place → is_before rows (row_at order j) key ≡ true

@@ -1,5 +1,6 @@
-//! Caches with their leases. Contracts see the keys in the order in which they were first leased, each with the trees of its
-//! instances, and the instances that each lease has. A refusal changes nothing, and only a lease and a copy take memory.
+//! Caches with their leases. Contracts see the keys in the order in which they were first leased, each with the trees
+//! of its instances, and the instances that each lease has. A refusal changes nothing, and only a lease and a copy
+//! allocate.
 
 ghost use Rattle.std.specs.Prelude.{◌≡◌, ◌≢◌, ◌↔◌, IsTrue, ◌<◌, ◌&&◌, length, map, slice_get, option_map, AllPairs, OnErr, IfOk, Some, []};
 ghost use Rattle.std.specs.Map.{keys_of};
@@ -21,7 +22,7 @@ use llb_wire::{Many, all_same};
 use std::alloc::Global;
 use std::marker::Model;
 
-/// A lease that is out, by its number: the least that no other lease has.
+/// A lease that is out, by its number.
 #[derive(Clone, Copy)]
 pub struct Lease {
     pub(crate) number: u32,
@@ -38,7 +39,7 @@ impl Model for Lease {
 }
 
 impl Lease {
-    /// Returns the least number that no other lease had when this one was granted.
+    /// Returns the number: the least that no other lease had when this one was granted.
     pub fn number(&self) -> u32
         ensures { result ≡ self.now }
     {
@@ -93,8 +94,8 @@ impl Caches {
         }
     }
 
-    /// Returns whether a lease of these needs can be asked for: their keys differ, and there are fewer than 65,536 leases. Does not
-    /// allocate, and takes time in the square of the number of needs.
+    /// Returns whether a lease of these needs may be requested: their keys differ, and there are fewer than 65,536
+    /// leases. Does not allocate, and takes time in the square of the number of needs.
     pub fn can_lease(&self, needs: &[Need]) -> bool
         ensures { IsTrue result ↔ (AllPairs (λ n m. n.key ≢ m.key) needs.now × (leases self.now.out < 65536)) }
     {
@@ -104,10 +105,10 @@ impl Caches {
         keys_differ(needs)
     }
 
-    /// Leases an instance for each need, or none at all: for a shared or a locked key instance 0, for a private one the least that no
-    /// lease has. An instance that is not there is made with the tree of its need. The keys of the needs differ, and there are fewer
-    /// than 65,536 leases. Fails with 111 `Held` with the first locked key whose instance a lease has; then with 112 `Memory`. After
-    /// a refusal the caches are unchanged.
+    /// Leases an instance for each need, or none at all: for a shared or a locked key instance 0, for a private one the
+    /// least that no lease has. An instance that is not there is made with the tree of its need. The keys of the needs
+    /// differ, and there are fewer than 65,536 leases. Fails with 111 `Held` and the first locked key whose instance a
+    /// lease has; else with 112 `Memory`. After a refusal the caches are unchanged.
     pub fn lease(&mut self, needs: Many<Need>) -> Result<Lease, LeaseFault>
         requires differ { AllPairs (λ n m. n.key ≢ m.key) needs }
         requires few { leases self.old.out < 65536 }
@@ -119,7 +120,8 @@ impl Caches {
         self.lease_near(needs, &[])
     }
 
-    /// Leases as `lease` does. The rows of these numbers, one for each need, are tried first for the keys of the needs.
+    /// Leases as `lease` does, and fails as it does. For the key of each need, the row whose number `rows` has for it
+    /// is tried first.
     pub fn lease_near(
         &mut self,
         needs: Many<Need>,
@@ -153,7 +155,7 @@ impl Caches {
         }
     }
 
-    /// Returns how many needs a lease has, 0 where it is not out. Does not allocate.
+    /// Returns how many needs a lease has, 0 if it is not out. Does not allocate.
     pub fn needs(&self, lease: Lease) -> usize
         ensures { result ≡ length (places_of self.now.out lease) }
     {
@@ -180,7 +182,8 @@ impl Caches {
         trees_at(&self.rows, &place.key).at(place.number)
     }
 
-    /// Puts a tree in the place of the one that the instance of a need has, for all leases that have it. Does not allocate.
+    /// Replaces the tree of the instance that a need of a lease has; all leases that have the instance see the new
+    /// tree. Does not allocate.
     pub fn set_content(&mut self, lease: &Lease, need: u32, tree: Tree)
         requires { need < length (places_of self.old.out lease.now) }
         ensures { self.new ≡ with_content self.old lease.now need tree }
@@ -247,14 +250,14 @@ impl Caches {
         }
     }
 
-    /// Returns the tree of an instance of a key. Does not allocate.
+    /// Returns the tree of an instance of a key; `None` if there is no such instance. Does not allocate.
     pub fn instance(&self, key: &Key, number: u32) -> Option<&Tree>
         ensures { option_map (λ t. t.now) result ≡ slice_get (trees_of self.now.rows key.now) number }
     {
         trees_with(&self.rows, key)?.get(number)
     }
 
-    /// Returns an equal copy, with its leases. Fails with 112 `Memory` alone.
+    /// Copies the caches with their leases; the trees are shared. Fails with 112 `Memory` alone.
     pub fn copy(&self) -> Result<Caches, Memory>
         ensures { IfOk result (λ c. c ≡ self.now) }
     {
@@ -279,16 +282,16 @@ impl Caches {
         same_rows(&self.rows.entries, &other.rows.entries)
     }
 
-    /// A law: no key occurs twice.
+    /// Proves that no key occurs twice.
     pub fn keys_differ(&self)
         ensures { AllPairs (λ k l. k ≢ l) (keys_of self.now.rows) }
     {
         let _rows = &self.rows;
     }
 
-    /// A law: no two leases have one instance of a locked or a private key, nor have two needs of one lease; what a lease
-    /// has is there; no key has more than 65,536 instances; and the last number of the list of leases is that of one that is
-    /// out, so that the list is empty where none is.
+    /// Proves that no two leases have one instance of a locked or a private key, nor have two needs of one lease; that
+    /// what a lease has is there; that no key has more than 65,536 instances; and that the last number of the list of
+    /// leases is that of one that is out, so that the list is empty if none is.
     pub fn is_exclusive(&self)
         ensures { IsCaches self.now }
     {

@@ -1,4 +1,4 @@
-//! Equal second owners of caches and of leases, and whether two are the same.
+//! Copies of caches and of leases, which share the trees, and whether two are the same.
 
 ghost use Rattle.std.specs.Prelude.{◌≡◌, ◌↔◌, IsTrue, IfOk};
 ghost use Rattle.llb_cache.specs.RowOrder.{AreOrdered};
@@ -12,7 +12,7 @@ use crate::trees::Trees;
 use llb_wire::{Many, Same};
 use std::alloc::Global;
 
-// Equal second owners of all trees, under their keys.
+// Copies the rows, which share the trees.
 pub(crate) fn copied_rows(rows: &Rows) -> Result<Rows, Memory>
     requires { AreOrdered rows.now }
     ensures entries { IfOk result (λ r. r.entries.items ≡ rows.now.entries.items) }
@@ -33,7 +33,7 @@ fn copied_entries(entries: &Vec<(Key, Trees)>) -> Result<Vec<(Key, Trees)>, Memo
     Ok(copies)
 }
 
-// An equal second owner of a list of instances.
+// Copies a list of instances.
 pub(crate) fn copied_places(alloc: Global, places: &[Instance]) -> Result<Many<Instance>, Memory>
     ensures { IfOk result (λ ps. ps ≡ places.now) }
 {
@@ -44,7 +44,7 @@ pub(crate) fn copied_places(alloc: Global, places: &[Instance]) -> Result<Many<I
     Ok(Many::new(copies))
 }
 
-// An equal second owner of a lease's instances.
+// Copies the instances of a lease, if it is out.
 fn copied_lease(
     alloc: Global,
     lease: &Option<Many<Instance>>,
@@ -57,7 +57,7 @@ fn copied_lease(
     }
 }
 
-// Equal second owners of the instances of all leases.
+// Copies the instances of all leases.
 pub(crate) fn copied_leases(
     out: &Vec<Option<Many<Instance>>>,
 ) -> Result<Vec<Option<Many<Instance>>>, Memory>
@@ -71,7 +71,6 @@ pub(crate) fn copied_leases(
     Ok(copies)
 }
 
-// An equal second owner of the marks.
 pub(crate) fn copied_marks(marks: &Vec<Marks>) -> Result<Vec<Marks>, Memory>
     ensures { IfOk result (λ m. m.items ≡ marks.now.items) }
 {
@@ -82,7 +81,8 @@ pub(crate) fn copied_marks(marks: &Vec<Marks>) -> Result<Vec<Marks>, Memory>
     Ok(copies)
 }
 
-// Whether both have the same keys in the same order with the same trees. Where they do, a key has the same row in both.
+// Returns whether both have the same keys in the same order with the same trees. If they do, a key has the same row in
+// both.
 pub(crate) fn same_rows(rows: &[(Key, Trees)], others: &[(Key, Trees)]) -> bool
     ensures { IsTrue result ↔ (rows.now ≡ others.now) }
 {

@@ -18,8 +18,8 @@ use llb_tree::Tree;
 use llb_wire::Many;
 use std::alloc::Global;
 
-// What a need takes: an instance, the row that is tried first for its key, the tree that it holds where it is new, and room for it and for
-// its mark.
+// What a need takes: an instance, the row that is tried first for its key, the tree that it holds if it is new, and
+// room for it and for its mark.
 #[derive(Drop)]
 pub(crate) struct Ready {
     pub(crate) place: Instance,
@@ -29,7 +29,7 @@ pub(crate) struct Ready {
     pub(crate) marks: Marks,
 }
 
-// The instances of a lease, as copies.
+// Copies the instances that a lease takes.
 pub(crate) fn places_for(alloc: Global, readies: &[Ready]) -> Result<Many<Instance>, Memory>
     ensures { IfOk result (λ ps. ps ≡ map (λ r. r.place) readies.now) }
 {
@@ -100,7 +100,7 @@ pub(crate) fn make_all(rows: &mut Rows, marks: &mut Vec<Marks>, readies: Vec<Rea
     }
 }
 
-// Takes the marks of instances away.
+// Removes the marks of instances.
 pub(crate) fn unmark_all(rows: &Rows, marks: &mut Vec<Marks>, places: &[Instance])
     requires order { AreOrdered rows.now }
     requires each { length marks.old.items ≡ length rows.now.entries.items }
@@ -112,7 +112,7 @@ pub(crate) fn unmark_all(rows: &Rows, marks: &mut Vec<Marks>, places: &[Instance
     }
 }
 
-// Takes the mark of an instance away.
+// Removes the mark of an instance.
 fn unmark(rows: &Rows, marks: &mut Vec<Marks>, place: &Instance)
     requires order { AreOrdered rows.now }
     requires each { length marks.old.items ≡ length rows.now.entries.items }
@@ -125,7 +125,7 @@ fn unmark(rows: &Rows, marks: &mut Vec<Marks>, place: &Instance)
     }
 }
 
-// Puts a lease out, under the least number that is free. There is room for one more.
+// Adds a lease under the least free number, and returns the number. There is room for one more.
 pub(crate) fn take_lease(out: &mut Vec<Option<Many<Instance>>>, places: Many<Instance>) -> u32
     requires room { vec_len out.old < vec_capacity out.old }
     requires short { length out.old.items ≤ 65536 }
@@ -141,7 +141,7 @@ pub(crate) fn take_lease(out: &mut Vec<Option<Many<Instance>>>, places: Many<Ins
     number as u32
 }
 
-// The instances of a lease that is out.
+// Returns the instances of a lease; none if it is not out.
 pub(crate) fn places_at(out: &[Option<Many<Instance>>], lease: u32) -> &[Instance]
     ensures { result.now ≡ places_of out.now lease }
 {
@@ -151,7 +151,7 @@ pub(crate) fn places_at(out: &[Option<Many<Instance>>], lease: u32) -> &[Instanc
     }
 }
 
-// Puts a tree in the place of an instance's.
+// Replaces the tree of an instance.
 pub(crate) fn set_at(rows: &mut Rows, place: &Instance, tree: Tree)
     requires order { AreOrdered rows.old }
     requires there { place.now.number < length (trees_of rows.old.entries.items place.now.key) }
@@ -177,7 +177,7 @@ fn trim(out: &mut Vec<Option<Many<Instance>>>)
     out.truncate(kept);
 }
 
-// A lease is out no more.
+// Removes a lease from those that are out.
 pub(crate) fn take_back(out: &mut Vec<Option<Many<Instance>>>, lease: u32)
     requires { lease < length out.old.items }
     ensures { out.new.items ≡ trimmed (slice_set out.old.items lease None) }

@@ -66,8 +66,8 @@ impl Caches {
         take_back(&mut self.out, lease.number);
     }
 
-    /// A law: a lease of needs whose keys differ leaves the caches exactly as they were, if it is taken back right after it was granted, with
-    /// what `growth` returned for each need before.
+    /// Proves that a lease of needs whose keys differ leaves the caches exactly as they were, if it is taken back right
+    /// after it was granted, with what `growth` returned for each need before.
     pub fn grants_come_back(&self)
         ensures { (needs : List asked.Need) → AllPairs (λ n m. n.key ≢ m.key) needs → taken_back (granted self.now needs).1 (granted self.now needs).0
             (growths self.now needs) ≡ self.now }

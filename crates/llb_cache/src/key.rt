@@ -1,5 +1,5 @@
-//! The key of a cache: its ID, the output that a new instance begins with, and how leases share it. Two keys are one
-//! where all three are equal.
+//! The key of a cache: its ID, the output that a new instance begins with, and how leases share it. Two keys are one if
+//! all three are equal.
 
 ghost use Rattle.std.specs.Prelude.{◌≡◌, ◌↔◌, IsTrue, IfOk};
 ghost use Rattle.llb_cache.specs.Key.{same_key, same_seed, same_seeds, same_mode};
@@ -97,7 +97,7 @@ fn copy_of(seed: &Option<Seed>) -> Result<Option<Seed>, Memory>
 }
 
 impl Key {
-    /// Returns an equal second owner. Fails with 112 `Memory` alone.
+    /// Copies the key. Fails with 112 `Memory` alone.
     pub fn copy(&self) -> Result<Key, Memory>
         ensures { IfOk result (λ k. k ≡ self.now) }
     {

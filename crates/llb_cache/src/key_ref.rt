@@ -1,4 +1,4 @@
-//! A key whose texts another value owns: caches are looked at by it before a key is made.
+//! A key whose texts another value owns: caches are searched by it before a key is made.
 
 ghost use Rattle.std.specs.Prelude.{◌≡◌, ◌==◌, not, length, option_map, true, IfErr, IfOk};
 ghost use Rattle.std.specs.Option.{option_cmp};
@@ -32,14 +32,15 @@ impl<'a> Model for KeyRef<'a> {
 }
 
 impl<'a> KeyRef<'a> {
-    /// Returns the key of this ID, with the digest text and the index of its seed, where it has one. Does not allocate.
+    /// Returns the key of this ID, with the digest text and the index of its seed, if it has one. Does not allocate.
     pub fn new(id: &'a str, seed: Option<(&'a str, u32)>, mode: Mode) -> KeyRef<'a>
         ensures { result ≡ record { id = id.now; seed = option_map (λ s. seed_by s.0.now s.1) seed.entry; mode = mode } }
     {
         KeyRef { id, seed, mode }
     }
 
-    /// Returns an equal key that owns its texts. Fails with 112 `Memory` alone; a key without a byte of text takes no memory.
+    /// Returns an equal key that owns its texts. Fails with 112 `Memory` alone; for a key without a byte of text it
+    /// does not allocate.
     pub fn to_key(&self, alloc: Global) -> Result<Key, Memory>
         ensures ok { IfOk result (λ k. k ≡ self.now) }
         ensures memory { IfErr result (λ _. has_text self.now ≡ true) }
@@ -61,21 +62,21 @@ impl<'a> KeyRef<'a> {
         }
     }
 
-    // How the cache is shared.
+    // Returns how the cache is shared.
     pub(crate) fn mode(&self) -> Mode
         ensures { result ≡ self.now.mode }
     {
         self.mode
     }
 
-    // Whether both are the same key.
+    // Returns whether both are the same key.
     pub(crate) fn is(&self, other: &KeyRef<'_>) -> bool
         ensures { result ≡ same_key self.now other.now }
     {
         self.order(other).is_eq()
     }
 
-    // By ID, then by mode, then by seed, where no seed comes first.
+    // Compares keys by ID, then by mode, then by seed; no seed comes first.
     #[tactic(auto, unfolding(crate::specs::KeyOrder::key_cmp))]
     pub(crate) fn order(&self, other: &KeyRef<'_>) -> Ordering
         ensures { result ≡ key_cmp self.now other.now }
@@ -103,7 +104,7 @@ impl Key {
     }
 }
 
-// The place of a mode among the modes.
+// Returns the number by which a mode is ordered.
 fn place_of(mode: Mode) -> u8
     ensures { result ≡ mode_place mode }
 {
@@ -114,7 +115,7 @@ fn place_of(mode: Mode) -> u8
     }
 }
 
-// By digest text, then by index.
+// Compares seeds by digest text, then by index; no seed comes first.
 fn order_of_seeds(parts: Option<(&str, u32)>, others: Option<(&str, u32)>) -> Ordering
     ensures { result ≡ option_cmp seed_cmp (option_map (λ s. seed_by s.0.now s.1) parts.entry) (option_map (λ s. seed_by s.0.now s.1) others.entry) }
 {
@@ -130,7 +131,7 @@ fn order_of_seeds(parts: Option<(&str, u32)>, others: Option<(&str, u32)>) -> Or
     }
 }
 
-// A text of its own. Only one with a byte needs memory.
+// Copies a text. Allocates only if it has a byte.
 fn owned(alloc: Global, text: &str) -> Result<Text, Memory>
     ensures ok { IfOk result (λ t. t ≡ text.now) }
     ensures memory { IfErr result (λ _. not (length text.now == 0) ≡ true) }
@@ -141,7 +142,7 @@ fn owned(alloc: Global, text: &str) -> Result<Text, Memory>
     Ok(Text::from_str(alloc, text)?)
 }
 
-// A seed with a digest text of its own.
+// Makes a seed with a digest text of its own.
 fn owned_seed(alloc: Global, parts: Option<(&str, u32)>) -> Result<Option<Seed>, Memory>
     ensures ok { IfOk result (λ s. s ≡ option_map (λ s. seed_by s.0.now s.1) parts.entry) }
     ensures memory { IfErr result (λ _. has_digest (option_map (λ s. seed_by s.0.now s.1) parts.entry) ≡ true) }

@@ -1,5 +1,5 @@
-//! A lease that is made ready while memory may be refused, and put out later without memory. Its instances are there by then, and no row
-//! changes.
+//! A lease that is made ready while memory may be refused, and granted later without allocating. Its instances are
+//! there by then, and no row changes.
 
 ghost use Rattle.std.specs.Prelude.{◌≡◌, ◌<◌, ◌≤◌, true, [], length, vec_capacity, IfOk};
 ghost use Rattle.std.specs.List.{All};
@@ -21,8 +21,8 @@ use llb_wire::Many;
 use std::alloc::Global;
 use std::marker::Model;
 
-/// What a lease of instances that are there is made of without memory: their keys, the room of their marks, and a list with room for leases.
-/// Contracts see the instances, and how many leases there is room for.
+/// What a lease of instances that are there is made of without allocating: their keys, the room of their marks, and a
+/// list with room for leases. Contracts see the instances, and how many leases there is room for.
 pub struct Lent {
     places: Many<Instance>,
     marks: Vec<Marks>,
@@ -53,7 +53,8 @@ impl Model for Lent {
 }
 
 impl Lent {
-    /// Returns what a lease of these instances is made of, with room for this many leases. Fails with 112 `Memory` alone.
+    /// Makes what a lease of these instances needs, with a list that has room for `room` leases. Fails with 112
+    /// `Memory` alone.
     pub fn new(alloc: Global, places: &[Instance], room: usize) -> Result<Lent, Memory>
         ensures { IfOk result (λ l. l ≡ record { places = places.now; room = room }) }
     {
@@ -75,7 +76,7 @@ impl Lent {
     }
 }
 
-// For each instance the room of its mark.
+// Makes the room of a mark for each instance.
 fn rooms_for(alloc: Global, places: &[Instance]) -> Result<Vec<Marks>, Memory>
     ensures { IfOk result (λ ms. FitEach places.now ms.items) }
 {
@@ -87,8 +88,8 @@ fn rooms_for(alloc: Global, places: &[Instance]) -> Result<Vec<Marks>, Memory>
 }
 
 impl Caches {
-    /// Puts out a lease of instances that are there, whose keys differ, and of which no lease has one of a private or a locked key. There is room
-    /// for one lease more, and fewer than 65,536 are out. Does not allocate.
+    /// Grants a lease of instances that are there, whose keys differ, and of which no lease has one of a private or a
+    /// locked key. There is room for one lease more, and fewer than 65,536 are out. Does not allocate.
     pub fn lend_again(&mut self, lent: Lent) -> Lease
         requires { CanLend self.old lent }
         ensures number { result ≡ free_lease self.old.out }
@@ -132,7 +133,8 @@ fn mark(rows: &Rows, marks: &mut Vec<Marks>, place: &Instance, room: Marks)
     }
 }
 
-// Puts a lease out, under the least number that is free. Where all numbers are taken, the leases move into the room.
+// Adds a lease under the least free number, and returns the number. If all numbers are taken, the leases move into the
+// room.
 fn put_lease(
     out: &mut Vec<Option<Many<Instance>>>,
     places: Many<Instance>,

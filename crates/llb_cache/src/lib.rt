@@ -1,6 +1,19 @@
-//! The cache instances of a machine, and the leases of them. A cache has a key and a list of trees, its instances. A lease
-//! takes an instance for each of its needs, or none at all, and no two leases have one instance of a locked or a private
-//! cache. Trees stay when leases are given back.
+//! The instances of cache mounts, and leases of them. A key (an ID, a seed and a mode) has a list of trees, its instances; a lease takes one
+//! for each of its needs, or none at all. Trees stay when a lease is given back. It is built on `llb_tree`.
+//!
+//! Types: `Caches`, `Key` with `Mode` (shared, private, locked), `Need` (a key, and the tree of a new instance), `Lease`, `Instance`,
+//! `LeaseFault` (111, 112).
+//! Promise: `Caches::lease` (`gives`, `has`, `last`, `err`) is refused (111) for the first locked key that a lease has; else it takes instance
+//! 0 of a shared or a locked key, of a private one the least that no lease has. Law: `is_exclusive`, no two leases have one instance of a
+//! locked or a private key.
+//!
+//! A caller:
+//!
+//!     let needs = Many::new(needs);
+//!     if !caches.can_lease(needs.as_slice()) {
+//!         return None;
+//!     }
+//!     caches.lease(needs).ok()
 #![tactic(auto)]
 
 mod caches;

@@ -1,4 +1,5 @@
-//! Which instances of a key leases have, where one lease at a time has each: a mark for each number, so that a look costs no walk over leases.
+//! Which instances of a key leases have, if one lease at a time has each: a mark for each number, so that a look-up
+//! visits no lease.
 
 ghost use Rattle.std.specs.Prelude.{◌≡◌, ◌<◌, ◌==◌, ℕ, true, false, if◌then◌else◌, length, slice_index_or, IfOk, []};
 
@@ -27,7 +28,6 @@ impl Model for Marks {
 }
 
 impl Marks {
-    // No marks.
     pub(crate) fn new(alloc: Global) -> Marks
         ensures { result ≡ [] }
     {
@@ -36,7 +36,7 @@ impl Marks {
         }
     }
 
-    // Room for the marks up to this number, with none of them set.
+    // Makes room for the marks up to this number, with none of them set.
     pub(crate) fn up_to(alloc: Global, number: u32) -> Result<Marks, Memory>
         ensures room { IfOk result (λ m. number < length m) }
         ensures clear { IfOk result (λ m. (k : ℕ) → slice_index_or m k false ≡ false) }
@@ -45,7 +45,7 @@ impl Marks {
         Ok(Marks { items })
     }
 
-    // Whether a number is marked.
+    // Returns whether a number is marked.
     pub(crate) fn has(&self, number: u32) -> bool
         ensures { result ≡ slice_index_or self.now number false }
     {
@@ -55,7 +55,7 @@ impl Marks {
         }
     }
 
-    // The least number without a mark.
+    // Returns the least number without a mark.
     pub(crate) fn first_clear(&self) -> usize
         ensures below { (k : ℕ) → k < result → slice_index_or self.now k false ≡ true }
         ensures clear { slice_index_or self.now result false ≡ false }
@@ -77,7 +77,7 @@ impl Marks {
         }
     }
 
-    // Sets the mark of a number, in the room where there is none yet.
+    // Sets the mark of a number; if the list is too short for it, the marks move into the room first.
     pub(crate) fn set(&mut self, number: u32, room: Marks)
         requires room { number < length room }
         requires clear { (k : ℕ) → slice_index_or room k false ≡ false }
@@ -89,7 +89,7 @@ impl Marks {
         self.items[number as usize] = true;
     }
 
-    // The same marks, with the room of more.
+    // Moves the marks into a longer list.
     fn move_into(&mut self, room: Marks)
         requires room { length self.old < length room }
         requires clear { (k : ℕ) → slice_index_or room k false ≡ false }
@@ -104,7 +104,6 @@ impl Marks {
         self.items = items;
     }
 
-    // An equal second owner.
     pub(crate) fn copy(&self) -> Result<Marks, Memory>
         ensures { IfOk result (λ m. m ≡ self.now) }
     {

@@ -1,4 +1,4 @@
-//! What is asked of a lease, what it has, an instance of a cache for each need, and what a look-up finds of a key.
+//! What a lease needs, what it has, an instance of a cache for each need, and what a look-up finds of a key.
 
 ghost use Rattle.std.specs.Prelude.{◌≡◌, IfOk};
 
@@ -29,12 +29,11 @@ pub struct Found<'a> {
     pub is_held: bool,
     /// The number of the instance that a lease of the key would have.
     pub number: u32,
-    /// The tree of that instance, `None` where it is not there.
+    /// The tree of that instance, `None` if the instance is not there.
     pub tree: Option<&'a Tree>,
 }
 
 impl Instance {
-    // An equal second owner.
     pub(crate) fn copy(&self) -> Result<Instance, Memory>
         ensures { IfOk result (λ p. p ≡ self.now) }
     {

@@ -1,5 +1,5 @@
-//! The keys with the trees of their instances, and the row of each key. A look searches the rows in the order of their keys, so that
-//! it costs the logarithm of their number, whatever the keys are.
+//! The keys with the trees of their instances, and the row of each key. A look-up searches the rows in the order of
+//! their keys, so that it costs the logarithm of their number, whatever the keys are.
 
 ghost use Rattle.std.specs.Prelude.{◌≡◌, ◌<◌, ◌+◌, ℕ, false, [], length, IfSome, OnOk, IsSome, Some};
 ghost use Rattle.std.specs.Prelude.{is_some, option_map, position, slice_get};
@@ -32,7 +32,6 @@ impl Drop for Rows {
     }
 }
 
-// No rows.
 pub(crate) fn no_rows(alloc: Global) -> Rows
     ensures empty { result.entries.items ≡ [] }
     ensures order { AreOrdered result }
@@ -43,7 +42,7 @@ pub(crate) fn no_rows(alloc: Global) -> Rows
     }
 }
 
-// Whether a row's key comes before a key.
+// Returns whether a row's key comes before a key.
 fn comes_before(rows: &Rows, row: usize, key: &KeyRef<'_>) -> bool
     requires { row < length rows.now.entries.items }
     ensures { result ≡ is_before rows.now.entries.items row key.now }
@@ -51,7 +50,7 @@ fn comes_before(rows: &Rows, row: usize, key: &KeyRef<'_>) -> bool
     rows.entries[row].0.by_ref().order(key).is_lt()
 }
 
-// How many rows come before a key.
+// Returns how many rows come before a key.
 fn place_of(rows: &Rows, key: &KeyRef<'_>) -> usize
     requires { AreOrdered rows.now }
     ensures { IsPlace rows.now.entries.items rows.now.order.items key.now result }
@@ -69,7 +68,7 @@ fn place_of(rows: &Rows, key: &KeyRef<'_>) -> usize
     low
 }
 
-// The number of a key's row.
+// Returns the number of a key's row.
 pub(crate) fn row_of(rows: &Rows, key: &KeyRef<'_>) -> Option<usize>
     requires { AreOrdered rows.now }
     ensures at { result ≡ position (same_key key.now) (keys_of rows.now.entries.items) }
@@ -89,7 +88,7 @@ pub(crate) fn row_of(rows: &Rows, key: &KeyRef<'_>) -> Option<usize>
     }
 }
 
-// Whether a row is there and has a key.
+// Returns whether a row is there and has a key.
 fn has_key(rows: &Rows, row: usize, key: &KeyRef<'_>) -> bool
     ensures { result ≡ has_key rows.now.entries.items row key.now }
 {
@@ -99,7 +98,7 @@ fn has_key(rows: &Rows, row: usize, key: &KeyRef<'_>) -> bool
     }
 }
 
-// The number of a key's row: that which is tried first, if it has the key; else a search finds it.
+// Returns the number of a key's row: `near`, if that row has the key; else a search finds it.
 pub(crate) fn row_near(rows: &Rows, key: &KeyRef<'_>, near: Option<usize>) -> Option<usize>
     requires { AreOrdered rows.now }
     ensures at { result ≡ position (same_key key.now) (keys_of rows.now.entries.items) }
@@ -115,7 +114,6 @@ pub(crate) fn row_near(rows: &Rows, key: &KeyRef<'_>, near: Option<usize>) -> Op
     row_of(rows, key)
 }
 
-// The key of a row.
 pub(crate) fn key_at(rows: &Rows, row: usize) -> Option<&Key>
     ensures { option_map (λ k. k.now) result ≡ slice_get (keys_of rows.now.entries.items) row }
 {
@@ -125,7 +123,7 @@ pub(crate) fn key_at(rows: &Rows, row: usize) -> Option<&Key>
     }
 }
 
-// The trees of a key, where it has a row.
+// Returns the trees of a key, if it has a row.
 pub(crate) fn trees_with<'a>(rows: &'a Rows, key: &Key) -> Option<&'a Trees>
     requires { AreOrdered rows.now }
     ensures { option_map (λ t. t.now) result ≡ lookup (same_key key.now) rows.now.entries.items }
@@ -136,7 +134,7 @@ pub(crate) fn trees_with<'a>(rows: &'a Rows, key: &Key) -> Option<&'a Trees>
     }
 }
 
-// The trees of a key that has a row.
+// Returns the trees of a key that has a row.
 pub(crate) fn trees_at<'a>(rows: &'a Rows, key: &Key) -> &'a Trees
     requires order { AreOrdered rows.now }
     requires there { IsSome (lookup (same_key key.now) rows.now.entries.items) }
@@ -146,7 +144,7 @@ pub(crate) fn trees_at<'a>(rows: &'a Rows, key: &Key) -> &'a Trees
     &rows.entries[i].1
 }
 
-// Room for more rows.
+// Reserves room for more rows.
 pub(crate) fn reserve(rows: &mut Rows, more: usize) -> Result<(), Memory>
     ensures entries { rows.new.entries.items ≡ rows.old.entries.items }
     ensures order { rows.new.order.items ≡ rows.old.order.items }
@@ -172,7 +170,7 @@ pub(crate) fn add_row(rows: &mut Rows, key: Key, trees: Trees)
     rows.entries.push_reserved((key, trees));
 }
 
-// Removes the last row, where there is one.
+// Removes the last row, if there is one.
 pub(crate) fn pop_row(rows: &mut Rows)
     requires { AreOrdered rows.old }
     ensures rows { rows.new.entries.items ≡ front rows.old.entries.items }
@@ -186,7 +184,7 @@ pub(crate) fn pop_row(rows: &mut Rows)
     }
 }
 
-// Removes the last instance of a key, where it has one.
+// Removes the last instance of a key, if it has one.
 pub(crate) fn pop_instance(rows: &mut Rows, key: &Key)
     requires { AreOrdered rows.old }
     ensures rows { rows.new.entries.items ≡ shorter rows.old.entries.items key.now (lookup (same_key key.now) rows.old.entries.items) }

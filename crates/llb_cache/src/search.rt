@@ -20,7 +20,7 @@ use crate::rows::{Rows, row_near};
 use crate::trees::Room;
 use llb_wire::Many;
 
-// How many leases are out.
+// Returns how many leases are out.
 pub(crate) fn count(out: &[Option<Many<Instance>>]) -> u32
     requires { length out.now ≤ 65536 }
     ensures { result ≡ leases out.now }
@@ -35,8 +35,8 @@ pub(crate) fn count(out: &[Option<Many<Instance>>]) -> u32
 }
 
 impl Caches {
-    /// Returns what the caches have of a key. The row of number `near` is tried first, at the cost of one comparison; only if it does not have
-    /// the key, the rows are searched. Does not allocate.
+    /// Returns what the caches have of a key. The row of number `near` is tried first, at the cost of one comparison;
+    /// only if it does not have the key are the rows searched. Does not allocate.
     pub fn look_up(&self, key: &KeyRef<'_>, near: Option<usize>) -> Found<'_>
         ensures row { result.row ≡ position (same_key key.now) (keys_of self.now.rows) }
         ensures held { result.is_held ≡ (is_locked key.now.mode && is_held self.now.out (place key.now 0)) }
@@ -54,7 +54,7 @@ impl Caches {
         }
     }
 
-    // Whether a key is locked, and a lease has its instance. Only a locked key is looked up.
+    // Returns whether a key is locked, and a lease has its instance. Looks up only a locked key.
     pub(crate) fn holds_locked(&self, key: &KeyRef<'_>, near: Option<usize>) -> bool
         ensures { result ≡ (is_locked key.now.mode && is_held self.now.out (place key.now 0)) }
     {
@@ -65,7 +65,7 @@ impl Caches {
         }
     }
 
-    // The number of the instance that is chosen for a key. Only a private key is looked up.
+    // Returns the number of the instance that is chosen for a key. Looks up only a private key.
     pub(crate) fn number_for(&self, key: &KeyRef<'_>, near: Option<usize>) -> u32
         ensures { result ≡ number_for self.now.out key.now key.now.mode }
     {
@@ -76,7 +76,7 @@ impl Caches {
         }
     }
 
-    // The first need whose locked key is held.
+    // Returns the index of the first need whose locked key is held.
     fn first_held(&self, needs: &[Need], rows: &[Option<usize>]) -> Option<usize>
         ensures found { find (is_locked_and_held self.now.out) needs.now ≡ option_and_then (slice_get needs.now) result }
         ensures within { IfSome result (λ i. i < length needs.now) }
@@ -89,7 +89,7 @@ impl Caches {
         None
     }
 
-    // The needs, where no locked key of theirs is held; else the first such key.
+    // Returns the needs, if no locked key of theirs is held; else fails with 111 `Held` and the first such key.
     pub(crate) fn admitted(
         &self,
         needs: Vec<Need>,
@@ -108,7 +108,7 @@ impl Caches {
         }
     }
 
-    // What the needs take where these leases are out.
+    // Chooses an instance for each need, given the leases that are out, and makes room for it.
     pub(crate) fn readied(
         &self,
         needs: Vec<Need>,
@@ -140,7 +140,7 @@ impl Caches {
     }
 }
 
-// What is found of a key that has no row.
+// Returns what is found of a key that has no row.
 fn nothing_found<'a>() -> Found<'a>
     ensures row { result.row ≡ None }
     ensures held { result.is_held ≡ false }
@@ -155,7 +155,7 @@ fn nothing_found<'a>() -> Found<'a>
     }
 }
 
-// What is found in a row, where a lease would have the instance of this number.
+// Returns what is found in a row, if a lease would have the instance of this number.
 fn found_in(rows: &Rows, row: usize, number: u32, is_held: bool) -> Found<'_>
     requires { row < length rows.now.entries.items }
     ensures row { result.row ≡ Some row }
@@ -172,7 +172,7 @@ fn found_in(rows: &Rows, row: usize, number: u32, is_held: bool) -> Found<'_>
     }
 }
 
-// The row that is tried first for the need of a number; no row past the last number.
+// Returns the row that is tried first for the need of a number; `None` if none is given for it.
 fn row_for(rows: &[Option<usize>], need: usize) -> Option<usize>
     ensures { result ≡ slice_index_or rows.now need None }
 {
@@ -182,7 +182,7 @@ fn row_for(rows: &[Option<usize>], need: usize) -> Option<usize>
     }
 }
 
-// The least number that no lease has.
+// Returns the least number that no lease has.
 pub(crate) fn free_lease(out: &[Option<Many<Instance>>]) -> usize
     ensures { result ≡ free_lease out.now }
 {
@@ -194,7 +194,7 @@ pub(crate) fn free_lease(out: &[Option<Many<Instance>>]) -> usize
     out.len()
 }
 
-// Whether one of the needs has the key of this one.
+// Returns whether one of the needs has the key of this one.
 fn has_key_of(needs: &[Need], need: &Need) -> bool
     ensures { result ≡ list_any (λ n. same_key need.now.key n.key) needs.now }
 {
@@ -206,7 +206,7 @@ fn has_key_of(needs: &[Need], need: &Need) -> bool
     false
 }
 
-// Whether no two needs have one key.
+// Returns whether no two needs have one key.
 pub(crate) fn keys_differ(needs: &[Need]) -> bool
     ensures { IsTrue result ↔ AllPairs (λ n m. n.key ≢ m.key) needs.now }
 {

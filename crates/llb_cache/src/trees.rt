@@ -52,7 +52,7 @@ impl Model for Room {
 }
 
 impl Room {
-    // For the instance of a number and all before it.
+    // Makes room for the instance of a number and all before it.
     pub(crate) fn up_to(alloc: Global, number: u32) -> Result<Room, Memory>
         ensures { IfOk result (λ r. number < r) }
     {
@@ -62,7 +62,6 @@ impl Room {
 }
 
 impl Trees {
-    // No trees.
     pub(crate) fn new(alloc: Global) -> Trees
         ensures { result ≡ [] }
     {
@@ -71,21 +70,20 @@ impl Trees {
         }
     }
 
-    // How many trees there are.
     pub(crate) fn len(&self) -> usize
         ensures { result ≡ length self.now }
     {
         self.items.len()
     }
 
-    // The tree of a number, if there is one.
+    // Returns the tree of a number, if there is one.
     pub(crate) fn get(&self, number: u32) -> Option<&Tree>
         ensures { option_map (λ t. t.now) result ≡ slice_get self.now number }
     {
         self.items.get(number as usize)
     }
 
-    // The tree of a number that is there.
+    // Returns the tree of a number that is there.
     pub(crate) fn at(&self, number: u32) -> &Tree
         requires { number < length self.now }
         ensures { slice_get self.now number ≡ Some result.now }
@@ -93,7 +91,7 @@ impl Trees {
         &self.items[number as usize]
     }
 
-    // Puts a tree in the place of another.
+    // Replaces the tree of a number.
     pub(crate) fn set(&mut self, number: u32, tree: Tree)
         requires { number < length self.old }
         ensures { self.new ≡ slice_set self.old number tree }
@@ -101,7 +99,7 @@ impl Trees {
         self.items[number as usize] = tree;
     }
 
-    // One more tree. All of them move into the room.
+    // Appends a tree. All trees move into the room.
     pub(crate) fn push_into(&mut self, room: Room, tree: Tree)
         requires { length self.old < room }
         ensures { self.new ≡ self.old ++ tree ∷ [] }
@@ -112,14 +110,14 @@ impl Trees {
         self.items = items;
     }
 
-    // Drops the last tree, where there is one.
+    // Drops the last tree, if there is one.
     pub(crate) fn pop(&mut self)
         ensures { self.new ≡ front self.old }
     {
         self.items.pop();
     }
 
-    // Second owners of all trees.
+    // Copies the list, which shares the trees.
     pub(crate) fn copy(&self) -> Result<Trees, Memory>
         ensures { IfOk result (λ t. t ≡ self.now) }
     {
@@ -130,7 +128,7 @@ impl Trees {
         Ok(Trees { items })
     }
 
-    // Whether there are the same trees, in the same order.
+    // Returns whether there are the same trees, in the same order.
     pub(crate) fn same(&self, other: &Trees) -> bool
         ensures { IsTrue result ↔ (self.now ≡ other.now) }
     {

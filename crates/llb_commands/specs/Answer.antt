@@ -52,7 +52,7 @@ pub record IsEnd (workers : ℕ) (b : Build) (s : State) : Type 0 where
   pub plain : HasNoCaches b → (v : ℕ) → v < length b.graph.vertices → StandsPlainly (slice_get s.statuses v) (outcome b v)
   pub alone : workers ≡ 1 → IsAlone b s events
 
--- the tree of a graph's result in a state: none where its vertex is not done
+-- the tree of a graph's result in a state: none if its vertex is not done
 abbrev pub result_in : State → Numbered → Option TreeMap
 result_in s g = output_in (ending_at s.statuses g.result.vertex) g.result.index
 
@@ -80,7 +80,7 @@ pub record FailsBy (s : State) (v : ℕ) : Type 0 where
   pub fault : VertexFault
   pub failed : ending_at s.statuses vertex ≡ Some (Failed fault)
 
--- bytes that are the definition of a graph whose result is no tree where a run has ended, since a vertex has failed
+-- bytes that are the definition of a graph whose result is no tree when a run has ended, since a vertex has failed
 pub record YieldsNone (workers : ℕ) (locals : List Local) (bytes : List ℕ) : Type 0 where
   pub graph : Numbered
   pub loaded : IsGraphIn bytes graph

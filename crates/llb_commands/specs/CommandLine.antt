@@ -78,7 +78,7 @@ IsName name = (name ≡ codes "run") ⊎ ((name ≡ codes "show") ⊎ ((name ≡
 abbrev pub is_equals : ℕ → Bool
 is_equals b = b == 61
 
--- the name before the first `=` of a word and the file after it, and none where the word has no `=`
+-- the name before the first `=` of a word and the file after it, and none if the word has no `=`
 abbrev pub split_word : Text → Option (Text × Text)
 split_word word = if nat_lt (position_or_len is_equals word) (length word) then Some (before_first is_equals word, after_first is_equals word) else None
 
@@ -112,11 +112,11 @@ abbrev pub named_local_words : Option (Text × List Row) → List Text
 named_local_words None = []
 named_local_words (Some p) = local_words p.1
 
--- the number that a text is read as, where it is one of 32 bits: digits, after a plus or none
+-- the number that a text is read as, if it is one of 32 bits: digits, after a plus or none
 abbrev pub number_of : Text → Option ℕ
 number_of text = if is_unsigned_in 0 4294967295 text then Some (digits_value 10 (without_leading_plus text)) else None
 
--- The workers are as many as the word for them says; where there is none, 1 for a run and 2 for a session. No other command takes a number.
+-- The workers are as many as the word for them says; if there is none, 1 for a run and 2 for a session. No other command takes a number.
 -- `clap` reads the word without a hyphen before it, and takes one there only at 0.
 abbrev pub IsWorkers : Command → List Row → ℕ → Type 0
 IsWorkers Run rows n = n ≡ unwrap_or (option_and_then number_of (one_of (codes "workers") rows)) 1

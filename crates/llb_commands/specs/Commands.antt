@@ -17,11 +17,11 @@ use Rattle.llb_commands.specs.declared.words.Line.{Line}
 use Rattle.llb_commands.specs.declared.words.WordsFault.{WordsFault}
 use Rattle.llb_commands.specs.declared.words.WordsFault.TheVariants.{Words}
 
--- what files hold, where it is known
+-- what files hold, if it is known
 abbrev pub Shelf : Type 0
 Shelf = List ℕ → Option (List ℕ)
 
--- a session over the definition in a file; where no file is named, or it is not opened or not read, nothing is written but the line that says so
+-- a session over the definition in a file; if no file is named, or it is not opened or not read, nothing is written but the line that says so
 abbrev pub StepsAt : Shelf → Option (Bor (List ℕ)) → ℕ → List Local → Io → ℕ → Type 0
 StepsAt files None workers locals io status = IsKept io.output × TellsWords io.errors.before io.errors.after (Words None) status
 StepsAt files (Some file) workers locals io status = Steps workers locals (files file.now) io status

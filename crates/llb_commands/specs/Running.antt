@@ -43,7 +43,7 @@ IsRefusal (Assembling e) = ⊤
 IsRefusal TooLong = ⊤
 IsRefusal _ = ⊥
 
--- the input is refused only where it has this cause of a refusal
+-- the input is refused only if it has this cause of a refusal
 abbrev pub TellsRefusal : (ProgramFault → List ℕ → Type 0) → Option (List ℕ) → ProgramFault → Type 0
 TellsRefusal IsSo input e = IsRefusal e → IfSome input (IsSo e)
 
@@ -68,7 +68,7 @@ abbrev pub Finishes : ℕ → List Local → Option (List ℕ) → Result BoardV
 Finishes workers locals input (Ok b) = (g : Numbered) × IfSome input (λ bytes. IsGraphIn bytes g) × IsFinished workers locals g b
 Finishes workers locals input (Err e) = TellsRefusal (IsNotRun workers locals) input e
 
--- a tree is written where there is one; where there is none, the board is handed back
+-- a tree is written if there is one; if there is none, the board is handed back
 abbrev pub Shows : BoardValue → Stream → Option TreeMap → Result Ended ProgramFault → Type 0
 Shows board output tree (Ok Printed) = (t : TreeMap) × (tree ≡ Some t) × IsWritten output (tree_text t)
 Shows board output tree (Ok (Failed b)) = (b ≡ board) × (tree ≡ None) × IsKept output
@@ -85,7 +85,7 @@ Answers workers locals input output (Ok (Failed b)) = IsKept output × IfSome in
 Answers workers locals input output (Err e) =
     (IsKept output × TellsRefusal (IsNotRun workers locals) input e) ⊎ ((¬ IsRefusal e) × IfSome input (YieldsPart workers locals output))
 
--- the exit status for a result, with its lines: 0 for a text that is written, 1 where there is none, 2 for a refusal, and 3 where a device fails after any
+-- the exit status for a result, with its lines: 0 for a text that is written, 1 if there is none, 2 for a refusal, and 3 if a device fails after any
 abbrev pub Ends : Stream → Stream → Result Ended ProgramFault → ℕ → Type 0
 Ends output errors (Ok Printed) status = IsKept output × (((status ≡ 0) × IsKept errors) ⊎ (status ≡ 3))
 Ends output errors (Ok (Failed b)) status =

@@ -20,7 +20,7 @@ abbrev pub most_reads : ℕ
 most_reads = 134217728
 
 -- The result of reading bytes: the tree whose text they are, or why they are no tree's. A device or memory may fail at any bytes, but the reading of the
--- text needs memory only where the bytes are a tree's.
+-- text needs memory only if the bytes are a tree's.
 abbrev pub ReadsTree : List ℕ → Result TreeMap SourceFault → Type 0
 ReadsTree bytes (Ok t) = (length bytes ≤ limit) × Answers bytes (Ok t)
 ReadsTree bytes (Err TooLong) = limit < length bytes
@@ -34,7 +34,7 @@ abbrev pub told : Result TreeMap TextFault → Result TreeMap SourceFault
 told (Ok t) = Ok t
 told (Err e) = Err (Text e)
 
--- the same, where the bytes are known
+-- the same, if the bytes are known
 abbrev pub Reads : Option (List ℕ) → Result TreeMap SourceFault → Type 0
 Reads known r = IfSome known (λ bytes. ReadsTree bytes r)
 
@@ -44,7 +44,7 @@ Gathers files [] trees r = r ≡ Ok trees
 Gathers files (l ∷ ls) trees r = ((e : SourceFault) × Reads (files l.file.now) (Err e) × (r ≡ Err e))
     ⊎ ((t : TreeMap) × Reads (files l.file.now) (Ok t) × Gathers files ls (with_local trees l.name.now t) r)
 
--- the status for a fault: 2 where a text is refused, and else 3
+-- the status for a fault: 2 if a text is refused, and else 3
 abbrev pub source_status : SourceFault → ℕ
 source_status Read = 3
 source_status TooLong = 2

@@ -1,5 +1,18 @@
-//! What the program's commands do, over readers and writers: `run`, `show`, `step`, `asm` and `dis`, the words that ask for them, and the
-//! exit status of each. It is built on `llb_asm`, `llb_session` and `llb_work`; the process's own words, files and devices are in `llbm`.
+//! What the program's commands do, over readers and writers whose bytes contracts know: `run`, `show`, `step`, `asm`, `dis`, the words that ask
+//! for them, and the exit status of each. It is built on `llb_asm`, `llb_session` and `llb_work`; the process's own words, files and streams
+//! are in `llbm`.
+//!
+//! Types: `Line` and `Command` (what words ask for), `Sources` (files by name), `Streams`, `ProgramFault`, `SourceFault`, `WordsFault`.
+//! Promise: `laws::aim` is the aim of the whole machine (docs/CLAIMS.md). `program` is all of the program but its process: what it writes to
+//! each stream, and its status, follow from the words, the files and the input. `run_many_over` prints the text of the result, and status 0
+//! says that it is whole.
+//!
+//! A caller:
+//!
+//!     let mut input = definition;
+//!     let (mut out, mut err) = (Vec::new(alloc), Vec::new(alloc));
+//!     let status = run_over(alloc, &mut input, &mut out, &mut err, Locals::new(alloc));
+//!     Some((status, out))
 #![tactic(auto)]
 
 mod assembling;

@@ -5,5 +5,7 @@ mod Commands
 mod Steps
 mod Outcomes
 mod Exchanges
+mod Written
+mod Literals
 mod Tokens
 mod Boards

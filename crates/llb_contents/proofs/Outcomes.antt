@@ -1,6 +1,6 @@
 -- The outcome of a vertex on alike local trees.
 use Rattle.std.proofs.Common.{◌≡◌, ℕ, zero, suc, ◌<◌, ◌≤◌, Bool, true, false, cond, List, [], ◌∷◌, length, map, get_or, Option, Some, None}
-use Rattle.std.proofs.Common.{refl, sym, ap, subst, ◌∙◌, arith, inl, inr}
+use Rattle.std.proofs.Common.{refl, sym, ap, subst, ◌∙◌, ◌⊎◌, arith, inl, inr}
 use Rattle.std.specs.Prelude.{slice_get, unwrap_or}
 use Rattle.std.specs.List.{All, Contains}
 use Rattle.std.proofs.lemmas.Bool.{cases_lt}
@@ -25,7 +25,7 @@ use Rattle.llb_model.proofs.ByNumber.{by_number_length}
 use Rattle.llb_model.proofs.Outcomes.{plain, outcome_is}
 use Rattle.llb_contents.specs.Alike.{IsKept, BothOptions, BothLists, AreAlike, AreAlikeMounts, AreAlikeWorkspaces, AreAlikeEndings}
 use Rattle.llb_contents.specs.Alike.{AreAlikeOutcomes, RelatesStep}
-use Rattle.llb_contents.specs.Laws.{RelatesWritten, HaveAlikeSources, HandsOn}
+use Rattle.llb_contents.specs.Laws.{HaveAlikeSources, HasAlikeOutcomes, HandsOn}
 use Rattle.llb_contents.proofs.Alike.{carry_options, both_maps, both_get}
 use Rattle.llb_contents.proofs.Trees.{alike_empty}
 use Rattle.llb_contents.proofs.Steps.{alike_or_empty, alike_base_in, alike_whole, alike_ending}
@@ -120,7 +120,13 @@ module _ (R : List ℕ → List ℕ → Type 0) (kept : IsKept R) where
 
   -- ---- by number
 
-  module _ (g : Numbered) (graph : IsGraph g) (ls ms : List Local) (top : ℕ) (own : RelatesWritten R g top) (sources : HaveAlikeSources R g top ls ms) where
+  -- each vertex at or before the top one writes what is related to itself, or is known to have alike outcomes
+  abbrev pub AreRelatedOrAlike : Numbered → List Local → List Local → ℕ → Type 0
+  AreRelatedOrAlike g ls ms top = (k : ℕ) (x : Vertex) → Reached (links g.vertices) top k → slice_get g.vertices k ≡ Some x
+      → All (RelatesStep R) (program_of x).steps ⊎ HasAlikeOutcomes R g ls ms k
+
+  module _ (g : Numbered) (graph : IsGraph g) (ls ms : List Local) (top : ℕ) (own : AreRelatedOrAlike g ls ms top)
+      (sources : HaveAlikeSources R g top ls ms) where
     abbrev first : Build
     first = record { graph = g; locals = ls }
 
@@ -151,12 +157,16 @@ module _ (R : List ℕ → List ℕ → Type 0) (kept : IsKept R) where
         let j = (get_or x.inputs i d).vertex in
         alike_ends (outcome first j) (outcome second j)
         (lower j (leads i d l).lower (reached_step (links g.vertices) top v j before (edge_to v x there i d l)))) in
-        carry_options (AreAlikeOutcomes R) (outcome first v) (some_of (outcome_on first x (inputs_from (plain first) x.inputs)))
-        (outcome second v) (some_of (outcome_on second x (inputs_from (plain second) x.inputs)))
-        (outcome_is first graph v x there) (outcome_is second graph v x there)
-        (alike_outcome_on ls ms x (λ name named. sources name (record { number = v; source = x; before = before; there = there; named = named })) g of
-        (own v x before there) (inputs_from (plain first) x.inputs) (inputs_from (plain second) x.inputs)
-        (alike_inputs (plain first) (plain second) x.inputs each))
+        elim (own v x before there) [
+          | inl steps ↦
+              carry_options (AreAlikeOutcomes R) (outcome first v) (some_of (outcome_on first x (inputs_from (plain first) x.inputs)))
+              (outcome second v) (some_of (outcome_on second x (inputs_from (plain second) x.inputs)))
+              (outcome_is first graph v x there) (outcome_is second graph v x there)
+              (alike_outcome_on ls ms x (λ name named. sources name (record { number = v; source = x; before = before; there = there; named = named })) g of
+              steps (inputs_from (plain first) x.inputs) (inputs_from (plain second) x.inputs)
+              (alike_inputs (plain first) (plain second) x.inputs each))
+          | inr known ↦ known
+        ]
 
     none : (ns : List Local) (v : ℕ) → length g.vertices ≤ v → outcome (record { graph = g; locals = ns }) v ≡ None
     none ns v past =
@@ -175,5 +185,9 @@ module _ (R : List ℕ → List ℕ → Type 0) (kept : IsKept R) where
     pub alike_outcome : BothOptions (AreAlikeOutcomes R) (outcome first top) (outcome second top)
     alike_outcome = below (suc top) top (omega arith) (0, refl)
 
+  pub hands_on_but : (g : Numbered) → IsGraph g → (ls ms : List Local) (v : ℕ) → AreRelatedOrAlike g ls ms v → HaveAlikeSources R g v ls ms
+      → HasAlikeOutcomes R g ls ms v
+  hands_on_but g graph ls ms v own sources = alike_outcome g graph ls ms v own sources
+
   pub hands_on : (g : Numbered) → IsGraph g → HandsOn R g
-  hands_on g graph ls ms v own sources = alike_outcome g graph ls ms v own sources
+  hands_on g graph ls ms v own sources = hands_on_but g graph ls ms v (λ k x before there. inl (own k x before there)) sources

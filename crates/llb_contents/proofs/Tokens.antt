@@ -1,35 +1,26 @@
 -- Tokens are spelled part by part; what writes no token is related to itself; and a tree expands to one tree at most.
-use Rattle.std.specs.List.{All, flat_map, list_any}
-use Rattle.std.proofs.Common.{arith, zero, suc, ◌+◌, ◌*◌, ◌≡◌, ℕ, Bool, true, false, cond, ◌||◌, ◌==◌, List, [], ◌∷◌, ◌++◌, Option, Some, None, refl, sym, ap}
-use Rattle.std.proofs.Common.{◌∙◌}
+use Rattle.std.specs.List.{All, list_any}
+use Rattle.std.proofs.Common.{zero, suc, ◌+◌, ◌*◌, ◌≡◌, ℕ, Bool, true, false, cond, ◌==◌, List, [], ◌∷◌, ◌++◌, Option, Some, None, refl, sym, ap}
+use Rattle.std.proofs.Common.{◌∙◌, ◌⊎◌, inl, inr}
 use Rattle.std.proofs.Common.{append_assoc}
-use Rattle.std.specs.Prelude.{option_map}
+use Rattle.std.specs.Prelude.{option_map, slice_get}
 use Rattle.std.specs.FinMap as finite
-use Rattle.llb_ops.specs.declared.file.ActionKind.{ActionKind}
-use Rattle.llb_ops.specs.declared.file.ActionKind.TheVariants as kind
-use Rattle.llb_applet.specs.declared.setting.Setting.{Setting}
-use Rattle.llb_applet.specs.declared.command.Command.{Command}
-use Rattle.llb_applet.specs.declared.command.Command.TheVariants as command
-use Rattle.llb_applet.specs.Commands.{line}
-use Rattle.llb_loader.specs.Graph.{Numbered, IsGraph}
-use Rattle.llb_model.specs.Program.{MicroStep, ReadLocal, Act, LayInput, Run, program_of}
+use Rattle.llb_loader.specs.declared.graph.Vertex.{Vertex}
+use Rattle.llb_loader.specs.Rows.{Reached}
+use Rattle.llb_loader.specs.Graph.{Numbered, IsGraph, links}
+use Rattle.llb_model.specs.Program.{program_of}
+use Rattle.llb_model.specs.Outcome.{outcome}
 use Rattle.llb_tree.specs.PathOrder.{path_cmp-IsTotalOrder, path_cmp-IsAntisymmetric}
 use Rattle.llb_tree.specs.Meta.{MetaValue}
 use Rattle.llb_tree.specs.Tree.{TreeMap, Entry, Dir, File}
-use Rattle.llb_contents.specs.Alike.{IsKept, BothOptions, AreLike, AreAlike, RelatesTexts, RelatesBody, RelatesStep}
-use Rattle.llb_contents.specs.Laws.{ExpandsTo, spelled_from, spelled, has_mark, marks, body_marks, step_marks, HandsTokensOn}
-use Rattle.llb_contents.proofs.Outcomes.{hands_on}
+use Rattle.llb_contents.specs.Alike.{IsKept, BothOptions, AreLike, AreAlike, RelatesStep}
+use Rattle.llb_contents.specs.Laws.{ExpandsTo, spelled_from, spelled, has_mark, step_digests, IsLiteral, HaveAlikeSources, HasAlikeOutcomes, HandsTokensOn}
+use Rattle.llb_contents.proofs.Outcomes.{hands_on, hands_on_but}
+use Rattle.llb_contents.proofs.Written.{first_of, second_of, relates_steps}
+use Rattle.llb_contents.proofs.Literals.{literal_kept, literal_itself, literal_digest, weaker_outcomes, reached_through}
 
 abbrev some_bytes : List ℕ → Option (List ℕ)
 some_bytes xs = Some xs
-
-first_of : (a b : Bool) → (a || b) ≡ false → a ≡ false
-first_of true b e = absurd cc
-first_of false b e = refl
-
-second_of : (a b : Bool) → (a || b) ≡ false → b ≡ false
-second_of true b e = absurd cc
-second_of false b e = e
 
 module _ (table : ℕ → List ℕ) where
   -- a byte that begins no token
@@ -90,45 +81,22 @@ module _ (table : ℕ → List ℕ) where
       literal b 0 a (first_of (b == 255) (has_mark a) none)
       ∙ ap (option_map (λ rest. b ∷ rest)) (unmarked a (second_of (b == 255) (has_mark a) none))
 
-  relates_texts : (s : Setting) (c : Command) → marks s c ≡ false → RelatesTexts (ExpandsTo (spelled table)) s c
-  relates_texts s (command.Write path word) none = unmarked (line word) none
-  relates_texts s (command.Append path word) none = unmarked (line word) none
-  relates_texts s (command.Envfile out) none = unmarked (flat_map line s.env) none
-  relates_texts s (command.Listing path out) none = absurd cc
-  relates_texts s (command.Sha256 path out) none = absurd cc
-  relates_texts s command.True none = tt
-  relates_texts s command.False none = tt
-  relates_texts s (command.Mkdir parents path) none = tt
-  relates_texts s (command.Rm path) none = tt
-  relates_texts s (command.Cp from to) none = tt
-  relates_texts s (command.Concat out parts) none = tt
-  relates_texts s (command.Chmod mode path) none = tt
-  relates_texts s (command.Test kind path) none = tt
-
-  relates_body : (a : Option ActionKind) → body_marks a ≡ false → RelatesBody (ExpandsTo (spelled table)) a
-  relates_body (Some (kind.MkFile m)) none = unmarked m.body none
-  relates_body (Some (kind.MkDir m)) none = tt
-  relates_body (Some (kind.Copy c)) none = tt
-  relates_body (Some (kind.Rm r)) none = tt
-  relates_body None none = tt
-
-  relates_step : (m : MicroStep) → step_marks m ≡ false → RelatesStep (ExpandsTo (spelled table)) m
-  relates_step ReadLocal none = tt
-  relates_step (Act a) none = relates_body a.kind none
-  relates_step (LayInput i) none = tt
-  relates_step (Run s c ends) none = relates_texts s c.command none
-
-  relates_steps : (steps : List MicroStep) → list_any step_marks steps ≡ false → All (RelatesStep (ExpandsTo (spelled table))) steps
-  relates_steps [] none k d l = absurd (omega (arith, l))
-  relates_steps (m ∷ steps) none zero d l = relates_step m (first_of (step_marks m) (list_any step_marks steps) none)
-  relates_steps (m ∷ steps) none (suc k) d l =
-      relates_steps steps (second_of (step_marks m) (list_any step_marks steps) none) k d (omega (arith, l))
-
 -- with tokens for contents in local trees, the outcome is the one with the contents
 pub hands_tokens_on : (g : Numbered) → IsGraph g → HandsTokensOn g
-hands_tokens_on g graph table ls ms v none sources =
-    hands_on (ExpandsTo (spelled table)) (spelled_kept table) g graph ls ms v
-    (λ k x before there. relates_steps table (program_of x).steps (none k x before there)) sources
+hands_tokens_on g graph table ls ms v written digests sources =
+    hands_on_but (ExpandsTo (spelled table)) (spelled_kept table) g graph ls ms v
+    (λ k x before there. by_digest k x before there (digests k x before there)) sources
+  where
+    by_digest : (k : ℕ) (x : Vertex) → Reached (links g.vertices) v k → slice_get g.vertices k ≡ Some x
+        → (list_any step_digests (program_of x).steps ≡ false) ⊎ HaveAlikeSources IsLiteral g k ls ms
+        → All (RelatesStep (ExpandsTo (spelled table))) (program_of x).steps ⊎ HasAlikeOutcomes (ExpandsTo (spelled table)) g ls ms k
+    by_digest k x before there (inl none) =
+        inl (relates_steps (ExpandsTo (spelled table)) (unmarked table) (program_of x).steps (written k x before there) (inl none))
+    by_digest k x before there (inr literal) =
+        inr (weaker_outcomes IsLiteral (ExpandsTo (spelled table)) (λ a b is. unmarked table a is.plain ∙ ap some_bytes is.same)
+        (outcome (record { graph = g; locals = ls }) k) (outcome (record { graph = g; locals = ms }) k)
+        (hands_on IsLiteral literal_kept g graph ls ms k (λ j y under at. relates_steps IsLiteral literal_itself (program_of y).steps
+        (written j y (reached_through (links g.vertices) v k j before under) at) (inr literal_digest)) literal))
 
 -- ---- one tree for each
 

@@ -36,7 +36,7 @@ BothResults P (Err e) (Err f) = e ≡ f
 BothResults P (Ok x) (Err f) = ⊥
 BothResults P (Err e) (Ok y) = ⊥
 
--- as many, and P holds of those at each place
+-- two lists of one length, and P holds of the items at each position
 abbrev pub BothLists : {A : Type 0} → (A → A → Type 0) → List A → List A → Type 0
 BothLists P [] [] = Unit {0}
 BothLists P (x ∷ xs) (y ∷ ys) = P x y × BothLists P xs ys
@@ -112,7 +112,7 @@ pub record AreAlikeWorks (R : List ℕ → List ℕ → Type 0) (x y : Work) : T
   pub own : AreAlikeWorkspaces R x.own y.own
   pub trees : BothLists (AreAlike R) x.trees y.trees
 
--- alike works that are left with the same fault, or both with none
+-- two alike works, left with the same fault or both with none
 pub record AreAlikeLefts (R : List ℕ → List ℕ → Type 0) (x y : Left) : Type 0 where
   pub work : AreAlikeWorks R x.work y.work
   pub fault : x.fault ≡ y.fault

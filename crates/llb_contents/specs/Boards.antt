@@ -1,4 +1,4 @@
--- What two boards over one graph have settled, where their local trees differ in contents alone.
+-- What two boards over one graph have settled, if their local trees differ in contents alone.
 use Rattle.std.specs.Prelude.{◌≡◌, ℕ, Bool, true, List, Some, slice_get}
 use Rattle.llb_model.specs.Outcome.{Ending, is_plain}
 use Rattle.llb_model.specs.State.{Settled}
@@ -18,7 +18,7 @@ abbrev pub SettleAlike : BoardValue → BoardValue → Type 0
 SettleAlike b c = (test : List ℕ → List ℕ → Bool) → IsKept (By test) → (v : ℕ) (d e : Ending) → AreSettled b c v d e
     → RelatesWritten (By test) b.build.graph v → HaveAlikeSources (By test) b.build.graph v b.build.locals c.build.locals → AreAlikeEndings (By test) d e
 
--- the same where pieces of contents are exchanged and no digest is made
+-- the same if pieces of contents are exchanged and no digest is made
 abbrev pub SettleExchanged : BoardValue → BoardValue → Type 0
 SettleExchanged b c = (pairs : List (List ℕ × List ℕ)) (v : ℕ) (d e : Ending) → AreSettled b c v d e
     → MakesNoDigest b.build.graph v → HaveAlikeSources (AreExchanged pairs) b.build.graph v b.build.locals c.build.locals

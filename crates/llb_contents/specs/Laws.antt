@@ -63,7 +63,7 @@ HaveAlikeSources R g v ls ms = (name : List ℕ) → IsSourceOf g v name → Bot
 abbrev pub HasAlikeOutcomes : (List ℕ → List ℕ → Type 0) → Numbered → List Local → List Local → ℕ → Type 0
 HasAlikeOutcomes R g ls ms v = BothOptions (AreAlikeOutcomes R) (outcome (record { graph = g; locals = ls }) v) (outcome (record { graph = g; locals = ms }) v)
 
--- where local trees differ in contents alone, by a relation, so do the outcomes
+-- if local trees differ in contents alone, by a relation, so do the outcomes
 abbrev pub HandsOn : (List ℕ → List ℕ → Type 0) → Numbered → Type 0
 HandsOn R g = (ls ms : List Local) (v : ℕ) → RelatesWritten R g v → HaveAlikeSources R g v ls ms → HasAlikeOutcomes R g ls ms v
 
@@ -104,48 +104,6 @@ spelled table bytes = spelled_from table bytes 0 0
 abbrev pub has_mark : List ℕ → Bool
 has_mark bytes = list_any (λ b. b == 255) bytes
 
--- whether a command may write the byte that begins tokens, or a digest of tokens in the place of contents; a listing writes names of any trees
-abbrev pub marks : Setting → Command → Bool
-marks setting (command.Write path word) = has_mark (line word)
-marks setting (command.Append path word) = has_mark (line word)
-marks setting (command.Envfile out) = has_mark (flat_map line setting.env)
-marks setting (command.Listing path out) = true
-marks setting (command.Sha256 path out) = true
-marks setting command.True = false
-marks setting command.False = false
-marks setting (command.Mkdir parents path) = false
-marks setting (command.Rm path) = false
-marks setting (command.Cp from to) = false
-marks setting (command.Concat out parts) = false
-marks setting (command.Chmod mode path) = false
-marks setting (command.Test kind path) = false
-
--- whether an action writes the byte that begins tokens
-abbrev pub body_marks : Option ActionKind → Bool
-body_marks (Some (kind.MkFile m)) = has_mark m.body
-body_marks (Some (kind.MkDir m)) = false
-body_marks (Some (kind.Copy c)) = false
-body_marks (Some (kind.Rm r)) = false
-body_marks None = false
-
--- the same for a micro-step
-abbrev pub step_marks : MicroStep → Bool
-step_marks (Act action) = body_marks action.kind
-step_marks (Run setting command ends) = marks setting command.command
-step_marks ReadLocal = false
-step_marks (LayInput i) = false
-
--- no vertex at or before vertex v makes a digest or a listing, or writes the byte that begins tokens
-abbrev pub WritesNoTokens : Numbered → ℕ → Type 0
-WritesNoTokens g v = (k : ℕ) (x : Vertex) → Reached (links g.vertices) v k → slice_get g.vertices k ≡ Some x → list_any step_marks (program_of x).steps ≡ false
-
--- with tokens for contents in local trees, the outcome is the one with the contents, with tokens for them
-abbrev pub HandsTokensOn : Numbered → Type 0
-HandsTokensOn g = (table : ℕ → List ℕ) (ls ms : List Local) (v : ℕ) → WritesNoTokens g v → HaveAlikeSources (ExpandsTo (spelled table)) g v ls ms
-    → HasAlikeOutcomes (ExpandsTo (spelled table)) g ls ms v
-
--- ---- where no digest is made
-
 -- whether a command makes a digest of contents, the one thing that looks at them
 abbrev pub digests : Command → Bool
 digests (command.Sha256 path out) = true
@@ -169,6 +127,60 @@ step_digests ReadLocal = false
 step_digests (Act action) = false
 step_digests (LayInput i) = false
 
+-- whether a command may write the byte that begins tokens; a listing writes names of any trees, and a digest has none
+abbrev pub writes_mark : Setting → Command → Bool
+writes_mark setting (command.Write path word) = has_mark (line word)
+writes_mark setting (command.Append path word) = has_mark (line word)
+writes_mark setting (command.Envfile out) = has_mark (flat_map line setting.env)
+writes_mark setting (command.Listing path out) = true
+writes_mark setting (command.Sha256 path out) = false
+writes_mark setting command.True = false
+writes_mark setting command.False = false
+writes_mark setting (command.Mkdir parents path) = false
+writes_mark setting (command.Rm path) = false
+writes_mark setting (command.Cp from to) = false
+writes_mark setting (command.Concat out parts) = false
+writes_mark setting (command.Chmod mode path) = false
+writes_mark setting (command.Test kind path) = false
+
+-- whether an action writes the byte that begins tokens
+abbrev pub body_has_mark : Option ActionKind → Bool
+body_has_mark (Some (kind.MkFile m)) = has_mark m.body
+body_has_mark (Some (kind.MkDir m)) = false
+body_has_mark (Some (kind.Copy c)) = false
+body_has_mark (Some (kind.Rm r)) = false
+body_has_mark None = false
+
+-- whether a micro-step may write the byte that begins tokens
+abbrev pub step_writes_mark : MicroStep → Bool
+step_writes_mark (Act action) = body_has_mark action.kind
+step_writes_mark (Run setting command ends) = writes_mark setting command.command
+step_writes_mark ReadLocal = false
+step_writes_mark (LayInput i) = false
+
+-- no vertex at or before vertex v makes a listing, or writes the byte that begins tokens
+abbrev pub WritesNoMark : Numbered → ℕ → Type 0
+WritesNoMark g v = (k : ℕ) (x : Vertex) → Reached (links g.vertices) v k → slice_get g.vertices k ≡ Some x
+    → list_any step_writes_mark (program_of x).steps ≡ false
+
+-- a content given by value: it is the same in both, without the byte that begins tokens
+pub record IsLiteral (a b : List ℕ) : Type 0 where
+  pub same : a ≡ b
+  pub plain : has_mark a ≡ false
+
+-- each vertex at or before vertex v that makes a digest has its sources by value: those at or before it have the same contents in both, none of which has the
+-- byte that begins tokens
+abbrev pub DigestsLiterals : Numbered → List Local → List Local → ℕ → Type 0
+DigestsLiterals g ls ms v = (k : ℕ) (x : Vertex) → Reached (links g.vertices) v k → slice_get g.vertices k ≡ Some x
+    → (list_any step_digests (program_of x).steps ≡ false) ⊎ HaveAlikeSources IsLiteral g k ls ms
+
+-- with tokens for contents in local trees, the outcome is the one with the contents, with tokens for them
+abbrev pub HandsTokensOn : Numbered → Type 0
+HandsTokensOn g = (table : ℕ → List ℕ) (ls ms : List Local) (v : ℕ) → WritesNoMark g v → DigestsLiterals g ls ms v
+    → HaveAlikeSources (ExpandsTo (spelled table)) g v ls ms → HasAlikeOutcomes (ExpandsTo (spelled table)) g ls ms v
+
+-- ---- where no digest is made
+
 -- no vertex at or before vertex v makes a digest of contents
 abbrev pub MakesNoDigest : Numbered → ℕ → Type 0
 MakesNoDigest g v = (k : ℕ) (x : Vertex) → Reached (links g.vertices) v k → slice_get g.vertices k ≡ Some x → list_any step_digests (program_of x).steps ≡ false
@@ -188,6 +200,6 @@ pub record AreExchanged (pairs : List (List ℕ × List ℕ)) (a b : List ℕ) :
   pub first : a ≡ flat_map (λ p. p.0) pieces
   pub second : b ≡ flat_map (λ p. p.1) pieces
 
--- where pieces of local trees' contents are exchanged, the outcome is the same but for such exchanges in its contents, if no digest is made
+-- if pieces of local trees' contents are exchanged, the outcome is the same but for such exchanges in its contents, if no digest is made
 abbrev pub HandsContentsOn : Numbered → Type 0
 HandsContentsOn g = (pairs : List (List ℕ × List ℕ)) → HandsOnUndigested (AreExchanged pairs) g

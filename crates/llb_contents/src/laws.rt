@@ -10,7 +10,7 @@ use llb_loader::Graph;
 use llb_ops::Action;
 use llb_tree::Tree;
 
-/// A law: alike trees, which differ in contents alone, laid over alike trees are alike.
+/// Proves that alike trees, which differ in contents alone, are alike after they are laid over alike trees.
 pub fn lays_alike(lower: &Tree, upper: &Tree)
     ensures { LaysAlike lower.now upper.now }
 {
@@ -18,7 +18,7 @@ pub fn lays_alike(lower: &Tree, upper: &Tree)
     let _ = upper;
 }
 
-/// A law: an action fails with the same fault on alike trees, or leaves alike trees.
+/// Proves that an action fails with the same fault on alike trees, or leaves alike trees.
 pub fn acts_alike(action: &Action, base: &Tree, second: &Tree)
     ensures { ActsAlike action.now.kind base.now second.now }
 {
@@ -27,7 +27,7 @@ pub fn acts_alike(action: &Action, base: &Tree, second: &Tree)
     let _ = second;
 }
 
-/// A law: a command fails on alike views, or leaves alike views.
+/// Proves that a command fails on alike views, or leaves alike views.
 pub fn runs_alike(setting: &Setting, view: &View, command: &Command)
     ensures { RunsAlike setting.now view.now command.now }
 {
@@ -36,13 +36,14 @@ pub fn runs_alike(setting: &Setting, view: &View, command: &Command)
     let _ = command;
 }
 
-/// A law: where local trees differ in contents alone, so do the plain outcomes of a vertex: it is blocked in both, failed in both with the same
-/// fault, or done in both with as many outputs.
-/// `relations`: the contents are in any relation that is kept by appending, if what the ops write of their own is related to itself, and the
-/// digests of related contents are related. `expansions`: one is what the other expands to. `tokens`: the same for tokens, the byte 255 and a number of
-/// four bytes, if no exec at or before the vertex makes a digest or a listing and no action writes the byte 255.
-/// `undigested`: the relation relates each content to itself, and no exec at or before the vertex makes a digest. `contents`: the same where
-/// pieces of the contents are exchanged for their partners.
+/// Proves that if local trees differ in contents alone, so do the plain outcomes of a vertex: it is blocked in both,
+/// failed in both with the same fault, or done in both with as many outputs. `relations`: the contents are in any
+/// relation that is kept by appending, if what the ops write of their own is related to itself, and the digests of
+/// related contents are related. `expansions`: one is what the other expands to. `tokens`: the same for tokens, the
+/// byte 255 and a number of four bytes, if no exec at or before the vertex makes a listing, nothing there writes the
+/// byte 255, and the sources at or before each exec that makes a digest are given by value: the same in both, without
+/// the byte 255. `undigested`: the relation relates each content to itself, and no exec at or before the vertex makes a
+/// digest. `contents`: the same if pieces of the contents are exchanged for their partners.
 pub fn contents_are_handed_on(graph: &Graph)
     ensures relations { HandsRelationsOn graph.now }
     ensures expansions { HandsExpansionsOn graph.now }
@@ -53,15 +54,16 @@ pub fn contents_are_handed_on(graph: &Graph)
     graph.is_graph();
 }
 
-/// A law: by what contents expand to, a tree expands to one tree at most.
+/// Proves that a tree expands to at most one tree, by what its contents expand to.
 pub fn expands_to_one(tree: &Tree)
     ensures { ExpandsToOne tree.now }
 {
     let _ = tree;
 }
 
-/// A law: on two boards over one graph, whose local trees differ in contents alone, settled vertices ended alike, failures included, if no cache
-/// mount is at or before them; by any workers and any order of events.
+/// Proves that on two boards over one graph, whose local trees differ in contents alone, vertices that are done or
+/// failed on both ended alike, failures included, if no cache mount is at or before them; by any workers and any order
+/// of events.
 pub fn boards_settle_alike(board: &Board, other: &Board)
     ensures relations { SettleAlike board.now other.now }
     ensures contents { SettleExchanged board.now other.now }

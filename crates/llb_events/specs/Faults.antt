@@ -1,4 +1,4 @@
--- The text after the word `fault` where a board refuses an event: the number, and the key of a cache that is held. And how the results of events are specified:
+-- The text after the word `fault` when a board refuses an event: the number, and the key of a cache that is held. And how the results of events are specified:
 -- what the table returns, or memory was refused.
 use Rattle.std.specs.Prelude.{ℕ, Bool, true, false, List, ◌++◌, Result, Ok, Err, codes}
 use Rattle.llb_wire.specs.Answer as answer
@@ -41,7 +41,7 @@ cancel_text cancel.NotRunning = codes "136"
 
 -- ---- memory that a claim may want
 
--- where memory may be needed: where there is no other cause, or for the text of the key that is held
+-- whether memory may be needed: if there is no other cause, or for the text of the key that is held
 abbrev pub claim_may_want : {A : Type 0} → Result A ClaimFault → Bool
 claim_may_want (Ok a) = true
 claim_may_want (Err (claim.Held k)) = has_text k

@@ -36,7 +36,9 @@ pub enum Stepped {
 /// How the vertex of that number was settled.
 #[derive(Clone, Copy, Debug, PartialEq, Eq)]
 pub enum Settled {
+    /// The execution of the vertex had no fault: it has its outputs.
     Done(u32),
+    /// The execution of the vertex had a fault.
     Failed(u32),
 }
 

@@ -12,7 +12,7 @@ use Rattle.llb_execution.specs.declared.look.Part.TheVariants as part
 abbrev pub shown_tree : Shown → TreeMap
 shown_tree m = m.tree
 
--- the trees that a workspace is on, where the cache instances that it holds have these trees, in the order of the needs: for a source its local tree; for a
+-- the trees that a workspace is on, if the cache instances that it holds have these trees, in the order of the needs: for a source its local tree; for a
 -- file op its inputs, then the results so far; for a merge its inputs, then what is laid so far; for an exec the tree of each mount, which of a mount that
 -- shows a cache is that of its instance
 abbrev pub trees_with : Workspace → List TreeMap → List TreeMap
@@ -21,7 +21,7 @@ trees_with (Files inputs results) trees = inputs ++ results
 trees_with (Layers inputs t) trees = inputs ++ t ∷ []
 trees_with (Mounted mounts caches last) trees = map shown_tree (filled mounts caches trees)
 
--- the tree of a look, where the cache instances have these trees
+-- the tree of a look, if the cache instances have these trees
 abbrev pub looked : List TreeMap → Option Look → Option TreeMap
 looked trees None = None
 looked trees (Some (look.Here t)) = Some t.now
@@ -32,11 +32,11 @@ abbrev pub tree_or : Option TreeMap → List TreeMap → Option ℕ → Option T
 tree_or own trees None = own
 tree_or own trees (Some k) = slice_get trees k
 
--- the last place of i that is known after number m, which is at k
+-- the last position of i so far, after number m at position k
 abbrev pub next_place : ℕ → ℕ → ℕ → Option ℕ → Option ℕ
 next_place i m k place = if m == i then Some k else place
 
--- the tree beside the last of these numbers that is i, else another tree
+-- the tree beside the last of these numbers that is i, else the given one
 abbrev pub last_tree : ℕ → List ℕ → List TreeMap → Option TreeMap → Option TreeMap
 last_tree i [] trees own = own
 last_tree i (m ∷ ms) [] own = own

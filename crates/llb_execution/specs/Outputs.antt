@@ -21,17 +21,17 @@ tree_by i [] trees = empty_tree
 tree_by i (n ∷ ns) [] = empty_tree
 tree_by i (n ∷ ns) (t ∷ trees) = if is_output i n then t else tree_by i ns trees
 
--- a tree in the place of the first output, where there is one
+-- a tree in the place of the first output, if there is one
 abbrev pub first_placed : TreeMap → List TreeMap → List TreeMap
 first_placed t [] = []
 first_placed t (old ∷ trees) = t ∷ trees
 
--- a tree in the place of an output, where there is one
+-- a tree in the place of an output, if there is one
 abbrev pub placed : ℤ → TreeMap → List TreeMap → List TreeMap
 placed (pos i) t trees = slice_set trees i t
 placed (negsuc i) t trees = trees
 
--- a tree in the place of an output by its number, where there is one
+-- a tree in the place of an output by its number, if there is one
 abbrev pub placed_by : Option ℤ → TreeMap → List TreeMap → List TreeMap
 placed_by (Some n) t trees = placed n t trees
 placed_by None t trees = trees

@@ -17,14 +17,14 @@ use llb_wire::Memory;
 use std::alloc::Global;
 use std::mem;
 
-/// Returns `count` empty trees. Fails with `Memory` alone.
+/// Makes `count` empty trees. Fails with 5 `Memory` alone.
 pub fn empty_trees(alloc: Global, count: u32) -> Result<Vec<Tree>, Memory>
     ensures { IfOk result (λ v. v.items ≡ replicate count empty_tree) }
 {
     Ok(blanks(alloc, count as usize)?)
 }
 
-// `count` empty trees.
+// Makes `count` empty trees.
 fn blanks(alloc: Global, count: usize) -> Result<Vec<Tree>, NoMemory>
     ensures { IfOk result (λ v. v.items ≡ replicate count empty_tree) }
 {
@@ -52,8 +52,9 @@ fn swap_all(mounts: &mut Mounts, numbers: &[u32], trees: &mut Vec<Tree>, spare: 
     spare
 }
 
-/// Runs a command on mounts of which those of these numbers show these trees meanwhile, and returns its status. Where that is 0,
-/// the trees are written back and these mounts are empty; else, and where memory is refused, mounts and trees are as they were.
+// Runs a command on mounts of which those of these numbers show these trees meanwhile, and returns its status. If that
+// is 0, the trees are written back and these mounts are empty; else, and if memory is refused, mounts and trees are as
+// they were.
 pub(crate) fn run_filled(
     alloc: Global,
     command: &Command,

@@ -1,4 +1,5 @@
-//! All micro-steps that are left of a program, one after another, on a workspace of its own. It is built on single micro-steps.
+//! All remaining micro-steps of a program, one after another, on a workspace of its own. It is built on single
+//! micro-steps.
 
 ghost use Rattle.std.specs.Prelude.{◌≡◌, ◌+◌, ◌<◌, ◌^◌, length, IfOk, None};
 ghost use Rattle.std.specs.List.{All};
@@ -13,16 +14,16 @@ use llb_tree::Tree;
 use llb_wire::Memory;
 use std::alloc::Global;
 
-/// How many micro-steps were done, and the fault of the last, where it had one.
+/// How many micro-steps were done, and the fault of the last, if it had one.
 #[derive(Clone, Copy)]
 pub struct Further {
     pub count: u32,
     pub fault: Option<VertexFault>,
 }
 
-/// Does the micro-steps of a program from number `done`, up to the first that faults or the last. The trees are those of the
-/// instances of the caches that the workspace shows, in the order of the needs. Fails with `Memory` alone; then
-/// some of the micro-steps may be done.
+/// Does the micro-steps of a program from number `done`, up to the first that faults or the last. The trees are those
+/// of the instances of the caches that the workspace shows, in the order of the needs. Fails with 5 `Memory` alone;
+/// then some of the micro-steps may be done.
 pub fn do_further(
     alloc: Global,
     program: &Program,

@@ -11,10 +11,10 @@ pub struct Stopped;
 
 /// What a worker passes before it works on a vertex.
 pub trait Gate {
-    /// At which workers and vertices it may stop.
+    /// Whether it may stop this worker at this vertex.
     ghost may_stop: { ℕ → ℕ → Bool };
 
-    /// Lets worker w work on vertex v, or stops it. It returns after a bounded number of turns.
+    /// Lets worker w work on vertex v, or fails with 143 `Stopped`. It returns after a bounded number of turns.
     fn pass(&self, w: u32, v: u32) -> Result<(), Stopped>
         ensures { IfErr result (λ _. IsTrue (may_stop w v)) };
 }

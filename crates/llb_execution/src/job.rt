@@ -92,7 +92,7 @@ impl Job {
         }
     }
 
-    /// Returns the number of the worker that does it.
+    /// Returns the number of the worker that does the job.
     pub fn worker(&self) -> u32
         ensures { result ≡ self.now.worker }
     {

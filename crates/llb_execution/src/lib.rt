@@ -1,6 +1,17 @@
-//! One vertex's execution: its program of micro-steps, what they work on, the outputs that they leave, and the work of a whole job away
-//! from any board, behind a gate. It knows no state, and it keeps no caches. It is built on
-//! `llb_model`.
+//! One vertex's execution: its program of micro-steps, the workspace that they change, and the work of a whole job away from any board, behind
+//! a gate. It keeps no caches. It is built on `llb_model`.
+//!
+//! Types: `Program`, `MicroStep`, `Workspace` (what a program works on), `Job` (a program with its workspace and cache trees), `Outcome`,
+//! `Gate`, `WorkFault`.
+//! Promise: `Workspace::step` (`left`, `err`) leaves exactly what the machine's micro-step leaves; where memory is refused, all is as it was.
+//! `work` (`job`, `stopped`) does all micro-steps that a job has left, and is stopped (143) only where the gate's type allows it.
+//!
+//! A caller:
+//!
+//!     let job = board.claim(0, 0).ok()?;
+//!     let outcome = work(alloc, job, gate).ok()?;
+//!     let settled = board.land(0, outcome).ok()?;
+//!     Some(settled)
 #![tactic(auto)]
 
 mod fault;

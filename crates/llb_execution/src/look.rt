@@ -1,4 +1,5 @@
-//! A look at a workspace: the trees that it is on, in an order, and what each of them is to it. Nothing here allocates.
+//! Accessors of a workspace: the trees that it works on, in an order, and what each of them is to it. Nothing here
+//! allocates.
 
 ghost use Rattle.std.specs.Prelude.{◌≡◌, ◌++◌, ◌∷◌, [], ℕ, List, Option, length, map, option_map, slice_get};
 ghost use Rattle.llb_tree.specs.Tree.{TreeMap};
@@ -10,7 +11,7 @@ use crate::workspace::{Own, Workspace};
 use llb_mount::View as Mounts;
 use llb_tree::{Path, Tree};
 
-/// One of the trees that a workspace is on.
+/// One of the trees that a workspace works on.
 pub enum Look<'a> {
     /// A tree of the workspace's own.
     Here(&'a Tree),
@@ -18,7 +19,7 @@ pub enum Look<'a> {
     Cached(usize),
 }
 
-/// What a tree is to the workspace that is on it.
+/// What a tree is to the workspace that works on it.
 pub enum Part<'a> {
     /// The local tree of a source.
     Local,
@@ -33,9 +34,10 @@ pub enum Part<'a> {
 }
 
 impl Workspace {
-    /// Returns tree i of those that the workspace is on: the local tree of a source; the inputs of a file op, then its results so far; the
-    /// inputs of a merge, then what is laid so far; the tree of each mount of an exec, for one that shows a cache the number of the need
-    /// whose instance has it. So many instances are held. `None` past the last tree.
+    /// Returns tree i of those that the workspace works on: the local tree of a source; the inputs of a file op, then
+    /// its results so far; the inputs of a merge, then what is laid so far; the tree of each mount of an exec, for one
+    /// that shows a cache the number of the need whose instance has it. `held` is how many instances are held. `None`
+    /// past the last tree. Does not allocate.
     pub fn look(&self, i: u32, held: usize) -> Option<Look<'_>>
         ensures { (trees : List TreeMap) → length trees ≡ held → looked trees result ≡ slice_get (trees_with self.now trees) i }
     {
@@ -47,7 +49,7 @@ impl Workspace {
         }
     }
 
-    /// Returns how many trees the workspace is on. Does not allocate.
+    /// Returns how many trees the workspace works on. Does not allocate.
     pub fn parts(&self) -> usize
         ensures { result ≡ length (roles_of self.now) }
     {
@@ -72,7 +74,7 @@ impl Workspace {
     }
 }
 
-// What tree i of a source is.
+// Returns what tree i of a source is.
 fn local_part<'a>(i: usize) -> Option<Part<'a>>
     ensures { option_map role_in result ≡ slice_get (Local ∷ []) i }
 {
@@ -82,7 +84,7 @@ fn local_part<'a>(i: usize) -> Option<Part<'a>>
     None
 }
 
-// What tree i of a file op is.
+// Returns what tree i of a file op is.
 fn file_part<'a>(inputs: &[Tree], results: &[Tree], i: usize) -> Option<Part<'a>>
     ensures { option_map role_in result ≡ slice_get (map input_role inputs.now ++ results_from 0 results.now) i }
 {
@@ -96,7 +98,7 @@ fn file_part<'a>(inputs: &[Tree], results: &[Tree], i: usize) -> Option<Part<'a>
     None
 }
 
-// What tree i of a merge is.
+// Returns what tree i of a merge is.
 fn merge_part<'a>(inputs: &[Tree], i: usize) -> Option<Part<'a>>
     ensures { option_map role_in result ≡ slice_get (map input_role inputs.now ++ Laid ∷ []) i }
 {
@@ -109,7 +111,7 @@ fn merge_part<'a>(inputs: &[Tree], i: usize) -> Option<Part<'a>>
     None
 }
 
-// What tree i of an exec is.
+// Returns what tree i of an exec is.
 fn mount_part(mounts: &Mounts, i: usize) -> Option<Part<'_>>
     ensures { option_map role_in result ≡ slice_get (map mount_role mounts.now) i }
 {
@@ -119,7 +121,7 @@ fn mount_part(mounts: &Mounts, i: usize) -> Option<Part<'_>>
     }
 }
 
-// A look at a tree of the workspace's own.
+// Returns a tree of the workspace's own as a `Look`.
 fn here(tree: Option<&Tree>) -> Option<Look<'_>>
     ensures { (trees : List TreeMap) → looked trees result ≡ option_map (λ t. t.now) tree.entry }
 {
@@ -129,7 +131,7 @@ fn here(tree: Option<&Tree>) -> Option<Look<'_>>
     }
 }
 
-// The tree of a number in one list of trees and then another.
+// Returns tree i of two lists, one after the other.
 fn among<'a>(first: &'a [Tree], second: &'a [Tree], i: u32) -> Option<&'a Tree>
     ensures { option_map (λ t. t.now) result ≡ slice_get (first.now ++ second.now) i }
 {
@@ -140,7 +142,7 @@ fn among<'a>(first: &'a [Tree], second: &'a [Tree], i: u32) -> Option<&'a Tree>
     second.get(at - first.len())
 }
 
-// The tree of a number in a list of trees and one more.
+// Returns tree i of a list of trees and one more after them.
 fn before_last<'a>(first: &'a [Tree], last: &'a Tree, i: u32) -> Option<&'a Tree>
     ensures { option_map (λ t. t.now) result ≡ slice_get (first.now ++ last.now ∷ []) i }
 {
@@ -154,7 +156,7 @@ fn before_last<'a>(first: &'a [Tree], last: &'a Tree, i: u32) -> Option<&'a Tree
     None
 }
 
-// A look at the tree of a mount.
+// Returns the tree of a mount as a `Look`.
 fn look_in<'a>(mounts: &'a Mounts, numbers: &[u32], i: u32, held: usize) -> Option<Look<'a>>
     ensures { (trees : List TreeMap) → length trees ≡ held
         → looked trees result ≡ slice_get (map shown_tree (filled mounts.now numbers.now trees)) i }
@@ -168,7 +170,7 @@ fn look_in<'a>(mounts: &'a Mounts, numbers: &[u32], i: u32, held: usize) -> Opti
     }
 }
 
-// The tree that a mount has itself.
+// Returns the tree that a mount has itself.
 fn mount_tree(mounts: &Mounts, i: u32) -> Option<&Tree>
     ensures { option_map (λ t. t.now) result ≡ slice_get (map shown_tree mounts.now) i }
 {
@@ -178,7 +180,7 @@ fn mount_tree(mounts: &Mounts, i: u32) -> Option<&Tree>
     }
 }
 
-// Which of these numbers, of which so many count, is the last that is i.
+// Returns the last index among the first `held` at which `numbers` has i.
 fn last_place(numbers: &[u32], i: u32, held: usize) -> Option<usize>
     ensures { (trees : List TreeMap) (own : Option TreeMap) → length trees ≡ held → tree_or own trees result ≡ last_tree i numbers.now trees own }
 {
@@ -190,7 +192,7 @@ fn last_place(numbers: &[u32], i: u32, held: usize) -> Option<usize>
     place
 }
 
-// The place that is known after number k.
+// Returns the last index known after number k.
 fn next_place(i: u32, number: u32, k: usize, place: Option<usize>) -> Option<usize>
     ensures { result ≡ next_place i number k place }
 {

@@ -40,8 +40,8 @@ impl Model for Mark {
 }
 
 impl Workspace {
-    /// Returns what the next micro-step can change, and no more of the workspace: no input of a file op or of a merge. Trees are shared. Fails with
-    /// `Memory` alone.
+    /// Returns what the next micro-step can change, and no more of the workspace: no input of a file op or of a merge.
+    /// Trees are shared. Fails with 5 `Memory` alone.
     pub fn mark(&self) -> Result<Mark, Memory>
         ensures is { IfOk result (λ m. m ≡ mark_of self.now) }
         ensures back { IfOk result (λ m. PutsBack self.now m) }
@@ -50,7 +50,7 @@ impl Workspace {
         Ok(Mark { was: held })
     }
 
-    /// Puts what a mark has into the workspace again. Does not allocate.
+    /// Restores what a mark has kept of the workspace. Does not allocate.
     pub fn put_back(&mut self, mark: Mark)
         ensures { self.new ≡ put_back mark self.old }
     {
@@ -63,7 +63,7 @@ impl Workspace {
     }
 }
 
-// What a micro-step can change of what a workspace has.
+// Returns what a micro-step can change of what a workspace has.
 fn was_in(own: &Own) -> Result<Was, NoMemory>
     ensures { IfOk result (λ w. mark_in w ≡ mark_of (own_of own.now)) }
 {

@@ -1,5 +1,5 @@
-//! The micro-steps of a vertex, one by one: each is a part of the vertex, or of a program of its own, that is read where it
-//! is. Nothing here does one.
+//! The micro-steps of a vertex, one by one: each borrows from the vertex, or from a program that owns its data. Nothing
+//! here does one.
 
 ghost use Rattle.std.specs.Prelude.{◌≡◌, ◌∷◌, [], length, map, option_map, slice_get, unwrap_or};
 ghost use Rattle.llb_loader.specs.Graph.{IsVertexOf};
@@ -11,13 +11,16 @@ use llb_applet::{Joined, Script, Setting};
 use llb_loader::Vertex;
 use llb_ops::{Action, Kind, MergeInput};
 
-/// One micro-step: the read of a source's local tree, an action of a file op, the laying of a merge's input, by number, over those
-/// before it, or a command of an exec where its commands run, with the commands after it.
+/// One micro-step of a vertex.
 #[derive(Clone, Copy)]
 pub enum MicroStep<'a> {
+    /// The read of a source's local tree.
     ReadLocal,
+    /// An action of a file op.
     Act(&'a Action),
+    /// The laying of a merge's input, by number, over those before it.
     LayInput(i64),
+    /// A command of an exec: where it runs, the command, and the commands after it.
     Run(&'a Setting, &'a Joined, &'a [Joined]),
 }
 
@@ -29,8 +32,8 @@ pub fn step_count(vertex: &Vertex) -> u32
     vertex.steps
 }
 
-/// Returns micro-step k, from 0, of a vertex whose commands run in this setting (`setting_of`); `None` where k is at least the number
-/// of its micro-steps. Does not allocate.
+/// Returns micro-step k, from 0, of a vertex whose commands run in this setting (`setting_of`); `None` if k is at least
+/// the number of its micro-steps. Does not allocate.
 pub fn step_of<'a>(vertex: &'a Vertex, setting: &'a Setting, k: u32) -> Option<MicroStep<'a>>
     requires { setting.now ≡ kind_setting vertex.now.op.kind }
     ensures { option_map step_in result ≡ slice_get (program_of vertex.now).steps k }
@@ -44,7 +47,7 @@ pub fn step_of<'a>(vertex: &'a Vertex, setting: &'a Setting, k: u32) -> Option<M
     }
 }
 
-/// Returns the one micro-step of a source.
+// Returns the one micro-step of a source, for k = 0.
 pub(crate) fn read_at<'a>(k: u32) -> Option<MicroStep<'a>>
     ensures { option_map step_in result ≡ slice_get (ReadLocal ∷ []) k }
 {
@@ -54,7 +57,7 @@ pub(crate) fn read_at<'a>(k: u32) -> Option<MicroStep<'a>>
     Some(MicroStep::ReadLocal)
 }
 
-/// Returns the action of that number.
+// Returns the action at index k.
 pub(crate) fn act_at<'a>(actions: &'a [Action], k: u32) -> Option<MicroStep<'a>>
     ensures { option_map step_in result ≡ slice_get (map Act actions.now) k }
 {
@@ -64,7 +67,7 @@ pub(crate) fn act_at<'a>(actions: &'a [Action], k: u32) -> Option<MicroStep<'a>>
     }
 }
 
-// The laying of the input of that number.
+// Returns the laying of the input at index k.
 fn lay_at<'a>(inputs: &'a [MergeInput], k: u32) -> Option<MicroStep<'a>>
     ensures { option_map step_in result ≡ slice_get (map (λ (i : merge_input.MergeInput). LayInput i.input) inputs.now) k }
 {
@@ -74,7 +77,7 @@ fn lay_at<'a>(inputs: &'a [MergeInput], k: u32) -> Option<MicroStep<'a>>
     }
 }
 
-/// Returns the command of that number.
+// Returns the command at index k, with those after it.
 pub(crate) fn run_at<'a>(
     setting: &'a Setting,
     commands: &'a [Joined],
@@ -92,7 +95,7 @@ pub(crate) fn run_at<'a>(
     }
 }
 
-/// Returns the commands of a script, where there is one.
+// Returns the commands of a script, none if there is no script.
 pub(crate) fn commands_of(script: &Option<Script>) -> &[Joined]
     ensures { result.now ≡ unwrap_or script.now [] }
 {

@@ -16,8 +16,8 @@ use llb_tree::{Path, Tree, TreeFault};
 use llb_wire::{Many, Memory, Text};
 use std::alloc::Global;
 
-/// Returns where the commands of a vertex run: an exec's cwd and env; for any other vertex, which has no commands, the root and no env.
-/// Fails with `Memory` alone.
+/// Returns where the commands of a vertex run: an exec's cwd and env; for any other vertex, which has no commands, the
+/// root and no env. Fails with 5 `Memory` alone.
 pub fn setting_of(alloc: Global, vertex: &Vertex) -> Result<Setting, Memory>
     ensures { IfOk result (λ s. s ≡ kind_setting vertex.now.op.kind) }
 {
@@ -47,19 +47,18 @@ pub(crate) fn setting_with(alloc: Global, meta: &Option<Meta>) -> Result<Setting
     }
 }
 
-// The path that a text reads as; the root where it reads as none.
+// Reads a text as a path; returns the root if it reads as none.
 fn path_in(alloc: Global, text: &Text) -> Result<Path, NoMemory>
     ensures { IfOk result (λ p. p ≡ path_in text.now) }
 {
     match Path::read(alloc, text.as_str()) {
         Ok(path) => Ok(path),
         Err(TreeFault::Memory) => Err(NoMemory),
-        // Unreachable in a graph.
+        // Unreachable in a graph: its rules refuse texts that are no paths.
         Err(_) => Ok(Path::root(alloc)),
     }
 }
 
-// Copies of texts.
 fn copies(alloc: Global, texts: &[Text]) -> Result<Vec<Text>, NoMemory>
     ensures { IfOk result (λ v. v.items ≡ texts.now) }
 {
@@ -79,7 +78,7 @@ pub(crate) fn view_of(alloc: Global, inputs: &[Tree], mounts: &[Mount]) -> Resul
     Ok(View::make(Many::new(shown))?)
 }
 
-// The mounts as they show these inputs.
+// Makes the mounts as they show these inputs.
 fn all_shown(alloc: Global, inputs: &[Tree], mounts: &[Mount]) -> Result<Vec<Shown>, NoMemory>
     ensures { IfOk result (λ v. v.items ≡ map (shown_of inputs.now) mounts.now) }
 {
@@ -90,7 +89,7 @@ fn all_shown(alloc: Global, inputs: &[Tree], mounts: &[Mount]) -> Result<Vec<Sho
     Ok(shown)
 }
 
-// A mount as it shows these inputs.
+// Makes a mount as it shows these inputs.
 fn shown_of(alloc: Global, inputs: &[Tree], mount: &Mount) -> Result<Shown, NoMemory>
     ensures { IfOk result (λ m. m ≡ shown_of inputs.now mount.now) }
 {
@@ -105,7 +104,7 @@ fn shown_of(alloc: Global, inputs: &[Tree], mount: &Mount) -> Result<Shown, NoMe
     })
 }
 
-// The path in its tree that a mount shows: of a tmpfs the root.
+// Returns the path in its tree that a mount shows; the root for a tmpfs mount.
 fn selector_of(alloc: Global, mount: &Mount) -> Result<Path, NoMemory>
     ensures { IfOk result (λ p. p ≡ selector_of mount.now) }
 {
@@ -115,7 +114,7 @@ fn selector_of(alloc: Global, mount: &Mount) -> Result<Path, NoMemory>
     path_in(alloc, &mount.selector)
 }
 
-// The tree that a mount shows: a bind mount its input's, another one the empty tree.
+// Returns the tree that a mount shows: its input's for a bind mount, else the empty tree.
 fn tree_shown(alloc: Global, inputs: &[Tree], mount: &Mount) -> Result<Tree, NoMemory>
     ensures { IfOk result (λ t. t ≡ tree_shown inputs.now mount.now) }
 {

@@ -1,4 +1,4 @@
-//! The work of a job, away from every board: all micro-steps that it has left are done. It depends on the job alone.
+//! The work of a job, away from every board: all its remaining micro-steps are done. It depends on the job alone.
 
 ghost use Rattle.std.specs.Prelude.{◌≡◌, IfOk, IsTrue, Err};
 ghost use Rattle.llb_execution.specs.Parts.{left_with};
@@ -16,8 +16,8 @@ use llb_wire::Memory;
 use std::alloc::Global;
 use std::marker::Model;
 
-/// The outcome of a job: how many micro-steps it had left, and the workspace, the trees of the cache instances and the fault that they
-/// leave. By the type's invariant they are what the job's program leaves, so no board has to check it.
+/// The outcome of a job: how many micro-steps remained, and the workspace, the trees of the cache instances and the
+/// fault that they leave. By the type's invariant they are what the job's program leaves, so no board has to check it.
 #[derive(Drop)]
 pub struct Outcome {
     job: Job,
@@ -50,35 +50,36 @@ impl Outcome {
         &self.job
     }
 
-    /// Recalls the type's invariant: the outcome is what all micro-steps that its job has left leave.
+    /// Proves that the outcome is what the remaining micro-steps of its job leave.
     pub fn is_whole(&self)
         ensures { IsOutcome self.now.job self.now.count self.now.left }
     {
         let _ = &self.fault;
     }
 
-    /// Returns how many micro-steps the job had left.
+    /// Returns how many micro-steps of the job remained.
     pub fn count(&self) -> u32
         ensures { result ≡ self.now.count }
     {
         self.count
     }
 
-    /// Returns the workspace that they leave.
+    /// Returns the workspace after the micro-steps.
     pub fn workspace(&self) -> &Workspace
         ensures { result.now ≡ self.now.left.work.own }
     {
         &self.workspace
     }
 
-    /// Returns the fault of the last of them, if it had one.
+    /// Returns the fault of the last micro-step, if it had one.
     pub fn fault(&self) -> Option<VertexFault>
         ensures { result ≡ self.now.left.fault }
     {
         self.fault
     }
 
-    /// Returns how many micro-steps the job had left, and what they leave: the workspace, the trees of the cache instances, and the fault of the last.
+    /// Returns how many micro-steps of the job remained, and what they leave: the workspace, the trees of the cache
+    /// instances, and the fault of the last.
     pub fn into_left(self) -> (u32, Workspace, Vec<Tree>, Option<VertexFault>)
         ensures count { result.0 ≡ self.count }
         ensures left { left_with result.1 result.2.items result.3 ≡ self.left }
@@ -94,8 +95,9 @@ impl Outcome {
     }
 }
 
-/// Does all micro-steps that a job has left, behind a gate. Fails with 143 `Stopped` where the gate stops the worker, which it does only
-/// where it may, and with 142 `Memory`; then the job is gone. It works on second owners of the job's workspace and trees.
+/// Does all remaining micro-steps of a job, behind a gate. Fails with 143 `Stopped` if the gate stops the worker, which
+/// it does only if it may stop that worker at that vertex, and with 142 `Memory`; then the job is gone. It works on
+/// copies of the job's workspace and trees.
 pub fn work<G: Gate>(alloc: Global, job: Job, gate: &G) -> Result<Outcome, WorkFault>
     ensures job { IfOk result (λ o. o.job ≡ job) }
     ensures stopped { result ≡ Err work.Stopped → IsTrue (G.may_stop job.worker job.vertex) }
@@ -104,7 +106,7 @@ pub fn work<G: Gate>(alloc: Global, job: Job, gate: &G) -> Result<Outcome, WorkF
     Ok(worked(alloc, job)?)
 }
 
-// Does all micro-steps that a job has left.
+// Does all remaining micro-steps of a job.
 fn worked(alloc: Global, job: Job) -> Result<Outcome, Memory>
     ensures { IfOk result (λ o. o.job ≡ job) }
 {

@@ -1,5 +1,5 @@
-//! The outputs of a vertex, as they are taken from what all its micro-steps left, in the places of the empty trees that were made
-//! for them. Nothing here allocates.
+//! The outputs of a vertex, as they are taken from what all its micro-steps left, each in place of the empty tree that
+//! was made for it. Nothing here allocates.
 
 ghost use Rattle.std.specs.Prelude.{◌≡◌, map, length, replicate, slice_get};
 ghost use Rattle.std.specs.List.{range_with_len};
@@ -31,7 +31,7 @@ pub(crate) fn outputs_of(own: Own, outputs: Vec<Tree>, vertex: &Vertex) -> Vec<T
     }
 }
 
-// The actions of a kind: those of a file op.
+// Returns the actions of a kind: those of a file op, and none for other kinds.
 fn actions_of(kind: &Option<Kind>) -> &[Action]
     ensures { result.now ≡ actions_in kind.now }
 {
@@ -41,7 +41,7 @@ fn actions_of(kind: &Option<Kind>) -> &[Action]
     }
 }
 
-// A tree takes the place of the first output, where there is one.
+// Puts a tree in place of the first output, if there is one.
 fn place_first(mut outputs: Vec<Tree>, tree: Tree) -> Vec<Tree>
     ensures { result.items ≡ first_placed tree outputs.items }
 {
@@ -51,7 +51,8 @@ fn place_first(mut outputs: Vec<Tree>, tree: Tree) -> Vec<Tree>
     outputs
 }
 
-// Each result takes the place of its action's output, the last one first, so that of two the first one stays.
+// Puts each result in place of its action's output, the last result first, so that the first of two for one output
+// stays.
 fn place_all(mut outputs: Vec<Tree>, mut results: Vec<Tree>, actions: &[Action]) -> Vec<Tree>
     requires { outputs.items ≡ replicate (length outputs.items) empty_tree }
     ensures { result.items ≡ map (λ i. tree_by i (numbers_of actions.now) results.items) (range_with_len 0 (length outputs.items)) }
@@ -62,7 +63,8 @@ fn place_all(mut outputs: Vec<Tree>, mut results: Vec<Tree>, actions: &[Action])
     outputs
 }
 
-// Each mount's whole tree takes the place of the mount's output, the last one first, so that of two the first one stays.
+// Puts each mount's whole tree in place of the mount's output, the last mount first, so that the first of two for one
+// output stays.
 fn place_shown(mut outputs: Vec<Tree>, mut mounts: Vec<Shown>, given: &[Mount]) -> Vec<Tree>
     requires { outputs.items ≡ replicate (length outputs.items) empty_tree }
     ensures { result.items ≡ map (λ i. tree_for i (mount_outputs given.now) mounts.items) (range_with_len 0 (length outputs.items)) }
@@ -77,7 +79,6 @@ fn place_shown(mut outputs: Vec<Tree>, mut mounts: Vec<Shown>, given: &[Mount]) 
     outputs
 }
 
-// The output of an action.
 fn action_output(actions: &[Action], a: usize) -> Option<i64>
     ensures { result ≡ slice_get (numbers_of actions.now) a }
 {
@@ -87,7 +88,6 @@ fn action_output(actions: &[Action], a: usize) -> Option<i64>
     }
 }
 
-// The output of a mount.
 fn mount_output(mounts: &[Mount], m: usize) -> Option<i64>
     ensures { result ≡ slice_get (mount_outputs mounts.now) m }
 {
@@ -97,7 +97,7 @@ fn mount_output(mounts: &[Mount], m: usize) -> Option<i64>
     }
 }
 
-// A tree takes the place of an output, where it has one.
+// Puts a tree in place of an output, if a number is given.
 fn place(outputs: &mut Vec<Tree>, number: Option<i64>, tree: Tree)
     ensures { outputs.new.items ≡ placed_by number tree outputs.old.items }
 {
@@ -107,7 +107,7 @@ fn place(outputs: &mut Vec<Tree>, number: Option<i64>, tree: Tree)
     }
 }
 
-// A tree takes an output's place, where there is one.
+// Puts a tree in place of the output of a number, if there is one.
 fn put(outputs: &mut Vec<Tree>, output: i64, tree: Tree)
     ensures { outputs.new.items ≡ placed output tree outputs.old.items }
 {

@@ -17,8 +17,8 @@ use llb_wire::Memory;
 use std::alloc::Global;
 use std::marker::Model;
 
-/// The micro-steps of a vertex: one read of a source, the actions of a file op, the inputs of a merge, or the commands of an
-/// exec; and their outputs.
+/// The program of a vertex: its micro-steps, which are one read of a source, the actions of a file op, the inputs of a
+/// merge, or the commands of an exec; how many outputs it has; and the output number of each mount of an exec.
 pub struct Program {
     pub(crate) steps: Steps,
     pub(crate) outputs: u32,
@@ -56,7 +56,7 @@ impl Model for Program {
 }
 
 impl Program {
-    /// Returns the program of a vertex. Actions are shared with the vertex. Fails with `Memory` alone.
+    /// Returns the program of a vertex. Actions are shared with the vertex. Fails with 5 `Memory` alone.
     pub fn of(alloc: Global, vertex: &Vertex) -> Result<Program, Memory>
         ensures { IfOk result (λ p. p ≡ program_of vertex.now) }
     {
@@ -69,7 +69,8 @@ impl Program {
         })
     }
 
-    /// Returns its micro-step k, from 0; `None` where k is at least the number of its micro-steps. Does not allocate.
+    /// Returns the program's micro-step k, from 0; `None` if k is at least the number of its micro-steps. Does not
+    /// allocate.
     pub fn step(&self, k: u32) -> Option<MicroStep<'_>>
         ensures { option_map step_in result ≡ slice_get self.now.steps k }
     {
@@ -83,7 +84,7 @@ impl Program {
     }
 }
 
-// The laying of the input with that number.
+// Returns the laying of the input at index k.
 fn number_at<'a>(numbers: &[i64], k: u32) -> Option<MicroStep<'a>>
     ensures { option_map step_in result ≡ slice_get (map LayInput numbers.now) k }
 {
@@ -93,7 +94,7 @@ fn number_at<'a>(numbers: &[i64], k: u32) -> Option<MicroStep<'a>>
     }
 }
 
-// The micro-steps of an op's kind; of an exec the commands of its script.
+// Returns the micro-steps of an op's kind; for an exec the commands of its script.
 fn steps_of(alloc: Global, kind: &Option<Kind>, script: &Option<Script>) -> Result<Steps, NoMemory>
     ensures { IfOk result (λ s. steps_in s ≡ steps_of kind.now script.now) }
 {
@@ -112,7 +113,7 @@ fn steps_of(alloc: Global, kind: &Option<Kind>, script: &Option<Script>) -> Resu
     }
 }
 
-// The commands of a script that run so.
+// Returns the commands of a script as micro-steps that run in this setting.
 fn commands(setting: Setting, script: &Option<Script>) -> Result<Steps, NoMemory>
     ensures { IfOk result (λ s. steps_in s ≡ runs_of setting (unwrap_or script.now [])) }
 {
@@ -122,7 +123,6 @@ fn commands(setting: Setting, script: &Option<Script>) -> Result<Steps, NoMemory
     }
 }
 
-// The numbers of a merge's inputs.
 fn numbers_of(alloc: Global, inputs: &[MergeInput]) -> Result<Vec<i64>, NoMemory>
     ensures { IfOk result (λ v. v.items ≡ map (λ (i : merge_input.MergeInput). i.input) inputs.now) }
 {
@@ -133,7 +133,6 @@ fn numbers_of(alloc: Global, inputs: &[MergeInput]) -> Result<Vec<i64>, NoMemory
     Ok(numbers)
 }
 
-// The output numbers of mounts.
 fn output_numbers_of(alloc: Global, mounts: &[Mount]) -> Result<Vec<i64>, NoMemory>
     ensures { IfOk result (λ v. v.items ≡ mount_outputs mounts.now) }
 {

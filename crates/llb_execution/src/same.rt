@@ -1,5 +1,5 @@
-//! Whether two workspaces are the same by value, and whether a program is that of a vertex. Nothing here allocates: the vertex's own
-//! program is not made, but each part of the one at hand is compared with what the vertex says.
+//! Whether two workspaces are the same by value, and whether a program is that of a vertex. Nothing here allocates: the
+//! vertex's own program is not made, but each part of the given one is compared with what the vertex says.
 
 ghost use Rattle.std.specs.Prelude.{◌≡◌, ◌↔◌, IsTrue, [], ◌∷◌, map};
 ghost use Rattle.llb_loader.specs.Rules.{mount_outputs};
@@ -22,7 +22,7 @@ impl Same for Workspace {
     }
 }
 
-// Whether two workspaces own the same.
+// Returns whether two workspaces own the same data.
 fn same_own(own: &Own, other: &Own) -> bool
     ensures { IsTrue result ↔ (own_of own.now ≡ own_of other.now) }
 {
@@ -53,7 +53,7 @@ impl Program {
     }
 }
 
-// Whether these are the output numbers of the mounts.
+// Returns whether these are the output numbers of the mounts.
 fn are_outputs(numbers: &[i64], mounts: &[Mount]) -> bool
     ensures { IsTrue result ↔ (numbers.now ≡ mount_outputs mounts.now) }
 {
@@ -68,7 +68,7 @@ fn are_outputs(numbers: &[i64], mounts: &[Mount]) -> bool
     true
 }
 
-// Whether these are the numbers of a merge's inputs.
+// Returns whether these are the numbers of a merge's inputs.
 fn are_inputs(numbers: &[i64], inputs: &[MergeInput]) -> bool
     ensures { IsTrue result ↔ (numbers.now ≡ map (λ (i : merge_input.MergeInput). i.input) inputs.now) }
 {
@@ -83,7 +83,7 @@ fn are_inputs(numbers: &[i64], inputs: &[MergeInput]) -> bool
     true
 }
 
-// Whether these are the micro-steps of an op's kind; those of an exec are the commands of its script.
+// Returns whether these are the micro-steps of an op's kind; those of an exec are the commands of its script.
 fn are_steps(steps: &Steps, kind: &Option<Kind>, script: &Option<Script>) -> bool
     ensures { IsTrue result ↔ (steps_in steps.now ≡ steps_of kind.now script.now) }
 {
@@ -96,7 +96,7 @@ fn are_steps(steps: &Steps, kind: &Option<Kind>, script: &Option<Script>) -> boo
     }
 }
 
-// Whether there are no micro-steps.
+// Returns whether there are no micro-steps.
 fn are_none(steps: &Steps) -> bool
     ensures { IsTrue result ↔ (steps_in steps.now ≡ []) }
 {
@@ -109,7 +109,7 @@ fn are_none(steps: &Steps) -> bool
     }
 }
 
-// Whether the one micro-step is the read of a source.
+// Returns whether the one micro-step is the read of a source.
 fn are_reads(steps: &Steps) -> bool
     ensures { IsTrue result ↔ (steps_in steps.now ≡ ReadLocal ∷ []) }
 {
@@ -122,7 +122,7 @@ fn are_reads(steps: &Steps) -> bool
     }
 }
 
-// Whether the micro-steps are these actions.
+// Returns whether the micro-steps are these actions.
 fn are_actions(steps: &Steps, actions: &[Action]) -> bool
     ensures { IsTrue result ↔ (steps_in steps.now ≡ map Act actions.now) }
 {
@@ -138,7 +138,7 @@ fn are_actions(steps: &Steps, actions: &[Action]) -> bool
     }
 }
 
-// Whether the micro-steps are the layings of these inputs.
+// Returns whether the micro-steps are the layings of these inputs.
 fn are_layings(steps: &Steps, inputs: &[MergeInput]) -> bool
     ensures { IsTrue result ↔ (steps_in steps.now ≡ map (λ (i : merge_input.MergeInput). LayInput i.input) inputs.now) }
 {
@@ -154,7 +154,7 @@ fn are_layings(steps: &Steps, inputs: &[MergeInput]) -> bool
     }
 }
 
-// Whether the micro-steps are these commands, run where an exec of that meta runs them.
+// Returns whether the micro-steps are these commands, run where an exec of that meta runs them.
 fn are_runs(steps: &Steps, meta: &Option<Meta>, commands: &[Joined]) -> bool
     ensures { IsTrue result ↔ (steps_in steps.now ≡ runs_of (setting_of meta.now) commands.now) }
 {
@@ -172,7 +172,7 @@ fn are_runs(steps: &Steps, meta: &Option<Meta>, commands: &[Joined]) -> bool
     }
 }
 
-// Whether commands of that meta run in this setting.
+// Returns whether commands of that meta run in this setting.
 fn is_setting(setting: &Setting, meta: &Option<Meta>) -> bool
     ensures { IsTrue result ↔ (setting.now ≡ setting_of meta.now) }
 {
@@ -182,7 +182,7 @@ fn is_setting(setting: &Setting, meta: &Option<Meta>) -> bool
     }
 }
 
-// Whether this is the path that a text reads as, the root where it reads as none.
+// Returns whether this is the path that a text reads as, or the root if the text reads as none.
 fn is_path(path: &Path, text: &Text) -> bool
     ensures { IsTrue result ↔ (path.now ≡ path_in text.now) }
 {

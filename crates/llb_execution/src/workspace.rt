@@ -70,8 +70,8 @@ impl Model for Workspace {
 }
 
 impl Workspace {
-    /// Makes the workspace before the first micro-step of a vertex: on the trees of its inputs, with the numbers of the mounts that show caches, in
-    /// the order of the needs. Fails with `Memory` alone.
+    /// Makes the workspace before the first micro-step of a vertex: on the trees of its inputs, with the numbers of the
+    /// mounts that show caches, in the order of the needs. Fails with 5 `Memory` alone.
     pub fn on(
         alloc: Global,
         locals: &Locals,
@@ -87,7 +87,7 @@ impl Workspace {
         Ok(Workspace { own })
     }
 
-    /// Returns an equal second owner, whose trees are shared. Fails with `Memory` alone.
+    /// Copies the workspace, which shares its trees. Fails with 5 `Memory` alone.
     pub fn copy(&self) -> Result<Workspace, Memory>
         ensures { IfOk result (λ v. v ≡ self.now) }
     {
@@ -115,10 +115,10 @@ impl Workspace {
         }
     }
 
-    /// Does micro-step k; that number is in its fault. The trees are those of the instances of the caches that the workspace shows,
-    /// in the order of the needs, and a command leaves them as it changes them. Returns the fault, where there is one, and
-    /// then the workspace and the trees are as they were but for the last status. Fails with `Memory` alone; then they
-    /// are as they were.
+    /// Does micro-step k; that number is in its fault. The trees are those of the instances of the caches that the
+    /// workspace shows, in the order of the needs, and a command leaves them as it changes them. Returns the fault, if
+    /// there is one, and then the workspace and the trees are as they were except for the last status. Fails with 5
+    /// `Memory` alone; then they are as they were.
     pub fn step(
         &mut self,
         alloc: Global,
@@ -156,8 +156,8 @@ impl Workspace {
         }
     }
 
-    /// Returns the outputs of what all micro-steps of the vertex left, each in the place of an empty tree that was made for it
-    /// (`empty_trees`). Does not allocate.
+    /// Returns the outputs of what all micro-steps of the vertex left, each in place of an empty tree that was made for
+    /// it (`empty_trees`). Does not allocate.
     pub fn into_outputs(self, outputs: Vec<Tree>, vertex: &Vertex) -> Vec<Tree>
         requires { outputs.items ≡ replicate vertex.now.outputs empty_tree }
         ensures { result.items ≡ outputs_of (program_of vertex.now) self }
@@ -166,7 +166,7 @@ impl Workspace {
         outputs_of(own, outputs, vertex)
     }
 
-    // Puts in what action k returned: its tree as one result more, or else its fault.
+    // Adds the tree that action k returned to the results, or else returns its fault.
     fn put_result(
         &mut self,
         k: u32,
@@ -186,7 +186,7 @@ impl Workspace {
         }
     }
 
-    // The tree with that number, which an action can begin with; `None` means the empty tree.
+    // Returns the tree with that number, which an action can begin with; `None` means the empty tree.
     fn tree(&self, number: i64) -> Option<&Tree>
         ensures { unwrap_or (option_map (λ t. t.now) result) empty_tree ≡ base_in number (trees_in self.now) }
     {
@@ -207,7 +207,7 @@ impl Workspace {
         }
     }
 
-    // One result more of a file op.
+    // Appends a result of a file op.
     fn push(&mut self, tree: Tree) -> Result<(), NoMemory>
         ensures ok { OnOk result (self.new ≡ with_tree self.old tree) }
         ensures err { OnErr result (self.new ≡ self.old) }
@@ -217,24 +217,24 @@ impl Workspace {
                 results.push(tree)?;
                 Ok(())
             }
-            // Unreachable.
+            // No vertex's program gets here: only a file op has actions.
             _ => Ok(()),
         }
     }
 
-    // A merge's input is laid over those before it.
+    // Lays a merge's input over those before it.
     fn lay(&mut self, alloc: Global, input: i64) -> Result<(), NoMemory>
         ensures ok { OnOk result (self.new ≡ lay_on input self.old) }
         ensures err { OnErr result (self.new ≡ self.old) }
     {
         match &mut self.own {
             Own::Layers(inputs, laid) => lay_input(alloc, laid, inputs, input),
-            // Unreachable.
+            // No vertex's program gets here: only a merge has layings.
             _ => Ok(()),
         }
     }
 
-    // The first results of a file op, by their count.
+    // Keeps the first results of a file op, `count` of them.
     pub(crate) fn keep_results(&mut self, count: usize)
         ensures { self.new ≡ put_back (Results count) self.old }
     {
@@ -244,7 +244,7 @@ impl Workspace {
         }
     }
 
-    // What was laid of a merge.
+    // Replaces what is laid so far of a merge.
     pub(crate) fn put_laid(&mut self, tree: Tree)
         ensures { self.new ≡ put_back (Laid tree) self.old }
     {
@@ -254,7 +254,7 @@ impl Workspace {
         }
     }
 
-    // The mounts of an exec, and its last status.
+    // Replaces the mounts of an exec, and its last status.
     pub(crate) fn put_mounts(&mut self, mounts: Mounts, last: u32)
         ensures { self.new ≡ put_back (marks.Mounts mounts last) self.old }
     {
@@ -267,8 +267,8 @@ impl Workspace {
         }
     }
 
-    // Command k runs on an exec's mounts, of which those that show caches have these trees meanwhile; or it is skipped, by its join
-    // and the last status. Returns its fault: its status, where no later command may run.
+    // Runs command k on an exec's mounts, of which those that show caches have these trees meanwhile; or skips it, by
+    // its join and the last status. Returns its fault: a status other than 0, if no later command may run.
     fn run(
         &mut self,
         k: u32,
@@ -294,13 +294,13 @@ impl Workspace {
                 *last = status;
                 Ok(exit_of(k, status, later))
             }
-            // Unreachable.
+            // No vertex's program gets here: only an exec has commands.
             _ => Ok(None),
         }
     }
 }
 
-// A second owner of all that a workspace has.
+// Copies all that a workspace has; the trees are shared.
 fn copy_of(own: &Own) -> Result<Own, NoMemory>
     ensures { IfOk result (λ o. own_of o ≡ own_of own.now) }
 {
@@ -320,7 +320,7 @@ fn copy_of(own: &Own) -> Result<Own, NoMemory>
     }
 }
 
-// Second owners of trees.
+// Copies trees, which stay shared.
 pub(crate) fn tree_copies(alloc: Global, trees: &[Tree]) -> Result<Vec<Tree>, NoMemory>
     ensures { IfOk result (λ v. v.items ≡ trees.now) }
 {
@@ -331,7 +331,7 @@ pub(crate) fn tree_copies(alloc: Global, trees: &[Tree]) -> Result<Vec<Tree>, No
     Ok(copies)
 }
 
-// What a vertex's program begins on.
+// Makes what a vertex's program begins on.
 fn own_on(
     alloc: Global,
     locals: &Locals,
@@ -354,7 +354,7 @@ fn own_on(
     }
 }
 
-// A copy of the local tree of a source.
+// Copies the local tree of a source; returns the empty tree if none is given.
 fn local_tree(alloc: Global, locals: &Locals, vertex: &Vertex) -> Result<Tree, NoMemory>
     ensures { IfOk result (λ t. t ≡ local_tree locals.now vertex.now) }
 {
@@ -365,14 +365,13 @@ fn local_tree(alloc: Global, locals: &Locals, vertex: &Vertex) -> Result<Tree, N
     }
 }
 
-// An empty tree.
 fn empty(alloc: Global) -> Result<Tree, NoMemory>
     ensures { IfOk result (λ t. t ≡ empty_tree) }
 {
     Ok(Tree::empty(alloc)?)
 }
 
-// The number of an action's fault.
+// Returns the number of an action's fault; for 51 `File` that of the tree's fault.
 fn number(fault: ActFault) -> u32
     ensures { result ≡ fault_number fault }
 {
@@ -383,7 +382,7 @@ fn number(fault: ActFault) -> u32
     }
 }
 
-// The number of a tree's fault.
+// Returns the number of a tree's fault.
 fn tree_number(fault: TreeFault) -> u32
     ensures { result ≡ tree_fault_number fault }
 {
@@ -410,7 +409,7 @@ fn lay_input(alloc: Global, laid: &mut Tree, inputs: &[Tree], input: i64) -> Res
     Ok(())
 }
 
-// Whether a command that is joined so runs after a last status.
+// Returns whether a command with this join runs after a last status.
 fn runs_after(join: Join, last: u32) -> bool
     ensures { result ≡ is_run join last }
 {
@@ -430,7 +429,7 @@ fn is_and(join: Join) -> bool
     }
 }
 
-// Whether each of these commands is joined by `&&`.
+// Returns whether each of these commands is joined by `&&`.
 fn are_ands(commands: &[Joined]) -> bool
     ensures { result ≡ all_and commands.now }
 {
@@ -442,8 +441,8 @@ fn are_ands(commands: &[Joined]) -> bool
     true
 }
 
-// The fault of a command that ended with a status other than 0, where no later one may run. Those after it are looked at only then:
-// all that this passes over are skipped, so that a whole script costs no more than its length.
+// Returns the fault of a command that ended with a status other than 0, if no later one may run. Looks at the later
+// ones only then: all that it passes over are skipped, so that a whole script costs no more than its length.
 fn exit_of(command: u32, status: u32, later: &[Joined]) -> Option<VertexFault>
     ensures { result ≡ exit_of command (all_and later.now) status }
 {

@@ -18,7 +18,7 @@ is_memory BadPattern = false
 abbrev pub Gives : {X Y : Type 0} → (X → Y) → Result X ActFault → Result Y ActFault → Type 0
 Gives = answer.Gives is_memory
 
--- `Memory` comes last: a call fails with it only where the rule has no fault
+-- `Memory` comes last: a call fails with it only if the rule has no fault
 abbrev pub MemoryLast : {X Y : Type 0} → Result X ActFault → Result Y ActFault → Type 0
 MemoryLast = answer.MemoryLast is_memory
 

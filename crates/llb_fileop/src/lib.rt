@@ -1,5 +1,16 @@
-//! File actions: making a file or a directory, removing and copying. Each returns the tree after the action, or the first fault. An action
-//! works on a copy of the tree that it is given. Nothing here knows about a graph.
+//! File actions: making a file or a directory, removing, and copying. It is built on `llb_glob` and `llb_ops`, and knows no graph.
+//!
+//! Types: `ActFault` (51 with the fault of a tree, 52 a bad pattern, 53 `Memory`).
+//! Promise: `act` returns exactly the tree after the action, by definitions by cases, or the first fault; the base is borrowed, so it stays as
+//! it was. Law: `copies_one` says where each entry of a copied source is.
+//!
+//! A caller:
+//!
+//!     let after = match act(alloc, action, base, None) {
+//!         Ok(tree) => tree,
+//!         Err(_) => return None,
+//!     };
+//!     Some(after.same(base))
 #![tactic(auto)]
 
 mod action;

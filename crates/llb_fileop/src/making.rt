@@ -9,7 +9,8 @@ use llb_ops::{MkDir, MkFile};
 use llb_tree::{Entry, Meta, Path, Tree, TreeFault};
 use std::alloc::Global;
 
-/// Returns the tree with a new file, which replaces a file that is there.
+/// Returns the tree with a new file, which replaces a file that is there. Fails as `Tree::put_file` does, or with 26
+/// `BadName` if the text is no path.
 pub fn mkfile(alloc: Global, make: &MkFile, base: &Tree) -> Result<Tree, TreeFault>
     ensures { Gives (λ t. t) result (mkfile make.now base.now) }
 {
@@ -21,7 +22,8 @@ pub fn mkfile(alloc: Global, make: &MkFile, base: &Tree) -> Result<Tree, TreeFau
     Ok(tree)
 }
 
-/// Returns the tree with a directory, which is made if it is not there.
+/// Returns the tree with a directory, which is made if it is not there. Fails as `Tree::put_dir` does, or with 26
+/// `BadName` if the text is no path.
 pub fn mkdir(alloc: Global, make: &MkDir, base: &Tree) -> Result<Tree, TreeFault>
     ensures { Gives (λ t. t) result (mkdir make.now base.now) }
 {
@@ -51,7 +53,8 @@ fn make_dir(
     tree.put_dir(path, meta)
 }
 
-/// Makes the missing parents of a path.
+/// Makes the missing parents of a path. Fails with 22 `NotDir` at the first parent that is a file, or with 27 `Memory`;
+/// then some parents may be made.
 pub fn make_parents(
     alloc: Global,
     tree: &mut Tree,

@@ -1,5 +1,5 @@
-//! Puts what is copied into a tree: a file at its place, and a directory with what is below it, merged with what is there. The merged part
-//! is what is there with the directory laid over it; it replaces what was there.
+//! Puts what is copied into a tree: a file at its path, and a directory with what is below it, merged with what is
+//! there. The merged part is what is there with the directory laid over it; it replaces what was there.
 
 ghost use Rattle.std.specs.Prelude.{◌≡◌, ◌≤◌, [], length, false, Ok, None, Some, IsSome, map, IfErr};
 ghost use Rattle.std.specs.FinMap as finite;
@@ -15,7 +15,8 @@ use llb_ops::CopyFile;
 use llb_tree::{Content, Entry, Path, Tree, TreeFault};
 use std::alloc::Global;
 
-/// Puts a copy of a file at its target.
+/// Puts a copy of a file at its target. Fails with 24 `Conflict` if a directory is there, else as `Tree::put_content`
+/// does.
 pub fn land_file(
     action: &CopyFile,
     second: &Tree,
@@ -35,7 +36,9 @@ pub fn land_file(
     copy_from(action, second, source, goal, tree)
 }
 
-/// Puts a copy of a directory, with what is below it, at its target. The directory is given as a tree of its own, of which it is the root.
+/// Puts a copy of a directory, with what is below it, at its target. The directory is given as a tree of its own, of
+/// which it is the root. Fails with 24 `Conflict` if a file meets a directory, else as `Tree::put_dir` and
+/// `Tree::graft` do.
 pub fn land_dir(
     alloc: Global,
     action: &CopyFile,

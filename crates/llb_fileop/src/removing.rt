@@ -10,7 +10,8 @@ use llb_ops::Rm;
 use llb_tree::{Path, Tree, TreeFault};
 use std::alloc::Global;
 
-/// Returns the tree without a path, or without all paths that match a pattern.
+/// Returns the tree without a path, or without all paths that match a pattern. Fails with 51 `File` and the tree's
+/// fault, with 52 `BadPattern`, or with 53 `Memory`.
 pub fn rm(alloc: Global, remove: &Rm, base: &Tree) -> Result<Tree, ActFault>
     ensures { Gives (λ t. t) result (rm remove.now base.now) }
 {
@@ -24,7 +25,8 @@ pub fn rm(alloc: Global, remove: &Rm, base: &Tree) -> Result<Tree, ActFault>
     Ok(tree)
 }
 
-// Returns the tree without what is at or below a path, which may not be the root.
+// Returns the tree without what is at and below a path. Fails with 25 `Root` at the root, with 21 `NotFound` if nothing
+// is there and that is not allowed.
 fn rm_path(path: &Path, allowed: bool, base: &Tree) -> Result<Tree, TreeFault>
     ensures { tree.Gives (λ t. t) result (rm_path allowed base.now path.now) }
 {

@@ -8,12 +8,12 @@ use Rattle.llb_glob.specs.ClassValue.{ClassValue}
 abbrev pub IsInSpan : Span → ℕ → Type 0
 IsInSpan span c = (span.low ≤ c) × (c ≤ span.high)
 
--- a character is in at least one of the items, so in none where there are no items
+-- a character is in at least one of the items, so in none if there are no items
 abbrev pub IsInSome : List Span → ℕ → Type 0
 IsInSome [] c = ⊥
 IsInSome (span ∷ spans) c = IsInSpan span c ⊎ IsInSome spans c
 
--- a statement, or that it does not hold if a class excludes
+-- a statement or, for a class that excludes, its negation
 abbrev pub Excluding : Bool → Type 0 → Type 0
 Excluding false P = P
 Excluding true P = ¬ P
@@ -45,7 +45,7 @@ none_yet = record { excludes = false; spans = [] }
 abbrev pub one_alone : ℕ → Span
 one_alone c = record { low = c; high = c }
 
--- the spans, of which the last one gets another high end
+-- the spans, with another high end for the last one
 abbrev pub extended : List Span → ℕ → List Span
 extended [] high = []
 extended (span ∷ []) high = record span { high = high } ∷ []

@@ -25,7 +25,7 @@ at stage = record { stage = stage; quotes = false }
 abbrev pub start : Cursor
 start = at Outside
 
--- what a character does that means itself: it is an item of the part, an item of the class at hand, or the high end of a range
+-- what a character does that means itself: it is an item of the part, an item of the current class, or the high end of a range
 abbrev pub literal : Stage → ℕ → Cursor × Effect
 literal Outside c = (at Outside, Whole (One (Only c)))
 literal Opened c = (at Single, Add c)
@@ -92,7 +92,7 @@ item_by (Add c) class = None
 item_by (Extend c) class = None
 item_by Close class = Some (One (In class))
 
--- the class at hand after an effect; after a class is closed, that is an empty one
+-- the current class after an effect; after a class is closed, that is an empty one
 abbrev pub class_by : Effect → ClassValue → ClassValue
 class_by Nothing class = class
 class_by (Whole item) class = class
@@ -123,7 +123,7 @@ abbrev pub ended : Bool → Result (List Item) PatternFault
 ended true = Ok []
 ended false = Err BadPattern
 
--- the items that characters are read as, from the reader's cursor on, with the class at hand
+-- the items that characters are read as, from the reader's cursor on, with the current class
 abbrev pub items_from : List ℕ → Cursor → ClassValue → Result (List Item) PatternFault
 items_from [] cursor class = ended (is_whole cursor)
 items_from (c ∷ cs) cursor class =

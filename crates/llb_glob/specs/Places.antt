@@ -1,16 +1,16 @@
--- A set of places of a name while it is matched, as a flag for each place.
+-- A set of positions of a name while it is matched, as a flag for each position.
 use Rattle.std.specs.Prelude.{◌≡◌, ◌↔◌, ℕ, ◌≤◌, Bool, true, false, List, length, drop, slice_index_or}
 use Rattle.llb_glob.specs.declared.item.Item.{Item}
 use Rattle.llb_glob.specs.Matching.{MatchesName}
 
--- a place is in the set
+-- a position is in the set
 abbrev pub IsIn : List Bool → ℕ → Type 0
 IsIn places i = slice_index_or places i false ≡ true
 
--- a place of the set is here or further right
+-- a position of the set is here or further right
 abbrev pub Reaches : List Bool → ℕ → ℕ → Type 0
 Reaches places last i = (j : ℕ) × (i ≤ j) × (j ≤ last) × IsIn places j
 
--- a place is in the set exactly if the items match the rest of the name from there
+-- a position is in the set exactly if the items match the rest of the name from there
 pub record AreStarts (items : List Item) (name : List ℕ) (places : List Bool) : Type 0 where
   pub at : (i : ℕ) → i ≤ length name → IsIn places i ↔ MatchesName items (drop i name)

@@ -9,7 +9,7 @@ use Rattle.llb_glob.specs.declared.item.Item.TheVariants.{Run, One}
 use Rattle.llb_glob.specs.declared.item.Letter.TheVariants.{Any, Only, In}
 use Rattle.llb_glob.specs.ClassValue.{ClassValue}
 
--- a text that is one thing and then another one
+-- a text that splits into a text with one property and, after it, one with another
 abbrev pub Then : (List ℕ → Type 0) → (List ℕ → Type 0) → List ℕ → Type 0
 Then First Rest text = (front : List ℕ) × (rest : List ℕ) × (text ≡ front ++ rest) × First front × Rest rest
 
@@ -29,7 +29,7 @@ abbrev pub SpellsSpan : Span → List ℕ → Type 0
 SpellsSpan span text = (SpellsLetter span.low text × (span.high ≡ span.low))
     ⊎ ((low : List ℕ) × (high : List ℕ) × (text ≡ low ++ 45 ∷ high) × SpellsLetter span.low low × SpellsLetter span.high high)
 
--- the items of a class, one after the other; the empty text where there are no items
+-- the items of a class, one after the other; the empty text if there are no items
 abbrev pub SpellsSpans : List Span → List ℕ → Type 0
 SpellsSpans [] text = text ≡ []
 SpellsSpans (span ∷ spans) text = Then (SpellsSpan span) (λ rest. SpellsSpans spans rest) text
@@ -56,14 +56,14 @@ SpellsItem (One Any) text = text ≡ 63 ∷ []
 SpellsItem (One (Only c)) text = ((text ≡ c ∷ []) × IsPlain c) ⊎ (text ≡ 92 ∷ c ∷ [])
 SpellsItem (One (In class)) text = SpellsClass class text
 
--- the items of a part, one after the other; the empty text where there are no items
+-- the items of a part, one after the other; the empty text if there are no items
 abbrev pub Spells : List Item → List ℕ → Type 0
 Spells [] text = text ≡ []
 Spells (item ∷ items) text = Then (SpellsItem item) (λ rest. Spells items rest) text
 
 -- ---- a pattern
 
--- there are as many names as parts, and each name spells the part at its place
+-- there are as many names as parts, and each name spells the part at its position
 abbrev pub SpellEach : List (List Item) → List (List ℕ) → Type 0
 SpellEach [] [] = Unit {0}
 SpellEach [] (name ∷ names) = ⊥

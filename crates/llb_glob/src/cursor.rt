@@ -7,7 +7,7 @@ ghost use Rattle.llb_glob.specs.Items.{at, start, literal, outside, inside, clos
 use crate::fault::PatternFault;
 use crate::item::{Item, Letter};
 
-/// Where the reader is.
+/// Where the reader is in a part.
 #[derive(Clone, Copy)]
 pub enum Stage {
     /// In no class.
@@ -38,13 +38,13 @@ pub enum Effect {
     Nothing,
     /// It completes an item of the part.
     Whole(Item),
-    /// It makes the class at hand exclude.
+    /// It makes the current class exclude.
     Exclude,
-    /// It is one more item of the class at hand.
+    /// It is one more item of the current class.
     Add(char),
-    /// It is the high end of the last item of the class at hand.
+    /// It is the high end of the last item of the current class.
     Extend(char),
-    /// It closes the class at hand.
+    /// It closes the current class.
     Close,
 }
 

@@ -1,6 +1,15 @@
-//! Patterns: which paths a text with `*`, `?`, classes and `\` matches. A pattern is read part by part, as a path is, and
-//! a path matches if it has as many names as parts, and each name matches the part at its place. It is built on `llb_tree`, of which it
-//! uses names and paths alone; nothing here knows an operation.
+//! Patterns: which paths a text with `*`, `?`, classes and `\` matches. It is built on `llb_tree`, of which it uses names and paths alone, and
+//! knows no operation.
+//!
+//! Types: `Pattern` (a list of parts), `Part` (a test of one name, by which `llb_tree` finds and removes paths), `PatternFault`.
+//! Promise: `reads_by_the_grammar` (`spelled`, `refused`, `one`) says that a text is read as the one pattern that it spells, or refused where
+//! it spells none. `Pattern::matches` (`relation`, `test`) holds exactly where the pattern and the path are related; it does not allocate.
+//!
+//! A caller:
+//!
+//!     let pattern = Pattern::read(alloc, "/*.[ch]").ok()?;
+//!     let path = Path::read(alloc, "/a.c").ok()?;
+//!     Some(pattern.matches(&path)) // true
 #![tactic(auto)]
 
 mod class;

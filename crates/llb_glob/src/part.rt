@@ -39,7 +39,7 @@ impl Model for Part {
 }
 
 impl Part {
-    // Reads a text as a part. Fails with 41 `BadPattern` where it spells none, with 42 `Memory`.
+    // Reads a text as a part. Fails with 41 `BadPattern` if it spells none, else with 42 `Memory`.
     pub(crate) fn read(alloc: Global, text: &str) -> Result<Part, PatternFault>
         requires { length text.now ≤ 255 }
         ensures { Gives (λ p. p) result (items_of (chars text.now)) }
@@ -82,7 +82,7 @@ impl NameTest for Part {
     }
 }
 
-/// A part while it is read: where the reader is, the whole items before it, and the class at hand.
+/// A part while it is read: where the reader is, the whole items before it, and the current class.
 #[derive(Drop)]
 pub struct Reading {
     cursor: Cursor,
@@ -93,7 +93,7 @@ pub struct Reading {
 impl Reading {
     ghost use Rattle.llb_glob.specs.Reading.{ahead, Reads};
 
-    // Takes the next character. Fails with 41 `BadPattern` or 42 `Memory`.
+    // Reads the next character. Fails with 41 `BadPattern` or 42 `Memory`.
     fn take(&mut self, alloc: Global, letter: char) -> Result<(), PatternFault>
         ensures { (rest : List ℕ) → Reads result (ahead self.old (letter ∷ rest)) (ahead self.new rest) }
     {

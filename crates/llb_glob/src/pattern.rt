@@ -1,5 +1,5 @@
 //! Patterns. A text is read as that of a path is, and then each part is cut into items. Reading first checks the text
-//! once without memory, so that a bad pattern is not mistaken for want of memory, and then makes the pattern.
+//! once without allocating, so that a bad pattern is not mistaken for want of memory, and then makes the pattern.
 
 ghost use Rattle.std.specs.Prelude.{◌≡◌, ◌↔◌, List, ℕ, [], is_ok, IsTrue};
 ghost use Rattle.llb_tree.specs.Path.{enter};
@@ -35,12 +35,13 @@ impl Model for Pattern {
 }
 
 impl Pattern {
-    /// Reads a text as a pattern: the text is split at `/`, empty parts and `.` are dropped, `..` removes the last
-    /// part and stops at the root, and each part that is left is cut into items: `*` matches any run of characters, `?` any one
-    /// character, `[..]` one that is in an item of the class, `[^..]` one that is in none, `\c` the character c, any other
-    /// character itself. An item of a class is a character or a range `lo-hi`. Fails with 41 `BadPattern` at a part that is no name or
-    /// is the 129th, also if a later `..` would remove it, and if a part that is left ends in a lone `\` or has a
-    /// class that is empty, not closed or misspelled. Fails with 42 `Memory` where there is no other fault.
+    /// Reads a text as a pattern: the text is split at `/`, empty parts and `.` are dropped, `..` removes the last part
+    /// and stops at the root, and each part that remains is cut into items: `*` matches any run of characters, `?` any
+    /// one character, `[..]` one that is in an item of the class, `[^..]` one that is in none, `\c` the character c,
+    /// any other character itself. An item of a class is a character or a range `lo-hi`. Fails with 41 `BadPattern` at
+    /// a part that is no name or is the 129th, also if a later `..` would remove it, and if a part that remains ends in
+    /// a lone `\` or has a class that is empty, not closed or misspelled. Fails with 42 `Memory` if there is no other
+    /// fault.
     pub fn read(alloc: Global, text: &str) -> Result<Pattern, PatternFault>
         ensures gives { Gives (λ p. p) result (pattern_of text.now) }
         ensures last { MemoryLast result (pattern_of text.now) }
@@ -64,7 +65,8 @@ impl Pattern {
         Ok(Pattern { parts })
     }
 
-    /// Returns whether a path matches: it has as many names as the pattern has parts, and each matches the part at its place.
+    /// Returns whether a path matches: it has as many names as the pattern has parts, and each name matches the part at
+    /// its index.
     pub fn matches(&self, path: &Path) -> bool
         ensures relation { IsTrue result ↔ Matches self.now path.now }
         ensures test { result ≡ path_matches self.now path.now }
@@ -72,7 +74,7 @@ impl Pattern {
         all_match(&self.parts, path.names())
     }
 
-    /// Returns the parts, from the root down. Each is a test of the name at its place.
+    /// Returns the parts, from the root down. Each is a test of the name at its index.
     pub fn parts(&self) -> &[Part]
         ensures { result.now ≡ self.now }
     {
@@ -87,7 +89,7 @@ impl Pattern {
     }
 }
 
-// Returns whether there are as many names as parts, and each matches the part at its place.
+// Returns whether there are as many names as parts, and each name matches the part at its index.
 fn all_match(parts: &[Part], names: &[Name]) -> bool
     ensures { IsTrue result ↔ Matches parts.now names.now }
 {
@@ -125,7 +127,7 @@ struct Walk {
 impl Walk {
     ghost use Rattle.llb_glob.specs.Walk.{Stands, Enters};
 
-    // Goes where a part of a text leads; returns false if it is no name or the 129th.
+    // Follows one part of a text; returns false if it is no name or the 129th.
     fn enter(&mut self, part: &str) -> bool
         ensures { (path : List (List ℕ)) → Stands path self.old → Enters (enter path part.now) result self.new }
     {

@@ -1,6 +1,6 @@
-//! Matching without backtracking. The items are taken from the last to the first; a flag for each place of the name, on the stack,
-//! says whether the items taken so far match the rest of the name from there.
-//! A name has at most 255 characters, so its places are 0 to 255. An item changes the set of places in one pass over the name.
+//! Matching without backtracking. The items are taken from the last to the first; a flag for each position of the name,
+//! on the stack, says whether the items taken so far match the rest of the name from there. A name has at most 255
+//! characters, so its positions are 0 to 255. An item changes the set of positions in one pass over the name.
 
 ghost use Rattle.std.specs.Prelude.{◌↔◌, ℕ, ◌+◌, ◌<◌, ◌≤◌, List, ◌∷◌, length, IsTrue, slice_index};
 ghost use Rattle.llb_glob.specs.Matching.{Takes, MatchesName};
@@ -8,8 +8,9 @@ ghost use Rattle.llb_glob.specs.Places.{IsIn, Reaches, AreStarts};
 
 use crate::item::{Item, Letter};
 
-/// Returns whether items match the characters of a name. It makes at most as many comparisons as the part has characters, times
-/// the places: an item is compared once at each place, and a class has at most as many items as characters. Does not allocate.
+/// Returns whether items match the characters of a name. It makes at most as many comparisons as the part has
+/// characters, times the positions: an item is compared once at each position, and a class has at most as many items as
+/// characters. Does not allocate.
 pub fn matches_letters(items: &[Item], name: &[char]) -> bool
     requires { length name.now ≤ 255 }
     ensures { IsTrue result ↔ MatchesName items.now name.now }
@@ -22,7 +23,7 @@ pub fn matches_letters(items: &[Item], name: &[char]) -> bool
     places[0]
 }
 
-// Sets the places from which the items match with one more item before them.
+// Sets the positions from which the items match with one more item before them.
 fn step_back(item: &Item, name: &[char], places: &mut [bool])
     requires { length name.now < length places.old }
     ensures { (rest : List Item) → AreStarts rest name.now places.old → AreStarts (item.now ∷ rest) name.now places.new }
@@ -33,7 +34,7 @@ fn step_back(item: &Item, name: &[char], places: &mut [bool])
     }
 }
 
-// Adds each place from which one of the set can be reached by going right.
+// Adds each position from which one of the set can be reached by going right.
 fn widen(last: usize, places: &mut [bool])
     requires { last < length places.old }
     ensures { (i : ℕ) → i ≤ last → IsIn places.new i ↔ Reaches places.old last i }
@@ -45,7 +46,7 @@ fn widen(last: usize, places: &mut [bool])
     }
 }
 
-// Keeps each place from which one of the set is reached by one character that the letter matches.
+// Keeps each position from which one of the set is reached by one character that the letter matches.
 fn narrow(letter: &Letter, name: &[char], places: &mut [bool])
     requires { length name.now < length places.old }
     ensures before { (i : ℕ) → i < length name.now

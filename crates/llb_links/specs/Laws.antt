@@ -186,7 +186,7 @@ all_done done edges = list_all (λ (e : Edge). done e.vertex) edges
 waiting : (done : ℕ → Bool) → List Edge → ℕ → Bool
 waiting done edges u = leads edges u && not (done u)
 
--- where all inputs are done, none is open
+-- if all inputs are done, no edge leads to an open one
 closed : (done : ℕ → Bool) (edges : List Edge) → all_done done edges ≡ true → (u : ℕ) → (leads edges u && not (done u)) ≡ false
 closed done [] all u = refl
 closed done (e ∷ es) all u =
@@ -196,7 +196,7 @@ closed done (e ∷ es) all u =
       | inr apart ↦ (λ i. (eq_no e.vertex u apart i || leads es u) && not (done u)) ∙ closed done es both.1 u
     ]
 
--- where one is not done, there is one that is open
+-- if an input is not done, an edge leads to an open one
 opened : (done : ℕ → Bool) (n : ℕ) (edges : List Edge) → All (λ (e : Edge). e.vertex < n) edges → all_done done edges ≡ false
     → (u : ℕ) × (u < n) × ((leads edges u && not (done u)) ≡ true)
 opened done n [] below none = absurd cc
@@ -211,7 +211,7 @@ opened done n (e ∷ es) below none = by_test (done e.vertex) refl none (λ rest
         let parts = and_parts (leads es found.0) (not (done found.0)) found.2 in
         (found.0, found.1, and_from (leads (e ∷ es) found.0) (not (done found.0)) (or_right (e.vertex == found.0) (leads es found.0) parts.0) parts.1)
 
--- a count is 0 exactly where all edges lead to vertices that are done
+-- a count is 0 exactly if all edges lead to vertices that are done
 pub counted_done : (vs : List Vertex) (done : ℕ → Bool) (x : Vertex) → All (λ (e : Edge). e.vertex < length vs) x.inputs
     → (open_inputs vs done x == 0) ≡ all_done done x.inputs
 counted_done vs done x below = by_test (all_done done x.inputs) refl

@@ -11,7 +11,7 @@ use Rattle.llb_loader.specs.declared.graph.Vertex.{Vertex}
 abbrev pub leads : List Edge → ℕ → Bool
 leads edges u = list_any (λ (e : Edge). e.vertex == u) edges
 
--- the numbers of the vertices that have an edge to another, where the first has this number
+-- the vertices that have an edge to vertex u, where the list of vertices begins with number k
 abbrev pub users_from : ℕ → ℕ → List Vertex → List ℕ
 users_from u k [] = []
 users_from u k (x ∷ xs) = if leads x.inputs u then k ∷ users_from u (k + 1) xs else users_from u (k + 1) xs

@@ -65,7 +65,7 @@ impl Links {
         })
     }
 
-    /// Returns a second owner of the lists of users, and a copy of the counts. Fails for want of memory alone.
+    /// Copies the links: the lists of users are shared, the counts are copied. Fails for want of memory alone.
     pub fn copy(&self, alloc: Global) -> Result<Links, AllocError>
         ensures { IfOk result (λ l. l ≡ self.now) }
     {
@@ -169,7 +169,7 @@ fn enter(users: &mut Vec<Vec<u32>>, v: u32, edges: &[Edge]) -> Result<u32, Alloc
     Ok(more)
 }
 
-// Appends the number to a list; returns how often it was put there.
+// Appends the number to a list, unless it is the last one there; returns how often it was appended.
 fn enter_once(list: &mut Vec<u32>, v: u32) -> Result<u32, AllocError>
     ensures again { (front : List ℕ) → list.old.items ≡ front ++ v ∷ [] → IfOk result (λ n. (list.new.items ≡ list.old.items) × (n ≡ 0)) }
     ensures fresh { All (λ x. x < v) list.old.items → IfOk result (λ n. (list.new.items ≡ list.old.items ++ v ∷ []) × (n ≡ 1)) }
@@ -181,7 +181,7 @@ fn enter_once(list: &mut Vec<u32>, v: u32) -> Result<u32, AllocError>
     Ok(1)
 }
 
-// One less for each time that its vertex is listed.
+// Decrements the count of each listed vertex, once for each time that it is listed.
 fn lower(counts: &mut [u32], users: &[u32])
     requires { All (λ x. x < length counts.old) users.now }
     ensures { AreLowered users.now counts.old counts.new }
@@ -191,7 +191,7 @@ fn lower(counts: &mut [u32], users: &[u32])
     }
 }
 
-// One more for each time that its vertex is listed.
+// Increments the count of each listed vertex, once for each time that it is listed.
 fn raise(counts: &mut [u32], users: &[u32])
     requires below { All (λ x. x < length counts.old) users.now }
     requires few { (x : ℕ) → get_or counts.old x 0 + length users.now < 2 ^ 32 }

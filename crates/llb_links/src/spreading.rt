@@ -1,4 +1,4 @@
-//! Marks that spread from a vertex to all that are after it.
+//! Marks that spread from a vertex to all that are downstream of it.
 
 ghost use Rattle.std.specs.Prelude.{◌≡◌, ◌<◌, ◌≤◌, ◌+◌, [], ◌∷◌, length, map, vec_capacity};
 ghost use Rattle.std.specs.List.{All};
@@ -27,7 +27,7 @@ pub(crate) fn spread(users: &[Vec<u32>], reached: &mut Vec<u32>, marks: &mut [bo
     reached.clear();
 }
 
-// Marks each of some vertices, and puts those that were not marked at the end of the reached ones.
+// Marks each of some vertices, and appends those that were not marked to the reached ones.
 fn visit(marks: &mut [bool], reached: &mut Vec<u32>, users: &[u32])
     requires below { All (λ x. x < length marks.old) users.now }
     requires room { unmarked marks.old + length reached.old.items ≤ vec_capacity reached.old }

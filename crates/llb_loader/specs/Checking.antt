@@ -36,7 +36,7 @@ mount_rules = rule.MountKind ∷ rule.MountInput ∷ rule.MountOutput ∷ []
 abbrev pub cache_rules : List Rule
 cache_rules = rule.NoCacheOpt ∷ rule.Sharing ∷ rule.CacheTwice ∷ []
 
--- the rule on the script that the words are
+-- the rule on the script of an exec
 abbrev pub script_rules : Option Meta → List Rule
 script_rules meta = rule.Script (script_fault meta) ∷ []
 

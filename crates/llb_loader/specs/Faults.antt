@@ -70,7 +70,7 @@ rule_name rule.CacheTwice = codes "CacheTwice"
 rule_name (rule.Script f) = codes "Script"
 rule_name rule.MergeInput = codes "MergeInput"
 
--- that of scripts is followed by the script's fault
+-- the name of the rule on scripts is followed by the script's fault
 abbrev pub rule_text : Rule → List ℕ
 rule_text (rule.Script f) = codes "Script " ++ script_text f
 rule_text r = rule_name r

@@ -149,7 +149,7 @@ pub record HasNoStart (p : Plan) (k i : ℕ) : Type 0 where
   pub row : k ≡ p.terminal
   pub input : i ≡ 0
 
--- the plan is refused: each refusal applies where those before it do not
+-- the plan is refused: each refusal applies only if those before it do not
 abbrev pub Refuses : Plan → LoadFault → Type 0
 Refuses p TooFew = AllSame p.rows
 Refuses p (Collision k) = (¬ AllSame p.rows) × Least (Collides p.rows) k

@@ -3,7 +3,7 @@ use Rattle.std.specs.Prelude.{ℕ, List, [], ◌∷◌, Option, Some, None, is_s
 use Rattle.llb_loader.specs.declared.graph.Vertex.{Vertex}
 use Rattle.llb_loader.specs.Locals.{Local, local_name, tree_of_local}
 
--- the name of a source, where it has no local tree
+-- the name of a source, if it has no local tree
 abbrev pub lacks : List Local → Option (List ℕ) → Option (List ℕ)
 lacks locals None = None
 lacks locals (Some name) = if is_some (tree_of_local locals name) then None else Some name

@@ -33,9 +33,9 @@ tmpfs = pos 4
 abbrev pub has_type : ℤ → Mount → Bool
 has_type t m = int_eq m.mount_type t
 
--- ---- values that some places of a list have
+-- ---- values that some positions of a list have
 
--- the value at a place of a list; none past the end
+-- the value at a position of a list; none past the end
 abbrev pub value_at : {X : Type 0} → List (Option X) → ℕ → Option X
 value_at values a = slice_index_or values a None
 
@@ -43,7 +43,7 @@ value_at values a = slice_index_or values a None
 abbrev pub Share : {X : Type 0} → Option X → Option X → Type 0
 Share {X} a b = (x : X) × (a ≡ Some x) × (b ≡ Some x)
 
--- no two places of a list have the same value
+-- no two positions of a list have the same value
 pub record AreApart {X : Type 0} (values : List (Option X)) : Type 0 where
   pub apart : (a b : ℕ) → a < b → ¬ Share (value_at values a) (value_at values b)
 

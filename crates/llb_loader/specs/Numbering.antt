@@ -14,7 +14,7 @@ pub record IsNext (g : List (List ℕ)) (start : ℕ) (done : List ℕ) (k : ℕ
   pub ready : IsReady g start done k
   pub least : (j : ℕ) → IsReady g start done j → k ≤ j
 
--- The list numbers the reached rows: each place has the least row that is ready after those before it, and no reached row is left out.
+-- The list numbers the reached rows: each position has the least row that is ready after those before it, and no reached row is left out.
 pub record IsNumbering (g : List (List ℕ)) (start : ℕ) (order : List ℕ) : Type 0 where
   pub each : (i : ℕ) → i < length order → IsNext g start (take i order) (slice_index order i)
   pub whole : (k : ℕ) → Reached g start k → Contains order k
@@ -27,7 +27,7 @@ GoesDown g start rank = (a b : ℕ) → Reached g start a → HasEdge g a b → 
 abbrev pub HasCycle : List (List ℕ) → ℕ → Type 0
 HasCycle g start = (rank : ℕ → ℕ) → ¬ GoesDown g start rank
 
--- the number of row k: its first place in the list, or the list's length if it is not there
+-- the number of row k: its first position in the list, or the list's length if it is not there
 abbrev pub rank_in : List ℕ → ℕ → ℕ
 rank_in [] k = 0
 rank_in (x ∷ xs) k = cond (x == k) 0 (suc (rank_in xs k))

@@ -31,7 +31,7 @@ pub record GoesToWaiting (g : List (List ℕ)) (done : List Bool) (w : Waiter) (
   pub below : b < length waiting
   pub pushed : next_waiting ≡ slice_set waiting b (slice_index_or waiting b [] ++ next ∷ [])
 
--- a waiter goes to what is ready or to those that wait
+-- a waiting row joins the ready rows, or waits for another input
 abbrev pub IsPlacing : List (List ℕ) → List Bool → Waiter → (ℕ → Bool) → (ℕ → Bool) → List (List Waiter) → List (List Waiter) → Type 0
 IsPlacing g done w ready next_ready waiting next_waiting =
     GoesToReady g done w ready next_ready waiting next_waiting

@@ -40,7 +40,7 @@ abbrev pub kind_actions : Option Kind → List Action
 kind_actions (Some (File f)) = f.actions
 kind_actions _ = []
 
--- the actions of an op; none where it is no file op
+-- the actions of an op; none if it is no file op
 abbrev pub actions_of : Op → List Action
 actions_of op = kind_actions op.kind
 
@@ -108,7 +108,7 @@ outputs_of actions = map (λ a. a.output) actions
 abbrev pub count_outputs : List ℤ → ℕ
 count_outputs outputs = count_by is_output outputs
 
--- the output number at a place; -1 past the end
+-- the output number at a position; -1 past the end
 abbrev pub output_at : List ℤ → ℕ → ℤ
 output_at outputs a = slice_index_or outputs a none
 

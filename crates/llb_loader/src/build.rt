@@ -81,7 +81,7 @@ fn vertex_of(
     })
 }
 
-// The script of an exec.
+// Reads the script of an exec; `None` for other kinds.
 fn script_in(alloc: Global, op: &Op) -> Result<Option<Script>, Memory>
     ensures { IfOk result (λ script. script ≡ script_in op.now) }
 {
@@ -103,7 +103,7 @@ fn commands_in(alloc: Global, meta: &Option<Meta>) -> Result<Option<Script>, Mem
     match read_script(alloc, meta.args.as_slice()) {
         Ok(script) => Ok(Some(script)),
         Err(ScriptFault::Memory) => Err(Memory),
-        // Unreachable in a graph.
+        // Unreachable in a graph: its rules refuse words that are no script.
         Err(_) => Ok(None),
     }
 }
@@ -128,7 +128,7 @@ fn edges_of(
     Ok(edges)
 }
 
-// The edge of an input that leads to the vertex of that number.
+// Returns the edge of an input, to the vertex of that number.
 fn edge(vertex: usize, input: &Input) -> Edge
     requires vertex { vertex < 65_536 }
     requires index { IsBelow 1_025 input.now.index }

@@ -41,7 +41,7 @@ pub(crate) fn key_of<'a>(inputs: &'a [Input], mount: &'a Mount) -> Option<Key<'a
     Some(Key { id, mode, seed })
 }
 
-// The input with whose output a new instance begins, none for -1.
+// Returns the input with whose output a new instance begins; `None` for -1.
 fn seed_in<'a>(inputs: &'a [Input], mount: &Mount) -> Option<&'a Input>
     ensures { seed_by (option_copied result) ≡ seed_of inputs.now mount.now.input }
 {
@@ -51,7 +51,7 @@ fn seed_in<'a>(inputs: &'a [Input], mount: &Mount) -> Option<&'a Input>
     inputs.get(mount.input as usize)
 }
 
-// By digest text, then by index.
+// Compares inputs by digest text, then by index.
 fn order_of(input: &Input, other: &Input) -> Ordering
     ensures { result ≡ option_cmp seed_cmp (seed_by (Some input.now)) (seed_by (Some other.now)) }
 {
@@ -59,7 +59,7 @@ fn order_of(input: &Input, other: &Input) -> Ordering
     digests.then(input.index.cmp(&other.index))
 }
 
-// No seed comes before every seed.
+// Compares seeds; no seed comes before every seed.
 fn order_of_seeds(seed: Option<&Input>, other: Option<&Input>) -> Ordering
     ensures { result ≡ option_cmp seed_cmp (seed_by (option_copied seed.entry)) (seed_by (option_copied other.entry)) }
 {

@@ -22,7 +22,7 @@ use llb_ops::{Input, Op};
 use std::alloc::{AllocError, Global};
 use std::collections::BTreeMap;
 
-/// Checks that each input of a marked row names a row.
+// Checks that each input of a marked row names a row. Fails with 86 `UnknownDigest` alone.
 pub(crate) fn check_names(
     rows: &[Row],
     index: &BTreeMap<&str, usize>,
@@ -49,7 +49,7 @@ pub(crate) fn check_names(
     Ok(())
 }
 
-// The first input that names no row.
+// Returns the index of the first input that names no row.
 fn first_unknown(
     rows: &[Row],
     index: &BTreeMap<&str, usize>,
@@ -67,7 +67,7 @@ fn first_unknown(
     None
 }
 
-/// Checks that no marked row has a feature that is not taken.
+// Checks that no marked row has a feature that is not supported. Fails with 88 `Unsupported` alone.
 pub(crate) fn check_features(ops: &[Op], seen: &[bool]) -> Result<(), LoadFault>
     requires len { length seen.now ≡ length ops.now }
     requires few { length ops.now ≤ 65_536 }
@@ -84,7 +84,7 @@ pub(crate) fn check_features(ops: &[Op], seen: &[bool]) -> Result<(), LoadFault>
     Ok(())
 }
 
-/// Checks that no marked row breaks a rule.
+// Checks that no marked row breaks a rule. Fails with 89 `Invalid`, or with 91 `Memory`.
 pub(crate) fn check_rules(alloc: Global, ops: &[Op], seen: &[bool]) -> Result<(), LoadFault>
     requires len { length seen.now ≡ length ops.now }
     requires few { length ops.now ≤ 65_536 }
@@ -114,7 +114,8 @@ pub(crate) fn counts_of(alloc: Global, ops: &[Op]) -> Result<Vec<usize>, AllocEr
     Ok(counts)
 }
 
-/// Checks that the inputs of the marked rows, and the terminal's first, have the indexes of outputs.
+// Checks that the inputs of the marked rows, and the terminal's first, have the indexes of outputs. Fails with 90
+// `BadIndex` alone.
 pub(crate) fn check_indexes(
     ops: &[Op],
     links: &[Vec<usize>],
@@ -144,7 +145,7 @@ pub(crate) fn check_indexes(
     Ok(())
 }
 
-// How many of the row's inputs are looked at.
+// Returns how many of the row's inputs are checked.
 fn asked_inputs(op: &Op, reached: bool, terminal: bool) -> usize
     ensures { result ≡ cond reached (length op.now.inputs) (cond terminal 1 0) }
 {
@@ -154,7 +155,7 @@ fn asked_inputs(op: &Op, reached: bool, terminal: bool) -> usize
     if terminal { 1 } else { 0 }
 }
 
-// The first of `asked` inputs whose index is that of no output.
+// Returns the first of `asked` inputs whose index is that of no output.
 fn first_bad(op: &Op, named: &[usize], counts: &[usize], asked: usize) -> Option<usize>
     requires named { asked ≤ length named.now }
     requires inputs { asked ≤ length op.now.inputs }

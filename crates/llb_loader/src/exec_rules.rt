@@ -148,7 +148,7 @@ fn are_mount_outputs(alloc: Global, mounts: &[Mount]) -> Result<bool, AllocError
     are_outputs(alloc, &outputs)
 }
 
-// Whether no mount of a type has an output.
+// Returns whether no mount of a type has an output.
 fn all_silent(mount_type: MountType, mounts: &[Mount]) -> bool
     ensures { IsTrue result ↔ All (λ m. m.mount_type ≡ number_of mount_type → m.output ≡ none) mounts.now }
 {
@@ -223,7 +223,7 @@ fn is_known(options: &Option<CacheOpt>) -> bool
     }
 }
 
-// The words are read where there are some.
+// Reads the words of an exec that has some, and returns the rule that they break if they are no script.
 fn broken_script(alloc: Global, exec: &ExecOp) -> Result<Option<Rule>, Memory>
     requires there { IsSome exec.now.meta }
     requires words { HasWord exec.now.meta }

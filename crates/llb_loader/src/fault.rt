@@ -81,7 +81,7 @@ impl fmt::Debug for LoadFault {
 
 impl error::Error for LoadFault {}
 
-/// What an op can have that is not taken; of several the first.
+/// A feature of an op that is not supported. If an op has several, the fault names the first of them.
 #[derive(Clone, Copy, Debug, PartialEq, Eq)]
 pub enum Feature {
     /// A diff op.
@@ -109,7 +109,7 @@ pub enum Feature {
 }
 
 impl Feature {
-    // The name that it prints.
+    // Returns the name that it prints.
     fn name(&self) -> &'static str
         ensures { result.now ≡ feature_text self.now }
     {
@@ -182,7 +182,7 @@ pub enum Rule {
 }
 
 impl Rule {
-    // What it prints, but for the fault of a script.
+    // Returns what it prints, without the fault of a script.
     fn name(&self) -> &'static str
         ensures { result.now ≡ rule_name self.now }
     {

@@ -1,4 +1,5 @@
-//! The features of an op that are not taken. Each test looks at the ops of one kind; the order of features is that of `features`.
+//! The features of an op that are not supported. Each test looks at the ops of one kind; the order of features is that
+//! of `features`.
 
 ghost use Rattle.std.specs.Prelude.{◌≡◌};
 ghost use Rattle.std.specs.List.{list_any, find};
@@ -15,7 +16,7 @@ use llb_ops::{
     UserOpt,
 };
 
-/// Returns the first feature of the op that is not taken.
+// Returns the first feature of the op that is not supported.
 pub(crate) fn first_feature(op: &Op) -> Option<Feature>
     ensures { result ≡ feature_of op.now }
 {

@@ -32,7 +32,7 @@ pub(crate) fn broken_in_file(
     Ok(None)
 }
 
-// Whether each action reads one of `count` inputs, the result of an action before it, or nothing.
+// Returns whether each action reads one of `count` inputs, the result of an action before it, or nothing.
 fn take_inputs(count: usize, actions: &[Action]) -> bool
     ensures { IsTrue result ↔ TakeInputs count actions.now }
 {

@@ -21,7 +21,7 @@ pub struct Edge {
 
 /// A row of the graph under its number.
 pub struct Vertex {
-    /// `sha256:` and 64 hexadecimal digits, where the row came with the entry's own digest.
+    /// `sha256:` and 64 hexadecimal digits, if the row came with the entry's own digest.
     pub digest: Text,
     pub op: Op,
     /// The commands of an exec; nothing else has a script.
@@ -49,7 +49,7 @@ impl Drop for Vertex {
 }
 
 impl Vertex {
-    /// Returns the name of a local source: what follows `local://`.
+    /// Returns the name of a local source, which follows `local://`; `None` if the op is no local source.
     pub fn local_name(&self) -> Option<&str>
         ensures { option_map (λ t. t.now) result ≡ local_name self.now.op }
     {
@@ -89,7 +89,7 @@ impl Model for Graph {
 }
 
 impl Graph {
-    // The graph of these vertices, with its result.
+    // Makes the graph of these vertices, with its result.
     pub(crate) fn of_parts(
         alloc: Global,
         vertices: Vec<Vertex>,
@@ -113,7 +113,7 @@ impl Graph {
         self.shared.as_slice()
     }
 
-    /// Returns an equal second owner, which shares the vertices. Fails with `Memory` (92) alone.
+    /// Copies the graph, which shares the vertices. Fails with 92 `Memory` alone.
     pub fn copy(&self) -> Result<Graph, Memory>
         ensures { IfOk result (λ g. g ≡ self.now) }
     {
@@ -124,7 +124,9 @@ impl Graph {
         })
     }
 
-    /// A law: what is true of every graph, for callers to cite.
+    /// Proves that every edge leads to an output of a lower vertex, and the result to an output of a vertex; that every
+    /// vertex is at or before the result, of a supported kind, and the only one with its digest; and that there are at
+    /// most 65,536 of them.
     pub fn is_graph(&self)
         ensures { IsGraph self.now }
     {

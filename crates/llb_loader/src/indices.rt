@@ -53,7 +53,7 @@ fn is_output(number: &i64) -> bool
     *number != -1
 }
 
-// The output as an index, where it is one below the count.
+// Returns the output as an index, if it is one below the count.
 fn output_below(count: usize, output: &i64) -> Option<usize>
     ensures { MatchOption result (¬ IsBelow count output.now) (λ k. (k < count) × (output.now ≡ pos k)) }
 {

@@ -7,27 +7,27 @@ ghost use Rattle.llb_loader.specs.Laws.{HasOneAnswer, HasOneAnswerIn};
 
 use crate::row::Row;
 
-/// A law: there is one numbering at most.
+/// Proves that there is at most one numbering.
 pub fn one_numbering(rows: &[Vec<usize>], start: usize, first: &[usize], second: &[usize])
     requires first { IsNumbering (lists rows.now) start first.now }
     requires second { IsNumbering (lists rows.now) start second.now }
     ensures { first.now ≡ second.now }
 {}
 
-/// A law: a numbering makes every edge go down.
+/// Proves that in a numbering every edge goes down.
 pub fn numbering_goes_down(rows: &[Vec<usize>], start: usize, order: &[usize])
     requires { IsNumbering (lists rows.now) start order.now }
     ensures { GoesDown (lists rows.now) start (rank_in order.now) }
 {}
 
-/// A law: rows have at most one result: one graph, or one refusal.
+/// Proves that rows have at most one result: one graph, or one refusal.
 pub fn one_answer(rows: &[Row])
     ensures { HasOneAnswer rows.now }
 {
     let _ = rows;
 }
 
-/// A law: a definition has at most one result.
+/// Proves that a definition has at most one result.
 pub fn one_answer_in(bytes: &[u8])
     ensures { HasOneAnswerIn bytes.now }
 {

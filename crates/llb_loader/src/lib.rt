@@ -1,4 +1,18 @@
-//! Entries are a numbered graph: rows are linked by their digests, checked, and numbered.
+//! A definition becomes a numbered graph: its entries are linked by their SHA-256 digests, checked, and numbered. It is built on `llb_applet`
+//! and `llb_ops`.
+//!
+//! Types: `Graph` (vertices by number, and the result), `Vertex`, `Edge`, `Row` (an entry and its digest text), `Locals` (trees by name),
+//! `LoadFault` (81 to 91).
+//! Promise: `load` (`graph`, `refused`) returns the one graph of the entries, or the first refusal in a stated order. `Graph::is_graph` recalls
+//! what is true of every graph: edges lead down to outputs that are there, vertices meet every rule, the result reaches all. Law:
+//! `one_answer_in`.
+//!
+//! A caller:
+//!
+//!     let graph = load(alloc, definition).ok()?;
+//!     let result = graph.result();
+//!     let vertex = graph.vertices().get(result.vertex as usize)?;
+//!     Some(vertex.steps)
 #![tactic(auto)]
 
 mod build;

@@ -34,9 +34,9 @@ struct Linked<'a> {
 
 /// Returns the graph of the rows. The last row given is the terminal; its first input is the result.
 ///
-/// Fails with the first fault, of the least row and its least input: `Entry` (82), `TooFew` (83), `Collision` (84),
-/// `NoResult` (85), `UnknownDigest` (86), `Cycle` (87), `Unsupported` (88), `Invalid` (89), `BadIndex` (90). Fails with `Memory` (91)
-/// where memory is refused.
+/// Fails with the first fault, of the least row and its least input: 82 `Entry`, 83 `TooFew`, 84 `Collision`, 85
+/// `NoResult`, 86 `UnknownDigest`, 87 `Cycle`, 88 `Unsupported`, 89 `Invalid`, 90 `BadIndex`. Fails with 91 `Memory` if
+/// memory is refused.
 pub fn link(alloc: Global, rows: &[Row]) -> Result<Graph, LoadFault>
     requires { length rows.now ≤ 65_536 }
     ensures graph { IfOk result (λ g. IsGraphOf rows.now g) }
@@ -51,7 +51,7 @@ pub fn link(alloc: Global, rows: &[Row]) -> Result<Graph, LoadFault>
     link_read(alloc, rows, index, terminal, ops)
 }
 
-// The rows are distinct enough and have their ops.
+// Links rows of which at least two are distinct and none collide, given their ops.
 fn link_read(
     alloc: Global,
     rows: &[Row],
@@ -90,7 +90,7 @@ fn link_read(
     link_named(alloc, linked, ops, &seen)
 }
 
-// The inputs of the reached rows name rows.
+// Links rows, given that the inputs of the reached ones name rows.
 fn link_named(
     alloc: Global,
     linked: Linked<'_>,
@@ -118,7 +118,7 @@ fn link_named(
     link_whole(alloc, linked, ops, &order)
 }
 
-// Nothing is refused any more.
+// Makes the graph, which only want of memory can refuse by now.
 fn link_whole(
     alloc: Global,
     linked: Linked<'_>,

@@ -16,7 +16,8 @@ use std::alloc::Global;
 
 /// Returns the graph of a definition's entries under their own digest texts.
 ///
-/// Fails with `Definition` (81) where the definition is not readable, else as `link` does. Fails with `Memory` (91) where memory is refused.
+/// Fails with 81 `Definition` if the definition is not readable, else as `link` does. Fails with 91 `Memory` if memory
+/// is refused.
 pub fn load(alloc: Global, bytes: &[u8]) -> Result<Graph, LoadFault>
     ensures graph { IfOk result (λ g. IsGraphIn bytes.now g) }
     ensures refused { IfErr result (λ e. is_memory e ≡ false → IsRefusalIn bytes.now e) }
@@ -25,7 +26,8 @@ pub fn load(alloc: Global, bytes: &[u8]) -> Result<Graph, LoadFault>
     linked(alloc, entries)
 }
 
-/// Returns what `load` returns, for bytes that are handed over: they are dropped once the entries are read.
+/// Loads a definition as `load` does, and takes its bytes over: they are dropped once the entries are read. Fails as
+/// `load` does.
 pub fn load_owned(alloc: Global, bytes: Vec<u8>) -> Result<Graph, LoadFault>
     ensures graph { IfOk result (λ g. IsGraphIn bytes.items g) }
     ensures refused { IfErr result (λ e. is_memory e ≡ false → IsRefusalIn bytes.items e) }
@@ -35,7 +37,7 @@ pub fn load_owned(alloc: Global, bytes: Vec<u8>) -> Result<Graph, LoadFault>
     linked(alloc, entries)
 }
 
-// The graph of entries under their digest texts.
+// Returns the graph of entries under their digest texts.
 fn linked(alloc: Global, entries: Entries) -> Result<Graph, LoadFault>
     requires { length entries ≤ 65_536 }
     ensures graph { IfOk result (λ g. IsGraphOf (rows_from entries) g) }
@@ -45,7 +47,7 @@ fn linked(alloc: Global, entries: Entries) -> Result<Graph, LoadFault>
     link(alloc, &rows)
 }
 
-// The entries under their digest texts.
+// Returns the entries as rows under their digest texts.
 fn rows_of(alloc: Global, entries: Entries) -> Result<Vec<Row>, Memory>
     ensures { IfOk result (λ rows. rows.items ≡ rows_from entries) }
 {

@@ -47,9 +47,9 @@ impl Locals {
         }
     }
 
-    /// Adds a tree under a name: in the place of the one that the name had, or else after all others.
+    /// Adds a tree under a name: it replaces the one that the name had, or else comes after all others.
     ///
-    /// Fails with `Memory` (92) alone.
+    /// Fails with 92 `Memory` alone; then the list is unchanged.
     #[tactic(auto, using(crate::proofs::Trees::locals_added, crate::proofs::Trees::last_given))]
     pub fn add(&mut self, name: Text, tree: Tree) -> Result<(), Memory>
         ensures ok { OnOk result (self.new ≡ with_local self.old name tree) }
@@ -60,14 +60,14 @@ impl Locals {
         Ok(())
     }
 
-    /// Returns the same names with second owners of their trees. Fails with `Memory` (92) alone.
+    /// Copies the names, and the trees, which stay shared. Fails with 92 `Memory` alone.
     pub fn copy(&self) -> Result<Locals, Memory>
         ensures { IfOk result (λ l. l ≡ self.now) }
     {
         copied(&self.trees)
     }
 
-    /// Returns the tree of a name.
+    /// Returns the tree of a name; `None` if the name has none.
     pub fn get(&self, name: &str) -> Option<&Tree>
         ensures { option_map (λ t. t.now) result ≡ tree_of_local self.now name.now }
     {
@@ -75,7 +75,7 @@ impl Locals {
     }
 }
 
-// The same names with second owners of their trees.
+// Copies the names, and the trees, which stay shared.
 fn copied(trees: &IndexMap<String, Tree>) -> Result<Locals, Memory>
     ensures { IfOk result (λ l. l ≡ locals_of trees.now.entries) }
 {
@@ -86,7 +86,7 @@ fn copied(trees: &IndexMap<String, Tree>) -> Result<Locals, Memory>
     Ok(copies)
 }
 
-// A second owner of the tree at an index, under its name.
+// Adds a copy of the tree at an index, under its name.
 fn copy_at(copies: &mut Locals, trees: &IndexMap<String, Tree>, i: usize) -> Result<(), Memory>
     ensures { OnOk result (IfSome (slice_get trees.now.entries i) (λ e. copies.new ≡ with_local copies.old (string_bytes e.0) e.1)) }
 {
@@ -105,7 +105,7 @@ impl Same for Locals {
     }
 }
 
-// Whether both have the same trees under the same names, in the same order.
+// Returns whether both have the same trees under the same names, in the same order.
 fn same_trees(trees: &IndexMap<String, Tree>, others: &IndexMap<String, Tree>) -> bool
     ensures { IsTrue result ↔ (locals_of trees.now.entries ≡ locals_of others.now.entries) }
 {
@@ -120,7 +120,7 @@ fn same_trees(trees: &IndexMap<String, Tree>, others: &IndexMap<String, Tree>) -
     true
 }
 
-// Whether both have the same tree under the same name at an index.
+// Returns whether both have the same tree under the same name at an index.
 #[tactic(auto, using(crate::proofs::Trees::local_at))]
 fn same_at(trees: &IndexMap<String, Tree>, others: &IndexMap<String, Tree>, i: usize) -> bool
     ensures { IsTrue result ↔ (slice_get (locals_of trees.now.entries) i ≡ slice_get (locals_of others.now.entries) i) }

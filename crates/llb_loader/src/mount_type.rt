@@ -45,7 +45,7 @@ impl MountType {
     }
 }
 
-/// Returns the mounts of a kind: those of an exec. Does not allocate.
+/// Returns the mounts of a kind: those of an exec, and none for other kinds. Does not allocate.
 pub fn mounts_of(kind: &Option<Kind>) -> &[Mount]
     ensures { result.now ≡ kind_mounts kind.now }
 {

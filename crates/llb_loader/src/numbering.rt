@@ -20,7 +20,7 @@ struct Waiter {
     checked: usize,
 }
 
-/// Returns the numbering of the rows that are reached from `start`, which are marked, or `None` where they have a cycle.
+// Returns the numbering of the rows that are reached from `start`, which are marked; `None` if they have a cycle.
 pub(crate) fn number(
     alloc: Global,
     rows: &[Vec<usize>],
@@ -63,7 +63,7 @@ pub(crate) fn number(
     }
 }
 
-// The first marked row that is not numbered.
+// Returns the first marked row that is not numbered.
 fn first_stuck(seen: &[bool], done: &[bool]) -> Option<usize>
     requires { length done.now ≡ length seen.now }
     ensures { MatchOption result ((k : ℕ) → IsMarked seen.now k → IsMarked done.now k) (λ k. IsMarked seen.now k × (slice_index_or done.now k false ≡ false)) }
@@ -78,7 +78,7 @@ fn first_stuck(seen: &[bool], done: &[bool]) -> Option<usize>
     None
 }
 
-// So many lists of no waiters.
+// Makes `count` empty lists of waiters.
 fn empty_lists(alloc: Global, count: usize) -> Result<Vec<Vec<Waiter>>, AllocError>
     ensures len { IfOk result (λ all. length all.items ≡ count) }
     ensures empty { IfOk result (λ all. (b : ℕ) → slice_index_or (lists all.items) b [] ≡ []) }
@@ -90,7 +90,7 @@ fn empty_lists(alloc: Global, count: usize) -> Result<Vec<Vec<Waiter>>, AllocErr
     Ok(all)
 }
 
-// The first input at or after `from` that is not numbered, or the number of inputs.
+// Returns the first input at or after `from` that is not numbered, or the number of inputs.
 fn first_open(named: &[usize], from: usize, done: &[bool]) -> usize
     requires from { from ≤ length named.now }
     requires range { All (λ b. b < length done.now) named.now }

@@ -10,7 +10,7 @@ use llb_wire::{Memory, Text};
 use std::alloc::Global;
 use std::collections::BTreeSet;
 
-// The path that a text reads as, if it reads as one.
+// Reads a text as a path; `None` if it reads as none.
 fn path_in(alloc: Global, text: &Text) -> Result<Option<Path>, Memory>
     ensures { IfOk result (λ path. path ≡ read_as text.now) }
 {
@@ -21,7 +21,7 @@ fn path_in(alloc: Global, text: &Text) -> Result<Option<Path>, Memory>
     }
 }
 
-/// Returns where each mount is, if its dest is a path.
+// Reads the dests of the mounts as paths; `None` for one that reads as none.
 pub(crate) fn dests_of(alloc: Global, mounts: &[Mount]) -> Result<Vec<Option<Path>>, Memory>
     ensures { IfOk result (λ dests. dests.items ≡ dests_of mounts.now) }
 {
@@ -32,7 +32,7 @@ pub(crate) fn dests_of(alloc: Global, mounts: &[Mount]) -> Result<Vec<Option<Pat
     Ok(dests)
 }
 
-/// Returns whether one of them is the root.
+// Returns whether one of the dests is the root.
 pub(crate) fn has_root(dests: &[Option<Path>]) -> bool
     ensures { IsTrue result ↔ Contains dests.now (Some []) }
 {
@@ -46,7 +46,7 @@ pub(crate) fn has_root(dests: &[Option<Path>]) -> bool
     false
 }
 
-/// Returns whether all of them are there.
+// Returns whether all dests are paths.
 pub(crate) fn all_there(dests: &[Option<Path>]) -> bool
     ensures { IsTrue result ↔ All IsSome dests.now }
 {
@@ -81,7 +81,7 @@ pub(crate) fn cwd_reads(alloc: Global, meta: &Option<Meta>) -> Result<bool, Memo
     Ok(path.is_some())
 }
 
-/// Returns whether no two of them are one path.
+// Returns whether no two dests are one path.
 pub(crate) fn dests_apart(alloc: Global, dests: &[Option<Path>]) -> Result<bool, Memory>
     ensures { IfOk result (λ apart. IsTrue apart ↔ AreApart dests.now) }
 {

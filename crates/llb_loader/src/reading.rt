@@ -11,7 +11,7 @@ use crate::row::Row;
 use llb_ops::{Op, OpFault, read_op};
 use std::alloc::Global;
 
-/// Returns the op of each row, or the first row that spells none.
+// Reads the op of each row. Fails with 82 `Entry` at the first row that spells none, or with 91 `Memory`.
 pub(crate) fn ops_of(alloc: Global, rows: &[Row]) -> Result<Vec<Op>, LoadFault>
     requires { length rows.now ≤ 65_536 }
     ensures read { IfOk result (λ ops. AreOps rows.now ops.items) }

@@ -32,7 +32,8 @@ fn same(row: &Row, other: &Row) -> bool
     row.digest.same(&other.digest) && row.bytes.same(&other.bytes)
 }
 
-/// Returns the first row of each digest text, where no two rows of one digest differ.
+// Returns the first row of each digest text. Fails with 84 `Collision` at the first row that has an earlier row's
+// digest and other bytes, or with 91 `Memory`.
 pub(crate) fn index_of<'a>(
     alloc: Global,
     rows: &'a [Row],
@@ -66,7 +67,7 @@ pub(crate) fn terminal_of(rows: &[Row], index: &BTreeMap<&str, usize>) -> usize
 {
     match index.get(rows[rows.len() - 1].digest.as_str()) {
         Some(row) => *row,
-        // Unreachable.
+        // Unreachable: the index has the digest of each row.
         None => 0,
     }
 }

@@ -75,7 +75,7 @@ over_is_lay w is a b t over = lay_only a b t (λ q.
 pub below_file-cons : (look : Look) (n : List ℕ) (p : List (List ℕ)) → below_file look (n ∷ p) ≡ (is_file (look []) || below_file (λ q. look (n ∷ q)) p)
 below_file-cons look n p = ap (λ ys. list_any is_file (look [] ∷ ys)) (map-map look (λ q. n ∷ q) (parents p))
 
--- more directories let a walk through
+-- a walk that one tree lets through goes through any tree with directories where that has some
 walk_more : (f g : Look) → ((r : List (List ℕ)) → IsDirAt f r → IsDirAt g r) → (p : List (List ℕ)) → walk f p ≡ Ok tt → walk g p ≡ Ok tt
 walk_more f g more [] walks = refl
 walk_more f g more (n ∷ p) walks =
@@ -89,7 +89,7 @@ walk_more f g more (n ∷ p) walks =
         let own = more [] (m, is) in
         walk-cons g n p ∙ ap (λ e. all_dirs (e ∷ map (λ q. g (n ∷ q)) (parents p))) own.1 ∙ rest walks
 
--- what can be walked to in the lower tree can be walked to in both, where no file of the upper one is above it
+-- what can be walked to in the lower tree can be walked to in both, if no file of the upper one is above it
 walk_both : (f g : Look) (p : List (List ℕ)) → walk f p ≡ Ok tt → below_file g p ≡ false → walk (lay_at f g) p ≡ Ok tt
 walk_both f g [] walks clear = refl
 walk_both f g (n ∷ p) walks clear =

@@ -6,12 +6,12 @@ use Rattle.llb_tree.specs.Path.{path_cmp}
 use Rattle.llb_tree.specs.Tree.{Entry, TreeMap, Look}
 pub use Rattle.llb_tree.specs.Overlay.{is_file, below_file}
 
--- the first where there is one, else the second
+-- the first if there is one, else the second
 abbrev pub or_else : Option Entry → Option Entry → Option Entry
 or_else (Some e) other = Some e
 or_else None other = other
 
--- the entry at a path: what the upper tree has; else what the lower one has, where no proper prefix of the path is a file of the upper one
+-- the entry at a path: what the upper tree has; else what the lower one has, if no proper prefix of the path is a file of the upper one
 abbrev pub lay_at : Look → Look → Look
 lay_at lower upper p = or_else (upper p) (if below_file upper p then None else lower p)
 

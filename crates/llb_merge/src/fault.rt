@@ -1,5 +1,5 @@
 //! The fault for refused memory, the only one here. It prints what comes after the word `fault` in a refusal: its number.
-//! Of the faults of a tree only `Memory` can come, as the clauses of its calls say.
+//! The calls on trees fail here with `Memory` alone, as their clauses say.
 
 use llb_tree::TreeFault;
 use thiserror::Error;

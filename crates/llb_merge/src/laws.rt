@@ -1,5 +1,5 @@
-//! Laws of the laying, whatever the trees. It is not associative: a file of a tree between two others hides for
-//! good what the lowest has below it, also where the uppermost then has a directory in its place.
+//! Laws of the laying, for all trees. It is not associative: a file of a tree between two others hides for good what
+//! the lowest has below it, also if the uppermost then has a directory at that path.
 
 ghost use Rattle.std.specs.Prelude.{◌≡◌, List, [], ℕ};
 ghost use Rattle.std.specs.FinMap as finite;
@@ -9,8 +9,8 @@ ghost use Rattle.llb_merge.specs.Laying.{lay, lay_at};
 
 use llb_tree::Tree;
 
-/// A law: at each path is what the upper tree has there, and else what the lower one has, where no file of the upper one
-/// is above the path; and what is at the paths is a tree.
+/// Proves that at each path is what the upper tree has there, and else what the lower one has, if no file of the upper
+/// one is above the path; and that what is at the paths is a tree.
 pub fn at_each_path(lower: &Tree, upper: &Tree)
     ensures paths { (q : List (List ℕ)) → finite.get (lay lower.now upper.now) q ≡ lay_at (finite.get lower.now) (finite.get upper.now) q }
     ensures tree { IsTree (lay lower.now upper.now) }
@@ -19,21 +19,22 @@ pub fn at_each_path(lower: &Tree, upper: &Tree)
     upper.is_tree();
 }
 
-/// A law: a tree that is laid over the empty one is itself.
+/// Proves that laying a tree over the empty tree returns that tree.
 pub fn over_the_empty_tree(tree: &Tree)
     ensures { lay empty_tree tree.now ≡ tree.now }
 {
     tree.is_tree();
 }
 
-/// A law: a tree over which the empty one is laid is itself, but its root has the mode and the owner of the empty tree's.
+/// Proves that laying the empty tree over a tree returns that tree, except that its root has the mode and the owner of
+/// the empty tree's.
 pub fn under_the_empty_tree(tree: &Tree)
     ensures { lay tree.now empty_tree ≡ finite.insert tree.now [] (Dir new_dir_meta) }
 {
     let _ = tree;
 }
 
-/// A law: a tree that is laid over itself is itself.
+/// Proves that laying a tree over itself returns that tree.
 pub fn over_itself(tree: &Tree)
     ensures { lay tree.now tree.now ≡ tree.now }
 {

@@ -9,22 +9,24 @@ use crate::fault::Memory;
 use llb_tree::{Tree, Way};
 use std::alloc::Global;
 
-// Each entry in its own mode and owner, and a directory that both trees have as the upper one has it.
+// Returns the `Way` that keeps each entry's own mode and owner, and takes a directory that both trees have as the upper
+// one has it.
 fn plain() -> Way
     ensures { way_of None None None false ≡ Some result }
 {
     Way::new(None, None, None, false).unwrap()
 }
 
-/// Lays the upper tree over the lower one, and returns the result: at a path it has what the upper tree has there, and else what the
-/// lower one has, where no file of the upper one is above the path. Fails with 55 `Memory` alone.
+/// Lays the upper tree over the lower one, and returns the result: at a path it has what the upper tree has there, and
+/// else what the lower one has, if no file of the upper one is above the path. Fails with 55 `Memory` alone.
 pub fn lay(_: Global, lower: &Tree, upper: &Tree) -> Result<Tree, Memory>
     ensures { IfOk result (λ t. t ≡ lay lower.now upper.now) }
 {
     lay_onto(lower.copy()?, upper)
 }
 
-/// Does as `lay`, onto a lower tree that is handed over, so that whoever lays several trees copies none. Fails with 55 `Memory` alone.
+/// Lays the upper tree over the lower one as `lay` does, and takes the lower one over, so that a caller that lays
+/// several trees copies none. Fails with 55 `Memory` alone.
 pub fn lay_onto(lower: Tree, upper: &Tree) -> Result<Tree, Memory>
     ensures { IfOk result (λ t. t ≡ lay lower upper.now) }
 {
@@ -32,7 +34,8 @@ pub fn lay_onto(lower: Tree, upper: &Tree) -> Result<Tree, Memory>
     Ok(lower.overlaid(&way, upper)?)
 }
 
-/// Does as `lay`, over the lower tree in place. Fails with 55 `Memory` alone; then that tree is unchanged.
+/// Lays the upper tree over the lower one as `lay` does, in place. Fails with 55 `Memory` alone; then the lower tree is
+/// unchanged.
 pub fn lay_over(lower: &mut Tree, upper: &Tree) -> Result<(), Memory>
     ensures ok { OnOk result (lower.new ≡ lay lower.old upper.now) }
     ensures err { OnErr result (lower.new ≡ lower.old) }

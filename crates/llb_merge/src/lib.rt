@@ -1,5 +1,16 @@
-//! A tree is laid over another: what the upper one has is kept, and of the lower one what no file of the upper one hides.
-//! It is a function on tree maps. Nothing here knows an operation.
+//! One tree laid over another: at each path is what the upper tree has, and else what the lower one has, where no file of the upper one is
+//! above the path. It is built on `llb_tree`, and knows no operation.
+//!
+//! Types: `Memory` (fault 55), the one refusal.
+//! Promise: `lay` returns the laid tree, by one equation on maps. `lay_over` (`ok`, `err`) does so in place, and `lay_onto` onto a tree that is
+//! handed over. Laws say what is at each path, and what a tree over itself or over the empty one is.
+//!
+//! A caller:
+//!
+//!     let lower = Tree::empty(alloc).ok()?;
+//!     let upper = Tree::empty(alloc).ok()?;
+//!     let both = lay(alloc, &lower, &upper).ok()?;
+//!     Some(both.same(&lower)) // true
 #![tactic(auto)]
 
 mod fault;

@@ -10,7 +10,7 @@ use Rattle.llb_model.specs.State.{Running, Settled, Execution, Runs, State, endi
 pub record IsConsistent (b : Build) (s : State) : Type 0 where
   -- each vertex has a status
   pub count : length s.statuses ≡ length b.graph.vertices
-  -- a vertex runs where a worker runs it
+  -- a vertex runs exactly if a worker runs it
   pub running : (v w : ℕ) → slice_get s.statuses v ≡ Some (Running w) → (x : Execution) × (slice_get s.workers w ≡ Some (Runs x)) × (x.vertex ≡ v)
   pub working : (w : ℕ) (x : Execution) → slice_get s.workers w ≡ Some (Runs x) → slice_get s.statuses x.vertex ≡ Some (Running w)
   -- what is done has as many trees as outputs

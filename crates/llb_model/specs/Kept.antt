@@ -20,7 +20,7 @@ store_from all (r ∷ rows) = with_trees (store_from all rows) r.0 0 (trees_of a
 unfoldable pub store_of : List Row → Store
 store_of rows = store_from rows rows
 
--- a place holds the instance with its number
+-- each instance has the same tree in the store as in the rows
 abbrev pub ShowsInstances : List Row → Type 0
 ShowsInstances rows = (p : Instance) → content (store_of rows) p ≡ tree_at rows p
 

@@ -28,7 +28,7 @@ abbrev pub further : List MicroStep → ℕ → Left → ℕ → Left
 further steps k left zero = left
 further steps k left (suc n) = further steps (k + 1) (go_on steps k left) n
 
--- the micro-steps are over after a fault, or where none has number k
+-- the micro-steps are over after a fault, or if none has number k
 abbrev pub is_over : List MicroStep → ℕ → Left → Bool
 is_over steps k left = is_some left.fault || nat_le (length steps) k
 
@@ -42,7 +42,7 @@ pub record AreLeft (steps : List MicroStep) (k : ℕ) (left : Left) (n : ℕ) : 
   pub there : AreThere steps k left n
   pub over : is_over steps (k + n) (further steps k left n) ≡ true
 
--- what a worker has left so far, where its instances have these trees
+-- what a worker's micro-steps have left so far, if its instances have these trees
 abbrev pub left_so_far : Execution → List TreeMap → Left
 left_so_far x trees = record { work = record { own = x.own; trees = trees }; fault = x.fault }
 
@@ -64,7 +64,7 @@ landed b s w x left = record {
   store = put_all s.store x.places left.work.trees;
 }
 
--- the steps alone have the effect of further micro-steps on what the worker has left so far
+-- n steps of a worker do to the state what n further micro-steps do to what the worker has left so far
 abbrev pub StepsAsBlock : Build → Type 0
 StepsAsBlock b = (s : State) (w : ℕ) (x : Execution) (trees : List TreeMap) (n : ℕ) → slice_get s.workers w ≡ Some (Runs x)
     → Distinct x.places → Hold s.store x.places trees

@@ -1,4 +1,4 @@
--- What holds over whole runs, where executions share caches.
+-- What holds over whole runs, in which executions share caches.
 use Rattle.std.specs.Prelude.{◌≡◌, ◌≢◌, ◌<◌, ℕ, zero, suc, ◌+◌, ◌-◌, ◌==◌, nat_le, Bool, true, false, not, ◌&&◌, ◌||◌, List, [], ◌∷◌, length, map, drop}
 use Rattle.std.specs.Prelude.{Option, Some, None, is_some, option_map, unwrap_or, slice_get, if◌then◌else◌}
 use Rattle.llb_cache.specs.declared.key.Key.{Key}
@@ -69,11 +69,11 @@ OthersKeep b = (s t : State) (e : Event) (r : Reply) → IsReached b s → table
 abbrev pub with_content : Instance → TreeMap → State → State
 with_content p t s = record s { store = put s.store p t }
 
--- an answer whose state has another tree in an instance
+-- a state and a reply, with another tree in an instance of the state
 abbrev pub with_content_after : Instance → TreeMap → State × Reply → State × Reply
 with_content_after p t a = (with_content p t a.0, a.1)
 
--- nor does it read it: the event has the same reply, and the same effect elsewhere, whatever tree is there
+-- nor does such an event read it: the event has the same reply, and the same effect elsewhere, whatever tree is there
 abbrev pub OthersIgnore : Build → Type 0
 OthersIgnore b = (s : State) (e : Event) (t : TreeMap) → IsReached b s → (w : ℕ) (x : Execution) (p : Instance) → slice_get s.workers w ≡ Some (Runs x)
     → Has x.places p → IsExclusive p.key.mode → worker_of e ≢ w → table b (with_content p t s) e ≡ option_map (with_content_after p t) (table b s e)
@@ -85,12 +85,12 @@ abbrev pub RunsInClaimOrder : Build → Type 0
 RunsInClaimOrder b = (o : Opening) (es : List Event) (rs : List Reply) (s : State) → run b (opening b o) es ≡ Some (s, rs)
     → StandsIn s (order b (at_first b o.store) (claims_in rs))
 
--- each event is as a rule wants it in its state
+-- each event meets a rule in the state before it
 abbrev pub EachIn : (State → Event → Type 0) → Build → State → List Event → Type 0
 EachIn C b s [] = Unit {0}
 EachIn C b s (e ∷ es) = C s e × ((a : State × Reply) → table b s e ≡ Some a → EachIn C b a.0 es)
 
--- e is the event that a run by one does next
+-- e is the event that one driver does next
 abbrev pub IsChosen : Build → State → Event → Type 0
 IsChosen b s e = chosen b s ≡ Some e
 
@@ -110,11 +110,11 @@ AloneInClaimOrder b = (o : Opening) (es : List Event) (rs : List Reply) (s : Sta
 
 -- ---- the instances of a key are a list
 
--- no number is left out
+-- no number of an instance is left out
 abbrev pub IsDense : Store → Type 0
 IsDense store = (k : Key) (n : ℕ) → is_some (content store (place k (n + 1))) ≡ true → is_some (content store (place k n)) ≡ true
 
--- where no number is left out none ever is: what a claim adds comes next
+-- if no number of an instance is left out at first, none ever is: what a claim adds comes next
 abbrev pub StaysDense : Build → Type 0
 StaysDense b = (o : Opening) (es : List Event) (rs : List Reply) (s : State) → IsDense o.store → run b (opening b o) es ≡ Some (s, rs) → IsDense s.store
 
@@ -135,7 +135,7 @@ HeldAreThere b = (s : State) → IsReached b s → (w : ℕ) (x : Execution) →
 abbrev pub at_start : List Shown → List ℕ → List TreeMap → Work
 at_start mounts caches trees = record { own = Mounted mounts caches 0; trees = trees }
 
--- the last command that ran, where this one is number k and another one was the last before it
+-- the last command that ran, if this one is number k and another one was the last before it
 abbrev pub later_ran : ℕ → Option Joined → ℕ → ℕ → ℕ
 later_ran k None last before = before
 later_ran k (Some c) last before = if is_run c.join last then k else before
@@ -150,21 +150,21 @@ last_ran setting cs work (suc k) =
 abbrev pub fault_of : ℕ → ℕ → Option VertexFault
 fault_of c last = if last == 0 then None else Some (fault.Exit c last)
 
--- the state of an exec after k micro-steps: it is finished after its last one, or where the last status is not 0 and every later command is
--- joined by And; and then its fault is that of the last command that ran, exactly where its status is not 0
+-- the state of an exec after k micro-steps: it is finished after its last one, or if the last status is not 0 and every later command is
+-- joined by And; and then its fault is that of the last command that ran, exactly if its status is not 0
 pub record EndsByLastStatus (setting : Setting) (cs : List Joined) (work : Work) (k : ℕ) : Type 0 where
   pub finished : is_over (runs_of setting cs) k (part (runs_of setting cs) work k)
       ≡ (nat_le (length cs) k || (not (last_of (part (runs_of setting cs) work k).work.own == 0) && all_and (drop k cs)))
   pub fails : is_over (runs_of setting cs) k (part (runs_of setting cs) work k) ≡ true
       → (part (runs_of setting cs) work k).fault ≡ fault_of (last_ran setting cs work k) (last_of (part (runs_of setting cs) work k).work.own)
 
--- a script fails where the last command that ran had a status that is not 0
+-- a script fails if the last command that ran had a status that is not 0
 abbrev pub FailsByLastStatus : Type 0
 FailsByLastStatus = (setting : Setting) (cs : List Joined) (mounts : List Shown) (caches : List ℕ) (trees : List TreeMap) (k : ℕ)
     → EndsByLastStatus setting cs (at_start mounts caches trees) k
 
--- the state of a worker that runs an exec: it is finished after its last micro-step, or where the last status is not 0 and every later
--- command is joined by And; and then it has failed exactly where the last status is not 0, by the micro-step that it did last
+-- the state of a worker that runs an exec: it is finished after its last micro-step, or if the last status is not 0 and every later
+-- command is joined by And; and then it has failed exactly if the last status is not 0, by the micro-step that it did last
 pub record StandsByLastStatus (cs : List Joined) (steps : List MicroStep) (x : Execution) : Type 0 where
   pub finished : is_finished steps x ≡ (nat_le (length cs) x.done || (not (last_of x.own == 0) && all_and (drop x.done cs)))
   pub fails : is_finished steps x ≡ true → x.fault ≡ fault_of (x.done - 1) (last_of x.own)
@@ -180,7 +180,7 @@ abbrev pub are_ands : List Joined → Bool
 are_ands [] = true
 are_ands (c ∷ cs) = is_run c.join 0 && all_and cs
 
--- a command that runs whatever the last status is, and whose own status, where it is not 0, is the exec's fault
+-- a command that runs whatever the last status is, and whose own status, if it is not 0, is the exec's fault
 abbrev pub in_turn : Setting → Joined → MicroStep
 in_turn setting c = Run setting (record { join = Then; command = c.command }) true
 

@@ -48,7 +48,7 @@ WritesAlike rows = (ps : List Instance) (ts : List TreeMap) → ((p : Instance) 
 
 -- ---- the leases of workers
 
--- a running worker has a lease of these instances, or none where there are no instances
+-- a running worker has a lease of these instances, or none if there are no instances
 abbrev pub HasLease : Leases → Option (Option ℕ) → List Instance → Type 0
 HasLease out l ps = ((k : ℕ) × (l ≡ Some (Some k)) × cache.Has out k ps) ⊎ ((l ≡ Some None) × (ps ≡ []))
 
@@ -64,7 +64,7 @@ pub record AreLeased (out : Leases) (workers : List WorkerStatus) (ls : List (Op
 abbrev pub LeasedHoldsAs : Type 0
 LeasedHoldsAs = (out : Leases) (workers : List WorkerStatus) (ls : List (Option ℕ)) → AreLeased out workers ls → HoldsAs out workers
 
--- a claim leases where it has instances, a step keeps its lease, a settle and a cancel release it
+-- a claim leases if it has instances, a step keeps its lease, a settle and a cancel release it
 abbrev pub ClaimLeases : Type 0
 ClaimLeases = (out : Leases) (workers : List WorkerStatus) (ls : List (Option ℕ)) (w : ℕ) (z : Execution) → AreLeased out workers ls → slice_get workers w
     ≡ Some Idle

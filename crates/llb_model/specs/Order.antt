@@ -1,4 +1,4 @@
--- The claim order: each claimed vertex is run at its claim, one after the other: whole, or as far as it came where the claim was cancelled.
+-- The claim order: each claimed vertex is run at its claim, one after the other: whole, or as far as it came if the claim was cancelled.
 use Rattle.std.specs.Prelude.{◌≡◌, ℕ, ◌==◌, List, [], ◌∷◌, length, Option, Some, None, slice_get, slice_set, replicate, if◌then◌else◌}
 use Rattle.llb_model.specs.Caches.{Instance, Store, content, put_all}
 use Rattle.llb_model.specs.Program.{Build, MicroStep, Program, Work, Left, Start, program_of, needs_of, part, whole}
@@ -8,12 +8,12 @@ use Rattle.llb_events.specs.declared.event.Settled.TheVariants as ended
 use Rattle.llb_model.specs.Table.{HasStepped, HasSettled, HasCancelled}
 use Rattle.llb_model.specs.Table.{Reply, Claimed}
 
--- the statuses of vertices, and the contents of the caches, where nothing runs
+-- a state in which nothing runs: the statuses of vertices, and the contents of the caches
 pub record Order : Type 0 where
   pub statuses : List Status
   pub store : Store
 
--- before the first claim
+-- the state before the first claim
 abbrev pub at_first : Build → Store → Order
 at_first b store = record { statuses = replicate (length b.graph.vertices) Waiting; store = store }
 
@@ -28,7 +28,7 @@ cut_in v (HasSettled (ended.Done u) ∷ rs) = if u == v then None else cut_in v 
 cut_in v (HasSettled (ended.Failed u) ∷ rs) = if u == v then None else cut_in v rs
 cut_in v (HasCancelled r ∷ rs) = if r.vertex == v then Some r.done else cut_in v rs
 
--- a vertex, with the numbers of the instances that its claim names, and where the claim was cancelled how many micro-steps were done
+-- a vertex, with the numbers of the instances that its claim names, and if the claim was cancelled how many micro-steps were done
 pub record Named : Type 0 where
   pub vertex : ℕ
   pub instances : List ℕ
@@ -59,16 +59,16 @@ abbrev pub whole_at : Build → Order → ℕ → Start → List Instance → Op
 whole_at b o v start ps cut =
     left_by o v ps (program_of start.vertex) cut (done_of cut (program_of start.vertex).steps (begin_at b o.store start ps))
 
--- after a claim, where its inputs are there
+-- the state after a claim, if its inputs are there
 abbrev pub run_whole : Build → Order → Named → Option Start → Order
 run_whole b o c None = o
 run_whole b o c (Some start) = whole_at b o c.vertex start (places_by (needs_of start.vertex) c.instances) c.cut
 
--- after a claim
+-- the state after a claim
 abbrev pub after_whole : Build → Order → Named → Order
 after_whole b o c = run_whole b o c (ready b o.statuses c.vertex)
 
--- after these claims, the first first
+-- the state after these claims, in their order
 abbrev pub order : Build → Order → List Named → Order
 order b o [] = o
 order b o (c ∷ cs) = order b (after_whole b o c) cs
@@ -81,7 +81,7 @@ claims_in (HasStepped r ∷ rs) = claims_in rs
 claims_in (HasSettled r ∷ rs) = claims_in rs
 claims_in (HasCancelled r ∷ rs) = claims_in rs
 
--- settled vertices and free instances are those of an order
+-- the settled vertices and the free instances of a state are those of a state of the claim order
 pub record StandsIn (s : State) (o : Order) : Type 0 where
   pub endings : (v : ℕ) (e : Ending) → slice_get s.statuses v ≡ Some (Settled e) → slice_get o.statuses v ≡ Some (Settled e)
   pub contents : (p : Instance) → IsFree s.workers p → content s.store p ≡ content o.store p

@@ -1,4 +1,4 @@
--- The plain outcome of a vertex, which no order of events can change where no cache mount is at or before it.
+-- The plain outcome of a vertex, which no order of events can change if no cache mount is at or before it.
 use Rattle.std.specs.Prelude.{ℕ, Bool, false, not, ◌&&◌, List, [], ◌∷◌, map, Option, Some, None, unwrap_or, slice_get}
 use Rattle.std.specs.List.{list_all}
 use Rattle.llb_loader.specs.declared.graph.Edge.{Edge}

@@ -1,4 +1,4 @@
--- What is true of every state that events lead to, where no cache mount is at or before a vertex.
+-- What is true of every state that events lead to, if no cache mount is at or before a vertex.
 use Rattle.std.specs.Prelude.{◌≡◌, ℕ, true, List, [], Some, slice_get}
 use Rattle.llb_loader.specs.declared.graph.Vertex.{Vertex}
 use Rattle.llb_tree.specs.Tree.{TreeMap}

@@ -70,7 +70,7 @@ pub record Work : Type 0 where
   pub own : Workspace
   pub trees : List TreeMap
 
--- what micro-steps leave: the work, and the first fault where there is one
+-- what micro-steps leave: the work, and the first fault if there is one
 pub record Left : Type 0 where
   pub work : Work
   pub fault : Option VertexFault

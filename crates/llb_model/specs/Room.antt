@@ -69,29 +69,29 @@ still_to_come b s = all_to_come b.graph.vertices s.statuses + all_left b s.worke
 
 -- ---- room
 
--- the room that the next claim of a vertex has still to take: where it waits after a cancel
+-- the room that the next claim of a vertex will take: only one that waits after a cancel takes any
 abbrev pub owed_by : Vertex → Status → ℕ → ℕ
 owed_by v Waiting zero = 0
 owed_by v Waiting (suc n) = events_of v
 owed_by v (Running w) n = 0
 owed_by v (Settled e) n = 0
 
--- the same for vertices from number k on
+-- the same for the vertices from number k up
 abbrev pub owed_from : ℕ → List Vertex → List Status → List Reply → ℕ
 owed_from k [] statuses rs = 0
 owed_from k (v ∷ vs) [] rs = 0
 owed_from k (v ∷ vs) (s ∷ statuses) rs = owed_by v s (cancels_in k rs) + owed_from (k + 1) vs statuses rs
 
--- the room that the next claims of all vertices have still to take
+-- the room that the next claims of all vertices will take
 abbrev pub owed : Build → List Status → List Reply → ℕ
 owed b statuses rs = owed_from 0 b.graph.vertices statuses rs
 
--- the room that the claim of a vertex takes which waits after n cancels
+-- the room that the claim of a vertex takes that was cancelled n times
 abbrev pub owed_at : Option Vertex → ℕ → ℕ
 owed_at None n = 0
 owed_at (Some v) n = owed_by v Waiting n
 
--- the room that an event takes, after these replies: a claim of a vertex that was cancelled
+-- the room that an event takes, after these replies: only the claim of a vertex that was cancelled takes any
 abbrev pub room_taken : Build → List Reply → Event → ℕ
 room_taken b rs (Claim w v) = owed_at (slice_get b.graph.vertices v) (cancels_in v rs)
 room_taken b rs (Step w) = 0

@@ -22,7 +22,7 @@ run b s (e ∷ es) = after (table b s e) (λ t. run b t es)
 abbrev pub events_by : ℕ → List Event → ℕ
 events_by w es = count_by (λ e. worker_of e == w) es
 
--- the next event of the lowest running worker, where the workers of the list are numbered from w
+-- the next event of the lowest running worker; the workers of the list are numbered from w
 abbrev pub next_of : Build → ℕ → List WorkerStatus → Option Event
 next_of b w [] = None
 next_of b w (Idle ∷ workers) = next_of b (w + 1) workers

@@ -1,5 +1,18 @@
-//! The whole machine, as mathematics: definitions, in `specs/`, that the crates which run a graph cite. Its events, replies and refusals are
-//! the types of `llb_events`. It has no code but a law. It is built on `llb_events`, `llb_fileop`, `llb_loader` and `llb_merge`.
+//! The machine as mathematics: definitions in `specs/`, which the crates that run a graph cite. Its events and refusals are the types of
+//! `llb_events`. It is built on `llb_events`, `llb_fileop`, `llb_loader` and `llb_merge`. What follows for every list of granted events is in
+//! `proofs/`; the laws of `llb_board` state it. `specs/Lib.antt` has the order in which to read the files, and docs/FORMATS.md the machine in
+//! words.
+//!
+//! Types: none in code; in `specs/`: `State` (statuses, workers, the store of caches), `Table` (the transition table), `Program`, `Outcome`,
+//! `Run`.
+//! Promise: `rules_want_no_memory` (`claim`, `step`), its one law: no rule refuses an event for want of memory.
+//!
+//! A caller:
+//!
+//!     // Clauses cite it: a board's record leads to its state.
+//!     ghost use Rattle.llb_model.specs.Run.{run};
+//!     ghost use Rattle.llb_model.specs.State.{opening};
+//!     // run b.build (opening b.build b.opening) b.events ≡ Some (b.state, replies)
 #![tactic(auto)]
 
 mod laws;

@@ -22,6 +22,6 @@ no_mount = record { dest = []; selector = []; readonly = false; tree = empty_tre
 abbrev pub mount_at : List Shown → ℕ → Shown
 mount_at mounts number = slice_index_or mounts number no_mount
 
--- the mounts, where the one with this number has another tree
+-- the mounts, with another tree in the one of this number
 abbrev pub with_tree_of : List Shown → ℕ → TreeMap → List Shown
 with_tree_of mounts number tree = slice_set mounts number (record (mount_at mounts number) { tree = tree })

@@ -1,5 +1,17 @@
-//! A view: trees under dests, as an execution's mounts show them. A path is routed to the mount with the longest dest that
-//! is a prefix of it, by names. A mount's tree can be exchanged without memory, and nothing else of a view ever changes.
+//! A view: trees under dests, as the mounts of an execution show them. It is built on `llb_tree`.
+//!
+//! Types: `View` (its mounts, one of them at the root), `Shown` (a mount: dest, selector, whether it is read-only, tree), `ReadOnly`.
+//! Promise: `View::route` (`longest`, `only`) returns the mount with the longest dest that is a prefix of a path, by names. `View::set_tree`
+//! (`set`, `refused`, `back`) replaces one mount's tree, and refuses a read-only one. Of these and `View::make` the last alone takes memory,
+//! and it never fails.
+//!
+//! A caller:
+//!
+//!     if !View::can_make(&mounts) {
+//!         return None;
+//!     }
+//!     let view = View::make(Many::new(mounts)).ok()?;
+//!     Some(view.route(&Path::read(alloc, "/src/a").ok()?).0)
 #![tactic(auto)]
 
 mod fault;

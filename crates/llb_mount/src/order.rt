@@ -1,5 +1,6 @@
-//! The mounts of a view in the order of their dests, by which a path is routed where there are many. The dests that are prefixes of a
-//! path are at or above the last dest that does not come after the path: a search finds that one, and from it one goes up.
+//! The mounts of a view in the order of their dests, by which a path is routed if there are many. The dests that are
+//! prefixes of a path are at or above the last dest that does not come after the path: a search finds that one, and
+//! from it one goes up.
 
 ghost use Rattle.std.specs.Prelude.{◌≡◌, ◌<◌, ◌+◌, true, length, IfOk};
 ghost use Rattle.llb_tree.specs.Path.{is_within};
@@ -12,15 +13,15 @@ use crate::shown::Shown;
 use llb_tree::Path;
 use std::alloc::Global;
 
-/// A place in the order of the dests: the number of a mount, and the place of the longest other dest that is a prefix of its own. The
-/// root, which has no such dest, is at the first place.
+// An entry in the order of the dests: the number of a mount, and the index of the longest other dest that is a prefix
+// of its own. The root, which has no such dest, is the first.
 #[derive(Clone, Copy)]
 pub(crate) struct Row {
     mount: usize,
     above: usize,
 }
 
-// How many dests do not come after a path.
+// Returns how many dests do not come after a path.
 fn place_of(mounts: &[Shown], rows: &[Row], path: &Path) -> usize
     requires { Rises (dests mounts.now) rows.now }
     ensures { IsPlace (dests mounts.now) rows.now path.now result }
@@ -38,7 +39,7 @@ fn place_of(mounts: &[Shown], rows: &[Row], path: &Path) -> usize
     low
 }
 
-// The place of the longest dest that is a prefix of a path. It is at or above the place `from`.
+// Returns the index of the longest dest that is a prefix of a path: the one at `from`, or one above it.
 fn nearest(mounts: &[Shown], rows: &[Row], from: usize, path: &Path) -> usize
     requires rises { Rises (dests mounts.now) rows.now }
     requires root { AtRoot (dests mounts.now) rows.now }
@@ -56,7 +57,7 @@ fn nearest(mounts: &[Shown], rows: &[Row], from: usize, path: &Path) -> usize
     at
 }
 
-// The mounts in the order of their dests; what is above each is still to be found.
+// Returns the mounts in the order of their dests; `link` then sets what is above each.
 fn sorted(alloc: Global, mounts: &[Shown]) -> Result<Vec<Row>, Memory>
     requires { IsView mounts.now }
     ensures rises { IfOk result (λ rows. Rises (dests mounts.now) rows.items) }
@@ -70,7 +71,7 @@ fn sorted(alloc: Global, mounts: &[Shown]) -> Result<Vec<Row>, Memory>
     Ok(rows)
 }
 
-// Finds what is above each place.
+// Sets for each entry the one above it.
 fn link(mounts: &[Shown], rows: &mut [Row])
     requires view { IsView mounts.now }
     requires rises { Rises (dests mounts.now) rows.old }

@@ -29,7 +29,7 @@ impl Drop for Shown {
 }
 
 impl Shown {
-    /// Returns an equal second owner. Fails with 62 `Memory` alone.
+    /// Copies the mount: its paths, and its tree, which stays shared. Fails with 62 `Memory` alone.
     pub fn copy(&self) -> Result<Shown, Memory>
         ensures { IfOk result (λ m. m ≡ self.now) }
     {
@@ -45,7 +45,7 @@ impl Shown {
         })
     }
 
-    /// Returns the tree.
+    /// Returns the tree, and drops the rest.
     pub fn into_tree(self) -> Tree
         ensures { result ≡ self.tree }
     {

@@ -1,5 +1,5 @@
-//! The view. Contracts see the list of its mounts, in the order in which they were given; a mount's number is its place in
-//! the list. The dests never change: from `make` on one of them is the root and no two are the same.
+//! The view. Contracts see the list of its mounts, in the order in which they were given; a mount's number is its index
+//! in the list. The dests never change: from `make` on one of them is the root and no two are the same.
 
 ghost use Rattle.std.specs.Prelude.{◌≡◌, ◌≢◌, ◌↔◌, IsTrue, ℕ, ◌<◌, ◌≤◌, List, length, IfOk, IfErr, IfSome, IsOk, OnOk, OnErr, is_err, Contains, AllPairs};
 ghost use Rattle.llb_mount.specs.View.{IsView, dests, mount_at, with_tree_of};
@@ -16,13 +16,13 @@ use std::marker::Model;
 use std::mem;
 use std::sync::Arc;
 
-// A path is looked for among so many dests one after another, which costs less than an order of them.
+// Up to this number of dests, a path is routed by looking at each, which costs less than an order of them.
 const FEW: usize = 8;
 
 /// Mounts under dests of which one is the root and no two are the same. Contracts see the list of the mounts.
 pub struct View {
     mounts: Vec<Shown>,
-    // The order of the dests, which copies share; none where there are few mounts, or memory was refused for it.
+    // The order of the dests, which copies share; `None` if there are few mounts, or memory was refused for it.
     order: Option<Arc<Vec<Row>>>,
 }
 
@@ -79,7 +79,8 @@ fn all_differ(mounts: &[Shown]) -> bool
     true
 }
 
-// The mount with the longest dest that is a prefix of the path, among all.
+// Returns the mount with the longest dest that is a prefix of the path, and how many names that dest has, by looking at
+// each mount.
 fn route_among(mounts: &[Shown], path: &Path) -> (u32, u32)
     requires { IsView mounts.now }
     ensures { IsRoute mounts.now path.now result }
@@ -97,7 +98,7 @@ fn route_among(mounts: &[Shown], path: &Path) -> (u32, u32)
     (number as u32, dropped as u32)
 }
 
-// The order of the dests; none where there are few mounts, or memory is refused.
+// Makes the order of the dests; `None` if there are few mounts, or memory is refused.
 fn order_of(mounts: &Vec<Shown>) -> Option<Arc<Vec<Row>>>
     requires { IsView mounts.now.items }
     ensures { IfSome result (λ o. IsOrder (dests mounts.now.items) (arc_value o).items) }
@@ -127,8 +128,9 @@ impl View {
         all_differ(mounts)
     }
 
-    /// Makes the view of mounts that `can_make` accepts, numbered from 0 in their order. It takes the mounts over. It never fails with
-    /// 62 `Memory`: of more than eight mounts it makes an order of their dests, and does without one where memory is refused for it.
+    /// Makes the view of mounts that `can_make` accepts, numbered from 0 in their order. It takes the mounts over. It
+    /// never fails with 62 `Memory`: of more than eight mounts it makes an order of their dests, and does without one
+    /// if memory is refused for it.
     pub fn make(mounts: Many<Shown>) -> Result<View, Memory>
         requires { IsView mounts }
         ensures view { IfOk result (λ v. v ≡ mounts) }
@@ -195,8 +197,8 @@ impl View {
         &self.mounts[mount as usize].tree
     }
 
-    /// Replaces a mount's tree. Fails with 61 `ReadOnly` where the mount is read-only; then the fault holds the tree and the view is
-    /// unchanged. Does not allocate.
+    /// Replaces a mount's tree. Fails with 61 `ReadOnly` if the mount is read-only; then the fault holds the tree and
+    /// the view is unchanged. Does not allocate.
     pub fn set_tree(&mut self, mount: u32, tree: Tree) -> Result<(), ReadOnly>
         requires { mount < length self.old }
         ensures set { OnOk result (self.new ≡ with_tree_of self.old mount tree) }
@@ -230,7 +232,7 @@ impl View {
         Many::new(mounts)
     }
 
-    /// Returns an equal second owner. Fails with 62 `Memory` alone.
+    /// Copies the view, which shares its trees and the order of its dests. Fails with 62 `Memory` alone.
     pub fn copy(&self) -> Result<View, Memory>
         ensures { IfOk result (λ v. v ≡ self.now) }
     {

@@ -32,7 +32,7 @@ definition_of bytes =
     if nat_lt definition_limit (length bytes) then Err OverLimit
     else (records_from definition_shape 0 bytes >>= λ rs. entries_fit (payloads (all 1 rs)))
 
--- what is said of a definition before its entries are taken
+-- what is known of a definition before its entries are taken
 abbrev pub admission : Result (List (List ℕ)) OpFault → Result (Unit {0}) OpFault
 admission (Ok entries) = Ok tt
 admission (Err f) = Err f

@@ -113,7 +113,7 @@ without_empty (message row inner rest) = message row (without_empty inner) (with
 abbrev pub one_more_of : ℕ → ℕ → ℕ → ℕ
 one_more_of last count n = if last == n then count + 1 else 1
 
--- after the field `last`, which occurred so often, no field occurs more often than a field may, nor in a message among them
+-- after the field `last`, which occurred this often, no field occurs too often, nor does one in a nested message
 abbrev pub AreFew : ℕ → ℕ → Fields → Type 0
 AreFew last count (extra more) = Unit {0}
 AreFew last count (number row v rest) = (one_more_of last count row.1.number ≤ field_limit) × AreFew row.1.number (one_more_of last count row.1.number) rest

@@ -10,7 +10,7 @@ use Rattle.llb_ops.specs.Messages.{op_shape, op_in, op_of}
 use Rattle.llb_ops.specs.Writing.{op_bytes}
 use Rattle.llb_ops.specs.Definition.{definition_of, definition_bytes}
 
--- the op of an entry is the op of its canonical bytes, where these are within the limit of an entry
+-- the op of an entry is the op of its canonical bytes, if these are within the limit of an entry
 abbrev pub IsReadAgain : Op → Type 0
 IsReadAgain op = (entry : List ℕ) → op_of entry ≡ Ok op → length (op_bytes op) ≤ entry_limit → op_of (op_bytes op) ≡ Ok op
 

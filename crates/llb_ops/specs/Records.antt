@@ -1,5 +1,5 @@
 -- The records of a message, and what each kind of field is of them (the encoding guide of Protocol Buffers: "Message
--- Structure", "Last One Wins", "Optional and Repeated Elements", "Oneofs"). A record has no place in the bytes here.
+-- Structure", "Last One Wins", "Optional and Repeated Elements", "Oneofs"). A record has no position in the bytes here.
 use Rattle.std.specs.Prelude.{◌≡◌, ◌<◌, ℕ, zero, suc, ◌-◌, List, [], ◌∷◌, ◌++◌, length, map, Option, Some, None, Result, Ok, Err, Bool}
 use Rattle.std.specs.Prelude.{true, false, nat_le, ◌==◌, not, if◌then◌else◌, find, option_map, fold, ◌&&◌, filter, slice_get, is_none, ℤ}
 use Rattle.std.specs.Prelude.{◌%◌, ◌^◌}
@@ -26,11 +26,11 @@ use Rattle.llb_ops.specs.Limits.{field_limit}
 abbrev pub Shape : Type 0
 Shape = List (ℕ × Form)
 
--- a record without where its bytes lie
+-- a record without the position of its bytes
 abbrev pub view : Held → Record
 view r = record { number = r.number; wire = r.wire; value = r.value; payload = r.payload.now; text = r.text.now }
 
--- records in their order, each without where its bytes lie
+-- records in their order, each without the position of its bytes
 abbrev pub views : List Held → List Record
 views rs = map view rs
 

@@ -16,13 +16,13 @@ use Rattle.llb_ops.specs.Limits.{field_limit, entries_limit, entry_limit}
 abbrev pub IsFew : {A : Type 0} → List A → Type 0
 IsFew xs = length xs ≤ field_limit
 
--- the arguments and the environment of a run; an argument is a part of the entry's bytes
+-- a `Meta`: few arguments and variables, and no argument longer than an entry may be
 pub record IsMetaWithin (m : Meta) : Type 0 where
   pub args : IsFew m.args
   pub env : IsFew m.env
   pub short : All (λ a. length a ≤ entry_limit) m.args
 
--- the `Meta` of a run, if there is one; where it is absent nothing is asked
+-- a `Meta`, if there is one; nothing is asked of an absent one
 abbrev pub IsMetaOptWithin : Option Meta → Type 0
 IsMetaOptWithin None = Unit {0}
 IsMetaOptWithin (Some m) = IsMetaWithin m

@@ -84,7 +84,7 @@ impl Message for MkFile {
     }
 }
 
-/// `FileActionMkDir`.
+/// `FileActionMkDir`: a directory that is made.
 pub struct MkDir {
     pub path: Text,
     pub mode: i32,
@@ -151,7 +151,7 @@ impl Message for MkDir {
     }
 }
 
-/// `FileActionCopy`.
+/// `FileActionCopy`: what is copied, and where to.
 pub struct CopyFile {
     pub src: Text,
     pub dest: Text,
@@ -192,7 +192,7 @@ impl Drop for CopyFile {
     }
 }
 
-// A copy from its records, but for the owner.
+// Makes a copy action from its records and its owner, which is read before.
 #[tactic(auto, unfolding(crate::specs::Messages::copy_file_with))]
 fn copy_file_with(
     alloc: Global,
@@ -270,7 +270,7 @@ impl Message for CopyFile {
     }
 }
 
-/// `FileActionRm`.
+/// `FileActionRm`: what is removed.
 pub struct Rm {
     pub path: Text,
     pub allow_not_found: bool,

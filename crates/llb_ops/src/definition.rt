@@ -38,7 +38,7 @@ impl Model for Entries {
 }
 
 impl Entries {
-    /// Takes the entries over.
+    /// Makes the entries of a definition from these byte strings, without a copy.
     pub fn new(entries: Vec<Bytes>) -> Entries
         ensures { result ≡ entries.items }
     {
@@ -59,7 +59,7 @@ impl Entries {
         self.entries.len()
     }
 
-    /// Returns the entries as a vector.
+    /// Returns the entries as a vector, without a copy.
     pub fn into_vec(self) -> Vec<Bytes>
         ensures { result.items ≡ self }
     {
@@ -68,7 +68,7 @@ impl Entries {
     }
 }
 
-// The count, and whether none is too long, with one record more.
+// Counts one more record: returns the number of entries, and whether none is too long.
 fn with_record(count: usize, short: bool, part: &Record<'_>) -> (usize, bool)
     requires { count < 67_108_864 }
     ensures { result ≡ one_more (count, short) (view part.now) }
@@ -80,7 +80,8 @@ fn with_record(count: usize, short: bool, part: &Record<'_>) -> (usize, bool)
     }
 }
 
-// How many entries there are, and whether none is too long.
+// Returns how many entries there are, and whether none is too long. Fails with 1 to 4 `Wire` or 11 `WrongWireType` of
+// the first faulty record.
 fn tally(bytes: &[u8]) -> Result<(usize, bool), OpFault>
     requires { length bytes.now ≤ 67_108_864 }
     ensures { result ≡ counted (entries_in bytes.now) }
@@ -97,7 +98,7 @@ fn tally(bytes: &[u8]) -> Result<(usize, bool), OpFault>
     Ok((count, short))
 }
 
-// The entries with that of one record more, where it has one.
+// Appends the entry of a record, if the record is one.
 fn put_entry(alloc: Global, entries: &mut Vec<Bytes>, part: &Record<'_>) -> Result<(), Memory>
     ensures { OnOk result (entries.new.items ≡ (if part.now.number == 1 then entries.old.items ++ part.now.payload.now ∷ [] else entries.old.items)) }
 {
@@ -108,7 +109,7 @@ fn put_entry(alloc: Global, entries: &mut Vec<Bytes>, part: &Record<'_>) -> Resu
     Ok(())
 }
 
-// The entries of readable records.
+// Reads the entries, whatever their number and their sizes.
 fn gathered(alloc: Global, bytes: &[u8]) -> Result<Vec<Bytes>, OpFault>
     ensures { Gives (λ v. v.items) result (entries_in bytes.now) }
 {
@@ -121,7 +122,7 @@ fn gathered(alloc: Global, bytes: &[u8]) -> Result<Vec<Bytes>, OpFault>
     Ok(entries)
 }
 
-// The definition's first fault, if it has one.
+// Checks the limits and the records of a definition, and fails with its first fault.
 fn admitted(bytes: &[u8]) -> Result<(), OpFault>
     ensures { result ≡ admission (definition_of bytes.now) }
 {
@@ -140,10 +141,10 @@ fn admitted(bytes: &[u8]) -> Result<(), OpFault>
 
 /// Reads the entries of a definition.
 ///
-/// Fails with the first fault: `OverLimit` (13) of a definition of more than 67,108,864 bytes; then
-/// of its records from left to right, `Wire` (1 to 4) or `WrongWireType` (11) of a field that it names; then
-/// `OverLimit` (13) of more than 65,536 entries, then of an entry of more than 16,777,216 bytes.
-/// Fails with `Memory` (14) where memory is refused for entries that are there.
+/// Fails with the first fault: 13 `OverLimit` of a definition of more than 67,108,864 bytes; then of its records from
+/// left to right, 1 to 4 `Wire` or 11 `WrongWireType` of a field that it names; then 13 `OverLimit` of more than 65,536
+/// entries, then of an entry of more than 16,777,216 bytes. Fails with 14 `Memory` if memory is refused for entries
+/// that are there.
 pub fn read_definition(alloc: Global, bytes: &[u8]) -> Result<Entries, OpFault>
     ensures gives { Gives (λ e. e) result (definition_of bytes.now) }
     ensures last { MemoryLast is_memory result (definition_of bytes.now) }
@@ -154,7 +155,7 @@ pub fn read_definition(alloc: Global, bytes: &[u8]) -> Result<Entries, OpFault>
     Ok(Entries::new(entries))
 }
 
-/// Returns the canonical bytes of a definition with these entries. Fails with `Memory` (14) alone.
+/// Returns the canonical bytes of a definition with these entries. Fails with 14 `Memory` alone.
 pub fn write_definition(alloc: Global, entries: &Entries) -> Result<Bytes, OpFault>
     ensures { Gives (λ bytes. bytes) result (Ok (definition_bytes entries.now)) }
 {
@@ -163,7 +164,7 @@ pub fn write_definition(alloc: Global, entries: &Entries) -> Result<Bytes, OpFau
     Ok(Bytes::new(out))
 }
 
-/// A law: the entries of a definition in bytes are read again from their canonical bytes.
+/// Proves that entries that were read from the bytes of a definition are read again from their canonical bytes.
 pub fn definition_is_read_again(entries: &Entries)
     ensures { AreReadAgain entries.now }
 {

@@ -20,7 +20,7 @@ pub struct ExecOp {
     pub mounts: Many<Mount>,
     pub network: i32,
     pub security: i32,
-    /// The payloads of messages that are not looked into.
+    /// The payloads of messages that are not read.
     pub secretenv: Many<Bytes>,
     pub extra: Bytes,
 }
@@ -61,7 +61,7 @@ impl Drop for Meta {
     }
 }
 
-/// A tree under a path.
+/// A tree that an exec shows at a path.
 pub struct Mount {
     pub input: i64,
     pub selector: Text,

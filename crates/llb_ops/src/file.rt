@@ -85,7 +85,7 @@ impl Model for Actions {
 }
 
 impl Actions {
-    /// Takes the actions over.
+    /// Makes a list of these actions, which its copies share. Fails with 5 `Memory` alone.
     pub fn new(alloc: Global, actions: Vec<Action>) -> Result<Actions, Memory>
         ensures { IfOk result (λ a. a ≡ actions.items) }
     {
@@ -114,7 +114,7 @@ impl Actions {
         self.shared.is_empty()
     }
 
-    /// Returns a second owner of the same actions.
+    /// Copies the list, which shares the actions. Fails with 5 `Memory` alone.
     pub fn copy(&self) -> Result<Actions, Memory>
         ensures { IfOk result (λ a. a ≡ self.now) }
     {
@@ -124,7 +124,7 @@ impl Actions {
 }
 
 impl FileOp {
-    /// Returns an equal second owner, which shares the actions. Fails with `Memory` (14) alone.
+    /// Copies the op, which shares the actions. Fails with 14 `Memory` alone.
     pub fn copy(&self) -> Result<FileOp, OpFault>
         ensures { Gives (λ x. x) result (Ok self.now) }
     {

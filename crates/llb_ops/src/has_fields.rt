@@ -1,10 +1,10 @@
-//! A law: canonical bytes are fields by the table of messages.
+//! The law that canonical bytes are fields by the table of messages.
 
 ghost use Rattle.llb_ops.specs.Fields.{EntryHasFields};
 
-/// A law: the canonical bytes of an op that was read are the table's fields: named ones in ascending order of their numbers, of the table's
-/// kinds, without defaults, none more often than its limit, and after them the records of fields that the message doesn't name;
-/// nested messages likewise.
+/// Proves that the canonical bytes of an op that was read are the table's fields: named ones in ascending order of
+/// their numbers, of the table's kinds, without defaults, none more often than its limit, and after them the records of
+/// fields that the message doesn't name; nested messages likewise.
 pub fn entry_has_fields(bytes: &[u8])
     ensures { EntryHasFields bytes.now }
 {

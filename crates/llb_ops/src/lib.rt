@@ -1,4 +1,17 @@
-//! Records are messages: an op is read from its records, and written in its canonical bytes.
+//! Messages: an op is read from the records of its entry, and written in its canonical bytes, by one table of fields. It is built on
+//! `llb_wire`.
+//!
+//! Types: `Op` with `Kind` (a source, a file op, a merge, an exec, or what is refused later), `Entries` (of a definition), `FieldRow` (a row of
+//! the table), `OpFault`.
+//! Promise: `read_op` (`gives`, `within`) returns exactly the stated reading of an entry, field by field, or its first fault. `read_definition`
+//! (`gives`, `last`) does so for a definition. Laws say that what was read is read again from its canonical bytes, and which fields these have.
+//!
+//! A caller:
+//!
+//!     let entries = read_definition(alloc, bytes).ok()?;
+//!     let first = entries.as_slice().first()?;
+//!     let op = read_op(alloc, first.as_slice()).ok()?;
+//!     Some(kind_name(&op))
 #![tactic(auto)]
 
 mod actions;

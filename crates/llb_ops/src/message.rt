@@ -18,22 +18,25 @@ use std::alloc::Global;
 pub trait Message: Drop {
     ghost shape: { Shape };
 
+    /// Returns the name by which the table of messages has this message.
     fn name() -> MessageName
         ensures { shape_of result ≡ shape };
 
     ghost reading: { List Read → Result Self OpFault };
 
+    /// Reads the message from its records, whose texts are UTF-8. Fails with the first fault, or with 14 `Memory`.
     fn read(alloc: Global, records: &[Record<'_>]) -> Result<Self, OpFault>
         requires { texts_fit shape (views records.now) ≡ true }
         ensures { Gives (λ m. m) result (reading (views records.now)) };
 
     ghost writing: { Self → List ℕ };
 
+    /// Returns the canonical bytes. Fails with 5 `Memory` alone.
     fn write(&self, alloc: Global) -> Result<Vec<u8>, Memory>
         ensures { IfOk result (λ v. v.items ≡ writing self.now) };
 }
 
-/// A message in a place of its own.
+/// A message on the heap.
 impl<M: Message> Message for Boxed<M> {
     ghost shape = { M.shape };
 
@@ -59,16 +62,18 @@ impl<M: Message> Message for Boxed<M> {
 pub trait Member: Drop {
     ghost reading: { ℕ → List Read → Result Self OpFault };
 
+    /// Reads the member of a number from its records. Fails with the first fault, or with 14 `Memory`.
     fn read(alloc: Global, number: u32, records: &[Record<'_>]) -> Result<Self, OpFault>
         ensures { Gives (λ m. m) result (reading number (all number (views records.now))) };
 
     ghost writing: { Self → List ℕ };
 
+    /// Returns the canonical bytes of the member's field. Fails with 5 `Memory` alone.
     fn write(&self, alloc: Global) -> Result<Vec<u8>, Memory>
         ensures { IfOk result (λ v. v.items ≡ writing self.now) };
 }
 
-/// Reads a message from the records that its bytes are split into.
+/// Reads a message from its bytes, which it splits into records. Fails with the first fault, or with 14 `Memory`.
 #[tactic(auto, unfolding(crate::specs::Records::message_of))]
 pub fn read_message<M: Message>(alloc: Global, bytes: &[u8]) -> Result<M, OpFault>
     ensures { Gives (λ m. m) result (message_of M.shape M.reading bytes.now) }
@@ -77,7 +82,8 @@ pub fn read_message<M: Message>(alloc: Global, bytes: &[u8]) -> Result<M, OpFaul
     M::read(alloc, &records)
 }
 
-/// Reads a message from the payloads of its records, one after the other. The payload of a single record is read where it lies.
+/// Reads a message from the payloads of its records, one after the other. The payload of a single record is not copied.
+/// Fails with the first fault, or with 14 `Memory`.
 pub fn joined_message<M: Message>(
     alloc: Global,
     records: &[Record<'_>],
@@ -92,7 +98,8 @@ pub fn joined_message<M: Message>(
     read_message(alloc, &bytes)
 }
 
-/// Reads a singular message from its payloads, one after the other.
+/// Reads a singular message from its payloads, one after the other; returns `None` if it has no record. Fails with the
+/// first fault, or with 14 `Memory`.
 #[tactic(auto, unfolding(crate::specs::Records::one))]
 pub fn one<M: Message>(
     alloc: Global,
@@ -108,7 +115,7 @@ pub fn one<M: Message>(
     Ok(Some(message))
 }
 
-/// Messages that are repeated, in order.
+/// Reads the messages of a repeated field, in order. Fails with the first fault, or with 14 `Memory`.
 pub fn each<M: Message>(
     alloc: Global,
     records: &[Record<'_>],
@@ -126,7 +133,7 @@ pub fn each<M: Message>(
     Ok(Many::new(messages))
 }
 
-/// Reads the member of a oneof that is set, if any.
+/// Reads the member of a oneof that is set, if any. Fails with the first fault, or with 14 `Memory`.
 pub fn one_of<M: Member>(
     alloc: Global,
     records: &[Record<'_>],

@@ -43,8 +43,8 @@ impl Drop for Op {
     }
 }
 
-/// What an op does. Builds and diffs are kept as their joined payloads; the two large messages have places of their own, so that an op of
-/// another kind doesn't take their room.
+/// What an op does. Builds and diffs are kept as their joined payloads; the two large messages are on the heap, so that
+/// an op of another kind is small.
 #[derive(Drop)]
 pub enum Kind {
     Exec(Boxed<ExecOp>),
@@ -187,11 +187,10 @@ impl Message for Op {
 
 /// Reads an entry as an op.
 ///
-/// Fails with the first fault: `OverLimit` (13) of an entry of more than 16,777,216 bytes; then of
-/// each message from the outermost on: its records from left to right, `Wire` (1 to 4) or
-/// `WrongWireType` (11) of a named field; `NotUtf8` (12) of a string; the faults of the messages in
-/// it by the numbers of their fields; `OverLimit` (13) of a field that is repeated more than 1,024
-/// times. Fails with `Memory` (14) where memory is refused.
+/// Fails with the first fault: 13 `OverLimit` of an entry of more than 16,777,216 bytes; then of each message from the
+/// outermost on: its records from left to right, 1 to 4 `Wire` or 11 `WrongWireType` of a named field; 12 `NotUtf8` of
+/// a string; the faults of the messages in it by the numbers of their fields; 13 `OverLimit` of a field that is
+/// repeated more than 1,024 times. Fails with 14 `Memory` if memory is refused.
 #[tactic(auto, unfolding(crate::specs::Messages::op_of))]
 pub fn read_op(alloc: Global, bytes: &[u8]) -> Result<Op, OpFault>
     ensures gives { Gives (λ op. op) result (op_of bytes.now) }
@@ -203,7 +202,7 @@ pub fn read_op(alloc: Global, bytes: &[u8]) -> Result<Op, OpFault>
     read_message(alloc, bytes)
 }
 
-/// Returns the canonical bytes of an op. Fails with `Memory` (14) alone.
+/// Returns the canonical bytes of an op. Fails with 14 `Memory` alone.
 pub fn write_op(alloc: Global, op: &Op) -> Result<Bytes, OpFault>
     ensures { Gives (λ bytes. bytes) result (Ok (op_bytes op.now)) }
 {
@@ -211,7 +210,8 @@ pub fn write_op(alloc: Global, op: &Op) -> Result<Bytes, OpFault>
     Ok(Bytes::new(bytes))
 }
 
-/// Returns the name of an op's kind. No graph has an op of the last two, or of none.
+/// Returns the name of an op's kind; `none` if the op has no kind. No graph has an op of the kinds `build` and `diff`,
+/// or of none.
 pub fn kind_name(op: &Op) -> &'static str
     ensures { result.now ≡ kind_text op.now.kind }
 {
@@ -228,16 +228,16 @@ pub fn kind_name(op: &Op) -> &'static str
     }
 }
 
-/// A law: the records of a message are those that its bytes spell by the grammar of the wire, whatever the
-/// message names; and an op is read of the records that its entry spells, and of nothing else.
+/// Proves that the records of a message are those that its bytes spell by the grammar of the wire, whatever the message
+/// names; and that an op is read from the records that its entry spells, and from nothing else.
 pub fn op_is_read_of_records(bytes: &[u8])
     ensures { IsReadOfRecords bytes.now }
 {
     let _ = bytes;
 }
 
-/// A law: what was read as an op is read as that op again from its canonical bytes, where these are within
-/// the limit of an entry.
+/// Proves that what was read as an op is read as that op again from its canonical bytes, if these are within the limit
+/// of an entry.
 pub fn op_is_read_again(op: &Op)
     ensures { IsReadAgain op.now }
 {

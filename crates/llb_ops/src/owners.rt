@@ -105,7 +105,7 @@ impl Message for UserOpt {
     }
 }
 
-/// By name (the joined payloads of a message that is not looked into) or by number.
+/// By name (the joined payloads of a message that is not read) or by number.
 #[derive(Drop)]
 pub enum User {
     ByName(Bytes),

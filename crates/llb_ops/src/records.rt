@@ -21,7 +21,7 @@ use llb_wire::{Bytes, Field, Many, Memory, Text, Wire, next_record};
 use std::alloc::Global;
 use std::str::{from_utf8, from_utf8_unchecked};
 
-/// A record and its bytes.
+/// A record of a message: its field number, its wire type and value, its payload, and all of its bytes.
 #[derive(Clone, Copy)]
 pub struct Record<'a> {
     pub number: u32,
@@ -38,7 +38,7 @@ pub struct Front<'a> {
     pub after: &'a [u8],
 }
 
-/// Returns the form of the field of that number, where the message names it.
+// Returns the form of the field of that number, if the message names it.
 fn form(message: MessageName, number: u32) -> Option<Form>
     ensures { result ≡ form_of (shape_of message) number }
 {
@@ -48,7 +48,7 @@ fn form(message: MessageName, number: u32) -> Option<Form>
     }
 }
 
-/// Returns whether the record has the wire type of its field, where the message names it.
+// Returns whether the record has the wire type of its field, if the message names it.
 fn fits(message: MessageName, field: &Field) -> bool
     ensures { result ≡ wire_fits (form_of (shape_of message) field.now.number) field.now.wire }
 {
@@ -79,8 +79,9 @@ fn front_of<'a>(bytes: &'a [u8], field: &Field) -> Front<'a>
     Front { record, after }
 }
 
-/// Returns the record at the start of a message's bytes, and the bytes after it: `None` at the end. A field that the message
-/// names has its wire type.
+/// Returns the record at the start of a message's bytes, and the bytes after it; `None` at the end. Fails with 1 to 4
+/// `Wire` if the record is not readable, with 11 `WrongWireType` if the message names the field and it has another wire
+/// type.
 pub fn next_part<'a>(message: MessageName, bytes: &'a [u8]) -> Result<Option<Front<'a>>, OpFault>
     ensures { Starts (shape_of message) bytes.now result }
 {
@@ -93,7 +94,7 @@ pub fn next_part<'a>(message: MessageName, bytes: &'a [u8]) -> Result<Option<Fro
     Ok(Some(front_of(bytes, &field)))
 }
 
-/// Returns the records of a message from left to right.
+/// Splits the bytes of a message into its records, from left to right. Fails as `next_part` does, or with 14 `Memory`.
 pub fn split<'a>(
     alloc: Global,
     message: MessageName,
@@ -140,7 +141,8 @@ fn texts_are_utf8(message: MessageName, records: &[Record<'_>]) -> bool
     true
 }
 
-/// Returns the records of a message: each named field has its wire type, and texts are UTF-8.
+/// Splits the bytes of a message into its records: each named field has its wire type, and texts are UTF-8. Fails as
+/// `split` does, and then with 12 `NotUtf8`.
 #[tactic(auto, unfolding(crate::specs::Records::parts))]
 pub fn parts<'a>(
     alloc: Global,
@@ -157,7 +159,7 @@ pub fn parts<'a>(
     Ok(records)
 }
 
-/// Returns the last record of a field, which holds.
+// Returns the last record of a field, which is the one that counts.
 fn last<'a>(records: &[Record<'a>], number: u32) -> Option<Record<'a>>
     ensures { option_map view result ≡ last_of (all_of number (views records.now)) }
 {
@@ -170,7 +172,7 @@ fn last<'a>(records: &[Record<'a>], number: u32) -> Option<Record<'a>>
     last
 }
 
-/// Returns the number of a field, which is in its last record; 0 where there is none.
+// Returns the number of a field, which is in its last record; 0 if there is none.
 fn last_number(records: &[Record<'_>], number: u32) -> u64
     ensures { result ≡ number_of (all_of number (views records.now)) }
 {
@@ -180,7 +182,7 @@ fn last_number(records: &[Record<'_>], number: u32) -> u64
     }
 }
 
-/// Returns the number of a field as a signed one of 64 bits; 0 where there is none.
+/// Returns the number of a field as a signed one of 64 bits; 0 if there is none.
 pub fn last_int64(records: &[Record<'_>], number: u32) -> i64
     ensures { result ≡ int64 (number_of (all_of number (views records.now))) }
 {
@@ -218,14 +220,15 @@ fn last_payload<'a>(records: &[Record<'a>], number: u32) -> &'a [u8]
     }
 }
 
-/// Returns the bytes of a field, none where it is not there.
+/// Returns the bytes of a field, none if it is not there. Fails with 5 `Memory` alone.
 pub fn last_bytes(alloc: Global, records: &[Record<'_>], number: u32) -> Result<Bytes, Memory>
     ensures { IfOk result (λ b. b ≡ payload_of (all_of number (views records.now))) }
 {
     Bytes::from_slice(alloc, last_payload(records, number))
 }
 
-/// Returns a text, which was found to be UTF-8 when the records were read.
+/// Returns the text of a field, empty if it is not there; it was found to be UTF-8 when the records were read. Fails
+/// with 5 `Memory` alone.
 pub fn last_text(
     alloc: Global,
     message: MessageName,
@@ -247,7 +250,7 @@ pub fn count(records: &[Record<'_>], number: u32) -> usize
     records.iter().filter(|r| r.number == number).count()
 }
 
-/// Makes a list with room for an item of each record of a field, up to as many as the limit lets it have.
+/// Makes a list with room for an item of each record of a field, for 1,024 at most. Fails with 5 `Memory` alone.
 pub fn room_for<T: Drop>(
     alloc: Global,
     records: &[Record<'_>],
@@ -260,7 +263,7 @@ pub fn room_for<T: Drop>(
     Ok(items)
 }
 
-/// Returns the texts of a field that is repeated, in order.
+/// Returns the texts of a field that is repeated, in order. Fails with 5 `Memory` alone.
 pub fn each_text(
     alloc: Global,
     message: MessageName,
@@ -281,7 +284,7 @@ pub fn each_text(
     Ok(Many::new(items))
 }
 
-/// Returns the payload of a field that has one record.
+/// Returns the payload of a field that has exactly one record.
 #[tactic(auto, using(crate::proofs::Joined::of_one))]
 pub fn lone_payload<'a>(records: &[Record<'a>], number: u32) -> Option<&'a [u8]>
     ensures { IfSome result (λ payload. payload.now ≡ joined_of (all_of number (views records.now))) }
@@ -292,7 +295,7 @@ pub fn lone_payload<'a>(records: &[Record<'a>], number: u32) -> Option<&'a [u8]>
     Some(last_payload(records, number))
 }
 
-/// Returns the payloads of a field, one after the other.
+/// Returns the payloads of a field, one after the other. Fails with 5 `Memory` alone.
 pub fn joined(alloc: Global, records: &[Record<'_>], number: u32) -> Result<Vec<u8>, Memory>
     ensures { IfOk result (λ v. v.items ≡ joined_of (all_of number (views records.now))) }
 {
@@ -305,7 +308,7 @@ pub fn joined(alloc: Global, records: &[Record<'_>], number: u32) -> Result<Vec<
     Ok(out)
 }
 
-/// Returns the byte strings of a field that is repeated, in order.
+/// Returns the byte strings of a field that is repeated, in order. Fails with 5 `Memory` alone.
 pub fn each_bytes(alloc: Global, records: &[Record<'_>], number: u32) -> Result<Many<Bytes>, Memory>
     ensures { IfOk result (λ bs. bs ≡ payloads (all_of number (views records.now))) }
 {
@@ -319,7 +322,7 @@ pub fn each_bytes(alloc: Global, records: &[Record<'_>], number: u32) -> Result<
     Ok(Many::new(items))
 }
 
-/// Returns whether no repeated field has too many records.
+/// Returns whether no repeated field has more than 1,024 records.
 pub fn within_limits(repeated: &[u32], records: &[Record<'_>]) -> bool
     ensures { result ≡ within_limits_of repeated.now (views records.now) }
 {
@@ -331,7 +334,7 @@ pub fn within_limits(repeated: &[u32], records: &[Record<'_>]) -> bool
     true
 }
 
-/// Returns the number of the member of a oneof that is set: that of the last record of any.
+/// Returns the number of the member of a oneof that is set: that of the last record of any; `None` if there is none.
 pub fn chosen(records: &[Record<'_>], members: &[u32]) -> Option<u32>
     ensures { result ≡ chosen_of members.now (views records.now) }
 {
@@ -370,7 +373,7 @@ fn is_unnamed(message: MessageName, part: &Record<'_>) -> bool
     form(message, part.number).is_none()
 }
 
-/// Bytes are the records of fields that the message doesn't name, and nothing else.
+/// Returns whether bytes are records of fields that the message doesn't name, and nothing else.
 pub fn are_unnamed(message: MessageName, bytes: &[u8]) -> bool
     ensures { result ≡ are_unnamed message bytes.now }
 {
@@ -389,7 +392,7 @@ pub fn are_unnamed(message: MessageName, bytes: &[u8]) -> bool
     }
 }
 
-/// Returns the fields that the message doesn't name, as they are.
+/// Returns the records of fields that the message doesn't name, as they are. Fails with 5 `Memory` alone.
 pub fn unnamed(alloc: Global, message: MessageName, records: &[Record<'_>]) -> Result<Bytes, Memory>
     ensures { IfOk result (λ b. b ≡ unnamed_of (shape_of message) (views records.now)) }
 {

@@ -51,7 +51,7 @@ impl Same for SourceOp {
     }
 }
 
-// Whether both have the same attribute under the same key at an index.
+// Returns whether both have the same attribute under the same key at an index.
 fn same_entry(
     held: &IndexMap<Text, Attribute>,
     others: &IndexMap<Text, Attribute>,
@@ -68,7 +68,7 @@ fn same_entry(
     }
 }
 
-// Whether both have the same attributes under the same keys, in the same order.
+// Returns whether both have the same attributes under the same keys, in the same order.
 fn same_entries(held: &IndexMap<Text, Attribute>, others: &IndexMap<Text, Attribute>) -> bool
     ensures { IsTrue result ↔ (held.now.entries ≡ others.now.entries) }
 {
@@ -176,8 +176,8 @@ impl Same for ActionKind {
     }
 }
 
-// Whether both follow links, take directories for their contents, unpack archives, make the directories above what they copy, and
-// read wildcards the same way.
+// Returns whether both follow links, take directories for their contents, unpack archives, make the directories above
+// what they copy, and read wildcards the same way.
 fn same_choices(copy: &CopyFile, other: &CopyFile) -> bool
     ensures { IsTrue result ↔ ((copy.now.follow_symlink ≡ other.now.follow_symlink)
         × (copy.now.dir_copy_contents ≡ other.now.dir_copy_contents)

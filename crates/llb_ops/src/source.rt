@@ -32,8 +32,8 @@ impl Drop for SourceOp {
     }
 }
 
-/// The attributes of a source by their keys: the last entry for a key, at the place of the first. Contracts see the list
-/// of keys and attributes.
+/// The attributes of a source by their keys: the last entry for a key, at the index of the first. Contracts see the
+/// list of keys and attributes.
 pub struct Attributes {
     held: IndexMap<Text, Attribute>,
 }
@@ -76,7 +76,7 @@ impl Model for Attributes {
 }
 
 impl Attributes {
-    /// Takes a map over.
+    /// Makes the attributes of a map, without a copy.
     pub fn new(held: IndexMap<Text, Attribute>) -> Attributes
         ensures { result ≡ held.entries }
     {
@@ -90,7 +90,7 @@ impl Attributes {
         &self.held
     }
 
-    /// Returns the last entry for each key, at the place of the first.
+    // Returns the last entry for each key, at the index of the first.
     pub(crate) fn settled(
         alloc: Global,
         entries: Many<AttributeEntry>,
@@ -137,7 +137,7 @@ impl Message for AttributeEntry {
     }
 }
 
-// An entry: key and value are both written.
+// Returns the bytes of an entry: key and value are both written, also if they are empty.
 #[tactic(auto, unfolding(crate::specs::Writing::attribute_entry_bytes))]
 fn written_entry(alloc: Global, key: &Text, value: &Text, extra: &Bytes) -> Result<Vec<u8>, Memory>
     ensures { IfOk result (λ v. v.items ≡ attribute_entry_bytes (record { key = key.now; value = value.now; extra = extra.now })) }
@@ -149,7 +149,7 @@ fn written_entry(alloc: Global, key: &Text, value: &Text, extra: &Bytes) -> Resu
     Ok(out)
 }
 
-// The attributes as the entries of field 2.
+// Writes the attributes, as the entries of field 2.
 fn put_attributes(alloc: Global, out: &mut Vec<u8>, attrs: &Attributes) -> Result<(), Memory>
     ensures { OnOk result (out.new.items ≡ out.old.items ++ messages_field attribute_entry_bytes 2 (map entry_of attrs.now)) }
 {

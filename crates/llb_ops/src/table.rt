@@ -1,5 +1,5 @@
-//! The table of messages: the fields that each message of `ops.proto` of BuildKit names, by name, number and kind. How the readers
-//! take a field, and in which order canonical bytes have it, is of this table.
+//! The table of messages: the fields that each message of `ops.proto` of BuildKit names, by name, number and kind. It
+//! says how a field is read, and in which order canonical bytes have the fields.
 
 ghost use Rattle.std.specs.Prelude.{◌≡◌, map, option_map};
 ghost use Rattle.llb_ops.specs.Table.{form_of_kind, rows_of, row_seen, row_numbered, row_named, AreRowsApart};
@@ -32,7 +32,7 @@ pub enum MessageName {
     MergeInput,
 }
 
-/// What a field holds. `Bytes` is also a message that is not looked into.
+/// What a field holds. `Bytes` is also a message that is not read.
 #[derive(Clone, Copy)]
 pub enum FieldKind {
     Int64,
@@ -46,7 +46,7 @@ pub enum FieldKind {
 }
 
 impl FieldKind {
-    /// Returns how the readers take a field of the kind.
+    // Returns how a field of the kind is read.
     pub(crate) fn form(self) -> Form
         ensures { result ≡ form_of_kind self }
     {
@@ -70,7 +70,7 @@ pub struct NamedField {
     pub repeated: bool,
     /// One of the message's oneof.
     pub member: bool,
-    /// Whether the field is in an entry of a map, whose key and value are written also where they are empty.
+    /// Whether the field is in an entry of a map, whose key and value are written also if they are empty.
     pub of_entry: bool,
 }
 
@@ -280,7 +280,7 @@ pub fn fields_of(message: MessageName) -> &'static [FieldRow]
     }
 }
 
-/// Returns the field of that number.
+/// Returns the field of that number; `None` if the message names none.
 #[tactic(auto, unfolding(crate::specs::Table::row_numbered))]
 pub fn field_numbered(message: MessageName, number: u32) -> Option<FieldRow>
     ensures { option_map row_seen result ≡ row_numbered message number }
@@ -293,7 +293,7 @@ pub fn field_numbered(message: MessageName, number: u32) -> Option<FieldRow>
     None
 }
 
-/// Returns the field of that name.
+/// Returns the field of that name; `None` if the message has none.
 #[tactic(auto, unfolding(crate::specs::Table::row_named))]
 pub fn field_named(message: MessageName, name: &[u8]) -> Option<FieldRow>
     ensures { option_map row_seen result ≡ row_named message name.now }
@@ -306,7 +306,7 @@ pub fn field_named(message: MessageName, name: &[u8]) -> Option<FieldRow>
     None
 }
 
-/// A law: each row is found by its number and by its name: no two of a message have one of them.
+/// Proves that each row is found by its number and by its name: no two rows of a message share one of them.
 pub fn rows_are_apart(message: MessageName)
     ensures { AreRowsApart message }
 {

@@ -1,4 +1,5 @@
-//! Fields in their canonical bytes, one after the other.
+//! Fields in their canonical bytes, one after the other. Each call that appends to `out` fails with 5 `Memory` alone;
+//! then some of its bytes may be appended.
 
 ghost use Rattle.std.specs.Prelude.{◌≡◌, ◌<◌, ◌++◌, ◌≤◌, IfOk, OnOk};
 ghost use Rattle.llb_ops.specs.Writing.{set_number, set_bytes, number_field, bytes_field, signed_field, flag_field, message_field};
@@ -8,7 +9,7 @@ use crate::message::{Member, Message};
 use llb_wire::{Bytes, Memory, Text, Wire, write_record};
 use std::alloc::Global;
 
-/// Writes a number, also where it is 0.
+/// Writes a number, also if it is 0.
 #[tactic(auto, unfolding(crate::specs::Writing::set_number))]
 pub fn put_set_number(out: &mut Vec<u8>, number: u32, value: u64) -> Result<(), Memory>
     requires some { 0 < number }
@@ -19,7 +20,7 @@ pub fn put_set_number(out: &mut Vec<u8>, number: u32, value: u64) -> Result<(), 
     Ok(())
 }
 
-/// Writes bytes, also where there are none.
+/// Writes bytes, also if there are none.
 #[tactic(auto, unfolding(crate::specs::Writing::set_bytes))]
 pub fn put_set_bytes(out: &mut Vec<u8>, number: u32, bytes: &[u8]) -> Result<(), Memory>
     requires some { 0 < number }
@@ -30,7 +31,7 @@ pub fn put_set_bytes(out: &mut Vec<u8>, number: u32, bytes: &[u8]) -> Result<(),
     Ok(())
 }
 
-/// Returns the record of a field with these bytes, also where there are none.
+/// Returns the record of a field with these bytes, also if there are none. Fails with 5 `Memory` alone.
 pub fn bytes_record(alloc: Global, number: u32, bytes: &[u8]) -> Result<Vec<u8>, Memory>
     requires some { 0 < number }
     requires small { number ≤ 536_870_911 }
@@ -41,7 +42,7 @@ pub fn bytes_record(alloc: Global, number: u32, bytes: &[u8]) -> Result<Vec<u8>,
     Ok(out)
 }
 
-/// Returns the record of a field with a message.
+/// Returns the record of a field with a message. Fails with 5 `Memory` alone.
 pub fn message_record<M: Message>(
     alloc: Global,
     number: u32,
@@ -77,7 +78,7 @@ pub fn put_signed(out: &mut Vec<u8>, number: u32, value: i64) -> Result<(), Memo
     put_number(out, number, value.cast_unsigned())
 }
 
-/// Writes a flag that is set.
+/// Writes a flag, but not false.
 pub fn put_flag(out: &mut Vec<u8>, number: u32, value: bool) -> Result<(), Memory>
     requires some { 0 < number }
     requires small { number ≤ 536_870_911 }
@@ -86,7 +87,7 @@ pub fn put_flag(out: &mut Vec<u8>, number: u32, value: bool) -> Result<(), Memor
     put_number(out, number, u64::from(value))
 }
 
-/// Writes bytes, where there are some.
+/// Writes bytes, if there are any.
 #[tactic(auto, unfolding(crate::specs::Writing::bytes_field))]
 pub fn put_bytes(out: &mut Vec<u8>, number: u32, bytes: &[u8]) -> Result<(), Memory>
     requires some { 0 < number }
@@ -99,7 +100,7 @@ pub fn put_bytes(out: &mut Vec<u8>, number: u32, bytes: &[u8]) -> Result<(), Mem
     Ok(())
 }
 
-/// Writes a message, where there is one.
+/// Writes a message, if there is one.
 #[tactic(auto, unfolding(crate::specs::Writing::message_field))]
 pub fn put_message<M: Message>(
     alloc: Global,
@@ -160,7 +161,7 @@ pub fn put_each_text(out: &mut Vec<u8>, number: u32, items: &[Text]) -> Result<(
     Ok(())
 }
 
-/// Writes the member that is set, where there is one.
+/// Writes the member that is set, if there is one.
 pub fn put_one_of<M: Member>(
     alloc: Global,
     out: &mut Vec<u8>,

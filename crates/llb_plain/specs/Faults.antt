@@ -14,7 +14,7 @@ is_memory (HasCache v) = false
 abbrev pub Gives : {X Y : Type 0} → (X → Y) → Result X PlainFault → Result Y PlainFault → Type 0
 Gives = answer.Gives is_memory
 
--- where memory may be needed: where there is no other cause, or for the name of a missing local tree
+-- whether memory may be needed: if there is no other cause, or for the name of a missing local tree
 abbrev pub may_want_memory : {Y : Type 0} → Result Y PlainFault → Bool
 may_want_memory (Ok y) = true
 may_want_memory (Err (MissingLocal name)) = true

@@ -10,7 +10,7 @@ ghost use Rattle.llb_plain.specs.Evaluation.{cache_from};
 use llb_loader::{Graph, MountType, Vertex};
 use llb_ops::{Kind, Mount};
 
-/// Returns the least vertex that mounts a cache.
+// Returns the least vertex that mounts a cache; `None` if none does.
 pub(crate) fn first_with_cache(graph: &Graph) -> Option<u32>
     ensures { result ≡ cache_from 0 graph.now.vertices }
 {
@@ -23,7 +23,7 @@ pub(crate) fn first_with_cache(graph: &Graph) -> Option<u32>
     None
 }
 
-// Whether a vertex mounts a cache: only an exec has mounts.
+// Returns whether a vertex mounts a cache; only an exec has mounts.
 fn mounts_cache(vertex: &Vertex) -> bool
     ensures { result ≡ has_cache vertex.now }
 {
@@ -33,7 +33,6 @@ fn mounts_cache(vertex: &Vertex) -> bool
     }
 }
 
-// Whether one of the mounts shows a cache.
 fn any_cache(mounts: &[Mount]) -> bool
     ensures { result ≡ list_any (has_type cache) mounts.now }
 {

@@ -18,10 +18,10 @@ use llb_loader::{Graph, Locals, Vertex, missing_local};
 use llb_wire::Text;
 use std::alloc::Global;
 
-/// Returns the plain outcome of every vertex: `Blocked` where an input of it is not done, else what its whole program leaves of its
-/// inputs' outputs, either its outputs or its first fault. Fails with 101 `MissingLocal` with the name of the least vertex whose local
-/// source has no tree; then with 102 `HasCache` with the least vertex that mounts a cache; with 103 `Memory` after those, but also in
-/// place of 101 where the name can't be held.
+/// Returns the plain outcome of every vertex: `Blocked` if an input of it is not done, else what its whole program
+/// leaves of its inputs' outputs, either its outputs or its first fault. Fails with 101 `MissingLocal` and the name of
+/// the least vertex whose local source has no tree; else with 102 `HasCache` and the least vertex that mounts a cache;
+/// else with 103 `Memory`, which can also come in place of 101 if there is no memory for the name.
 pub fn evaluate(alloc: Global, graph: &Graph, locals: &Locals) -> Result<Outcomes, PlainFault>
     ensures gives { Gives (λ o. o) result (evaluate_of (record { graph = graph.now; locals = locals.now })) }
     ensures last { MemoryLast result (evaluate_of (record { graph = graph.now; locals = locals.now })) }
@@ -36,7 +36,7 @@ pub fn evaluate(alloc: Global, graph: &Graph, locals: &Locals) -> Result<Outcome
     evaluate_all(alloc, graph, locals)
 }
 
-// One vertex after another.
+// Evaluates one vertex after another.
 fn evaluate_all(alloc: Global, graph: &Graph, locals: &Locals) -> Result<Outcomes, PlainFault>
     requires { HasNoCaches (record { graph = graph.now; locals = locals.now }) }
     ensures { Gives (λ o. o) result (Ok (outcomes (record { graph = graph.now; locals = locals.now }))) }
@@ -50,7 +50,7 @@ fn evaluate_all(alloc: Global, graph: &Graph, locals: &Locals) -> Result<Outcome
     Ok(outcomes)
 }
 
-// The outcome of a vertex, from those before it.
+// Returns the outcome of a vertex, from those before it.
 fn next(
     alloc: Global,
     vertex: &Vertex,

@@ -1,4 +1,4 @@
-//! The trees of a vertex's inputs, among the outcomes of the vertices below it, as second owners.
+//! The trees of a vertex's inputs, among the outcomes of the vertices below it, as copies that share them.
 
 ghost use Rattle.std.specs.Prelude.{◌≡◌, Ok, map, option_map};
 ghost use Rattle.llb_model.specs.Outcome.{inputs_from, output_in};
@@ -11,7 +11,7 @@ use llb_loader::Edge;
 use llb_tree::Tree;
 use std::alloc::Global;
 
-// The output that an edge leads to, where its vertex is done.
+// Returns the output that an edge leads to, if its vertex is done.
 fn output_at<'a>(before: &'a [Outcome], edge: Edge) -> Option<&'a Tree>
     ensures { option_map (λ t. t.now) result ≡ output_in (ending_among (map outcome_of before.now) edge.vertex) edge.index }
 {
@@ -21,7 +21,7 @@ fn output_at<'a>(before: &'a [Outcome], edge: Edge) -> Option<&'a Tree>
     }
 }
 
-/// Returns the trees that the edges lead to, in their order; `None` where the vertex of one is not done.
+// Returns the trees that the edges lead to, in their order; `None` if the vertex of one is not done.
 pub(crate) fn gathered(
     alloc: Global,
     before: &[Outcome],

@@ -1,5 +1,16 @@
-//! The plain outcome of every vertex of a graph that mounts no cache, by number: on one thread, one vertex after another, with no
-//! record and no workers. It is built on `llb_execution`, which it shares with the board; it has nothing of the machine that runs many at a time.
+//! The plain outcome of every vertex of a graph that mounts no cache, by number: on one thread, with no board, record or workers. It is built
+//! on `llb_execution`, which it shares with the board.
+//!
+//! Types: `Outcomes`, `Outcome` (done with its outputs, failed, or blocked), `PlainFault` (101 to 103).
+//! Promise: `evaluate` (`gives`, `last`) returns exactly the machine's outcomes. First it fails with 101 and the name of the least vertex whose
+//! local source has no tree, then with 102 and the least vertex that mounts a cache.
+//!
+//! A caller:
+//!
+//!     let outcomes = evaluate(alloc, graph, locals).ok()?;
+//!     let result = graph.result();
+//!     let tree = outcomes.get(result.vertex)?.output(result.index)?;
+//!     Some(tree.is_dir(&Path::root(alloc)))
 #![tactic(auto)]
 
 mod cache;

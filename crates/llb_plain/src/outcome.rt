@@ -24,7 +24,7 @@ pub enum Outcome {
 }
 
 impl Outcome {
-    /// Returns the output of that number, where the vertex is done.
+    /// Returns the output of that number, if the vertex is done and has it.
     pub fn output(&self, index: u32) -> Option<&Tree>
         ensures { option_map (λ t. t.now) result ≡ output_in (ending_in (Some (outcome_of self.now))) index }
     {
@@ -62,7 +62,7 @@ impl Model for Outcomes {
 }
 
 impl Outcomes {
-    /// Returns no outcomes yet.
+    // Makes an empty list of outcomes.
     pub(crate) fn new(alloc: Global) -> Outcomes
         ensures { result ≡ [] }
     {
@@ -88,14 +88,14 @@ impl Outcomes {
         self.items.as_slice()
     }
 
-    /// Returns the outcome of a vertex; `None` where no vertex has that number.
+    /// Returns the outcome of a vertex; `None` if no vertex has that number.
     pub fn get(&self, vertex: u32) -> Option<&Outcome>
         ensures { option_map (λ o. outcome_of o.now) result ≡ slice_get self.now vertex }
     {
         self.items.get(vertex as usize)
     }
 
-    /// Returns how many vertices there are.
+    /// Returns how many outcomes there are: one for each vertex.
     pub fn len(&self) -> usize
         ensures { result ≡ length self.now }
     {

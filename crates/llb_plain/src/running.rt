@@ -18,7 +18,7 @@ use llb_tree::Tree;
 use llb_wire::Many;
 use std::alloc::Global;
 
-/// Returns how a vertex that mounts no cache ends on the trees of its inputs.
+// Runs the program of a vertex that mounts no cache, on the trees of its inputs, and returns its outcome.
 pub(crate) fn run(
     alloc: Global,
     vertex: &Vertex,
@@ -40,7 +40,8 @@ pub(crate) fn run(
     Ok(Outcome::Done(Many::new(outputs)))
 }
 
-// All micro-steps of a vertex on a workspace that shows no cache: the fault of the first that has one.
+// Does the micro-steps of a vertex on a workspace that shows no cache, up to the first that faults, and returns its
+// fault.
 fn run_all(
     alloc: Global,
     vertex: &Vertex,

@@ -16,15 +16,15 @@ pub record IsConserved (v : Hand) (present : List ℕ) : Type 0 where
 abbrev pub Knows : Hand → List ℕ → Type 0
 Knows v present = HasAll v → IsConserved v present × (length present ≤ v.room)
 
--- The whole pass finds room where it has put fewer numbers than it took and there is room for.
+-- The whole pass finds room if it has put fewer numbers than it took and there is room for.
 abbrev pub HasRoom : Hand → Type 0
 HasRoom v = length v.put < length v.taken + v.room
 
--- The whole pass finds no room where it has put as many numbers as it took and there is room for.
+-- The whole pass finds no room if it has put as many numbers as it took and there is room for.
 abbrev pub HasNoRoom : Hand → Type 0
 HasNoRoom v = length v.put ≡ length v.taken + v.room
 
--- The whole pass finds nothing where it took each number as often as it put it, and as many as it put.
+-- The whole pass finds nothing if it took each number as often as it put it.
 abbrev pub HasTakenAll : Hand → Type 0
 HasTakenAll v = (length v.taken ≡ length v.put) × ((x : ℕ) → times x v.taken ≡ times x v.put)
 

@@ -1,6 +1,17 @@
-//! A queue of numbers that threads share. A thread puts and takes by a pass, which knows what it put and took; the passes are
-//! parts of one whole. Each number is taken as often as it was put, or is still present. It is built on the array queue of
-//! `crossbeam_queue`, under a rule.
+//! A queue of numbers that threads share. A thread puts and takes by a pass, which has counted what it put and took; the passes are parts of
+//! one whole. It uses the array queue of `crossbeam_queue`, under a rule.
+//!
+//! Types: `ReadyQueue`, `ReadyPass` (a part of the whole, as a fraction), `Full` and `ReadyFault`.
+//! Promise: `ReadyQueue::close` (`conserved`): each number was put as often as it was taken and is still there. With the whole pass,
+//! `ReadyQueue::put` (`full`, `whole`) returns `Full` only where the queue is full. The order of the numbers is only tested.
+//!
+//! A caller:
+//!
+//!     let (queue, mut pass) = ReadyQueue::new(alloc, 2).ok()?;
+//!     queue.put(rt, &mut pass, 7).ok()?;
+//!     let next = queue.take(rt, &mut pass);
+//!     queue.close(pass);
+//!     next // Some(7)
 #![tactic(auto)]
 
 mod fault;

@@ -30,8 +30,8 @@ pub struct ReadyPass {
 impl ReadyQueue {
     ghost use Rattle.llb_ready.specs.Passes.{hand_of, IsReadyPassOf, capacity_of, IsWhole};
 
-    /// Makes a queue with room for `n` numbers, 1 to 65,536, and its whole pass: part 1/1, nothing put, nothing taken. Fails with 145 where memory
-    /// is refused.
+    /// Makes a queue with room for `n` numbers, 1 to 65,536, and its whole pass: part 1/1, nothing put, nothing taken.
+    /// Fails with 145 `Memory` alone.
     pub fn new(alloc: Global, n: u32) -> Result<(ReadyQueue, ReadyPass), ReadyFault>
         requires { (1 ≤ n) × (n ≤ 65536) }
         ensures capacity { IfOk result (λ r. capacity_of r.0 ≡ n) }
@@ -72,7 +72,8 @@ impl ReadyQueue {
         ReadyPass { pass: first }
     }
 
-    /// Puts a number at the back. 146 with the number: at one moment of the call the queue was full; nothing was put.
+    /// Puts a number at the end. Fails with 146 `Full` and the number if at one moment of the call the queue was full;
+    /// then nothing was put.
     pub fn put<R: Wait>(&self, rt: &R, pass: &mut ReadyPass, v: u32) -> Result<(), Full>
         requires { IsReadyPassOf self.now pass.old }
         ensures pass { IsReadyPassOf self.now pass.new }
@@ -80,7 +81,8 @@ impl ReadyQueue {
         ensures ok { OnOk result (hand_of pass.new ≡ with_put (hand_of pass.old) v) }
         ensures full { IfErr result (λ e. (e.0 ≡ v) × (hand_of pass.new ≡ hand_of pass.old)) }
 
-        // To the whole pass the queue is full just where it has put as many numbers more than it took as there is room for.
+        // To the whole pass the queue is full exactly if it has put as many numbers more than it took as there is room
+        // for.
         ensures whole { let before = hand_of pass.old in IsWhole pass.old → MatchResult result (λ _. HasRoom before) (λ _. HasNoRoom before) }
     {
         let ReadyPass { pass } = pass;
@@ -98,7 +100,8 @@ impl ReadyQueue {
         ensures some { IfSome result (λ v. hand_of pass.new ≡ with_taken (hand_of pass.old) v) }
         ensures none { IfNone result (hand_of pass.new ≡ hand_of pass.old) }
 
-        // To the whole pass the queue is empty just where it took all that it put; else it gets one that was put more often than taken.
+        // To the whole pass the queue is empty exactly if it took all that it put; else it gets one that was put more
+        // often than taken.
         ensures whole { let before = hand_of pass.old in IsWhole pass.old → MatchOption result (HasTakenAll before) (HasLeft before) }
     {
         let ReadyPass { pass } = pass;

@@ -110,7 +110,7 @@ pub record Conversation : Type 0 where
 abbrev pub AllHeard : Stream → List ℕ → Type 0
 AllHeard commands unheard = (unheard ≡ []) × IsAtEnd commands.after
 
--- How a conversation ends, by what was heard of the bytes that were taken, and what was not. A last line without its end is one where it is not empty. Where
+-- How a conversation ends, by what was heard of the bytes that were taken, and what was not. A last line without its end is one if it is not empty. Where
 -- the bound on reads was met, each read returned a byte or was interrupted.
 abbrev pub EndsSo : Conversation → List ℕ → List ℕ → Result (Unit {0}) SessionFault → Type 0
 EndsSo c heard unheard (Ok u) =

@@ -1,4 +1,4 @@
--- What the streams of a call hold, where it is known, each before the call and after it.
+-- What the streams of a call hold, if it is known, each before the call and after it.
 use Rattle.std.specs.Prelude.{ℕ, List, Option}
 use Rattle.std.specs.Io.KnownBytes.{Appends, Keeps}
 use Rattle.llb_wire.specs.Sink.{PartOut}

@@ -1,5 +1,17 @@
-//! A stepping session: each line of commands gets its reply from a stepper before the next one is waited for. It is built
-//! on `llb_stepper` and `llb_treetext`.
+//! A stepping session: each line of commands gets its reply from a stepper before the next one is waited for. It is built on `llb_stepper` and
+//! `llb_treetext`.
+//!
+//! Types: `Request` (what a line asks for), `SessionFault` (181, 182, 184, 185).
+//! Promise: `request_in` returns the request that a line spells, or none. `answer` does it and writes its reply; where it is refused, nothing
+//! is changed and the refusal is written. `converse` replies to the lines of a reader in their order, up to one that ends the session or a
+//! device's fault.
+//!
+//! A caller:
+//!
+//!     let mut stepper = Stepper::new(alloc, board);
+//!     let mut commands = b"go\nquit\n".as_slice();
+//!     let mut out = Vec::new(alloc);
+//!     converse(alloc, &mut stepper, &mut commands, &mut out, 1 << 20, 1 << 20).ok()
 #![tactic(auto)]
 
 mod answering;

@@ -1,5 +1,6 @@
-//! What holds of vertices with one digest, in two graphs or on two boards. If you read only one contract, read that of `one_digest_one_outcome`.
-//! Its premise on SHA-256 is about the entries of the two definitions alone; `parts_do_not_collide` says where it holds of itself.
+//! What holds of vertices with one digest, in two graphs or on two boards. If you read only one contract, read that of
+//! `one_digest_one_outcome`. Its premise on SHA-256 is about the entries of the two definitions alone;
+//! `parts_do_not_collide` says for which definitions it always holds.
 
 ghost use Rattle.llb_sharing.specs.Digests.{LoadWithoutCollision, PartsDoNotCollide, ShareOutcomes, DependOnSources};
 ghost use Rattle.llb_sharing.specs.Boards.{SettleAlike};
@@ -27,9 +28,9 @@ pub fn outcome_by_sources(graph: &Graph)
     graph.is_graph();
 }
 
-/// Proves that vertices with one digest that are settled on two boards, over the graphs of definitions that do not collide, ended alike, failures
-/// included, if no cache mount is at or before them and their sources have the same trees. This holds for any workers and any order of events,
-/// whatever caches are shared elsewhere.
+/// Proves that vertices with one digest that are done or failed on two boards, over the graphs of definitions that do
+/// not collide, ended alike, failures included, if no cache mount is at or before them and their sources have the same
+/// trees. This holds for any workers and any order of events, whatever caches are shared elsewhere.
 pub fn boards_settle_alike(first: &[u8], board: &Board, second: &[u8], other: &Board)
     ensures { LoadWithoutCollision first.now board.now.build.graph second.now other.now.build.graph → SettleAlike board.now other.now }
 {
@@ -50,8 +51,9 @@ pub fn parts_do_not_collide(definition: &[u8], graph: &Graph)
     let _ = graph;
 }
 
-/// Proves that vertices with one digest have the same job, but for the numbers of worker and vertex, if the sources at or before them have the same
-/// local trees. It is the job without cache instances, which a claim hands out where no cache mount is at or before the vertex.
+/// Proves that vertices with one digest have the same job, except for the numbers of worker and vertex, if the sources
+/// at or before them have the same local trees. It is the job without cache instances, which a claim hands out if no
+/// cache mount is at or before the vertex.
 pub fn one_digest_one_job(first: &[u8], graph: &Graph, second: &[u8], other: &Graph)
     ensures { LoadWithoutCollision first.now graph.now second.now other.now → ShareJobs graph.now other.now }
 {

@@ -13,7 +13,7 @@ use Rattle.llb_cache.specs.declared.fault.LeaseFault.{LeaseFault}
 
 -- ---- instances
 
--- the tree of an instance; the empty one where it is not there
+-- the tree of an instance; the empty one if it is not there
 abbrev pub tree_of : Store → Instance → TreeMap
 tree_of s p = unwrap_or (content s p) empty_tree
 
@@ -24,7 +24,7 @@ abbrev pub leased_places : Leases → Option ℕ → List Instance
 leased_places out (Some l) = cache.places_of out l
 leased_places out None = []
 
--- a lease is out, where there is one
+-- a lease is out, if there is one
 abbrev pub IsOutIf : Leases → Option ℕ → Type 0
 IsOutIf out (Some l) = cache.IsOut out l
 IsOutIf out None = Unit {0}
@@ -57,7 +57,7 @@ abbrev pub some_lease : Result (ℕ × cache.CachesValue) LeaseFault → Result 
 some_lease (Ok (l, c)) = Ok (Some l, c)
 some_lease (Err e) = Err e
 
--- a lease of needs, where there are some
+-- a lease of needs, if there are some
 abbrev pub lease_if : cache.CachesValue → List cache_need.Need → Result (Option ℕ × cache.CachesValue) LeaseFault
 lease_if c [] = Ok (None, c)
 lease_if c (n ∷ needs) = some_lease (cache.lease_of c (n ∷ needs))

@@ -8,12 +8,12 @@ use Rattle.llb_model.specs.Caches.{Store, content, place, trees_at}
 use Rattle.llb_model.specs.State.{State, Execution, runs}
 use Rattle.llb_execution.specs.Looks.{trees_with}
 
--- the trees that an execution works on, where the caches have these contents now; none where nothing runs
+-- the trees that an execution works on, if the caches have these contents now; none if nothing runs
 abbrev pub worked_by : Store → Option Execution → List TreeMap
 worked_by s None = []
 worked_by s (Some x) = trees_with x.own (trees_at s x.places)
 
--- tree i of those that worker w works on; none where it is idle, or there is no such worker or tree
+-- tree i of those that worker w works on; none if it is idle, or there is no such worker or tree
 abbrev pub worked_on : State → ℕ → ℕ → Option TreeMap
 worked_on s w i = slice_get (worked_by s.store (runs (slice_get s.workers w))) i
 
@@ -22,6 +22,6 @@ abbrev pub cached_by : Store → ℕ → Option Key → Option TreeMap
 cached_by s i None = None
 cached_by s i (Some key) = content s (place key i)
 
--- the tree of instance i of key k of these rows; none where there is no such key or instance
+-- the tree of instance i of key k of these rows; none if there is no such key or instance
 abbrev pub cached_at : List Row → Store → ℕ → ℕ → Option TreeMap
 cached_at rows s k i = cached_by s i (slice_get (keys_of rows) k)

@@ -29,7 +29,7 @@ abbrev pub first_held_key : Leases → List Need → Option Key
 first_held_key out [] = None
 first_held_key out (n ∷ needs) = if is_locked_and_held out n.key then Some n.key else first_held_key out needs
 
--- the needs, where no locked key of theirs is held
+-- the needs, if no locked key of theirs is held
 abbrev pub unless_held : List Need → Option Key → Result (List Need) ClaimFault
 unless_held needs None = Ok needs
 unless_held needs (Some k) = Err (claim.Held k)

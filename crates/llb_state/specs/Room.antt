@@ -38,7 +38,7 @@ abbrev pub mounts_at : Option Vertex → List Mount
 mounts_at (Some v) = kind_mounts v.op.kind
 mounts_at None = []
 
--- the cache needs of a vertex; none where there is no vertex
+-- the cache needs of a vertex; none if there is no vertex
 abbrev pub needs_at : Option Vertex → List Need
 needs_at (Some v) = needs_of v
 needs_at None = []

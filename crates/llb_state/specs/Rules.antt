@@ -35,7 +35,7 @@ pub record Begun : Type 0 where
   pub reply : Reply
   pub needs : List cache_need.Need
 
--- what a claim begins on the trees of the inputs, and these instances
+-- what a claim begins, with these trees of the inputs and these instances
 abbrev pub begun_at : Build → CachesValue → ℕ → ℕ → Vertex → List TreeMap → List Instance → Begun
 begun_at b c w v vertex trees ps = record {
   execution = execution_on v (begin_at b (store_of c.rows) (start_with vertex trees) ps) ps;

@@ -153,7 +153,7 @@ abbrev pub AreHeldOnce : List WorkerStatus → Type 0
 AreHeldOnce workers = (w u : ℕ) (x y : Execution) (p : Instance) → slice_get workers w ≡ Some (Runs x) → slice_get workers u ≡ Some (Runs y)
     → Has x.places p → Has y.places p → IsExclusive p.key.mode → w ≡ u
 
--- the worker is as the event left it, and the workers before the event hold instances that are there, exclusively where their keys say so
+-- the worker is as the event left it, and the workers before the event hold instances that are there, exclusively if their keys say so
 pub record CanPutBack (u : Displaced) (ws : WorkersValue) : Type 0 where
   pub behind : IsBehind u.back ws.workers
   pub there : AreHeldThere (workers_before u.back ws.workers) (rows_before u.back ws.workers ws.rows)

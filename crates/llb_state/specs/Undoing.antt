@@ -8,7 +8,7 @@ use Rattle.llb_state.specs.declared.desk.Desk.{Desk}
 use Rattle.llb_state.specs.declared.desk.Desk.TheVariants as desk
 use Rattle.llb_state.specs.declared.desk.Execution as own
 
--- what a worker holds that settles
+-- what a worker that settles holds
 pub record Left : Type 0 where
   pub execution : Execution
   pub supplies : Supplies

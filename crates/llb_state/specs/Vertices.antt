@@ -50,15 +50,15 @@ done_in statuses u = is_done (ending_at statuses u)
 abbrev pub is_over : Build → List Status → ℕ → Bool
 is_over b statuses v = is_settled (slice_get statuses v) || (is_blocked b statuses v && not (is_ready b statuses v))
 
--- each vertex below a number is over
+-- each vertex below a number is over: none of them is to be claimed
 abbrev pub AreOver : Build → List Status → ℕ → Type 0
 AreOver b statuses n = (v : ℕ) → v < n → is_over b statuses v ≡ true
 
--- a vertex's count is 0 exactly where the trees of all its inputs are there
+-- a vertex's count is 0 exactly if the trees of all its inputs are there
 abbrev pub TellsInputs : Build → List Status → Linked → Type 0
 TellsInputs b statuses l = (v : ℕ) (x : Vertex) → slice_get b.graph.vertices v ≡ Some x → has_inputs l v ≡ is_some (inputs_from (ending_at statuses) x.inputs)
 
--- the users of a vertex have one open input less where it is done now and was not, one more where it was, and else as many
+-- the users of a vertex have one open input less if it is done now and was not, one more if it was, and else as many
 abbrev pub AreCounted : (was_done is_done : Bool) → List ℕ → List ℕ → List ℕ → Type 0
 AreCounted false true users old new = AreLowered users old new
 AreCounted true false users old new = AreRaised users old new

@@ -35,7 +35,7 @@ impl Build {
         Build { graph, locals }
     }
 
-    /// Returns an equal second owner, which shares the graph and the trees. Fails with 92 `Memory` alone.
+    /// Copies the build, which shares the graph and the trees. Fails with 92 `Memory` alone.
     pub fn copy(&self) -> Result<Build, Memory>
         ensures { IfOk result (λ b. b ≡ self.now) }
     {

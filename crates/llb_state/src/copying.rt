@@ -1,4 +1,4 @@
-//! Second owners of what workers have, which share trees and views as far as they can.
+//! Copies of what workers have, which share trees and views as far as they can.
 
 ghost use Rattle.std.specs.Prelude.{◌≡◌, map, IfOk};
 ghost use Rattle.llb_state.specs.Room.{ready_made};
@@ -11,7 +11,7 @@ use llb_cache::{Instance, Lease};
 use llb_tree::Tree;
 use std::alloc::Global;
 
-/// Returns second owners of trees. Fails with 141 `Memory` alone.
+/// Copies trees, which stay shared. Fails with 141 `Memory` alone.
 pub fn copied_trees(alloc: Global, trees: &[Tree]) -> Result<Vec<Tree>, Memory>
     ensures { IfOk result (λ t. t.items ≡ trees.now) }
 {
@@ -22,7 +22,7 @@ pub fn copied_trees(alloc: Global, trees: &[Tree]) -> Result<Vec<Tree>, Memory>
     Ok(copies)
 }
 
-/// Returns workers that run the same, with the same leases. Fails with 141 `Memory` alone.
+/// Copies workers, with the same leases. Fails with 141 `Memory` alone.
 pub fn copied_desks(alloc: Global, desks: &[Desk]) -> Result<Vec<Desk>, Memory>
     ensures workers { IfOk result (λ d. map at_of d.items ≡ map at_of desks.now) }
     ensures leases { IfOk result (λ d. map leased_by d.items ≡ map leased_by desks.now) }
@@ -46,7 +46,7 @@ fn copied_desk(alloc: Global, desk: &Desk) -> Result<Desk, Memory>
     }
 }
 
-/// Returns a copy of what a running worker has. Fails with 141 `Memory` alone.
+/// Copies what a running worker has; trees are shared. Fails with 141 `Memory` alone.
 pub fn copied(alloc: Global, execution: &Execution) -> Result<Execution, Memory>
     ensures { IfOk result (λ x. left_in x ≡ left_in execution.now) }
 {

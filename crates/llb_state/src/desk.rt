@@ -17,6 +17,7 @@ use std::alloc::{AllocError, Global};
 /// The state of a worker.
 #[derive(Drop)]
 pub enum Desk {
+    /// It runs no vertex.
     Idle,
     /// The lease of its cache instances, if any, and everything else it holds.
     Runs(Option<Lease>, Execution),
@@ -47,7 +48,7 @@ pub fn idle(alloc: Global, count: u32) -> Result<Vec<Desk>, AllocError>
     Ok(desks)
 }
 
-/// Returns the state of the worker of a number; `None` where there is no such worker.
+/// Returns the state of the worker of a number; `None` if there is no such worker.
 pub fn desk_at(desks: &[Desk], w: u32) -> Option<&Desk>
     ensures { option_map (λ d. at_of d.now) result ≡ slice_get (map at_of desks.now) w }
 {

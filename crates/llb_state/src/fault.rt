@@ -1,4 +1,4 @@
-//! Why a call on a board's state is refused, where it is no single event: memory was refused, or an event of a walk is.
+//! Why a call on a board's state is refused, if it is no single event: memory was refused, or an event of a walk is.
 
 ghost use Rattle.std.specs.Prelude.{Some};
 ghost use Rattle.llb_state.specs.Faults.{walk_text};

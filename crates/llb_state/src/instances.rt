@@ -43,8 +43,9 @@ fn content(alloc: Global, caches: &Caches, place: &Instance) -> Result<Tree, Ste
     }
 }
 
-/// Leases instances for these needs, whose keys differ and are looked for in these rows first; `None` if there are no needs. Fails with 111
-/// and the first locked key that is held, or with 112 `Memory`; then the caches are as they were.
+/// Leases instances for these needs, whose keys differ and are looked for in these rows first; `None` if there are no
+/// needs. Fails with 111 `Held` and the first locked key that is held, or with 112 `Memory`; then the caches are as
+/// they were.
 pub fn lease_for(
     caches: &mut Caches,
     needs: Vec<Need>,
@@ -92,7 +93,7 @@ pub fn lent_for(alloc: Global, places: &[Instance], room: usize) -> Result<Optio
     Ok(Some(Lent::new(alloc, places, room)?))
 }
 
-/// Puts out a lease that was made ready, if there is one.
+/// Grants a lease that was made ready, if there is one. Does not allocate.
 pub fn lend_again(caches: &mut Caches, lent: Option<Lent>) -> Option<Lease>
     requires { ForSome lent (CanLend caches.old) }
     ensures { (result, caches.new) ≡ lent_if caches.old lent }

@@ -1,5 +1,5 @@
-//! The caches that a vertex shows, and what its claim takes of them: the instances, the trees that they begin with, and the needs
-//! of a lease. Stands on the mounts of a vertex and on caches, which it only reads.
+//! The caches that a vertex shows, and what its claim takes of them: the instances, the trees that they begin with, and
+//! the needs of a lease. It is built on the mounts of a vertex and on caches, which it only reads.
 
 ghost use Rattle.std.specs.Prelude.{◌≡◌, ◌<◌, ◌^◌, Ok, IfErr, IfOk, MatchResult, Some, None, true, map, length, option_map};
 ghost use Rattle.std.specs.List.{All};
@@ -44,8 +44,8 @@ pub(crate) struct Taking {
     pub rows: Vec<Option<usize>>,
 }
 
-/// Returns the caches that a vertex shows, in the order of the mounts, or fails with 135 with the first locked key that a lease has: then
-/// memory is taken for that key alone. Fails with 141 where memory is refused.
+// Returns the caches that a vertex shows, in the order of the mounts. Fails with 135 `Held` and the first locked key
+// that a lease has, for which alone it then allocates; else with 141 `Memory`, which can also come in place of 135.
 pub(crate) fn wanted_by<'a>(
     alloc: Global,
     caches: &'a Caches,
@@ -82,7 +82,8 @@ pub(crate) fn growths_of(
     Ok(growths)
 }
 
-// The row of the last locked key that a vertex shows; or the first of these keys that a lease has. Does not allocate.
+// Returns the row of the last locked key that a vertex shows, or fails with the first of these keys that a lease has.
+// Does not allocate.
 fn last_locked<'a>(caches: &Caches, vertex: &'a Vertex) -> Result<Option<usize>, KeyRef<'a>>
     requires { HasEdges vertex.now }
     ensures { MatchResult result (λ _. first_held_key caches.now.out (needs_of vertex.now) ≡ None)
@@ -102,7 +103,7 @@ fn last_locked<'a>(caches: &Caches, vertex: &'a Vertex) -> Result<Option<usize>,
     Ok(row)
 }
 
-// The caches that a vertex shows, as they are found. The row of this number is tried first for each of the keys.
+// Looks up the caches that a vertex shows. The row of number `near` is tried first for each of the keys.
 fn wants<'a>(
     alloc: Global,
     caches: &'a Caches,
@@ -130,7 +131,7 @@ fn wants<'a>(
     Ok(wanted)
 }
 
-// The key of the cache that a mount of a vertex shows, if it shows a locked one. Does not allocate.
+// Returns the key of the cache that a mount of a vertex shows, if it shows a locked one. Does not allocate.
 fn locked_key_shown<'a>(vertex: &'a Vertex, mount: &'a Mount) -> Option<KeyRef<'a>>
     requires { HasEdges vertex.now }
     ensures { result ≡ if_locked (option_map key_as (key_of vertex.now.op.inputs mount.now)) }
@@ -142,7 +143,7 @@ fn locked_key_shown<'a>(vertex: &'a Vertex, mount: &'a Mount) -> Option<KeyRef<'
     None
 }
 
-// The key of the cache that a mount of a vertex shows, if it shows one. Does not allocate.
+// Returns the key of the cache that a mount of a vertex shows, if it shows one. Does not allocate.
 fn key_shown<'a>(vertex: &'a Vertex, mount: &'a Mount) -> Option<KeyRef<'a>>
     requires { HasEdges vertex.now }
     ensures { result ≡ option_map key_as (key_of vertex.now.op.inputs mount.now) }
@@ -152,7 +153,8 @@ fn key_shown<'a>(vertex: &'a Vertex, mount: &'a Mount) -> Option<KeyRef<'a>>
     Some(KeyRef::new(options.id.as_str(), seed, mode_of(options.sharing)))
 }
 
-// The digest text and the index of the output that a new instance begins with: that of an input of a vertex, none for -1.
+// Returns the digest text and the index of the output that a new instance begins with: that of an input of a vertex;
+// `None` for -1.
 fn seed_shown(vertex: &Vertex, input: i64) -> Option<(&str, u32)>
     requires { HasEdges vertex.now }
     ensures { option_map (λ s. seed_by s.0.now s.1) result ≡ option_map seed_as (seed_of vertex.now.op.inputs input) }
@@ -165,7 +167,7 @@ fn seed_shown(vertex: &Vertex, input: i64) -> Option<(&str, u32)>
     Some((shown.digest.as_str(), vertex.inputs.as_slice()[at].index))
 }
 
-// The way in which a cache is shared, by its number.
+// Returns how a cache is shared, by its number.
 fn mode_of(sharing: i32) -> Mode
     ensures { result ≡ mode_of sharing }
 {
@@ -176,7 +178,7 @@ fn mode_of(sharing: i32) -> Mode
     }
 }
 
-/// Returns the numbers of the mounts that show caches. Fails with 141 alone, where memory is refused.
+// Returns the numbers of the mounts that show caches. Fails with 141 `Memory` alone.
 pub(crate) fn mount_numbers(alloc: Global, wanted: &[Wanted<'_>]) -> Result<Vec<u32>, ClaimFault>
     ensures { GivesClaim (λ ns. ns.items) result (Ok (map mount_of (map need_of wanted.now))) }
 {
@@ -187,7 +189,7 @@ pub(crate) fn mount_numbers(alloc: Global, wanted: &[Wanted<'_>]) -> Result<Vec<
     Ok(numbers)
 }
 
-/// Returns what a claim of these caches takes, with the trees of the inputs. Fails with 141 alone, where memory is refused.
+// Returns what a claim of these caches takes, with the trees of the inputs. Fails with 141 `Memory` alone.
 pub(crate) fn taking_for(
     alloc: Global,
     inputs: &[Tree],
@@ -209,7 +211,7 @@ pub(crate) fn taking_for(
     })
 }
 
-// The instances that a lease of these caches would have.
+// Makes the instances that a lease of these caches would have.
 fn places_found(alloc: Global, wanted: &[Wanted<'_>]) -> Result<Vec<Instance>, ClaimFault>
     ensures { GivesClaim (λ ps. ps.items) result (Ok (map place_found wanted.now)) }
 {
@@ -232,7 +234,7 @@ fn instance_numbers(alloc: Global, places: &[Instance]) -> Result<Vec<u32>, Clai
     Ok(numbers)
 }
 
-// The trees that the instances begin with.
+// Copies the trees that the instances begin with.
 fn first_trees(
     alloc: Global,
     inputs: &[Tree],
@@ -248,7 +250,7 @@ fn first_trees(
     Ok(trees)
 }
 
-// The tree of an instance as it is, or where it is not there that of its seed.
+// Copies the tree of an instance, or that of its seed if the instance is not there.
 fn first_tree(alloc: Global, inputs: &[Tree], want: &Wanted<'_>) -> Result<Tree, ClaimFault>
     ensures { GivesClaim (λ t. t) result (Ok (first_tree inputs.now want.now)) }
 {
@@ -258,7 +260,7 @@ fn first_tree(alloc: Global, inputs: &[Tree], want: &Wanted<'_>) -> Result<Tree,
     }
 }
 
-// The tree of a seed, the empty one where there is none.
+// Copies the tree of a seed; returns the empty tree if there is none.
 fn seed_tree(alloc: Global, inputs: &[Tree], input: i64) -> Result<Tree, ClaimFault>
     ensures { GivesClaim (λ t. t) result (Ok (base_in input inputs.now)) }
 {
@@ -268,7 +270,7 @@ fn seed_tree(alloc: Global, inputs: &[Tree], input: i64) -> Result<Tree, ClaimFa
     }
 }
 
-// What a lease of these caches is asked for.
+// Makes the needs of a lease of these caches.
 fn asked(alloc: Global, inputs: &[Tree], wanted: &[Wanted<'_>]) -> Result<Vec<Need>, ClaimFault>
     ensures { GivesClaim (λ ns. ns.items) result (Ok (asked inputs.now (map need_of wanted.now))) }
 {
@@ -281,7 +283,7 @@ fn asked(alloc: Global, inputs: &[Tree], wanted: &[Wanted<'_>]) -> Result<Vec<Ne
     Ok(needs)
 }
 
-// The rows in which the keys of these caches were found.
+// Returns the rows in which the keys of these caches were found.
 fn rows_found(alloc: Global, wanted: &[Wanted<'_>]) -> Result<Vec<Option<usize>>, ClaimFault>
     ensures { GivesClaim (λ rs. rs.items) result (Ok (map row_found wanted.now)) }
 {

@@ -13,13 +13,16 @@ pub enum Status {
     Blocked,
     /// By the worker of that number.
     Running(u32),
+    /// It ended with its outputs.
     Done,
+    /// It ended with this fault.
     Failed(VertexFault),
 }
 
 /// How a worker looks.
 #[derive(Clone, Copy, Debug, PartialEq, Eq)]
 pub enum WorkerStatus {
+    /// It runs no vertex.
     Idle,
     /// The vertex, the micro-steps done, and whether it is finished.
     Runs(u32, u32, bool),

@@ -132,7 +132,7 @@ impl Vertices {
         Some(look(stage, ready, is_marked(&self.stop_marks, v)))
     }
 
-    /// Returns output i of a vertex that is done; `None` where there is no such vertex or output. Does not allocate.
+    /// Returns output i of a vertex that is done; `None` if there is no such vertex or output. Does not allocate.
     pub fn output(&self, v: u32, i: u32) -> Option<&Tree>
         ensures { option_map (λ t. t.now) result ≡ output_in (ending_at self.now.statuses v) i }
     {
@@ -146,7 +146,7 @@ impl Vertices {
         self.links.users(v)
     }
 
-    /// Returns the least vertex that waits and has all its inputs; `None` where there is none. Does not allocate.
+    /// Returns the least vertex that waits and has all its inputs; `None` if there is none. Does not allocate.
     pub fn next_ready(&self) -> Option<u32>
         ensures { result ≡ least (is_ready self.now.build self.now.statuses) 0 (length self.now.build.graph.vertices) }
     {
@@ -197,7 +197,7 @@ impl Vertices {
         );
     }
 
-    /// Returns an equal second owner, which shares the graph and all trees. Fails with 141 `Memory` alone.
+    /// Copies the vertices, which share the graph and all trees. Fails with 141 `Memory` alone.
     pub fn copy(&self, alloc: Global) -> Result<Vertices, Memory>
         ensures { IfOk result (λ s. s ≡ self.now) }
     {
@@ -245,7 +245,7 @@ impl Vertices {
         Ok(vertex)
     }
 
-    /// Returns copies of the trees of a vertex's inputs. Fails with 134 `NotReady` where one is not there, with 141 `Memory`.
+    // Copies the trees of a vertex's inputs. Fails with 134 `NotReady` if one is not there, with 141 `Memory`.
     pub(crate) fn inputs(&self, alloc: Global, vertex: &Vertex) -> Result<Vec<Tree>, ClaimFault>
         ensures { GivesClaim (λ trees. trees.items) result (or_not_ready (inputs_from (ending_at self.now.statuses) vertex.now.inputs)) }
     {
@@ -318,7 +318,7 @@ fn count(links: &mut Links, v: u32, was_done: bool, is_done: bool)
     }
 }
 
-// Returns copies of the trees that the edges lead to.
+// Copies the trees that the edges lead to. Fails with 134 `NotReady` if one is not there, with 141 `Memory`.
 fn gathered(alloc: Global, stages: &[Stage], inputs: &[Edge]) -> Result<Vec<Tree>, ClaimFault>
     ensures { GivesClaim (λ trees. trees.items) result (or_not_ready (inputs_from (ending_at (map status_of stages.now)) inputs.now)) }
 {

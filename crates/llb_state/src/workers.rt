@@ -64,7 +64,8 @@ impl Model for Workers {
 }
 
 impl Workers {
-    /// Makes idle workers, of a number from 1 to 64, on caches of which no lease is out. Fails with the caches where memory is refused.
+    /// Makes idle workers, of a number from 1 to 64, on caches of which no lease is out. If memory is refused, returns
+    /// the caches.
     pub fn open(alloc: Global, caches: Caches, count: u32) -> Result<Workers, Caches>
         requires count { (0 < count) × (count ≤ 64) }
         requires free { leases caches.out ≡ 0 }
@@ -115,7 +116,7 @@ impl Workers {
         }
     }
 
-    /// Returns the instances that a worker holds; none where it is idle, or past the last worker. Does not allocate.
+    /// Returns the instances that a worker holds; none if it is idle, or past the last worker. Does not allocate.
     pub fn places(&self, w: u32) -> &[Instance]
         ensures { result.now ≡ places_at (slice_get self.now.workers w) }
     {
@@ -125,7 +126,7 @@ impl Workers {
         }
     }
 
-    /// Returns the workspace of what a worker runs; `None` where it is idle, or past the last worker. Does not allocate.
+    /// Returns the workspace of what a worker runs; `None` if it is idle, or past the last worker. Does not allocate.
     pub fn workspace(&self, w: u32) -> Option<&Workspace>
         ensures { option_map (λ v. v.now) result ≡ option_map (λ (x : Execution). x.own) (runs (slice_get self.now.workers w)) }
     {
@@ -135,7 +136,7 @@ impl Workers {
         }
     }
 
-    /// Returns workers that do the same, with the same leases, on equal caches. Fails with 141 `Memory` alone.
+    /// Copies the workers, with the same leases on equal caches. Fails with 141 `Memory` alone.
     pub fn copy(&self, alloc: Global) -> Result<Workers, Memory>
         ensures { IfOk result (λ s. s ≡ self.now) }
     {

@@ -46,7 +46,7 @@ ThereAndBack s = (e : Event) (t u : Stepping) → done_of s e ≡ Ok t → GoesB
 abbrev pub MeetsOn : Stepping → Event → Stepping → Bool → Type 0
 MeetsOn s e t met = (b : BoardValue) × (r : Reply) × (answered s.board e ≡ Some (b, r)) × (t ≡ onward s b) × (met ≡ list_any (meets e r) s.breaks)
 
--- Some event of a list is refused so, on the board to which those before it lead, of which none meets a breakpoint.
+-- An event of a list is refused with this fault, on the board to which the events before it lead; none of those meets a breakpoint.
 pub record IsRefusedAt (s : Stepping) (es : List Event) (e : StepperFault) : Type 0 where
   pub count : ℕ
   pub board : BoardValue

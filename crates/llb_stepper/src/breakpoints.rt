@@ -26,7 +26,7 @@ struct Kinds {
 /// Breakpoints, in the order in which they were added. Contracts see the list of them.
 #[derive(Drop)]
 pub(crate) struct Breakpoints {
-    /// What contracts see. No code reads it.
+    /// The breakpoints as contracts see them; code searches `kinds`.
     list: Vec<Break>,
     kinds: Kinds,
 }

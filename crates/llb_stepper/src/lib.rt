@@ -1,5 +1,17 @@
-//! Steps through a run, forwards and backwards: event by event, up to breakpoints, or over a given record. Each event that was done can be
-//! taken back without memory. It is built on `llb_board`, which it changes by the board's calls only.
+//! Steps through a run, forwards and back: event by event, up to breakpoints, or over a given record. Each event that was done can be taken
+//! back without memory. It is built on `llb_board`, and changes the board only by its calls.
+//!
+//! Types: `Stepper` (a board, what undoes each event that was done on it, and breakpoints), `Break`, `Stop`, `StepperFault` (171 to 174).
+//! Promise: `Stepper::back` (`ok`, `fewer`, `none`) restores exactly the board before the last event. `Stepper::go` (`goes`, `err`) and
+//! `Stepper::replay` (`stops`, `err`) stop at the first event that meets a breakpoint. Laws: `record_is_the_run`, `past_is_the_records`,
+//! `replay_is_the_run`.
+//!
+//! A caller:
+//!
+//!     let mut stepper = Stepper::new(alloc, board);
+//!     stepper.break_at(Break::Fails).ok()?;
+//!     stepper.go().ok()?;
+//!     stepper.back().ok()
 #![tactic(auto)]
 
 mod breakpoints;

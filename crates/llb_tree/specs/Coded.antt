@@ -9,7 +9,7 @@ abbrev pub packed : Entry → (ℕ × (ℕ × ℕ)) × Option (List ℕ)
 packed (Dir m) = ((m.mode, (m.uid, m.gid)), None)
 packed (File m bytes) = ((m.mode, (m.uid, m.gid)), Some bytes)
 
--- what is stored as an entry again: a directory where there is no content, and a file where there is
+-- what is stored as an entry again: a directory if there is no content, and a file if there is
 abbrev pub unpacked : (ℕ × (ℕ × ℕ)) × Option (List ℕ) → Entry
 unpacked (m, None) = Dir (record { mode = m.0; uid = m.1.0; gid = m.1.1 })
 unpacked (m, Some bytes) = File (record { mode = m.0; uid = m.1.0; gid = m.1.1 }) bytes

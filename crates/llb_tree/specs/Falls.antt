@@ -30,7 +30,7 @@ same_path p q h = path_cmp-IsAntisymmetric p q (is_equal (path_cmp p q) h)
     is_equal Equal h = refl
     is_equal Greater h = cc
 
--- what bounds the paths with an entry bounds the height
+-- a bound of the lengths of all paths that have an entry is a bound of the height
 most_le : (n : ℕ) (es : List (List (List ℕ) × Entry)) → ((q : List (List ℕ)) → is_some (find path_cmp q es) ≡ true → length q + 1 ≤ n)
     → most (λ (e : List (List ℕ) × Entry). length e.0 + 1) es ≤ n
 most_le n [] h = omega arith
@@ -64,7 +64,7 @@ or_right : (a b : Option Entry) → is_some b ≡ true → is_some (option_or a 
 or_right None b h = h
 or_right (Some x) b h = refl
 
--- the children's heights, where each look into them is at most n
+-- the children's heights, if each look into them is at most n
 kids_le : (n : ℕ) (ks : List Child) → ((m : List ℕ) (q : List (List ℕ)) → is_some (look_kids ks m q) ≡ true → length q + 1 ≤ n) → most deep-Child ks ≤ n + 1
 kids_le n [] h = omega arith
 kids_le n (k ∷ ks) h =
@@ -78,7 +78,7 @@ most_append : (xs ys : List Child) (n : ℕ) → most deep-Child (xs ++ ys) ≤ 
 most_append [] ys n h = (omega arith, h)
 most_append (x ∷ xs) ys n h = let rest = most_append xs ys n (omega arith) in let a : most deep-Child xs ≤ n = rest.0 in (omega arith, rest.1)
 
--- the heights of the pieces, where those of the children in them are at most n
+-- the heights of the pieces, if those of the children in them are at most n
 pub pieces_le : (n : ℕ) (ps : List Piece) → most deep-Child (kids_in ps) ≤ n → most deep-Piece ps ≤ n
 pieces_le n [] h = omega arith
 pieces_le n (p ∷ ps) h =
@@ -87,7 +87,7 @@ pieces_le n (p ∷ ps) h =
     let rest = pieces_le n ps parts.1 in
     omega arith
 
--- and those of the children, where those of the pieces are
+-- and those of the children, if those of the pieces are
 pub le_pieces : (n : ℕ) (ps : List Piece) → most deep-Piece ps ≤ n → most deep-Child (kids_in ps) ≤ n
 le_pieces n [] h = omega arith
 le_pieces n (p ∷ ps) h = both (rows_in p) (kids_in ps) (omega arith) (le_pieces n ps (omega arith))

@@ -65,17 +65,17 @@ pub record HasLater (n : List ℕ) (kids more : List Child) : Type 0 where
   pub here : is_some (child n kids) ≡ true
   pub later : Covers kids more
 
--- the children that were made, or the given ones where none were
+-- the children that were made, or the given ones if none were
 abbrev pub those : Option (Vec Child Global) → List Child → List Child
 those None ks = ks
 those (Some made) ks = made.items
 
--- the pieces that were made, or the given ones where none were
+-- the pieces that were made, or the given ones if none were
 abbrev pub those_pieces : Option (Vec Piece Global) → List Piece → List Piece
 those_pieces None ps = ps
 those_pieces (Some made) ps = made.items
 
--- the children with another tree under the name at a place
+-- the children with another tree under the name at a position
 abbrev pub written : ℕ → TreeMap → Pairs → Pairs
 written i t [] = []
 written zero t (k ∷ ks) = (k.0, t) ∷ ks

@@ -14,10 +14,10 @@ pub record IsMeta (m : MetaValue) : Type 0 where
   pub uid : m.uid < 2 ^ 32
   pub gid : m.gid < 2 ^ 32
 
--- the mode and the owner of numbers, where the mode is one
+-- the mode and the owner of numbers, if the mode is one
 abbrev pub meta_of : ℕ → ℕ → ℕ → Option MetaValue
 meta_of mode uid gid = if nat_lt 4095 mode then None else Some (record { mode = mode; uid = uid; gid = gid })
 
--- the mode and the owner of a directory that is made where none are given: 0755 0:0
+-- the mode and the owner of a directory that is made if none are given: 0755 0:0
 abbrev pub new_dir_meta : MetaValue
 new_dir_meta = record { mode = 493; uid = 0; gid = 0 }

@@ -21,12 +21,12 @@ use Rattle.llb_tree.specs.declared.children.Children.{Children}
 abbrev pub Pair : Type 0
 Pair = List (List ℕ) × base.Entry
 
--- an entry without where its content lies
+-- an entry with its content as bytes
 abbrev pub seen : Entry → base.Entry
 seen (entry.Dir m) = base.Dir m
 seen (entry.File m b) = base.File m b.now
 
--- a borrowed path with its entry, without where the path and the content lie
+-- a borrowed path with its entry, both by value
 abbrev pub pair_seen : Bor (List (List ℕ)) × Entry → Pair
 pair_seen (p, e) = (p.now, seen e)
 
@@ -91,12 +91,12 @@ abbrev pub look_in : Option TreeMap → Look
 look_in None q = None
 look_in (Some t) q = finite.get t q
 
--- the result for one place further
+-- a position, one child further
 abbrev pub later : Result ℕ ℕ → Result ℕ ℕ
 later (Ok i) = Ok (i + 1)
 later (Err i) = Err (i + 1)
 
--- where a name is among the children, or where it would go
+-- the position of a name among the children, or that at which it would be put
 abbrev pub place : List ℕ → List Child → Result ℕ ℕ
 place p [] = Err 0
 place p (r ∷ rows) = by_order (name_cmp p (name_of r)) (Err 0) (Ok 0) (later (place p rows))
@@ -137,7 +137,7 @@ pub record IsWhole (root : TreeMap) (depth : ℕ) : Type 0 where
 abbrev pub left_in : Children → List Child
 left_in c = c.rows.now ++ kids_in c.pieces.now
 
--- the first child and those after it, or nothing where there is none
+-- the first child and those after it, or nothing if there is none
 abbrev pub SplitsFirst : List Child → Option (Bor Child × Children) → Type 0
 SplitsFirst ks None = ks ≡ []
 SplitsFirst ks (Some (kid, rest)) = ks ≡ kid.now ∷ left_in rest

@@ -5,7 +5,7 @@ use Rattle.std.specs.List.{list_any}
 use Rattle.llb_tree.specs.Meta.{MetaValue}
 use Rattle.llb_tree.specs.Tree.{Entry, Dir, File, Look, parents}
 
--- whether a file is there: false for a directory, and where there is nothing
+-- whether a file is there: false for a directory, and if there is nothing
 abbrev pub is_file : Option Entry → Bool
 is_file None = false
 is_file (Some (Dir m)) = false
@@ -22,16 +22,16 @@ pub record WayValue : Type 0 where
   pub gid : Option ℕ
   pub keeps : Bool
 
--- whether a mode, if one is given, is at most 4095; true where none is given
+-- whether a mode, if one is given, is at most 4095; true if none is given
 abbrev pub is_mode : Option ℕ → Bool
 is_mode None = true
 is_mode (Some mode) = if nat_lt 4095 mode then false else true
 
--- the way of a mode, a user, a group, each given or not, and of whether directories that both have stay; none exactly where a mode above 4095 is given
+-- the way of a mode, a user, a group, each given or not, and of whether directories that both have stay; none exactly if a mode above 4095 is given
 abbrev pub way_of : Option ℕ → Option ℕ → Option ℕ → Bool → Option WayValue
 way_of mode uid gid keeps = if is_mode mode then Some (record { mode = mode; uid = uid; gid = gid; keeps = keeps }) else None
 
--- the mode and the owner that are given, and an entry's own where none is
+-- the mode and the owner that are given, and an entry's own if none is
 abbrev pub laid_meta : WayValue → MetaValue → MetaValue
 laid_meta w m = record { mode = unwrap_or w.mode m.mode; uid = unwrap_or w.uid m.uid; gid = unwrap_or w.gid m.gid }
 
@@ -42,11 +42,11 @@ over w (Some (File m b)) (Dir k) = Dir (laid_meta w k)
 over w None (Dir k) = Dir (laid_meta w k)
 over w there (File k c) = File (laid_meta w k) c
 
--- the entry at a path where the lower tree has this, and the upper one that, or nothing, with a file above it or not
+-- the entry at a path, given what each tree has there, and whether a file of the upper one is above it
 abbrev pub laid_over : WayValue → Option Entry → Option Entry → Bool → Option Entry
 laid_over w there (Some e) hidden = Some (over w there e)
 laid_over w there None hidden = if hidden then None else there
 
--- the entry at a path where the upper tree, given last, is laid over the lower one
+-- the entry at a path when the upper tree, given last, is laid over the lower one
 abbrev pub over_at : WayValue → Look → Look → Look
 over_at w lower upper p = laid_over w (lower p) (upper p) (below_file upper p)

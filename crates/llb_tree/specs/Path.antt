@@ -71,7 +71,7 @@ path_of text = follow [] (parts_of text)
 abbrev pub path_from : List (List ℕ) → List ℕ → Result (List (List ℕ)) TreeFault
 path_from start text = if starts_with nat_eq text (47 ∷ []) then path_of text else follow start (parts_of text)
 
--- how many names the path has, where there is one
+-- how many names the path has, if there is one
 abbrev pub depth : Result (List (List ℕ)) TreeFault → Result ℕ TreeFault
 depth (Ok path) = Ok (length path)
 depth (Err e) = Err e

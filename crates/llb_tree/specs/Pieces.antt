@@ -14,12 +14,12 @@ use Rattle.llb_tree.specs.declared.node.Piece.{Piece}
 abbrev pub row_pairs : Piece → Pairs
 row_pairs p = map pair_of (rows_in p)
 
--- the pairs of all pieces, one piece after another, where each piece is given by its pairs
+-- the pairs of all pieces, one piece after another, if each piece is given by its pairs
 abbrev pub joined : List Pairs → Pairs
 joined [] = []
 joined (p ∷ ps) = p ++ joined ps
 
--- the same where the pieces are given as they are kept
+-- the same if the pieces are given as they are kept
 abbrev pub pairs_of : List Piece → Pairs
 pairs_of ps = joined (map row_pairs ps)
 
@@ -48,12 +48,12 @@ pub record IsPieceOf (n : List ℕ) (ps : List Pairs) (j : ℕ) : Type 0 where
   pub before : 0 < j → begins_after n (get_or ps j []) ≡ false
   pub after : suc j < length ps → begins_after n (get_or ps (suc j) []) ≡ true
 
--- the pieces without an empty one at a place
+-- the pieces without an empty one at a position
 abbrev pub tidied_by : Pairs → ℕ → List Pairs → List Pairs
 tidied_by [] j ps = remove ps j
 tidied_by (e ∷ es) j ps = ps
 
--- the pieces without the one at place j where that is empty; else, also where there is no such place, all of them
+-- the pieces without the one at position j where that is empty; else, also if there is no such position, all of them
 abbrev pub tidied : ℕ → List Pairs → List Pairs
 tidied j ps = tidied_by (get_or ps j []) j ps
 

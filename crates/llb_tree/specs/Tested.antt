@@ -13,7 +13,7 @@ use Rattle.llb_tree.specs.declared.fault.TreeFault.{TreeFault}
 use Rattle.llb_tree.specs.declared.fault.TreeFault.TheVariants.{Root}
 
 module _ {X : Type 0} (passes : X → List ℕ → Bool) where
-  -- a path passes: it has as many names as there are tests, and each passes the test at its place
+  -- a path passes: it has as many names as there are tests, and each passes the test at its position
   abbrev pub passes_all : List X → List (List ℕ) → Bool
   passes_all [] [] = true
   passes_all [] (n ∷ q) = false
@@ -45,12 +45,12 @@ module _ {X : Type 0} (passes : X → List ℕ → Bool) where
   abbrev pub unless_goes : List X → List (List ℕ) → Option Entry → Option Entry
   unless_goes ts q o = cond (not (goes ts q)) o None
 
-  -- the rest of a node, where any of it goes
+  -- what is left of a node, if anything of it goes
   pub record Thins (ts : List X) (old : TreeMap) (new : Option TreeMap) : Type 0 where
     pub any : is_some new ≡ any_goes ts old
     pub looks : (q : List (List ℕ)) → finite.get (unwrap_or new old) q ≡ unless_goes ts q (finite.get old q)
 
-  -- the rest of children, where any of it goes
+  -- what is left of children, if anything of them goes
   pub record KeepsAll (ts : List X) (old : List Child) (new : Option (List Child)) : Type 0 where
     pub any : is_some new ≡ list_any (goes ts) (map (λ e. e.0) (flat old))
     pub order : AreSorted old → AreSorted (unwrap_or new old)

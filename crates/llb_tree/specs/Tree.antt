@@ -53,13 +53,13 @@ all_dirs (Some (Dir m) ∷ es) = all_dirs es
 abbrev pub walk : Look → List (List ℕ) → Result (Unit {0}) TreeFault
 walk look p = all_dirs (map look (parents p))
 
--- a file may be put where there is nothing or a file
+-- a file may be put if there is nothing or a file
 abbrev pub file_fits : Option Entry → Result (Unit {0}) TreeFault
 file_fits (Some (Dir m)) = Err IsDir
 file_fits (Some (File m b)) = Ok tt
 file_fits None = Ok tt
 
--- a directory where there is nothing or a directory
+-- a directory may be put if there is nothing or a directory
 abbrev pub dir_fits : Option Entry → Result (Unit {0}) TreeFault
 dir_fits (Some (File m b)) = Err Conflict
 dir_fits (Some (Dir m)) = Ok tt

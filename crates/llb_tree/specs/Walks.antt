@@ -26,7 +26,7 @@ behind [] ls = []
 behind (n ∷ p) [] = []
 behind (n ∷ p) (l ∷ ls) = map (λ e. (n ∷ e.0, e.1)) (behind p ls) ++ flat l
 
--- one row of children for each name, in order and after it
+-- for each name of the path a row of children: those after the name, in order
 abbrev pub AreBehind : List (List ℕ) → List (List Child) → Type 0
 AreBehind [] [] = Unit {0}
 AreBehind [] (l ∷ ls) = ⊥

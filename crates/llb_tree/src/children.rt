@@ -6,7 +6,7 @@ ghost use Rattle.llb_tree.specs.Nodes.{kids_in, left_in, SplitsFirst};
 
 use crate::node::{Child, Piece};
 
-/// Children in the order of their names: all those of a directory, or those that are left of them.
+/// Children in the order of their names: all those of a directory, or all from some child on.
 #[derive(Clone, Copy)]
 pub struct Children<'a> {
     rows: &'a [Child],
@@ -14,7 +14,7 @@ pub struct Children<'a> {
 }
 
 impl<'a> Children<'a> {
-    // None at all.
+    // Returns no children.
     pub(crate) fn none() -> Children<'a>
         ensures { left_in result ≡ [] }
     {
@@ -24,14 +24,14 @@ impl<'a> Children<'a> {
         }
     }
 
-    // Those in pieces.
+    // Returns the children in these pieces.
     pub(crate) fn of(pieces: &'a [Piece]) -> Children<'a>
         ensures { left_in result ≡ kids_in pieces.now }
     {
         Children { rows: &[], pieces }
     }
 
-    /// Returns the first child, and those after it; `None` where none is left. Does not allocate.
+    /// Returns the first child, and those after it; `None` if there is none. Does not allocate.
     pub fn split_first(&self) -> Option<(&'a Child, Children<'a>)>
         ensures { SplitsFirst (left_in self.now) result }
     {

@@ -8,7 +8,7 @@ use crate::node::{Kind, Node};
 use crate::tree::Tree;
 use llb_wire::Same;
 
-/// Two trees are the same where both have the same entries at the same paths.
+/// Two trees are the same if both have the same entries at the same paths.
 impl Same for Tree {
     fn same(&self, other: &Tree) -> bool {
         self.root.same(&other.root)
@@ -16,8 +16,8 @@ impl Same for Tree {
 }
 
 impl Node {
-    // Whether both have the same entries at the same paths. The entry of a child says that there is something, so a child
-    // that the other lacks makes a difference.
+    // Returns whether both have the same entries at the same paths. The calls of `entry` are for contracts: they say
+    // that something is at a child's name, so a child that the other node lacks makes a difference.
     pub(crate) fn same(&self, other: &Node) -> bool
         ensures { IsTrue result ↔ (self.now ≡ other.now) }
     {

@@ -1,5 +1,5 @@
-//! Contents that files share: a second owner of a content costs no copy of its bytes, so a file is copied to another place,
-//! or takes another mode or owner, at the price of the edit alone.
+//! Contents that files share: to share a content copies none of its bytes, so a file is copied to another path, or gets
+//! another mode or owner, at the price of the edit alone.
 
 ghost use Rattle.std.specs.Prelude.{◌≡◌, [], Ok, List, ℕ, IfOk, OnErr};
 ghost use Rattle.std.specs.Arc.{arc_value};
@@ -47,7 +47,7 @@ impl Content {
         &self.bytes
     }
 
-    // The bytes behind their pointer.
+    // Returns the bytes behind their pointer.
     fn into_shared(self) -> Arc<Bytes>
         ensures { arc_value result ≡ self }
     {
@@ -57,7 +57,7 @@ impl Content {
 }
 
 impl Node {
-    // The content of a file, shared; a directory has none. Refused only where there are too many owners.
+    // Returns the content of a file, shared; `None` for a directory. Fails only if the content has too many owners.
     fn content(&self) -> Result<Option<Content>, AllocError>
         ensures { IfOk result (λ c. c ≡ content_of (finite.get self.now [])) }
     {
@@ -70,7 +70,7 @@ impl Node {
         }
     }
 
-    // A file alone, with a content that is shared.
+    // Makes the node of a file that shares a content.
     fn of_content(meta: Meta, content: Content) -> Node
         ensures { (q : List (List ℕ)) → finite.get result q ≡ file_look meta content q }
     {
@@ -81,8 +81,8 @@ impl Node {
 }
 
 impl Tree {
-    /// Returns the content of the file at a path, which it shares and does not copy; `None` where no file is. Fails with 27 `Memory` alone, only
-    /// where the content has too many owners.
+    /// Returns the content of the file at a path, which is shared, not copied; `None` if no file is there. Fails with
+    /// 27 `Memory` alone, and only if the content has too many owners.
     pub fn content(&self, path: &Path) -> Result<Option<Content>, TreeFault>
         ensures { Gives (λ c. c) result (Ok (content_of (finite.get self.now path.now))) }
     {
@@ -92,9 +92,10 @@ impl Tree {
         }
     }
 
-    /// Puts a file at a path, or replaces the file there, as `put_file` does, with a content that is shared and not copied. Fails, in
-    /// this order, with 25 `Root` at the root, 21 `NotFound` or 22 `NotDir` at the first parent that is missing or a file, 23
-    /// `IsDir` where a directory is there; else with 27 `Memory`. After a refusal the tree is unchanged.
+    /// Puts a file at a path, or replaces the file there, as `put_file` does, with a content that is shared and not
+    /// copied. Fails, in this order, with 25 `Root` at the root, 21 `NotFound` or 22 `NotDir` at the first parent that
+    /// is missing or a file, 23 `IsDir` if a directory is there; else with 27 `Memory`. After a refusal the tree is
+    /// unchanged.
     pub fn put_content(
         &mut self,
         path: &Path,

@@ -10,7 +10,8 @@ use crate::name::Name;
 use crate::node::{Child, Piece};
 use std::cmp::Ordering;
 
-// The children after the one of a name, where they are in the order of their names; none where no child has it.
+// Returns the children after the one of a name; `None` if no child has that name. Expects the children in the order of
+// their names.
 fn after<'a>(kids: Children<'a>, name: &Name) -> Option<Children<'a>>
     ensures { IfSome result (λ more. HasLater name.now (left_in kids.entry) (left_in more)) }
 {
@@ -25,7 +26,7 @@ fn after<'a>(kids: Children<'a>, name: &Name) -> Option<Children<'a>>
     None
 }
 
-// Whether two rows of children have the same names.
+// Returns whether two lists of children have the same names in the same order.
 fn same_names(upper: &[Child], lower: &[Child]) -> bool
     ensures { IsTrue result → map name_of upper.now ≡ map name_of lower.now }
 {
@@ -40,7 +41,7 @@ fn same_names(upper: &[Child], lower: &[Child]) -> bool
     true
 }
 
-// Whether pieces have the same names, each those of the one beside it.
+// Returns whether two lists of pieces have the same names, piece by piece.
 fn are_alike(upper: &[Piece], lower: &[Piece]) -> bool
     ensures { IsTrue result → map name_of (kids_in upper.now) ≡ map name_of (kids_in lower.now) }
 {
@@ -55,15 +56,15 @@ fn are_alike(upper: &[Piece], lower: &[Piece]) -> bool
     true
 }
 
-// Whether each name of the lower children is one of the upper ones'. Where one directory comes from the other, they are most often the
-// same, so that is seen first.
+// Returns whether each name of the lower children is one of the upper ones'. If one directory comes from the other,
+// their names are most often the same, so that is tried first.
 pub(crate) fn covers(upper: &[Piece], lower: &[Piece]) -> bool
     ensures { IsTrue result → Covers (kids_in upper.now) (kids_in lower.now) }
 {
     are_alike(upper, lower) || has_all(Children::of(upper), Children::of(lower))
 }
 
-// Whether each name of the lower children is one of the upper ones', by one pass over both.
+// Returns whether each name of the lower children is one of the upper ones', by one pass over both.
 fn has_all(upper: Children<'_>, lower: Children<'_>) -> bool
     ensures { IsTrue result → Covers (left_in upper.entry) (left_in lower.entry) }
 {

@@ -1,6 +1,7 @@
-//! Edits of nodes that may be shared. A directory is made its own before it is changed: where it has other owners, a fresh
-//! list of second owners of its pieces takes its place, and so do second owners of the children in the piece that is changed, which
-//! leaves the tree that it represents as it is. So an edit copies one piece of each directory on its path, and the lists of their pieces.
+//! Edits of nodes that may be shared. A directory is made its own before it is changed: if it has other owners, a copy
+//! of its list of pieces takes the list's place, and a copy of the children in the piece that is changed takes theirs;
+//! what is below them stays shared, and the tree that the directory represents stays as it is. So an edit copies one
+//! piece of each directory on its path, and the lists of their pieces.
 
 ghost use Rattle.std.specs.Prelude.{[], Ok, Err, ◌≡◌, ◌<◌, ◌≤◌, ℕ, List, length, map, option_map, IfOk, OnOk, OnErr};
 ghost use Rattle.std.specs.Arc.{arc_value};
@@ -14,7 +15,7 @@ use crate::pieces::{drop_empty, make_room, own_list};
 use std::alloc::{AllocError, Global};
 use std::sync::Arc;
 
-// Second owners of the same children, with room for one more.
+// Copies children, with room for one more. Their names and nodes are shared.
 pub(crate) fn copies(alloc: Global, kids: &[Child]) -> Result<Vec<Child>, AllocError>
     ensures { IfOk result (λ v. map pair_of v.items ≡ map pair_of kids.now) }
 {
@@ -26,7 +27,7 @@ pub(crate) fn copies(alloc: Global, kids: &[Child]) -> Result<Vec<Child>, AllocE
     Ok(copied)
 }
 
-// Makes children that are shared its own; the trees that they represent stay.
+// Replaces a list of children that is shared by its own copy; the trees that they represent are unchanged.
 pub(crate) fn own(alloc: Global, kids: &mut Arc<Vec<Child>>) -> Result<(), AllocError>
     ensures { map pair_of (arc_value kids.new).items ≡ map pair_of (arc_value kids.old).items }
 {
@@ -38,7 +39,8 @@ pub(crate) fn own(alloc: Global, kids: &mut Arc<Vec<Child>>) -> Result<(), Alloc
     Ok(())
 }
 
-// Sets a node, or nothing, at the names below the child of a name, or as that child.
+// Replaces what is at the names below the child of a name, or that child if there are no names, by a node or by
+// nothing.
 #[cycle(set)]
 fn set_in(
     list: &mut Vec<Child>,
@@ -69,7 +71,7 @@ fn set_in(
     }
 }
 
-// Does the same in a piece, which may be shared: makes its children its own first.
+// Does the same in a piece, whose children may be shared: makes them its own first.
 #[cycle(set)]
 fn set_rows(
     rows: &mut Arc<Vec<Child>>,
@@ -84,7 +86,7 @@ fn set_rows(
 {
     own(alloc, rows)?;
     match Arc::get_mut(rows) {
-        // Unreachable.
+        // Unreachable: `own` leaves a single owner.
         None => Err(AllocError),
         Some(list) => set_in(list, alloc, name, rest, branch),
     }
@@ -111,7 +113,7 @@ fn set_piece(
     Ok(())
 }
 
-// Does the same where the list of the pieces may be shared: makes that its own first.
+// Does the same if the list of the pieces may be shared: makes that its own first.
 #[cycle(set)]
 fn set_below(
     kids: &mut Arc<Vec<Piece>>,
@@ -127,13 +129,13 @@ fn set_below(
 {
     own_list(alloc, kids)?;
     match Arc::get_mut(kids) {
-        // Unreachable.
+        // Unreachable: `own_list` leaves a single owner.
         None => Err(AllocError),
         Some(pieces) => set_piece(pieces, alloc, name, rest, branch),
     }
 }
 
-// Sets a node, or nothing, as the child at a place.
+// Replaces the child at an index by a node, or removes it.
 fn set_child(list: &mut Vec<Child>, i: usize, branch: Option<Node>)
     requires within { i < length list.old.items }
     requires sorted { AreSorted list.old.items }
@@ -147,7 +149,7 @@ fn set_child(list: &mut Vec<Child>, i: usize, branch: Option<Node>)
     }
 }
 
-// Puts a node in as the child of a name, where that goes; nothing where there is no node.
+// Inserts a node as the child of a name, at the index where the name belongs; does nothing if there is no node.
 fn insert_child(
     list: &mut Vec<Child>,
     alloc: Global,
@@ -175,8 +177,8 @@ fn insert_child(
 }
 
 impl Node {
-    // Sets a node, or nothing, at the names below this, in place of what is there; refused where the directories on the way
-    // are not there, and then this stays as it is.
+    // Replaces what is at the names below this node by another node, or by nothing. Fails if a directory above it is
+    // missing, if nothing is to replace this node itself, or if memory is refused; then this node is unchanged.
     #[cycle(set)]
     pub(crate) fn set(
         &mut self,

@@ -12,8 +12,8 @@ use crate::path::Path;
 use crate::tree::Tree;
 
 impl Tree {
-    /// Checks that the entries have room at and below a path. Fails with 26 `BadName` where a path would have more than 128 names. Does not
-    /// allocate.
+    /// Checks that the entries have room at and below a path. Fails with 26 `BadName` if a path would have more than
+    /// 128 names. Does not allocate.
     pub fn fits(&self, path: &Path) -> Result<(), TreeFault>
         ensures fit { result ≡ places_fit path.now (finite.keys self.now) }
         ensures known { IfErr result (λ e. is_memory e ≡ false) }
@@ -30,7 +30,8 @@ impl Tree {
 }
 
 impl Node {
-    // Whether what is at and below this is on at most this number of levels. A file and an empty directory are on one.
+    // Returns whether what is at and below this node is on at most `levels` levels. A file and an empty directory are
+    // on one.
     pub(crate) fn is_within(&self, levels: usize) -> bool
         ensures { IsTrue result ↔ (height self.now ≤ levels) }
     {

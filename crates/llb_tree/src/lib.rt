@@ -1,6 +1,18 @@
-//! A tree is a map from paths to entries, and each call on it is one look or one change of the map. Here are names and
-//! paths with the reading of a path from a text, the mode and the owner of an entry, modes as they are written, and the tree. Nothing here knows an
-//! operation or a file system.
+//! A tree is a map from paths to entries, and each call on it is one look or one change of the map. Also names, paths with their reading from a
+//! text, modes and owners. It is built on `llb_wire`. A node is a file or a directory; contents, lists of children and names are each behind an
+//! `Arc`, so a copy shares all, and an edit makes only the directories on its path its own (docs/DECISIONS.md, "Trees").
+//!
+//! Types: `Tree`, `Path`, `Name`, `Meta` (mode and owner), `Entry`, `Node` and `Children` (nodes as they lie in memory), `Walk` (entries in
+//! path order), `TreeFault`.
+//! Promise: `Tree::put_file` (`gives`, `last`, `err`) makes one change of the map or fails with its first fault, and then nothing is changed;
+//! so do the other edits. `Tree::overlaid` (`paths`) lays one tree over another; `Tree::get` (`found`, `tree`) returns the entry at a path.
+//!
+//! A caller:
+//!
+//!     let mut tree = Tree::empty(alloc).ok()?;
+//!     let path = Path::read(alloc, "/a").ok()?;
+//!     tree.put_dir(&path, Meta::new_dir()).ok()?;
+//!     Some(tree.is_dir(&path)) // true
 #![tactic(auto)]
 
 mod children;

@@ -46,7 +46,7 @@ impl Node {
     }
 }
 
-// Copies of the names of children.
+// Copies the names of children.
 fn names_of(alloc: Global, kids: Children<'_>) -> Result<Vec<Name>, TreeFault>
     ensures { Gives (λ v. v.items) result (Ok (flat_map (name_below []) (map (λ e. e.0) (flat (left_in kids.entry))))) }
 {
@@ -61,8 +61,8 @@ fn names_of(alloc: Global, kids: Children<'_>) -> Result<Vec<Name>, TreeFault>
 }
 
 impl Tree {
-    /// Returns the names one below a path, in order. Fails with 21 `NotFound` where nothing is there, also below a file, with 22 `NotDir` where a
-    /// file is, with 27 `Memory`.
+    /// Returns the names directly below a path, in order. Fails with 21 `NotFound` if nothing is there, also below a
+    /// file, with 22 `NotDir` if a file is, else with 27 `Memory`.
     pub fn list(&self, path: &Path) -> Result<Names, TreeFault>
         ensures gives { Gives (λ n. n) result (list self.now path.now) }
         ensures last { MemoryLast result (list self.now path.now) }

@@ -29,7 +29,7 @@ impl Model for Meta {
 }
 
 impl Meta {
-    /// Makes the mode and the owner of an entry; `None` exactly where `mode` is above 4095.
+    /// Makes the mode and the owner of an entry; `None` exactly if `mode` is above 4095.
     pub fn new(mode: u16, uid: u32, gid: u32) -> Option<Meta>
         ensures { result ≡ meta_of mode uid gid }
     {
@@ -40,7 +40,7 @@ impl Meta {
         }
     }
 
-    /// Returns the mode and the owner of a directory that is made where none are given: 0755 0:0.
+    /// Returns the mode and the owner of a directory that is made without any: 0755 0:0.
     pub fn new_dir() -> Meta
         ensures { result ≡ new_dir_meta }
     {
@@ -51,7 +51,7 @@ impl Meta {
         }
     }
 
-    /// A law: the mode is at most 4095, and the owners are numbers of 32 bits.
+    /// Proves that the mode is at most 4095, and that the owners are numbers of 32 bits.
     pub fn is_meta(&self)
         ensures { IsMeta self.now }
     {

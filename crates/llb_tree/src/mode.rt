@@ -25,7 +25,7 @@ impl Model for Mode {
 }
 
 impl Mode {
-    /// Reads the mode that one to four octal digits spell; returns `None` where the word is none.
+    /// Reads the mode that one to four octal digits spell; returns `None` if the word is something else.
     pub fn read(word: &str) -> Option<Mode>
         ensures { result ≡ mode_of word.now }
     {
@@ -61,7 +61,7 @@ impl Same for Mode {
     }
 }
 
-// Whether a byte is one of `0` to `7`.
+// Returns whether a byte is one of `0` to `7`.
 fn is_octal_digit(byte: u8) -> bool
     ensures { result ≡ is_octal_digit byte }
 {

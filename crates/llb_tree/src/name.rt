@@ -57,7 +57,7 @@ impl Name {
         is_plain(bytes)
     }
 
-    /// Reads a text as a name. Fails with 26 `BadName` where it is none, else with 27 `Memory`.
+    /// Reads a text as a name. Fails with 26 `BadName` if it is none, else with 27 `Memory`.
     pub fn new(alloc: Global, text: &str) -> Result<Name, TreeFault>
         ensures gives { Gives (λ n. n) result (name_of text.now) }
         ensures last { MemoryLast result (name_of text.now) }
@@ -78,7 +78,7 @@ impl Name {
         self.text.as_str()
     }
 
-    /// Returns an equal second owner. Fails with 27 `Memory` alone.
+    /// Copies the name. Fails with 27 `Memory` alone.
     pub fn copy(&self) -> Result<Name, TreeFault>
         ensures { Gives (λ n. n) result (Ok self.now) }
     {
@@ -87,7 +87,7 @@ impl Name {
     }
 }
 
-// Whether there is no control byte, no 0x7F and no `/`.
+// Returns whether there is no byte below 0x20, no 0x7F and no `/`.
 fn is_plain(bytes: &[u8]) -> bool
     ensures { result ≡ list_all is_name_byte bytes.now }
 {

@@ -26,14 +26,13 @@ impl Model for Names {
 }
 
 impl Names {
-    // The list of these names.
     pub(crate) fn new(names: Vec<Name>) -> Names
         ensures { result ≡ names.items }
     {
         Names { names }
     }
 
-    /// Returns the names, one after another.
+    /// Returns the names as a slice, in order.
     pub fn as_slice(&self) -> &[Name]
         ensures { result.now ≡ self.now }
     {

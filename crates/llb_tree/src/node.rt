@@ -1,6 +1,6 @@
-//! The nodes of a tree: a file with its content, or a directory with its children in the order of their names. Nodes are
-//! shared: a second owner of a node costs no copy of what is below it. A path has at most 128 names, so what recurses over
-//! nodes, their drop too, goes at most 128 deep.
+//! The nodes of a tree: a file with its content, or a directory with its children in the order of their names. Nodes
+//! are shared: a copy of a node copies nothing that is below it. A path has at most 128 names, so what recurses over
+//! nodes, their drop too, visits at most 129 levels.
 
 ghost use Rattle.std.specs.Prelude.{◌≡◌, ℕ, [], ◌∷◌, ◌++◌, ◌<◌, ◌≤◌, List, length, IfOk, IfErr, Some, false, option_map};
 ghost use Rattle.std.specs.FinMap as finite;
@@ -20,7 +20,9 @@ use std::sync::Arc;
 /// The entry at a path: a directory, or a file with its content.
 #[derive(Clone, Copy)]
 pub enum Entry<'a> {
+    /// A directory, by its mode and owner.
     Dir(Meta),
+    /// A file: its mode and owner, and its content.
     File(Meta, &'a Bytes),
 }
 
@@ -76,7 +78,8 @@ impl Model for Node {
     ghost size_decreases = { λ a h. falls a.kind };
 }
 
-// Where the name is, or where it would go. Names most often come in their order, so it is seen first whether it goes to the end.
+// Returns the index of the child of a name, or as `Err` the index at which it would be inserted. Looks at the last
+// child first, since names most often come in their order.
 pub(crate) fn place_of(kids: &[Child], name: &Name) -> Result<usize, usize>
     requires { AreSorted kids.now }
     ensures place { result ≡ place name.now kids.now }
@@ -103,7 +106,7 @@ impl Node {
         }
     }
 
-    // The child of a name.
+    // Returns the child of a name.
     pub(crate) fn child(&self, name: &Name) -> Option<&Node>
         ensures { (q : List (List ℕ)) → look_in (option_map (λ n. n.now) result) q ≡ finite.get self.now (name.now ∷ q) }
     {
@@ -116,7 +119,7 @@ impl Node {
         }
     }
 
-    // What is at the names below this.
+    // Returns the node at the names below this one.
     pub(crate) fn at(&self, names: &[Name]) -> Option<&Node>
         ensures { (q : List (List ℕ)) → look_in (option_map (λ n. n.now) result) q ≡ finite.get self.now (names.now ++ q) }
     {
@@ -127,7 +130,7 @@ impl Node {
         Some(node)
     }
 
-    // The entry at the names below this.
+    // Returns the entry at the names below this node.
     pub(crate) fn get(&self, names: &[Name]) -> Option<Entry<'_>>
         ensures { option_map seen result ≡ finite.get self.now names.now }
     {
@@ -137,7 +140,7 @@ impl Node {
         }
     }
 
-    // A file alone.
+    // Makes the node of a file.
     pub(crate) fn file(alloc: Global, meta: Meta, content: Bytes) -> Result<Node, AllocError>
         ensures { IfOk result (λ n. (q : List (List ℕ)) → finite.get n q ≡ file_look meta content q) }
     {
@@ -147,7 +150,7 @@ impl Node {
         })
     }
 
-    // A directory with nothing below it.
+    // Makes a directory with nothing below it.
     pub(crate) fn empty_dir(alloc: Global, meta: Meta) -> Result<Node, AllocError>
         ensures { IfOk result (λ n. n ≡ finite.insert finite.empty [] (Dir meta)) }
     {
@@ -157,7 +160,7 @@ impl Node {
         })
     }
 
-    // A directory of another mode and owner with the same below it; an empty one in place of a file.
+    // Returns a directory of another mode and owner with the same below it; an empty one if this is a file.
     fn with_meta(&self, alloc: Global, meta: Meta) -> Result<Node, AllocError>
         ensures { IfOk result (λ n. (q : List (List ℕ)) → finite.get n q ≡ dir_look meta (finite.get self.now) q) }
     {
@@ -172,7 +175,7 @@ impl Node {
         }
     }
 
-    // The directory at the names with another mode and owner, an empty one where there is none.
+    // Returns the directory at the names with another mode and owner; an empty one if no directory is there.
     pub(crate) fn dir_at(
         &self,
         alloc: Global,
@@ -187,7 +190,8 @@ impl Node {
         }
     }
 
-    // Whether each proper prefix of the names is a directory: 21 `NotFound` or 22 `NotDir` at the first that is none.
+    // Checks that each proper prefix of the names is a directory. Fails with 21 `NotFound` or 22 `NotDir` at the first
+    // that is none.
     pub(crate) fn walked(&self, names: &[Name]) -> Result<(), TreeFault>
         ensures walks { result ≡ walk (finite.get self.now) names.now }
         ensures known { IfErr result (λ e. is_memory e ≡ false) }
@@ -205,7 +209,7 @@ impl Node {
         Ok(())
     }
 
-    // A second owner; refused only where there are too many.
+    // Copies the node, which shares what is below it. Fails only if there are too many owners.
     pub(crate) fn copy(&self) -> Result<Node, AllocError>
         ensures { IfOk result (λ n. n ≡ self.now) }
     {
@@ -218,7 +222,7 @@ impl Node {
 }
 
 impl Child {
-    // A second owner of the name and of the node.
+    // Copies the child, which shares its name and its node.
     pub(crate) fn copy(&self) -> Result<Child, AllocError>
         ensures { IfOk result (λ k. pair_of k ≡ pair_of self.now) }
     {

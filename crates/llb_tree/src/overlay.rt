@@ -1,7 +1,8 @@
-//! One tree laid over another. It goes down both at once and touches only what both have: what only one of them has is shared.
-//! At each level the upper children are put among the lower ones, each into the piece that its name belongs to, and where they
-//! have every name of the lower ones their pieces are taken as they are, but for the directories that both have, which are laid in
-//! turn. A refusal leaves what it is laid over as it was: the new children are put among second owners of the lower pieces.
+//! One tree laid over another. It goes down both at once and touches only what both have: what only one of them has is
+//! shared. At each level the upper children are put among the lower ones, each into the piece that its name belongs to.
+//! If they have every name of the lower ones, their pieces are taken as they are, except for the directories that both
+//! have, which are laid in turn. A refusal leaves what it is laid over as it was: the new children are put into copies
+//! of the lower pieces.
 
 ghost use Rattle.std.specs.Prelude.{◌≡◌, ℕ, List, option_map, IfOk, IfErr, OnOk, OnErr, map, true, unwrap_or};
 ghost use Rattle.std.specs.Arc.{arc_value};
@@ -25,8 +26,8 @@ use crate::writing::{with_node, with_rows};
 use std::alloc::{AllocError, Global};
 use std::sync::Arc;
 
-// The node, and all that is below it, in the mode and the owner of the way; the contents are shared, and so is the
-// whole node where the way has neither.
+// Returns the node, and all that is below it, with the mode and the owner of the `Way`. Contents are shared, and so is
+// the whole node if the `Way` has neither mode nor owner.
 #[cycle(dress)]
 fn dressed(node: &Node, alloc: Global, way: &Way) -> Result<Node, AllocError>
     ensures { IfOk result (λ n. n ≡ dress way.now node.now) }
@@ -80,8 +81,8 @@ fn lay_node(lower: &mut Node, alloc: Global, way: &Way, upper: &Node) -> Result<
     }
 }
 
-// Lays children over others. Where the upper ones have every name of the lower ones, none of the lower ones is copied.
-// Returns whether the upper ones are there unchanged.
+// Lays children over others. If the upper ones have every name of the lower ones, none of the lower ones is copied.
+// Returns whether the result is the upper ones, unchanged.
 #[cycle(lay)]
 fn lay_children(
     kids: &mut Arc<Vec<Piece>>,
@@ -104,7 +105,7 @@ fn lay_children(
     Ok(false)
 }
 
-// Lays children over others that have no other names. Returns whether the upper ones are there unchanged.
+// Lays children over others that have no other names. Returns whether the result is the upper ones, unchanged.
 #[cycle(lay)]
 fn lay_all(
     kids: &mut Arc<Vec<Piece>>,
@@ -133,7 +134,7 @@ fn lay_all(
     }
 }
 
-// The upper pieces with what is laid in place of those that are changed; `None` where none is.
+// Lays upper pieces over lower ones, and returns the upper ones with what changes replaced; `None` if nothing changes.
 #[cycle(lay)]
 fn laid_all(
     kids: &[Piece],
@@ -154,8 +155,8 @@ fn laid_all(
     Ok(made)
 }
 
-// The upper children of a piece with what is laid in place of those that are changed; `None` where none is. The lower child of a name is
-// looked for first at the same place in the piece at this place.
+// Does the same for the upper children of one piece. Looks for the lower child of a name first at the same index of the
+// lower piece `at`.
 #[cycle(lay)]
 fn laid_rows(
     kids: &[Piece],
@@ -180,7 +181,7 @@ fn laid_rows(
     Ok(made)
 }
 
-// An upper child, laid over the lower one of its name; `None` where it is unchanged.
+// Lays an upper child over the lower one of its name; returns `None` if the upper one is unchanged.
 #[cycle(lay)]
 fn laid_over(
     lower: Option<&Child>,
@@ -202,7 +203,7 @@ fn laid_over(
     Ok(Some(node))
 }
 
-// Lays children over others one by one: all that is laid is made before the first is put in.
+// Lays children over others one by one. Makes all of the result before it puts the first child in.
 #[cycle(lay)]
 fn lay_each(
     kids: &mut Arc<Vec<Piece>>,
@@ -239,7 +240,8 @@ fn laid_children(
     Ok(ready)
 }
 
-// A child laid over a copy of the one of its name, or dressed where there is none.
+// Lays a child over a copy of the one of its name; if there is none, returns it with the mode and the owner of the
+// `Way`.
 #[cycle(lay)]
 fn laid_child(kids: &[Piece], alloc: Global, way: &Way, upper: &Child) -> Result<Child, AllocError>
     requires { ArePieced kids.now }
@@ -260,11 +262,11 @@ fn laid_child(kids: &[Piece], alloc: Global, way: &Way, upper: &Child) -> Result
 }
 
 impl Tree {
-    /// Lays another tree over this one, and returns the result: at a path it has what the other has there, in the mode and the owner of the
-    /// way, and else what this tree has there, unless a file of the other is above. A directory that both have is the other's, or stays as
-    /// it is where the way keeps it. Fails with 27 `Memory` alone. It goes down both trees at once and touches only what both have; what only
-    /// one has is shared, not copied. Only where the way has a mode or an owner does what is laid get nodes of its own, and
-    /// even then its contents are shared.
+    /// Lays another tree over this one, and returns the result: at a path it has what the other has there, in the mode
+    /// and the owner of `way`, and else what this tree has there, unless a file of the other is above. A directory that
+    /// both have is the other's, or stays as it is if `way` keeps it. Fails with 27 `Memory` alone. It goes down both
+    /// trees at once and touches only what both have; what only one has is shared, not copied. Only if `way` has a mode
+    /// or an owner does what is laid get nodes of its own, and even then its contents are shared.
     pub fn overlaid(self, way: &Way, upper: &Tree) -> Result<Tree, TreeFault>
         ensures paths { IfOk result (λ t. (q : List (List ℕ)) → finite.get t q ≡ over_at way.now (finite.get self) (finite.get upper.now) q) }
         ensures memory { IfErr result (λ e. is_memory e ≡ true) }

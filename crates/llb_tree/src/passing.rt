@@ -16,7 +16,7 @@ use crate::path::Path;
 use crate::tested::NameTest;
 use crate::tree::Tree;
 
-// Puts the paths at and below a node that pass after others, each below the node's own path.
+// Appends the paths at and below a node that pass, each below the node's own path.
 #[cycle(find)]
 fn find<T: NameTest>(
     node: &Node,

@@ -37,7 +37,7 @@ impl Model for Path {
 }
 
 impl Path {
-    /// Returns the root.
+    /// Returns the root, which has no names.
     pub fn root(alloc: Global) -> Path
         ensures { result ≡ [] }
     {
@@ -46,9 +46,9 @@ impl Path {
         }
     }
 
-    /// Reads a text as a path from the root: the text is split at `/`, empty parts and `.` are dropped, and
-    /// `..` removes the last name and stops at the root. Fails with 26 `BadName` at the first part that is no name or is the
-    /// 129th name, also where a later `..` would remove it; with 27 `Memory` only where the text reads as a path.
+    /// Reads a text as a path from the root: the text is split at `/`, empty parts and `.` are dropped, and `..`
+    /// removes the last name and stops at the root. Fails with 26 `BadName` at the first part that is no name or is the
+    /// 129th name, also if a later `..` would remove it; with 27 `Memory` only if the text reads as a path.
     pub fn read(alloc: Global, text: &str) -> Result<Path, TreeFault>
         ensures gives { Gives (λ p. p) result (path_of text.now) }
         ensures last { MemoryLast result (path_of text.now) }
@@ -75,7 +75,7 @@ impl Path {
         Ok(path)
     }
 
-    // Goes where the parts of a text lead, one after another. What came before a refusal is done.
+    // Follows the parts of a text, one after another. If it fails, the parts before the fault have been followed.
     fn follow(&mut self, alloc: Global, text: &str) -> Result<(), TreeFault>
         ensures { Gives (λ _. self.new) result (follow self.old (parts_of text.now)) }
     {
@@ -85,7 +85,7 @@ impl Path {
         Ok(())
     }
 
-    // Goes where a part of a text leads.
+    // Follows one part of a text.
     fn enter(&mut self, alloc: Global, part: &str) -> Result<(), TreeFault>
         ensures gives { Gives (λ _. self.new) result (enter self.old part.now) }
         ensures err { OnErr result (self.new ≡ self.old) }
@@ -104,7 +104,7 @@ impl Path {
         self.push(name)
     }
 
-    // The path of the names of two lists.
+    // Joins two lists of names into a path.
     pub(crate) fn joined(alloc: Global, front: &[Name], back: &[Name]) -> Result<Path, TreeFault>
         requires { length front.now + length back.now ≤ 128 }
         ensures { Gives (λ p. p) result (Ok (front.now ++ back.now)) }
@@ -131,7 +131,8 @@ impl Path {
         self.names.is_empty()
     }
 
-    /// Goes down to a name. Fails with 26 `BadName` where it would be the 129th, else with 27 `Memory`.
+    /// Appends a name. Fails with 26 `BadName` if it would be the 129th, else with 27 `Memory`; then the path is
+    /// unchanged.
     pub fn push(&mut self, name: Name) -> Result<(), TreeFault>
         ensures gives { Gives (λ _. self.new) result (below self.old name) }
         ensures last { MemoryLast result (below self.old name) }
@@ -145,14 +146,14 @@ impl Path {
         Ok(())
     }
 
-    // Goes up; the root is its own parent.
+    // Removes the last name; the root stays the root.
     pub(crate) fn pop(&mut self)
         ensures { self.new ≡ take (length self.old - 1) self.old }
     {
         self.names.pop();
     }
 
-    /// Returns an equal second owner. Fails with 27 `Memory` alone.
+    /// Copies the path. Fails with 27 `Memory` alone.
     pub fn copy(&self) -> Result<Path, TreeFault>
         ensures { Gives (λ p. p) result (Ok self.now) }
     {
@@ -160,7 +161,8 @@ impl Path {
         Ok(Path { names })
     }
 
-    /// A law: a path that is written with `/` between its names, and `/` before them or not, reads as itself.
+    /// Proves that the path, written with `/` between its names, and with or without a `/` before them, reads as
+    /// itself.
     pub fn reads_back(&self)
         ensures { ReadsBack self.now }
     {
@@ -168,7 +170,7 @@ impl Path {
     }
 }
 
-// Puts copies of names after others.
+// Appends copies of names.
 pub(crate) fn push_names(names: &mut Vec<Name>, more: &[Name]) -> Result<(), TreeFault>
     ensures gives { Gives (λ _. names.new.items) result (Ok (names.old.items ++ more.now)) }
     ensures named { All (λ n. IsTrue (is_name n)) names.old.items → All (λ n. IsTrue (is_name n)) names.new.items }
@@ -181,7 +183,8 @@ pub(crate) fn push_names(names: &mut Vec<Name>, more: &[Name]) -> Result<(), Tre
     Ok(())
 }
 
-// How many names a text leads to from a path of `start` names, or why it leads nowhere. Does not allocate.
+// Returns how many names there are after a text is followed from a path of `start` names. Fails with 26 `BadName` as
+// `read` does. Does not allocate.
 fn depth_of(start: usize, text: &str) -> Result<usize, TreeFault>
     ensures depth { (path : List (List ℕ)) → length path ≡ start → result ≡ depth (follow path (parts_of text.now)) }
     ensures known { IfErr result (λ e. is_memory e ≡ false) }
@@ -193,7 +196,8 @@ fn depth_of(start: usize, text: &str) -> Result<usize, TreeFault>
     Ok(names)
 }
 
-/// Returns how many names there are after a part, where there are `names` before it.
+// Returns how many names there are after a part is followed from a path of `names` names. Fails with 26 `BadName`
+// alone. Does not allocate.
 pub(crate) fn depth_after(names: usize, part: &str) -> Result<usize, TreeFault>
     ensures depth { (path : List (List ℕ)) → length path ≡ names → result ≡ depth (enter path part.now) }
     ensures known { IfErr result (λ e. is_memory e ≡ false) }

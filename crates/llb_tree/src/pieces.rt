@@ -1,5 +1,6 @@
-//! The children of a directory in pieces. Owners of the directory share the pieces: an edit of a shared directory copies the list
-//! of the pieces and the piece that it changes. A piece that is full is parted in two before another child goes into it.
+//! The children of a directory in pieces. Owners of the directory share the pieces: an edit of a shared directory
+//! copies the list of the pieces and the piece that it changes. A piece that is full is split in two before another
+//! child goes into it.
 
 ghost use Rattle.std.specs.Prelude.{◌≡◌, ◌<◌, ◌++◌, length, map, option_map, Contains, IfOk, IfSome, OnOk};
 ghost use Rattle.std.specs.Arc.{arc_value};
@@ -18,7 +19,7 @@ use std::sync::Arc;
 pub(crate) const MOST: usize = 256;
 
 impl Piece {
-    // A piece of these children.
+    // Makes a piece of these children.
     pub(crate) fn of(alloc: Global, rows: Vec<Child>) -> Result<Piece, AllocError>
         ensures { IfOk result (λ p. rows_in p ≡ rows.items) }
     {
@@ -26,7 +27,7 @@ impl Piece {
         Ok(Piece { rows })
     }
 
-    // A second owner.
+    // Copies the piece, which shares its children.
     pub(crate) fn copy(&self) -> Result<Piece, AllocError>
         ensures { IfOk result (λ p. rows_in p ≡ rows_in self.now) }
     {
@@ -34,7 +35,7 @@ impl Piece {
         Ok(Piece { rows })
     }
 
-    // Whether the first child has a name after this one.
+    // Returns whether the name of the first child is after this one.
     fn begins_after(&self, name: &Name) -> bool
         ensures { result ≡ begins_after name.now (row_pairs self.now) }
     {
@@ -45,7 +46,7 @@ impl Piece {
     }
 }
 
-// The place of the piece that a name belongs to.
+// Returns the index of the piece that a name belongs to.
 pub(crate) fn piece_of(pieces: &[Piece], name: &Name) -> usize
     requires { 0 < length pieces.now }
     ensures { IsPieceOf name.now (map row_pairs pieces.now) result }
@@ -63,7 +64,7 @@ pub(crate) fn piece_of(pieces: &[Piece], name: &Name) -> usize
     low
 }
 
-// The child of a name.
+// Returns the child of a name.
 pub(crate) fn child_of<'a>(pieces: &'a [Piece], name: &Name) -> Option<&'a Child>
     requires { ArePieced pieces.now }
     ensures { option_map (λ k. k.now.node) result ≡ child name.now (kids_in pieces.now) }
@@ -79,7 +80,7 @@ pub(crate) fn child_of<'a>(pieces: &'a [Piece], name: &Name) -> Option<&'a Child
     }
 }
 
-// The child of a name, which is looked for first at a place in a piece.
+// Returns the child of a name. Looks for it first at index `i` of piece `at`.
 pub(crate) fn child_near<'a>(
     pieces: &'a [Piece],
     at: usize,
@@ -95,7 +96,7 @@ pub(crate) fn child_near<'a>(
     }
 }
 
-// The child at a place in a piece.
+// Returns the child at index `i` of piece `at`, if there is one.
 fn row_at(pieces: &[Piece], at: usize, i: usize) -> Option<&Child>
     ensures { IfSome result (λ k. Contains (kids_in pieces.now) k.now) }
 {
@@ -109,7 +110,7 @@ fn row_at(pieces: &[Piece], at: usize, i: usize) -> Option<&Child>
     Some(&rows[i])
 }
 
-// Second owners of the same pieces.
+// Copies pieces, which share their children.
 pub(crate) fn second_owners(alloc: Global, pieces: &[Piece]) -> Result<Vec<Piece>, AllocError>
     ensures { IfOk result (λ v. map row_pairs v.items ≡ map row_pairs pieces.now) }
 {
@@ -121,7 +122,7 @@ pub(crate) fn second_owners(alloc: Global, pieces: &[Piece]) -> Result<Vec<Piece
     Ok(copied)
 }
 
-// Makes a list of pieces that is shared its own; the pieces may still be shared.
+// Replaces a list of pieces that is shared by its own copy; the pieces may still be shared.
 pub(crate) fn own_list(alloc: Global, pieces: &mut Arc<Vec<Piece>>) -> Result<(), AllocError>
     ensures { map row_pairs (arc_value pieces.new).items ≡ map row_pairs (arc_value pieces.old).items }
 {
@@ -133,7 +134,7 @@ pub(crate) fn own_list(alloc: Global, pieces: &mut Arc<Vec<Piece>>) -> Result<()
     Ok(())
 }
 
-// Parts a piece in two.
+// Splits a piece into halves, if it has two children or more.
 fn part(pieces: &mut Vec<Piece>, alloc: Global, at: usize) -> Result<(), AllocError>
     requires pieced { ArePieced pieces.old.items }
     requires within { at < length pieces.old.items }
@@ -153,7 +154,7 @@ fn part(pieces: &mut Vec<Piece>, alloc: Global, at: usize) -> Result<(), AllocEr
     Ok(())
 }
 
-// Makes a piece where there is none.
+// Makes an empty piece if there is no piece.
 fn some_piece(pieces: &mut Vec<Piece>, alloc: Global) -> Result<(), AllocError>
     requires { ArePieced pieces.old.items }
     ensures same { pairs_of pieces.new.items ≡ pairs_of pieces.old.items }
@@ -167,7 +168,7 @@ fn some_piece(pieces: &mut Vec<Piece>, alloc: Global) -> Result<(), AllocError>
     Ok(())
 }
 
-// Makes room for a child of a name in the piece that the name belongs to, and returns the place of that piece.
+// Makes room for a child of a name in the piece that the name belongs to, and returns the index of that piece.
 pub(crate) fn make_room(
     pieces: &mut Vec<Piece>,
     alloc: Global,
@@ -187,7 +188,7 @@ pub(crate) fn make_room(
     Ok(piece_of(pieces.as_slice(), name))
 }
 
-// Takes away a piece that has no child left.
+// Removes the piece at an index if it has no children.
 pub(crate) fn drop_empty(pieces: &mut Vec<Piece>, at: usize)
     requires { at < length pieces.old.items }
     ensures { map row_pairs pieces.new.items ≡ tidied at (map row_pairs pieces.old.items) }
@@ -197,7 +198,7 @@ pub(crate) fn drop_empty(pieces: &mut Vec<Piece>, at: usize)
     }
 }
 
-// Puts a piece of these children after others; none where there are no children.
+// Appends a piece of these children; none if there are no children.
 fn end_piece(pieces: &mut Vec<Piece>, alloc: Global, rows: Vec<Child>) -> Result<(), AllocError>
     ensures same { OnOk result (kids_in pieces.new.items ≡ kids_in pieces.old.items ++ rows.items) }
     ensures full { AllFull (map row_pairs pieces.old.items) → AllFull (map row_pairs pieces.new.items) }
@@ -209,7 +210,7 @@ fn end_piece(pieces: &mut Vec<Piece>, alloc: Global, rows: Vec<Child>) -> Result
     Ok(())
 }
 
-// Children in pieces.
+// Puts children into pieces, each full except the last.
 pub(crate) fn in_pieces(alloc: Global, rows: Vec<Child>) -> Result<Arc<Vec<Piece>>, AllocError>
     ensures same { IfOk result (λ v. kids_in (arc_value v).items ≡ rows.items) }
     ensures full { IfOk result (λ v. AllFull (map row_pairs (arc_value v).items)) }

@@ -1,4 +1,4 @@
-//! Children put among others, each in the place of the one of its name, or where it goes.
+//! Children put among others, each replacing the one of its name, or inserted by the order of names.
 
 ghost use Rattle.std.specs.Prelude.{◌≡◌, OnOk, OnErr, map};
 ghost use Rattle.std.specs.Arc.{arc_value};
@@ -14,7 +14,7 @@ use crate::pieces::{make_room, second_owners};
 use std::alloc::{AllocError, Global};
 use std::sync::Arc;
 
-// Puts a child in the place of the one of its name, or in where there is none.
+// Replaces the child of the same name, or inserts the child if there is none.
 fn put_child(list: &mut Vec<Child>, child: Child) -> Result<(), AllocError>
     requires { AreSorted list.old.items }
     ensures ok { OnOk result (map pair_of list.new.items ≡ finite.put name_cmp (name_of child) child.node (map pair_of list.old.items)) }
@@ -32,7 +32,7 @@ fn put_child(list: &mut Vec<Child>, child: Child) -> Result<(), AllocError>
     }
 }
 
-// Does the same in a piece, which may be shared: makes its children its own first.
+// Does the same in a piece, whose children may be shared: makes them its own first.
 fn put_in(rows: &mut Arc<Vec<Child>>, alloc: Global, child: Child) -> Result<(), AllocError>
     requires { AreSorted (arc_value rows.old).items }
     ensures ok { OnOk result (map pair_of (arc_value rows.new).items
@@ -41,7 +41,7 @@ fn put_in(rows: &mut Arc<Vec<Child>>, alloc: Global, child: Child) -> Result<(),
 {
     own(alloc, rows)?;
     match Arc::get_mut(rows) {
-        // Unreachable.
+        // Unreachable: `own` leaves a single owner.
         None => Err(AllocError),
         Some(list) => put_child(list, child),
     }
@@ -58,8 +58,8 @@ fn put_piece(pieces: &mut Vec<Piece>, alloc: Global, child: Child) -> Result<(),
     put_in(&mut piece.rows, alloc, child)
 }
 
-// Puts children in, each in the place of the one of its name, among second owners of the pieces, which take the place of the old
-// ones at the end. So a piece that none of them belongs to stays shared, and a refusal leaves all as it was.
+// Puts children in, each in place of the one of its name. They go into copies of the pieces, which replace the old ones
+// at the end: so a piece that no child goes into stays shared, and a refusal leaves all as it was.
 pub(crate) fn put_all(
     kids: &mut Arc<Vec<Piece>>,
     alloc: Global,

@@ -1,5 +1,5 @@
-//! Whether a text reads as a path that is there. For the path that the text's parts lead to only two numbers are kept: how
-//! many names it has, and how many of its first names are those of the other path. Nothing here allocates.
+//! Whether a text reads as a given path. Of the path that the text's parts lead to only two numbers are kept: how many
+//! names it has, and how many of its first names are those of the given path. Nothing here allocates.
 
 ghost use Rattle.std.specs.Prelude.{◌≡◌, ℕ, List, ◌↔◌, IsTrue, IfOk, IfErr, length, Ok, Err, Some, slice_get};
 ghost use Rattle.llb_tree.specs.Path.{enter, path_of};
@@ -10,7 +10,8 @@ use crate::name::Name;
 use crate::path::{Path, depth_after};
 
 impl Path {
-    /// Returns whether this is the path that a text reads as by `read`. Fails with 26 `BadName` where the text reads as none. Does not allocate.
+    /// Returns whether `read` reads the text as this path. Fails with 26 `BadName` if the text reads as none. Does not
+    /// allocate.
     pub fn is_read_of(&self, text: &str) -> Result<bool, TreeFault>
         ensures ok { IfOk result (λ is. (path : List (List ℕ)) × (path_of text.now ≡ Ok path) × (IsTrue is ↔ (self.now ≡ path))) }
         ensures err { IfErr result (λ e. path_of text.now ≡ Err e) }
@@ -27,7 +28,7 @@ impl Path {
     }
 }
 
-// How many first names are shared after a part, where there are then `next` names.
+// Returns how many first names both paths share after a part, which leaves `next` names of the text's path.
 fn shared_after(names: &[Name], depth: usize, same: usize, part: &str, next: usize) -> usize
     ensures { (path after : List (List ℕ)) → length path ≡ depth → shared names.now path ≡ same → enter path part.now ≡ Ok after → length after ≡ next
         → result ≡ shared names.now after }
@@ -47,7 +48,7 @@ fn shared_after(names: &[Name], depth: usize, same: usize, part: &str, next: usi
     same
 }
 
-// Whether a part is the name at an index.
+// Returns whether a part is the name at an index.
 fn is_at(names: &[Name], at: usize, part: &str) -> bool
     ensures { IsTrue result ↔ (slice_get names.now at ≡ Some part.now) }
 {

@@ -24,7 +24,7 @@ pub trait NameTest {
         ensures { result ≡ passes self.now name.now };
 }
 
-// What is left of a node, a file or a directory, without all that passes the tests; `None` where all is left.
+// Returns what remains of a node without all that passes the tests; `None` if nothing passes.
 #[cycle(thin)]
 fn thinned<T: NameTest>(
     node: &Node,
@@ -48,7 +48,7 @@ fn thinned<T: NameTest>(
     }
 }
 
-// What is left of children; `None` where all is left.
+// Does the same for children.
 #[cycle(thin)]
 fn thinned_children<T: NameTest>(
     kids: Children<'_>,
@@ -72,7 +72,7 @@ fn thinned_children<T: NameTest>(
     Ok(Some(kept))
 }
 
-// Puts what is left of a child after others, and returns whether any of it goes.
+// Appends what remains of a child, and returns whether any of it is gone.
 #[cycle(thin)]
 fn keep<T: NameTest>(
     kept: &mut Vec<Child>,
@@ -105,8 +105,8 @@ fn keep<T: NameTest>(
 }
 
 impl Tree {
-    /// Returns the tree without the paths that pass the tests, and what is below them; `None` where no path passes. Fails with 25 `Root` where
-    /// there are no tests, else with 27 `Memory`. What is unchanged is shared.
+    /// Returns the tree without the paths that pass the tests, and what is below them; `None` if no path passes. Fails
+    /// with 25 `Root` if there are no tests, else with 27 `Memory`. What is unchanged is shared.
     pub fn without_passing<T: NameTest>(&self, tests: &[T]) -> Result<Option<Tree>, TreeFault>
         ensures gives { Gives (λ o. o) result (rid_of T.passes tests.now self.now) }
         ensures last { MemoryLast result (rid_of T.passes tests.now self.now) }

@@ -50,7 +50,7 @@ impl Model for Tree {
     ghost invariant = { λ t. IsWhole t.root t.depth };
 }
 
-// Whether a file may be put at the names.
+// Checks that a file may be put at the names. Fails with 23 `IsDir` if a directory is there.
 pub(crate) fn file_may_stand(root: &Node, names: &[Name]) -> Result<(), TreeFault>
     ensures { result ≡ file_fits (finite.get root.now names.now) }
 {
@@ -61,7 +61,7 @@ pub(crate) fn file_may_stand(root: &Node, names: &[Name]) -> Result<(), TreeFaul
     }
 }
 
-// Whether a directory may be made at the names.
+// Checks that a directory may be made at the names. Fails with 24 `Conflict` if a file is there.
 fn dir_may_stand(root: &Node, names: &[Name]) -> Result<(), TreeFault>
     ensures { result ≡ dir_fits (finite.get root.now names.now) }
 {
@@ -72,7 +72,7 @@ fn dir_may_stand(root: &Node, names: &[Name]) -> Result<(), TreeFault>
     }
 }
 
-// Whether there is something at the names.
+// Checks that there is something at the names. Fails with 21 `NotFound` if there is nothing.
 fn is_there(root: &Node, names: &[Name]) -> Result<(), TreeFault>
     ensures there { result ≡ found (finite.get root.now names.now) }
     ensures known { IfErr result (λ e. is_memory e ≡ false) }
@@ -83,7 +83,7 @@ fn is_there(root: &Node, names: &[Name]) -> Result<(), TreeFault>
     }
 }
 
-// The node at the names, where that is a directory.
+// Returns the directory at the names. Fails with 21 `NotFound` if nothing is there, with 22 `NotDir` if a file is.
 pub(crate) fn dir_at<'a>(root: &'a Node, names: &[Name]) -> Result<&'a Node, TreeFault>
     ensures there { MatchResult result (λ n. dir_there root.now names.now ≡ Ok tt) (λ e. dir_there root.now names.now ≡ Err e) }
     ensures places { IfOk result (λ n. (q : List (List ℕ)) → finite.get n.now q ≡ finite.get root.now (names.now ++ q)) }
@@ -99,7 +99,7 @@ pub(crate) fn dir_at<'a>(root: &'a Node, names: &[Name]) -> Result<&'a Node, Tre
 }
 
 impl Tree {
-    /// Makes the tree of a root directory 0755 0:0 alone. Fails with 27 `Memory` alone.
+    /// Makes the tree that has a root directory 0755 0:0 alone. Fails with 27 `Memory` alone.
     pub fn empty(alloc: Global) -> Result<Tree, TreeFault>
         ensures { Gives (λ t. t) result (Ok empty_tree) }
     {
@@ -118,7 +118,7 @@ impl Tree {
         &self.root
     }
 
-    /// Returns the entry at a path. Does not allocate.
+    /// Returns the entry at a path, if there is one. Does not allocate.
     pub fn get(&self, path: &Path) -> Option<Entry<'_>>
         ensures found { option_map seen result ≡ finite.get self.now path.now }
         ensures tree { IsTree self.now }
@@ -138,17 +138,17 @@ impl Tree {
         }
     }
 
-    /// A law: the root is a directory, and so is each proper prefix of a path that is there; and each entry is allowed at
-    /// its path, which is one, with a mode and owners and, for a file, with bytes. Does not allocate.
+    /// Proves that the root is a directory, and so is each proper prefix of a path that is there; and that each entry
+    /// is allowed at its path, which is a valid path, with a mode and owners and, for a file, with bytes.
     pub fn is_tree(&self)
         ensures { IsTree self.now }
     {
         let _root = &self.root;
     }
 
-    /// Puts a file at a path, or replaces the file there. Fails, in this order, with 25 `Root` at the root, 21 `NotFound` or 22
-    /// `NotDir` at the first parent that is missing or a file, 23 `IsDir` where a directory is there; else with 27 `Memory`.
-    /// After a refusal the tree is unchanged.
+    /// Puts a file at a path, or replaces the file there. Fails, in this order, with 25 `Root` at the root, 21
+    /// `NotFound` or 22 `NotDir` at the first parent that is missing or a file, 23 `IsDir` if a directory is there;
+    /// else with 27 `Memory`. After a refusal the tree is unchanged.
     pub fn put_file(&mut self, path: &Path, meta: Meta, content: Bytes) -> Result<(), TreeFault>
         ensures gives { Gives (λ _. self.new) result (put_file self.old path.now meta content) }
         ensures last { MemoryLast result (put_file self.old path.now meta content) }
@@ -168,9 +168,9 @@ impl Tree {
         Ok(())
     }
 
-    /// Makes a directory at a path; one that is there, the root too, takes the new mode and owner. Fails, in this order, with 21
-    /// `NotFound` or 22 `NotDir` at the first parent that is missing or a file, 24 `Conflict` where a file is there; else with
-    /// 27 `Memory`. After a refusal the tree is unchanged.
+    /// Makes a directory at a path; one that is there, the root too, gets the new mode and owner. Fails, in this order,
+    /// with 21 `NotFound` or 22 `NotDir` at the first parent that is missing or a file, 24 `Conflict` if a file is
+    /// there; else with 27 `Memory`. After a refusal the tree is unchanged.
     pub fn put_dir(&mut self, path: &Path, meta: Meta) -> Result<(), TreeFault>
         ensures gives { Gives (λ _. self.new) result (put_dir self.old path.now meta) }
         ensures last { MemoryLast result (put_dir self.old path.now meta) }
@@ -186,8 +186,8 @@ impl Tree {
         Ok(())
     }
 
-    /// Removes what is at or below a path. Fails, in this order, with 25 `Root` at the root, 21 `NotFound` where nothing is there,
-    /// also below a file; else with 27 `Memory`. After a refusal the tree is unchanged.
+    /// Removes what is at and below a path. Fails, in this order, with 25 `Root` at the root, 21 `NotFound` if nothing
+    /// is there, also below a file; else with 27 `Memory`. After a refusal the tree is unchanged.
     pub fn remove(&mut self, path: &Path) -> Result<(), TreeFault>
         ensures gives { Gives (λ _. self.new) result (remove self.old path.now) }
         ensures last { MemoryLast result (remove self.old path.now) }
@@ -202,9 +202,9 @@ impl Tree {
         Ok(())
     }
 
-    /// Puts another tree's entries at and below a path, in place of what is there; they are shared, not copied. Fails, in this
-    /// order, with 21 `NotFound` or 22 `NotDir` at the first parent that is missing or a file, 26 `BadName` where an entry's path
-    /// would have more than 128 names; else with 27 `Memory`. After a refusal the tree is unchanged.
+    /// Puts another tree's entries at and below a path, in place of what is there; they are shared, not copied. Fails,
+    /// in this order, with 21 `NotFound` or 22 `NotDir` at the first parent that is missing or a file, 26 `BadName` if
+    /// an entry's path would have more than 128 names; else with 27 `Memory`. After a refusal the tree is unchanged.
     pub fn graft(&mut self, path: &Path, other: &Tree) -> Result<(), TreeFault>
         ensures gives { Gives (λ _. self.new) result (graft self.old path.now other.now) }
         ensures last { MemoryLast result (graft self.old path.now other.now) }
@@ -221,8 +221,9 @@ impl Tree {
         Ok(())
     }
 
-    /// Returns the tree of what is at or below a path, which it shares: what is at this path followed by another is there at the
-    /// other. Fails with 21 `NotFound` where nothing is there, also below a file, with 22 `NotDir` where a file is, with 27 `Memory`.
+    /// Returns the tree of what is at and below a path, which it shares: what is at this path followed by another is
+    /// there at the other. Fails with 21 `NotFound` if nothing is there, also below a file, with 22 `NotDir` if a file
+    /// is, else with 27 `Memory`.
     pub fn subtree(&self, path: &Path) -> Result<Tree, TreeFault>
         ensures gives { Gives (λ t. t) result (subtree self.now path.now) }
         ensures last { MemoryLast result (subtree self.now path.now) }
@@ -238,7 +239,7 @@ impl Tree {
         })
     }
 
-    /// Returns an equal second owner, which shares all of it. Fails with 27 `Memory` alone.
+    /// Copies the tree, which shares all of it. Fails with 27 `Memory` alone.
     pub fn copy(&self) -> Result<Tree, TreeFault>
         ensures { Gives (λ t. t) result (Ok self.now) }
     {

@@ -1,5 +1,5 @@
-//! A walk over the entries of a tree in path order. It goes down from the root, and keeps the children that are left of each
-//! directory on the way and the present path, so a step costs one name's copy, and no step looks at what it skips.
+//! A walk over the entries of a tree in path order. It goes down from the root, and keeps the current path and, of each
+//! directory above, the children that come later. So a step costs one name's copy, and no step looks at what it skips.
 
 ghost use Rattle.std.specs.Prelude.{◌≡◌, ◌<◌, [], ◌∷◌, ◌++◌, length, drop, Some, Ok, IfOk, IfErr, OnOk, OnErr};
 ghost use Rattle.std.specs.Option.{option_map};
@@ -17,7 +17,7 @@ use crate::path::Path;
 use crate::tree::Tree;
 use std::marker::Model;
 
-/// A walk over the entries of a tree in path order. Contracts see the entries that are left.
+/// A walk over the entries of a tree in path order. Contracts see the current entry and those after it.
 pub struct Walk<'a> {
     present: Option<&'a Node>,
     path: Path,
@@ -48,7 +48,7 @@ impl<'a> Model for Walk<'a> {
     ghost invariant = { λ w. GoesOn w.present w.path w.levels.items };
 }
 
-// Goes down to a child; what is after it is left for later.
+// Goes down to a child, and keeps the children after it for later.
 fn enter<'a>(
     path: &mut Path,
     levels: &mut Vec<Children<'a>>,
@@ -67,7 +67,7 @@ fn enter<'a>(
     Ok(&kid.node)
 }
 
-// Goes up to the first directory of which children are left, and to the first of them.
+// Goes up to the first directory that has children left to visit, and to the first of them.
 fn climb<'a>(path: &mut Path, levels: &mut Vec<Children<'a>>) -> Result<Option<&'a Node>, TreeFault>
     requires behind { AreBehind path.old (levels_of levels.old.items) }
     requires short { AreShort (behind path.old (levels_of levels.old.items)) }
@@ -85,7 +85,7 @@ fn climb<'a>(path: &mut Path, levels: &mut Vec<Children<'a>>) -> Result<Option<&
     Ok(None)
 }
 
-// Goes down to the first child, or up where there is none.
+// Goes down to the first child, or up if there is none.
 fn descend<'a>(
     path: &mut Path,
     levels: &mut Vec<Children<'a>>,
@@ -107,7 +107,7 @@ fn descend<'a>(
 }
 
 impl Tree {
-    /// Starts a walk over the entries, from the root on. Does not allocate.
+    /// Starts a walk over the entries, at the root. Does not allocate.
     pub fn walk(&self) -> Walk<'_>
         ensures { result ≡ finite.entries self.now }
     {
@@ -120,7 +120,7 @@ impl Tree {
 }
 
 impl<'a> Walk<'a> {
-    /// Returns the first entry that is left, and its path; `None` at the end. Does not allocate.
+    /// Returns the current entry and its path; `None` at the end. Does not allocate.
     pub fn at(&self) -> Option<(&Path, Entry<'_>)>
         ensures { option_map pair_seen result ≡ slice_get self.now 0 }
     {
@@ -128,7 +128,7 @@ impl<'a> Walk<'a> {
         Some((&self.path, node.entry()))
     }
 
-    /// Goes to the next entry; at the end it stays there. Fails with 27 `Memory` alone, and is then at the end.
+    /// Goes to the next entry; does nothing at the end. Fails with 27 `Memory` alone, and is then at the end.
     pub fn advance(&mut self) -> Result<(), TreeFault>
         ensures gives { Gives (λ _. self.new) result (Ok (drop 1 self.old)) }
         ensures err { OnErr result (self.new ≡ []) }
@@ -142,8 +142,8 @@ impl<'a> Walk<'a> {
         Ok(())
     }
 
-    /// Goes past the first entry that is left and all that is below it, which it does not read; at the end it stays there. Fails with
-    /// 27 `Memory` alone, and is then at the end.
+    /// Goes past the current entry and all that is below it, which it does not read; does nothing at the end. Fails
+    /// with 27 `Memory` alone, and is then at the end.
     pub fn skip(&mut self) -> Result<(), TreeFault>
         ensures gives { Gives (λ _. self.new) result (Ok (past self.old)) }
         ensures err { OnErr result (self.new ≡ []) }

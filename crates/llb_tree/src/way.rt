@@ -9,8 +9,8 @@ ghost use Rattle.llb_tree.specs.Laying.{IsWay, TakesWhole, owner_fits};
 use crate::meta::Meta;
 use std::marker::Model;
 
-/// The mode and the owner that are given to what is laid over a tree, each its own where none is given; and whether a
-/// directory that both trees have stays as the lower one has it.
+/// The mode and the owner that an overlay sets, each optional: an entry keeps its own of what is not set; and whether a
+/// directory that both trees have keeps those of the lower one.
 #[derive(Clone, Copy)]
 pub struct Way {
     mode: Option<u16>,
@@ -33,8 +33,8 @@ impl Model for Way {
 }
 
 impl Way {
-    /// Makes the way of a mode, a user, a group and what becomes of directories that both have; `None` exactly where the mode
-    /// is above 4095.
+    /// Makes a `Way` of a mode, a user and a group, each if given, and of whether directories that both trees have keep
+    /// theirs; `None` exactly if the mode is above 4095.
     pub fn new(mode: Option<u16>, uid: Option<u32>, gid: Option<u32>, keeps: bool) -> Option<Way>
         ensures { result ≡ way_of mode uid gid keeps }
     {
@@ -51,7 +51,7 @@ impl Way {
         })
     }
 
-    // The mode and the owner of what is laid, by its own.
+    // Returns the mode and the owner that an upper entry gets, by its own.
     pub(crate) fn laid_meta(&self, own: Meta) -> Meta
         ensures { result ≡ laid_meta self.now own }
     {
@@ -61,21 +61,21 @@ impl Way {
         Meta::new(mode, uid, gid).unwrap_or(own)
     }
 
-    // Whether each keeps its own mode and owner.
+    // Returns whether each upper entry keeps its own mode and owner.
     pub(crate) fn gives_nothing(&self) -> bool
         ensures { IsTrue result → (own : MetaValue) → laid_meta self.now own ≡ own }
     {
         self.mode.is_none() && self.uid.is_none() && self.gid.is_none()
     }
 
-    // Whether what is laid is unchanged, directories that both trees have too.
+    // Returns whether the upper tree stays unchanged, with the directories that both trees have.
     pub(crate) fn takes_whole(&self) -> bool
         ensures { IsTrue result → TakesWhole self.now }
     {
         !self.keeps && self.gives_nothing()
     }
 
-    // The mode and the owner of a directory that both trees have.
+    // Returns the mode and the owner of a directory that both trees have.
     pub(crate) fn met(&self, lower: Meta, upper: Meta) -> Meta
         ensures { Dir result ≡ over self.now (Some (Dir lower)) (Dir upper) }
     {
@@ -86,7 +86,7 @@ impl Way {
         }
     }
 
-    // A law: the mode is at most 4095, and the owners are numbers of 32 bits.
+    // Proves that the mode is at most 4095, and that the owners are numbers of 32 bits.
     pub(crate) fn is_way(&self)
         ensures { IsWay self.now }
     {
@@ -95,7 +95,7 @@ impl Way {
     }
 }
 
-// A law: an owner is a number of 32 bits.
+// Proves that an owner is a number of 32 bits.
 fn fits(owner: Option<u32>)
     ensures { owner_fits owner }
 {

@@ -1,4 +1,5 @@
-//! What a laying changes of the upper tree's children is written into second owners of them, which are made at the first change.
+//! What an overlay changes of the upper tree's children is written into copies of them, which are made at the first
+//! change.
 
 ghost use Rattle.std.specs.Prelude.{◌≡◌, ◌<◌, length, IfOk, map, set};
 ghost use Rattle.llb_tree.specs.Nodes.{pair_of};
@@ -10,7 +11,8 @@ use crate::node::{Child, Node, Piece};
 use crate::pieces::second_owners;
 use std::alloc::{AllocError, Global};
 
-// Writes a node as the child at a place among those made, or among second owners of the upper ones where none are made.
+// Writes a node as the child at an index, into the children made so far, or into a copy of the upper ones if none are
+// made.
 pub(crate) fn with_node(
     made: Option<Vec<Child>>,
     alloc: Global,
@@ -29,7 +31,8 @@ pub(crate) fn with_node(
     Ok(list)
 }
 
-// Puts rows in the place of a piece among those made, or among second owners of the upper ones where none are made.
+// Replaces the children of the piece at an index, in the pieces made so far, or in a copy of the upper ones if none are
+// made.
 pub(crate) fn with_rows(
     made: Option<Vec<Piece>>,
     alloc: Global,

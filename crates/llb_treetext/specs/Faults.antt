@@ -20,7 +20,7 @@ is_memory (text.NoParent n) = false
 abbrev pub Gives : {X Y : Type 0} → (X → Y) → Result X TextFault → Result Y TextFault → Type 0
 Gives = answer.Gives is_memory
 
--- and `Memory` is last: a call fails with it only where its rule has no refusal
+-- and `Memory` is last: a call fails with it only if its rule has no refusal
 abbrev pub MemoryLast : {X Y : Type 0} → Result X TextFault → Result Y TextFault → Type 0
 MemoryLast = answer.MemoryLast is_memory
 
@@ -29,11 +29,11 @@ abbrev pub is_refused_memory : PrintFault → Bool
 is_refused_memory print.Memory = true
 is_refused_memory print.Write = false
 
--- a text is written, or a prefix of it where memory was refused or the sink has failed
+-- a text is written, or a prefix of it if memory was refused or the sink has failed
 abbrev pub Prints : Option (List ℕ) → Option (List ℕ) → Bool → List ℕ → Result (Unit {0}) PrintFault → Type 0
 Prints = output.Writes is_refused_memory
 
--- what a fault prints: its number, and the number of its line where it has one
+-- what a fault prints: its number, and the number of its line if it has one
 abbrev pub reading_text : TextFault → List ℕ
 reading_text (text.BadLine line) = codes "31 " ++ decimal line
 reading_text (text.Order line) = codes "32 " ++ decimal line

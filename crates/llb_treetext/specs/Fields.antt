@@ -84,7 +84,7 @@ parts_from (p, File m content) = (m, Some (hex_text content), path_text p)
 abbrev pub trail : List ℕ → List ℕ
 trail path = if length path == 1 then [] else path
 
--- an entry: a directory where there is no content
+-- an entry: a directory if there is no content
 abbrev pub entry_of : MetaValue → Option (List ℕ) → Entry
 entry_of m None = Dir m
 entry_of m (Some content) = File m content

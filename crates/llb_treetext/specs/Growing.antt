@@ -14,7 +14,7 @@ pub record HasBelow (t above : TreeMap) (at : List (List ℕ)) (dir : TreeMap) :
   pub inside : (q : List (List ℕ)) → finite.get t (at ++ q) ≡ finite.get dir q
   pub outside : (q : List (List ℕ)) → is_within at q ≡ false → finite.get t q ≡ finite.get above q
 
--- a tree is the one that is kept, or has that one at its place
+-- a tree is the one that is kept, or has that one at its path
 abbrev pub IsKept : TreeMap → Option Open → TreeMap → Type 0
 IsKept kept None t = kept ≡ t
 IsKept kept (Some o) t = HasBelow t o.above o.at kept × (o.text.now ≡ names_text o.at)
@@ -23,12 +23,12 @@ IsKept kept (Some o) t = HasBelow t o.above o.at kept × (o.text.now ≡ names_t
 abbrev pub IsGrown : Growing → TreeMap → Type 0
 IsGrown g t = IsKept g.tree g.open t
 
--- the tree of the lines so far, where there is one, is this one
+-- the tree of the lines so far, if there is one, is this one
 abbrev pub IsGrownIfAny : Option Growing → TreeMap → Type 0
 IsGrownIfAny None t = Unit {0}
 IsGrownIfAny (Some g) t = IsGrown g t
 
--- where there is a tree, it is this one
+-- if there is a tree, it is this one
 abbrev pub IsIfAny : Option TreeMap → TreeMap → Type 0
 IsIfAny None t = Unit {0}
 IsIfAny (Some u) t = u ≡ t

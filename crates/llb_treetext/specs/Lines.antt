@@ -1,4 +1,4 @@
--- Which parts a line has, and where it is among others: what is decided about a line without memory.
+-- Which parts a line has, and where it may come among others: what is decided about a line without memory.
 use Rattle.std.specs.Prelude.{◌≡◌, ◌≢◌, ℕ, List, ◌++◌, Option, Some, None}
 use denote.Ref.{Bor}
 use Rattle.llb_tree.specs.Tree.{Entry}

@@ -20,7 +20,7 @@ abbrev pub put_row : TreeMap → List (List ℕ) × Entry → Result TreeMap Tre
 put_row t (p, Dir m) = put_dir t p m
 put_row t (p, File m content) = put_file t p m content
 
--- the parts of a row's line
+-- these are the parts of the line of a row
 abbrev pub IsOf : List (List ℕ) × Entry → Parts → Type 0
 IsOf row x = IsRow row × (parts_seen x ≡ parts_from row)
 

@@ -58,7 +58,7 @@ abbrev pub Answers : List ℕ → Result TreeMap TextFault → Type 0
 Answers bytes (Ok t) = IsText bytes t
 Answers bytes (Err e) = is_memory e ≡ false → Stops bytes e
 
--- and `Memory` is last: a reading fails with it only where the text is a tree's
+-- and `Memory` is last: a reading fails with it only if the text is a tree's
 abbrev pub MemoryIsLast : List ℕ → Result TreeMap TextFault → Type 0
 MemoryIsLast bytes (Ok t) = Unit {0}
 MemoryIsLast bytes (Err e) = is_memory e ≡ true → (t : TreeMap) × IsText bytes t

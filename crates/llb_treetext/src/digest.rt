@@ -13,7 +13,7 @@ use llb_wire::{Memory, Text, text_of_digest};
 use sha2::{Digest, Sha256};
 use std::alloc::Global;
 
-// SHA-256 of the text of a tree.
+// Returns SHA-256 of the text of a tree.
 fn hash(alloc: Global, tree: &Tree) -> Result<[u8; 32], Memory>
     ensures { IfOk result (λ d. d ≡ sha256 (tree_text tree.now)) }
 {

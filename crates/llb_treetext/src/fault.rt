@@ -58,7 +58,7 @@ impl From<Memory> for TextFault {
     }
 }
 
-/// Why a tree's text is not out.
+/// Why a tree's text is not written.
 #[derive(Clone, Copy, Debug, PartialEq, Eq)]
 pub enum PrintFault {
     /// 34: memory was refused.

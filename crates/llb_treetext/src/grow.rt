@@ -1,5 +1,6 @@
-//! The tree of a text while it is read. The files of a directory often follow one another, so the directory of the last line
-//! is kept apart as a tree of its own, where a file is put by its name alone; later it goes back to its place as a whole.
+//! The tree of a text while it is read. The files of a directory often follow one another, so the directory of the last
+//! line is kept apart as a tree of its own, where a file is put by its name alone; later it goes back to its path as a
+//! whole.
 
 ghost use Rattle.std.specs.Prelude.{◌≡◌, ◌++◌, ◌∷◌, ℕ, List, [], Ok, None, true, false, IfSome, IfOk};
 ghost use Rattle.std.specs.FinMap as finite;
@@ -31,7 +32,7 @@ pub(crate) struct Open<'a> {
     text: &'a str,
 }
 
-// The tree of a root directory alone; none where memory is refused.
+// Makes the tree of a root directory alone; `None` if memory is refused.
 fn root_alone(alloc: Global, meta: Meta) -> Option<Tree>
     ensures { IsIfAny result (finite.insert empty_tree [] (Dir meta)) }
 {
@@ -44,7 +45,7 @@ fn root_alone(alloc: Global, meta: Meta) -> Option<Tree>
     }
 }
 
-// The tree of the first line; none where memory is refused.
+// Makes the tree of the first line; `None` if memory is refused.
 pub(crate) fn started<'a>(alloc: Global, meta: Meta) -> Option<Growing<'a>>
     ensures { IsGrownIfAny result (finite.insert empty_tree [] (Dir meta)) }
 {
@@ -52,7 +53,7 @@ pub(crate) fn started<'a>(alloc: Global, meta: Meta) -> Option<Growing<'a>>
     Some(Growing { tree, open: None })
 }
 
-// The whole tree; none where memory is refused.
+// Returns the whole tree; `None` if memory is refused.
 fn whole(growing: Growing<'_>) -> Option<Tree>
     ensures { (t : TreeMap) → IsGrown growing.entry t → IsIfAny result t }
 {
@@ -73,14 +74,15 @@ fn whole(growing: Growing<'_>) -> Option<Tree>
     }
 }
 
-// The whole tree, where there is one.
+// Returns the whole tree; `None` if memory was refused before, or is now.
 pub(crate) fn whole_if_any(growing: Option<Growing<'_>>) -> Option<Tree>
     ensures { (t : TreeMap) → IsGrownIfAny growing.entry t → IsIfAny result t }
 {
     whole(growing?)
 }
 
-// What a path has after a directory's path and a slash; none where it is not below the directory. Does not allocate.
+// Returns what a path has after a directory's path and a slash; `None` if it is not below the directory. Does not
+// allocate.
 fn rest_below<'a>(dir: &str, path: &'a str) -> Option<&'a str>
     ensures { IfSome result (λ rest. path.now ≡ dir.now ++ 47 ∷ rest.now) }
 {
@@ -88,7 +90,7 @@ fn rest_below<'a>(dir: &str, path: &'a str) -> Option<&'a str>
     later.strip_prefix('/')
 }
 
-// The path of one name; none where the text is no name.
+// Makes the path of one name; `None` if the text is no name.
 fn path_of_name(alloc: Global, text: &str) -> Result<Option<Path>, Memory>
     ensures { IfOk result (λ o. IfSome o (λ p. (p ≡ text.now ∷ []) × (is_name text.now ≡ true))) }
 {
@@ -105,8 +107,9 @@ fn path_of_name(alloc: Global, text: &str) -> Result<Option<Path>, Memory>
     }
 }
 
-// Puts a line's file by its name in the directory that is kept apart, and returns whether it is there; a line that is not a file's
-// just below that directory changes nothing. A refusal of memory is an error and not `false`, so that it is reported.
+// Puts a line's file by its name in the directory that is kept apart, and returns whether it did so; a line that is not
+// a file's directly below that directory changes nothing. A refusal of memory is an error and not `false`, so that it
+// is reported.
 fn is_put_below(alloc: Global, growing: &mut Growing<'_>, parts: &Parts<'_>) -> Result<bool, Memory>
     ensures put { IfOk result (λ is_put. is_put ≡ true → (t : TreeMap) → IsGrown growing.old t → (row : List (List ℕ) × TreeEntry)
         → Follows t row parts.now → IsGrown growing.new (finite.insert t row.0 row.1)) }
@@ -134,7 +137,7 @@ fn is_put_below(alloc: Global, growing: &mut Growing<'_>, parts: &Parts<'_>) -> 
     }
 }
 
-// A tree with a directory more, which is kept apart; none where memory is refused.
+// Adds a directory to a tree, and keeps it apart; `None` if memory is refused.
 fn opened<'a>(
     alloc: Global,
     above: Tree,
@@ -152,7 +155,7 @@ fn opened<'a>(
     })
 }
 
-// The whole tree with a row more; none where memory is refused.
+// Adds a row to the whole tree; `None` if memory is refused.
 fn with_row<'a>(alloc: Global, mut tree: Tree, row: Row, text: &'a str) -> Option<Growing<'a>>
     ensures { IsTree tree → finite.get tree row.path ≡ None → text.now ≡ names_text row.path
         → put_row tree (pair_of row) ≡ Ok (finite.insert tree row.path (pair_of row).1)
@@ -172,7 +175,7 @@ fn with_row<'a>(alloc: Global, mut tree: Tree, row: Row, text: &'a str) -> Optio
     }
 }
 
-// The tree with the entry of a line's parts; none once memory is refused.
+// Adds the entry of a line's parts to the tree; `None` once memory is refused.
 pub(crate) fn with_line<'a>(
     alloc: Global,
     growing: Option<Growing<'a>>,

@@ -1,5 +1,5 @@
-//! A line is judged without memory. The lines before it are those of a tree, so the last of them shows whether it lies after
-//! them, and whether its directory is there.
+//! A line is judged without allocating. The lines before it are those of a tree, so the last of them shows whether it
+//! lies after them, and whether its directory is there.
 
 ghost use Rattle.std.specs.Prelude.{◌≡◌, ◌≢◌, ◌+◌, ◌++◌, ◌∷◌, ℕ, List, IsTrue, true};
 ghost use Rattle.std.specs.FinMap as finite;
@@ -20,7 +20,7 @@ pub(crate) struct Place<'a> {
     pub is_dir: bool,
 }
 
-// A line: its parts, its place, and the bytes after it.
+// A line: its parts, its `Place`, and the bytes after it.
 #[derive(Clone, Copy)]
 pub(crate) struct Line<'a> {
     pub parts: Parts<'a>,
@@ -28,7 +28,6 @@ pub(crate) struct Line<'a> {
     pub later: &'a [u8],
 }
 
-// The place of a line.
 fn place_of<'a>(parts: &Parts<'a>) -> Place<'a>
     ensures names { result.names.now ≡ trail parts.now.path.now }
     ensures kind { result.is_dir ≡ is_none parts.now.digits }
@@ -39,14 +38,14 @@ fn place_of<'a>(parts: &Parts<'a>) -> Place<'a>
     }
 }
 
-// A byte in path order: a slash comes before all bytes of names.
+// Returns the rank of a byte in path order: a slash comes before all bytes of names.
 fn rank(byte: u8) -> u8
     ensures { result ≡ rank byte }
 {
     if byte == b'/' { 0 } else { byte }
 }
 
-// Whether a path comes before another.
+// Returns whether a path comes before another.
 fn is_before(first: &[u8], second: &[u8]) -> bool
     ensures { result ≡ is_lt (trail_cmp first.now second.now) }
 {
@@ -62,7 +61,7 @@ fn is_before(first: &[u8], second: &[u8]) -> bool
     first.len() < second.len()
 }
 
-// What is before the last slash.
+// Returns what is before the last slash.
 fn parent(names: &[u8]) -> &[u8]
     ensures { (front last : List ℕ) → All (λ b. b ≢ 47) last → names.now ≡ front ++ 47 ∷ last → result.now ≡ front }
 {
@@ -76,7 +75,7 @@ fn parent(names: &[u8]) -> &[u8]
     rest
 }
 
-// Whether a directory is there or above.
+// Returns whether a directory is at a `Place`, or above it.
 fn holds(place: &Place<'_>, dir: &[u8]) -> bool
     ensures found { IsTrue result → (later : List ℕ) × (place.now.names.now ≡ dir.now ++ later) × (opens later place.now.is_dir ≡ true) }
     ensures each { (later : List ℕ) → place.now.names.now ≡ dir.now ++ later → result ≡ opens later place.now.is_dir }
@@ -90,7 +89,7 @@ fn holds(place: &Place<'_>, dir: &[u8]) -> bool
     }
 }
 
-// The first line, which is the root's, or its first fault. Does not allocate.
+// Reads the first line, which is the root's. Fails with 31 `BadLine`, else with 32 `Order`. Does not allocate.
 pub(crate) fn first_line(bytes: &[u8]) -> Result<Line<'_>, TextFault>
     ensures { Starts bytes.now result }
 {
@@ -108,7 +107,7 @@ pub(crate) fn first_line(bytes: &[u8]) -> Result<Line<'_>, TextFault>
     })
 }
 
-// The next line, or its first fault. Does not allocate.
+// Reads the next line. Fails with 31 `BadLine`, else with 32 `Order`, else with 33 `NoParent`. Does not allocate.
 pub(crate) fn next_line<'a>(
     last: &Place<'_>,
     rest: &'a [u8],

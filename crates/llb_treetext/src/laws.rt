@@ -1,17 +1,17 @@
-//! Laws of texts and trees, whatever they are.
+//! Laws of all texts and all trees.
 
 ghost use Rattle.llb_treetext.specs.Reading.{HasOneAnswer, ReadsBack};
 
 use llb_tree::Tree;
 
-/// A law: a text is the text of one tree at most, or it has one first fault, and never both.
+/// Proves that a text either is the text of one tree or has one first fault, and never both.
 pub fn one_answer(bytes: &[u8])
     ensures { HasOneAnswer bytes.now }
 {
     let _ = bytes;
 }
 
-/// A law: what is printed of a tree is read as the tree.
+/// Proves that what `print_tree` writes of a tree is read as that tree.
 pub fn reads_back(tree: &Tree)
     ensures { ReadsBack tree.now }
 {

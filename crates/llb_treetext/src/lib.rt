@@ -1,5 +1,15 @@
-//! A tree is one text: a line for each entry in path order. It is written to a sink, named by its digest, and read
-//! back. Nothing here knows an operation or a file system.
+//! The text of a tree: a line for each entry in path order. It is built on `llb_tree`, and knows no operation.
+//!
+//! Types: `TextFault` (why a text is none), `PrintFault`.
+//! Promise: `print_tree` (`prints`) writes exactly the text of the tree, or a prefix of it where memory or the sink fails. `read_tree`
+//! (`answers`, `last`) returns a tree exactly where the bytes are its text, and else the first fault of the first faulty line: 31, 32 or 33.
+//!
+//! A caller:
+//!
+//!     let tree = read_tree(alloc, b"d 0755 0 0 /\n".as_slice()).ok()?;
+//!     let mut text = Vec::new(alloc);
+//!     print_tree(alloc, &tree, &mut Over::new(&mut text)).ok()?;
+//!     Some(text.len()) // 13
 #![tactic(auto)]
 
 mod digest;

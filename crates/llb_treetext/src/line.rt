@@ -1,5 +1,5 @@
-//! The line of an entry, as it is written: its kind, its mode and owners, the content of a file, and its path. It is put
-//! after a text, so that one text's room serves for all lines.
+//! The line of an entry, as it is written: its kind, its mode and owners, the content of a file, and its path. It is
+//! appended to a text, so that one text's memory serves for all lines.
 
 ghost use Rattle.std.specs.Prelude.{◌≡◌, ◌++◌, ◌<◌, OnOk, string_bytes};
 ghost use Rattle.std.specs.Fmt.{decimal};
@@ -10,7 +10,7 @@ use llb_tree::{Entry, Meta, Name, Path};
 use llb_wire::push_hex;
 use std::alloc::{AllocError, Global};
 
-// Puts a digit after a text.
+// Appends a digit to a text.
 fn push_digit(line: &mut String, digit: u32) -> Result<(), AllocError>
     requires { digit < 10 }
     ensures { OnOk result (string_bytes line.new ≡ string_bytes line.old ++ decimal digit) }
@@ -18,7 +18,7 @@ fn push_digit(line: &mut String, digit: u32) -> Result<(), AllocError>
     line.push((b'0' + digit as u8) as char)
 }
 
-// Puts a number after a text, in decimal digits.
+// Appends a number to a text, in decimal digits.
 fn push_number(line: &mut String, number: u32) -> Result<(), AllocError>
     ensures { OnOk result (string_bytes line.new ≡ string_bytes line.old ++ decimal number) }
 {
@@ -29,7 +29,7 @@ fn push_number(line: &mut String, number: u32) -> Result<(), AllocError>
     push_digit(line, number % 10)
 }
 
-// Puts a mode after a text, in four octal digits.
+// Appends a mode to a text, in four octal digits.
 fn push_mode(line: &mut String, mode: u32) -> Result<(), AllocError>
     requires { mode < 4096 }
     ensures { OnOk result (string_bytes line.new ≡ string_bytes line.old ++ mode_text mode) }
@@ -42,7 +42,7 @@ fn push_mode(line: &mut String, mode: u32) -> Result<(), AllocError>
     push_digit(line, last)
 }
 
-// Puts the mode, the user and the group after a text.
+// Appends the mode, the user and the group to a text, a space after each.
 fn push_meta(line: &mut String, meta: Meta) -> Result<(), AllocError>
     ensures { OnOk result (string_bytes line.new ≡ string_bytes line.old ++ meta_text meta) }
 {
@@ -55,7 +55,7 @@ fn push_meta(line: &mut String, meta: Meta) -> Result<(), AllocError>
     line.push_str(" ")
 }
 
-// A slash before each name.
+// Appends names to a text, a slash before each.
 fn push_names(line: &mut String, names: &[Name]) -> Result<(), AllocError>
     ensures { OnOk result (string_bytes line.new ≡ string_bytes line.old ++ names_text names.now) }
 {
@@ -66,7 +66,8 @@ fn push_names(line: &mut String, names: &[Name]) -> Result<(), AllocError>
     Ok(())
 }
 
-/// Puts the text of a path after a text: a slash before each name, and one alone for the root.
+/// Appends the text of a path to a text: a slash before each name, and one alone for the root. Fails with `AllocError`
+/// alone; then some of it may be written.
 pub fn push_path(line: &mut String, path: &Path) -> Result<(), AllocError>
     ensures { OnOk result (string_bytes line.new ≡ string_bytes line.old ++ path_text path.now) }
 {
@@ -77,7 +78,7 @@ pub fn push_path(line: &mut String, path: &Path) -> Result<(), AllocError>
     push_names(line, path.names())
 }
 
-// Puts the line of an entry after a text, without its end.
+// Appends the line of an entry to a text, without its end.
 fn push_row(
     alloc: Global,
     line: &mut String,
@@ -101,7 +102,7 @@ fn push_row(
     push_path(line, path)
 }
 
-// Writes the line of an entry in a text's place.
+// Replaces a text by the line of an entry.
 pub(crate) fn set_line(
     alloc: Global,
     line: &mut String,

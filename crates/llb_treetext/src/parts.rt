@@ -1,5 +1,5 @@
-//! A line is taken apart without memory. Each field is accepted only as it is written, so a line that has all its parts is
-//! an entry's.
+//! A line is taken apart without allocating. Each field is accepted only as it is written, so a line that has all its
+//! parts is an entry's.
 
 ghost use Rattle.std.specs.Prelude.{◌≡◌, ◌↔◌, nat_eq, IsTrue, position};
 ghost use Rattle.std.specs.Fmt.{decimal};
@@ -20,7 +20,7 @@ pub(crate) struct Parts<'a> {
 }
 
 impl<'a> Parts<'a> {
-    // The names of the path, a slash before each.
+    // Returns the names of the path, a slash before each; nothing for the root.
     pub(crate) fn trail(&self) -> &'a [u8]
         ensures { result.now ≡ trail self.now.path.now }
     {
@@ -32,14 +32,14 @@ impl<'a> Parts<'a> {
     }
 }
 
-// The text up to the first space, and the text after it.
+// Splits a text at its first space.
 fn cut(text: &str) -> Option<(&str, &str)>
     ensures { option_map (λ x. (x.0.now, x.1.now)) result ≡ cut_at 32 text.now }
 {
     text.split_once(' ')
 }
 
-// The mode that four octal digits are.
+// Reads a mode of four octal digits.
 fn mode_of(text: &str) -> Option<Mode>
     ensures { result ≡ mode_in text.now }
 {
@@ -49,7 +49,8 @@ fn mode_of(text: &str) -> Option<Mode>
     Mode::read(text)
 }
 
-// The number that decimal digits are; what other bytes are is of no account.
+// Reads decimal digits as a number; `None` above 2^32 - 1. Other bytes give some number too: `decimal_of` checks that
+// the text is the number's.
 fn number(text: &str) -> Option<u32>
     ensures { result ≡ number_from 0 text.now }
 {
@@ -64,7 +65,7 @@ fn number(text: &str) -> Option<u32>
     Some(number)
 }
 
-// Whether a text is a number as it is written.
+// Returns whether a text is a number as it is written.
 fn is_decimal(text: &[u8], number: u32) -> bool
     ensures { IsTrue result ↔ (text.now ≡ decimal number) }
 {
@@ -82,7 +83,7 @@ fn is_decimal(text: &[u8], number: u32) -> bool
     }
 }
 
-// The number that a text is, as it is written.
+// Reads a number as it is written, without leading zeros.
 fn decimal_of(text: &str) -> Option<u32>
     ensures { result ≡ decimal_in text.now }
 {
@@ -94,7 +95,7 @@ fn decimal_of(text: &str) -> Option<u32>
     }
 }
 
-// The mode and the owners at the start of a text, and what is after them.
+// Reads the mode and the owners at the start of a text, and returns them with what is after them.
 fn front(text: &str) -> Option<(Meta, &str)>
     ensures { option_map (λ x. (x.0, x.1.now)) result ≡ meta_in text.now }
 {
@@ -106,7 +107,7 @@ fn front(text: &str) -> Option<(Meta, &str)>
     Some((meta, rest))
 }
 
-// Whether there are names between slashes, at most 128.
+// Returns whether a text is names with slashes between them, at most 128.
 fn are_names(text: &str) -> bool
     ensures { result ≡ are_names text.now }
 {
@@ -123,7 +124,7 @@ fn are_names(text: &str) -> bool
     true
 }
 
-// Whether a text is a path as it is written.
+// Returns whether a text is a path as it is written.
 fn is_path(text: &str) -> bool
     ensures { result ≡ is_path text.now }
 {
@@ -133,7 +134,7 @@ fn is_path(text: &str) -> bool
     }
 }
 
-// The parts of a text, where it is a line.
+// Reads the parts of a text; `None` if it is no line of an entry.
 fn parts_in(text: &str) -> Option<Parts<'_>>
     ensures { option_map parts_seen result ≡ parts_in text.now }
 {
@@ -151,7 +152,7 @@ fn parts_in(text: &str) -> Option<Parts<'_>>
     file_parts(meta, digits, path)
 }
 
-// A directory's parts.
+// Returns a directory's parts; `None` if the text is no path.
 fn dir_parts(meta: Meta, path: &str) -> Option<Parts<'_>>
     ensures { option_map parts_seen result ≡ dir_parts meta path.now }
 {
@@ -165,7 +166,7 @@ fn dir_parts(meta: Meta, path: &str) -> Option<Parts<'_>>
     })
 }
 
-// A file's parts; the root is none.
+// Returns a file's parts; `None` if the digits or the path are none, or the path is the root.
 fn file_parts<'a>(meta: Meta, digits: &'a str, path: &'a str) -> Option<Parts<'a>>
     ensures { option_map parts_seen result ≡ file_parts meta digits.now path.now }
 {
@@ -185,7 +186,7 @@ fn file_parts<'a>(meta: Meta, digits: &'a str, path: &'a str) -> Option<Parts<'a
     })
 }
 
-// The parts of the entry whose line this is, without its end.
+// Reads the parts of a line, without its end; `None` if it is no line of an entry.
 fn parts_of(line: &[u8]) -> Option<Parts<'_>>
     ensures { Spells line.now result }
 {
@@ -195,14 +196,14 @@ fn parts_of(line: &[u8]) -> Option<Parts<'_>>
     }
 }
 
-// Where the first line end is.
+// Returns the index of the first line end.
 fn line_end(bytes: &[u8]) -> Option<usize>
     ensures { result ≡ position (λ b. nat_eq b 10) bytes.now }
 {
     bytes.iter().position(|b| *b == b'\n')
 }
 
-// The parts of the line that the bytes begin with, and the bytes after it.
+// Reads the parts of the line that the bytes begin with, and returns them with the bytes after it.
 pub(crate) fn next_parts(bytes: &[u8]) -> Option<(Parts<'_>, &[u8])>
     ensures { BeginsWith bytes.now result }
 {

@@ -11,7 +11,7 @@ use llb_tree::{Entry, Path, Tree};
 use llb_wire::{Sink, write_all};
 use std::alloc::Global;
 
-// Writes the line of an entry, which is made in the place of another.
+// Writes the line of an entry to a sink; `line` is the memory for it, which each call uses again.
 fn print_line<W: Sink>(
     alloc: Global,
     line: &mut String,
@@ -32,8 +32,9 @@ fn print_line<W: Sink>(
 }
 
 /// Writes the text of a tree to a sink: a line for each entry in path order, `d MODE UID GID PATH` for a directory and
-/// `f MODE UID GID CONTENT PATH` for a file. MODE is four octal digits, CONTENT lower-case hexadecimal, `-` where it is
-/// empty. Fails with 34 where memory is refused, and with 35 only where the writer failed: a prefix of the text is written then.
+/// `f MODE UID GID CONTENT PATH` for a file. MODE is four octal digits, CONTENT lower-case hexadecimal, `-` if it is
+/// empty. Fails with 34 `Memory` if memory is refused, and with 35 `Write` only if the writer failed: a prefix of the
+/// text is written then.
 pub fn print_tree<W: Sink>(alloc: Global, tree: &Tree, out: &mut W) -> Result<(), PrintFault>
     ensures prints { Prints (W.taken out.old) (W.taken out.new) (W.failed out.new) (tree_text tree.now) result }
     ensures same { W.lender out.new ≡ W.lender out.old }

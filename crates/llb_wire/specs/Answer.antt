@@ -11,7 +11,7 @@ abbrev pub Gives : {X Y F : Type 0} → (F → Bool) → (X → Y) → Result X 
 Gives is_memory view (Ok x) rule = rule ≡ Ok (view x)
 Gives is_memory view (Err e) rule = Fails is_memory e rule
 
--- the fault for refused memory is last: it is returned only where the rule has no refusal
+-- the fault for refused memory is last: it is returned only if the rule has no refusal
 abbrev pub MemoryLast : {X Y F : Type 0} → (F → Bool) → Result X F → Result Y F → Type 0
 MemoryLast is_memory (Ok x) rule = Unit {0}
 MemoryLast is_memory (Err e) rule = is_memory e ≡ true → is_ok rule ≡ true

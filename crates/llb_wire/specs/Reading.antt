@@ -21,7 +21,7 @@ abbrev pub varint_limit : ℕ → ℕ
 varint_limit zero = 2
 varint_limit (suc more) = 128 * varint_limit more
 
--- the number that the varint at a place spells, and where the varint ends
+-- the number that the varint at a position spells, and where the varint ends
 abbrev pub varint_at : List ℕ → ℕ → Result (ℕ × ℕ) WireFault
 varint_at bytes at = varint_from 9 (drop at bytes) >>= λ m. Ok (m.0, at + m.1)
 
@@ -35,7 +35,7 @@ number_of n = if n == 0 then Err BadField else if nat_lt 536_870_911 n then Err 
 abbrev pub wire_of : ℕ → Result Wire WireFault
 wire_of code = if code == 0 then Ok Varint else if code == 1 then Ok I64 else if code == 2 then Ok Len else if code == 5 then Ok I32 else Err BadWireType
 
--- the number that the bytes of a fixed width at a place spell, and where they end
+-- the number that the bytes of a fixed width at a position spell, and where they end
 abbrev pub fixed_at : Width → List ℕ → ℕ → Result (ℕ × ℕ) WireFault
 fixed_at w bytes at = if nat_lt (length (drop at bytes)) (byte_len w) then
     Err Truncated else Ok (from_le_bytes w (take (byte_len w) (drop at bytes)), at + byte_len w)
@@ -44,7 +44,7 @@ fixed_at w bytes at = if nat_lt (length (drop at bytes)) (byte_len w) then
 abbrev pub as_field : ℕ → Wire → ℕ → ℕ × ℕ → Field
 as_field number wire start v = record { number = number; wire = wire; value = v.0; start = start; «end» = v.1 }
 
--- the field whose payload begins at a place
+-- the field whose payload begins at a position
 unfoldable pub payload_at : ℕ → Wire → List ℕ → ℕ → Result Field WireFault
 payload_at number Varint bytes at = varint_at bytes at >>= λ v. Ok (as_field number Varint at v)
 payload_at number I64 bytes at = fixed_at w64 bytes at >>= λ v. Ok (as_field number I64 at v)
@@ -52,7 +52,7 @@ payload_at number Len bytes at = varint_at bytes at >>= λ len. if nat_lt (lengt
     Err Truncated else Ok (as_field number Len len.1 (len.0, len.1 + len.0))
 payload_at number I32 bytes at = fixed_at w32 bytes at >>= λ v. Ok (as_field number I32 at v)
 
--- the field whose tag is at a place, or its first fault
+-- the field whose tag is at a position, or its first fault
 unfoldable pub field_at : List ℕ → ℕ → Result Field WireFault
 field_at bytes at = do
   tag ← varint_at bytes at
@@ -60,11 +60,11 @@ field_at bytes at = do
   wire ← wire_of (tag.0 % 8)
   payload_at number wire bytes tag.1
 
--- the record that begins at a place: none exactly at the end
+-- the record that begins at a position: none exactly at the end
 unfoldable pub next_field : List ℕ → ℕ → Result (Option Field) WireFault
 next_field bytes at = if at == length bytes then Ok None else (field_at bytes at >>= λ f. Ok (Some f))
 
--- where a record lies that was read from a place on
+-- where a record lies that was read from a position on
 pub record IsWithin (bytes : List ℕ) (at : ℕ) (f : Field) : Type 0 where
   pub begins : at < f.start
   pub ordered : f.start ≤ f.«end»

@@ -1,4 +1,4 @@
--- A record with its bytes, and no place; and which bytes spell a list of records.
+-- A record with its bytes, and no position; and which bytes spell a list of records.
 use Rattle.std.specs.Prelude.{◌≡◌, ℕ, ◌+◌, ◌-◌, ◌*◌, ◌≤◌, List, [], ◌∷◌, ◌++◌, length, take, drop, Some, None, Ok}
 use Rattle.std.specs.List.{AllByRecursion, flat_map}
 use Rattle.std.specs.Int.{Width, w32, w64, byte_len, to_le_bytes, from_le_bytes}
@@ -20,7 +20,7 @@ pub record Record : Type 0 where
 abbrev pub record_of : List ℕ → Field → Record
 record_of bytes f = record { number = f.number; wire = f.wire; value = f.value; payload = drop f.start (take f.«end» bytes); text = take f.«end» bytes }
 
--- the record at a place of the bytes
+-- the record at a position of the bytes
 abbrev pub record_at : List ℕ → ℕ → Field → Record
 record_at bytes at f = record {
   number = f.number;
@@ -30,11 +30,11 @@ record_at bytes at f = record {
   text = drop at (take f.«end» bytes);
 }
 
--- where a record lies whose bytes begin at a place
+-- where a record lies whose bytes begin at a position
 abbrev pub placed : ℕ → Record → Field
 placed at r = record { number = r.number; wire = r.wire; value = r.value; start = at + (length r.text - length r.payload); «end» = at + length r.text }
 
--- ---- the grammar of records, with no place
+-- ---- the grammar of records, with no position
 
 -- the bytes spell n in a fixed width, least significant byte first
 pub record IsFixed (w : Width) (bytes : List ℕ) (n : ℕ) : Type 0 where
@@ -64,7 +64,7 @@ pub record SpellRecords (bytes : List ℕ) (rs : List Record) : Type 0 where
   pub whole : bytes ≡ flat_map (λ r. r.text) rs
   pub each : AllByRecursion IsRecord rs
 
--- walking from record to record, from a place up to the end
+-- walking from record to record, from a position up to the end
 abbrev pub Walks : List ℕ → ℕ → List Record → Type 0
 Walks bytes at [] = next_field bytes at ≡ Ok None
 Walks bytes at (r ∷ rs) = (f : Field) × (next_field bytes at ≡ Ok (Some f)) × (r ≡ record_at bytes at f) × Walks bytes f.«end» rs

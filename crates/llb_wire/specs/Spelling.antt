@@ -24,7 +24,7 @@ pub record IsVarint (bytes : List ℕ) (n : ℕ) : Type 0 where
   pub short : length bytes ≤ 10
   pub small : n < 2 ^ 64
 
--- the bytes from one place up to another, which is not among them
+-- the bytes from one position up to another, which is not among them
 abbrev pub between : ℕ → ℕ → List ℕ → List ℕ
 between from to bytes = take (to - from) (drop from bytes)
 
@@ -54,7 +54,7 @@ IsLong (suc more) (b ∷ bs) = (128 ≤ b) × IsLong more bs
 abbrev pub TenthAboveOne : List ℕ → ℕ → Type 0
 TenthAboveOne bytes at = IsLong 9 (drop at bytes)
 
--- why no number is read at a place
+-- why no number is read at a position
 abbrev pub VarintCause : List ℕ → ℕ → WireFault → Type 0
 VarintCause bytes at Truncated = CutVarint bytes at
 VarintCause bytes at LongVarint = TenthAboveOne bytes at
@@ -85,14 +85,14 @@ pub record FixedAt (w : Width) (bytes : List ℕ) (at n last : ℕ) : Type 0 whe
   pub inside : last ≤ length bytes
   pub value : n ≡ from_le_bytes w (between at last bytes)
 
--- the payload of field f is after a tag that ends at a place
+-- the payload of field f is after a tag that ends at a position
 abbrev pub PayloadAt : Wire → List ℕ → ℕ → Field → Type 0
 PayloadAt Varint bytes at f = (f.start ≡ at) × VarintAt bytes at f.value f.«end»
 PayloadAt I64 bytes at f = (f.start ≡ at) × FixedAt w64 bytes at f.value f.«end»
 PayloadAt Len bytes at f = VarintAt bytes at f.value f.start × (f.«end» ≡ f.start + f.value) × (f.«end» ≤ length bytes)
 PayloadAt I32 bytes at f = (f.start ≡ at) × FixedAt w32 bytes at f.value f.«end»
 
--- the bytes at a place spell the field f
+-- the bytes at a position spell the field f
 pub record RecordAt (bytes : List ℕ) (at : ℕ) (f : Field) : Type 0 where
   pub tag_end : ℕ
   pub tag : TagAt bytes at f.number f.wire tag_end
@@ -112,14 +112,14 @@ LongPayload I64 bytes at = ⊥
 LongPayload Len bytes at = TenthAboveOne bytes at
 LongPayload I32 bytes at = ⊥
 
--- why no payload is read at a place
+-- why no payload is read at a position
 abbrev pub PayloadCause : Wire → List ℕ → ℕ → WireFault → Type 0
 PayloadCause wire bytes at Truncated = CutPayload wire bytes at
 PayloadCause wire bytes at LongVarint = LongPayload wire bytes at
 PayloadCause wire bytes at BadField = ⊥
 PayloadCause wire bytes at BadWireType = ⊥
 
--- a good tag is at a place, and something is wrong after it
+-- a good tag is at a position, and something is wrong after it
 pub record BehindTag (wrong : Wire → List ℕ → ℕ → Type 0) (bytes : List ℕ) (at : ℕ) : Type 0 where
   pub number : ℕ
   pub wire : Wire
@@ -142,7 +142,7 @@ pub record HasNoWire (bytes : List ℕ) (at : ℕ) : Type 0 where
   pub number : IsFieldNumber (tag / 8)
   pub none : (w : Wire) → tag % 8 ≢ code_of w
 
--- why no record is read at a place: each cause holds only where everything before it in the record is good
+-- why no record is read at a position: each cause holds only if everything before it in the record is good
 abbrev pub RecordCause : List ℕ → ℕ → WireFault → Type 0
 RecordCause bytes at Truncated = CutVarint bytes at ⊎ BehindTag CutPayload bytes at
 RecordCause bytes at LongVarint = TenthAboveOne bytes at ⊎ BehindTag LongPayload bytes at

@@ -1,4 +1,4 @@
-//! A value in a place of its own, which contracts see as the value.
+//! A value on the heap, which contracts see as the value.
 
 ghost use Rattle.std.specs.Prelude.{◌≡◌, IfOk};
 
@@ -7,7 +7,7 @@ use crate::same::Same;
 use std::alloc::Global;
 use std::marker::Model;
 
-/// A value in a place of its own: an enum whose large variants are boxed takes the room of its small ones.
+/// A value on the heap: an enum whose large variants are boxed is as small as its small ones allow.
 pub struct Boxed<T> {
     place: Box<T>,
 }
@@ -26,7 +26,7 @@ impl<T> Model for Boxed<T> {
 }
 
 impl<T: Drop> Boxed<T> {
-    /// Takes the value over, which is dropped where memory is refused.
+    /// Puts the value on the heap. Fails with 5 `Memory` alone, and then the value is dropped.
     pub fn new(alloc: Global, value: T) -> Result<Boxed<T>, Memory>
         ensures { IfOk result (λ b. b ≡ value) }
     {
@@ -36,14 +36,14 @@ impl<T: Drop> Boxed<T> {
 }
 
 impl<T> Boxed<T> {
-    /// Returns the value.
+    /// Returns a reference to the value.
     pub fn get(&self) -> &T
         ensures { result.now ≡ self.now }
     {
         &self.place
     }
 
-    /// Returns the value.
+    /// Returns the value itself.
     pub fn into_inner(self) -> T
         ensures { result ≡ self }
     {

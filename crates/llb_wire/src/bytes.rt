@@ -34,14 +34,14 @@ impl Model for Bytes {
 }
 
 impl Bytes {
-    /// Takes the bytes over.
+    /// Makes a byte string of these bytes, without a copy.
     pub fn new(content: Vec<u8>) -> Bytes
         ensures { result ≡ content.items }
     {
         Bytes { content }
     }
 
-    /// Copies the bytes of a slice into memory of its own.
+    /// Copies the bytes of a slice. Fails with 5 `Memory` alone.
     pub fn from_slice(alloc: Global, bytes: &[u8]) -> Result<Bytes, Memory>
         ensures { IfOk result (λ b. b ≡ bytes.now) }
     {
@@ -56,14 +56,14 @@ impl Bytes {
         self.content.as_slice()
     }
 
-    /// A law: each element is below 256.
+    /// Proves that each element is below 256.
     pub fn is_bytes(&self)
         ensures { AreBytes self.now }
     {
         let _content = &self.content;
     }
 
-    /// Returns the bytes as a vector.
+    /// Returns the bytes as a vector, without a copy.
     pub fn into_vec(self) -> Vec<u8>
         ensures { result.items ≡ self }
     {
@@ -71,7 +71,7 @@ impl Bytes {
         content
     }
 
-    /// Copies the bytes into memory of their own.
+    /// Copies the bytes. Fails with 5 `Memory` alone.
     pub fn copy(&self) -> Result<Bytes, Memory>
         ensures { IfOk result (λ b. b ≡ self.now) }
     {

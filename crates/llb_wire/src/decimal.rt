@@ -4,7 +4,8 @@ ghost use Rattle.std.specs.Prelude.{◌≡◌};
 ghost use Rattle.std.specs.Option.{option_map};
 ghost use Rattle.llb_wire.specs.Decimal.{capped, magnitude};
 
-/// Reads a decimal number; all above 2^64 - 1 are read as 2^64 - 1. Returns `None` for other texts, an empty one among them.
+/// Reads a decimal number; all above 2^64 - 1 are read as 2^64 - 1. Returns `None` if the text is empty or has a byte
+/// that is no digit. Does not allocate.
 #[tactic(auto, unfolding(crate::specs::Decimal::magnitude))]
 pub fn magnitude(text: &[u8]) -> Option<u64>
     ensures { result ≡ option_map capped (magnitude text.now) }

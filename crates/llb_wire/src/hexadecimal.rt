@@ -15,8 +15,8 @@ use std::alloc::{AllocError, Global};
 // How many bytes the text of a digest has.
 const DIGEST_LENGTH: usize = 71;
 
-/// Puts the lower-case hexadecimal digits of bytes after a text, `-` where there are none. Where it fails, the text is
-/// unchanged.
+/// Appends the lower-case hexadecimal digits of bytes to a text, or `-` if there are no bytes. Fails with `AllocError`
+/// alone, and then the text is unchanged.
 pub fn push_hex(alloc: Global, text: &mut String, bytes: &[u8]) -> Result<(), AllocError>
     ensures ok { OnOk result (string_bytes text.new ≡ string_bytes text.old ++ hex_text bytes.now) }
     ensures err { OnErr result (string_bytes text.new ≡ string_bytes text.old) }
@@ -30,7 +30,7 @@ pub fn push_hex(alloc: Global, text: &mut String, bytes: &[u8]) -> Result<(), Al
     Ok(())
 }
 
-// Whether all are hexadecimal digits, none upper-case.
+// Returns whether all are hexadecimal digits, none upper-case.
 fn are_lower(digits: &[u8]) -> bool
     ensures { result ≡ list_all is_lower digits.now }
 {
@@ -50,8 +50,8 @@ pub fn is_hex(text: &str) -> bool
     !digits.is_empty() && digits.len() % 2 == 0 && are_lower(digits)
 }
 
-/// Reads the bytes of pairs of hexadecimal digits, and none of `-`; returns `None` where the text is neither. Takes upper-case digits
-/// too: `is_hex` accepts exactly the texts that are written so.
+/// Reads pairs of hexadecimal digits as bytes, and `-` as no bytes; returns `None` if the text is neither. Accepts
+/// upper-case digits too, unlike `is_hex`, which accepts exactly what `push_hex` writes. Fails with 5 `Memory` alone.
 pub fn read_hex(alloc: Global, text: &str) -> Result<Option<Bytes>, Memory>
     ensures { IfOk result (λ o. option_map (λ b. b) o ≡ bytes_in text.now) }
 {
@@ -65,7 +65,8 @@ pub fn read_hex(alloc: Global, text: &str) -> Result<Option<Bytes>, Memory>
     }
 }
 
-/// Returns the text of a SHA-256 digest: `sha256:` and its 64 lower-case hexadecimal digits.
+/// Returns the text of a SHA-256 digest: `sha256:` and its 64 lower-case hexadecimal digits. Fails with 5 `Memory`
+/// alone.
 pub fn text_of_digest(alloc: Global, digest: &[u8; 32]) -> Result<Text, Memory>
     ensures { IfOk result (λ text. text ≡ codes "sha256:" ++ encode_lower digest.now) }
 {

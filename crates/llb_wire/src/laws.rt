@@ -3,15 +3,15 @@
 ghost use Rattle.std.specs.Prelude.{◌≡◌, ◌↔◌, List};
 ghost use Rattle.llb_wire.specs.Records.{Record, SpellRecords, Walks};
 
-/// A law: a walk by `next_record` from the start of the bytes, from each record's end to the next, ends well exactly where
-/// the bytes spell the records that it meets.
+/// Proves that calls of `next_record`, first at the start of the bytes and then at each record's end, reach the end
+/// without a fault exactly if the bytes spell the records that they return.
 pub fn walk_meets_what_is_spelled(bytes: &[u8])
     ensures { (rs : List Record) → Walks bytes.now 0 rs ↔ SpellRecords bytes.now rs }
 {
     let _ = bytes;
 }
 
-/// Bytes spell one list of records at most.
+/// Proves that bytes spell at most one list of records.
 pub fn spells_one_list(bytes: &[u8])
     ensures { (rs others : List Record) → SpellRecords bytes.now rs → SpellRecords bytes.now others → rs ≡ others }
 {

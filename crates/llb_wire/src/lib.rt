@@ -1,6 +1,18 @@
-//! Bytes are records: the wire format of Protocol Buffers, read and written one record at a time.
-//! Here too are what every crate above needs: byte strings and texts that own their memory, bytes as texts
-//! have them, the fault for refused memory, and sinks that take bytes. Nothing here knows a message.
+//! Bytes as records: the wire format of Protocol Buffers, read and written one record at a time. Also what every crate above needs: texts, byte
+//! strings and lists that own their memory, equality by value, and sinks that take bytes. It knows no message.
+//!
+//! Types: `Field` (a record and where it lies), `Bytes`, `Text`, `Many`, `Boxed`, `Sink` with `Over` (a sink over any writer), `Same`, `Memory`
+//! (fault 5).
+//! Promise: `next_record` (`found`, `only`, `ends`, `faults`) returns exactly the record that the bytes spell at a position, by a grammar that
+//! is apart from the reader, or the first fault of its tag, field number, wire type and payload. `write_record` (`shortest`, `again`, `err`)
+//! appends the shortest spelling, which is read again whatever follows it.
+//!
+//! A caller:
+//!
+//!     let mut out = Vec::new(alloc);
+//!     write_record(1, Wire::Varint, 150, b"".as_slice(), &mut out).ok()?;
+//!     let field = next_record(out.as_slice(), 0).ok()??;
+//!     Some(field.value) // 150
 #![tactic(auto)]
 
 mod boxed;

@@ -28,7 +28,7 @@ impl<T> Model for Many<T> {
 }
 
 impl<T> Many<T> {
-    /// Takes the items over.
+    /// Makes a list of these items, without a copy.
     pub fn new(items: Vec<T>) -> Many<T>
         ensures { result ≡ items.items }
     {
@@ -56,12 +56,12 @@ impl<T> Many<T> {
         self.items.is_empty()
     }
 
-    /// Returns where the memory of the items comes from. No clause speaks of it: contracts see no allocator, and there is one.
+    /// Returns the allocator of the items. No clause speaks of it: contracts see no allocator, and there is one.
     pub fn allocator(&self) -> Global {
         *self.items.allocator()
     }
 
-    /// Returns the items as a vector.
+    /// Returns the items as a vector, without a copy.
     pub fn into_vec(self) -> Vec<T>
         ensures { result.items ≡ self }
     {

@@ -10,25 +10,25 @@ use std::io::Write;
 #[derive(Clone, Copy, Debug, PartialEq, Eq)]
 pub struct Failed;
 
-/// Where bytes go. Contracts see the bytes taken so far and whether the sink has failed.
+/// A destination of bytes. Contracts see the bytes taken so far and whether the sink has failed.
 pub trait Sink {
-    // The bytes taken so far, where they are known.
+    // The bytes taken so far, if they are known.
     ghost taken: { Self → Option (List ℕ) };
 
     ghost failed: { Self → Bool };
 
-    // The reference behind which the bytes go, where there is one: it stays the same.
+    // The reference behind which the bytes go, if there is one. No call changes it.
     ghost lender: { Self → Option GName } = { λ _. None };
 
-    /// Takes some bytes from the start, at least one where there are any, and returns how many; or
-    /// fails with `Failed`, and then does so in every later call.
+    /// Takes some bytes from the start, at least one if there are any, and returns how many. Fails with `Failed` alone,
+    /// and then in every later call.
     fn write(&mut self, bytes: &[u8]) -> Result<usize, Failed>
         ensures takes { Takes (taken self.old) (failed self.old) (taken self.new) (failed self.new)
             bytes.now result }
         ensures same { lender self.new ≡ lender self.old };
 }
 
-/// A sink over a writer. It has failed from the first write that failed, or took nothing, and then
+/// A sink over a writer. It has failed from the first write that failed, or accepted none of some bytes, and then
 /// writes no more.
 #[derive(Drop)]
 pub struct Over<'a, W> {
@@ -68,7 +68,8 @@ impl<'a, W: Write> Sink for Over<'a, W> {
     }
 }
 
-/// Writes all of the bytes, in as many turns as it takes. Where the sink fails, a prefix of them is written.
+/// Writes all of the bytes, in as many calls as it takes. Fails with `Failed` if the sink fails; then a prefix of the
+/// bytes is written.
 pub fn write_all<S: Sink>(sink: &mut S, bytes: &[u8]) -> Result<(), Failed>
     ensures takes { TakesAll (S.taken sink.old) (S.taken sink.new) (S.failed sink.new)
         bytes.now result }

@@ -34,14 +34,14 @@ impl Model for Text {
 }
 
 impl Text {
-    /// Takes the text over.
+    /// Makes a text of this string, without a copy.
     pub fn new(content: String) -> Text
         ensures { result ≡ string_bytes content }
     {
         Text { content }
     }
 
-    /// Copies the text of a `&str` into memory of its own.
+    /// Copies the text of a `&str`. Fails with 5 `Memory` alone.
     pub fn from_str(alloc: Global, text: &str) -> Result<Text, Memory>
         ensures { IfOk result (λ t. t ≡ text.now) }
     {
@@ -49,7 +49,7 @@ impl Text {
         Ok(Text { content })
     }
 
-    /// Returns the text.
+    /// Returns the text as a `&str`.
     pub fn as_str(&self) -> &str
         ensures value { result.now ≡ self.now }
         ensures utf8 { IsUtf8 self.now }
@@ -57,7 +57,7 @@ impl Text {
         self.content.as_str()
     }
 
-    /// Returns the text as a string.
+    /// Returns the text as a `String`, without a copy.
     pub fn into_string(self) -> String
         ensures { string_bytes result ≡ self }
     {
@@ -65,7 +65,7 @@ impl Text {
         content
     }
 
-    /// Copies the text into memory of its own.
+    /// Copies the text. Fails with 5 `Memory` alone.
     pub fn copy(&self) -> Result<Text, Memory>
         ensures { IfOk result (λ t. t ≡ self.now) }
     {

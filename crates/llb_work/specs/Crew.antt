@@ -37,6 +37,6 @@ Counts made old new = sum made + length old.events ≡ length new.events
 abbrev pub no_build : Build
 no_build = record { graph = record { vertices = []; result = record { vertex = 0; index = 0 } }; locals = [] }
 
--- the board that stands where none is: of no graph and no workers
+-- the board that is used where none is given: of no graph and no workers
 abbrev pub nothing : BoardValue
 nothing = opened no_build 0 []

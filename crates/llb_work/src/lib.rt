@@ -1,5 +1,18 @@
-//! Runs a board to its end: by one driver on the caller's own thread, or by threads that share one lock. It is built on
-//! `llb_board` and `llb_ready`: the board is changed only by its own calls, and the numbers of ready vertices go through a queue.
+//! Runs a board to its end: by one driver on the caller's own thread, or by 1 to 64 threads that share one lock and a queue of the numbers of
+//! ready vertices. It is built on `llb_board` and `llb_ready`, and changes the board only by the board's own calls.
+//!
+//! Types: `RunEnd` (the board, the number of events that each worker made, the fault), `RunFault` (151 to 154).
+//! Promise: `run_workers` (`leads`, `complete`, `stopped`, `own`): the board that comes back goes on from the given one by granted events,
+//! whatever the fault; without a fault it is complete. `run_alone` (`goes`, `ends`, `order`, `plain`) does the chosen events. That threads make
+//! progress is tested, and not proved.
+//!
+//! A caller:
+//!
+//!     let end = run_workers(rt, alloc, board, gate);
+//!     match end.fault {
+//!         None => Some(end.board),
+//!         Some(_) => None,
+//!     }
 #![tactic(auto)]
 
 mod alone;

@@ -13,9 +13,13 @@ use std::alloc::Global;
 /// What is known of a vertex: that it waits, which worker runs it, its trees or its fault.
 #[derive(Drop)]
 pub enum Stage {
+    /// No worker runs it, and it has not ended.
     Waiting,
+    /// The worker of this number runs it.
     Running(u32),
+    /// It ended with these outputs.
     Done(Many<Tree>),
+    /// It ended with this fault.
     Failed(VertexFault),
 }
 

@@ -73,7 +73,7 @@ impl Model for Begun {
 }
 
 impl Begun {
-    // Returns the parts.
+    // Returns the parts of which a claim is started.
     fn into_parts(self) -> (Job, Execution, Vec<Need>, Vec<Option<usize>>)
         ensures job { result.0 ≡ self.job }
         ensures execution { execution_of result.1 ≡ self.execution }
@@ -91,8 +91,9 @@ impl Begun {
 }
 
 impl Workers {
-    /// Makes what a worker's claim of a vertex begins with; nothing changes. Fails with the first of 131 `NoWorker`, 132 `Busy`, 133 `NoVertex`,
-    /// 134 `NotReady` and 135 `Held` that applies, or with 141 `Memory`: for the text of the key that is held, or where nothing else refuses it.
+    /// Makes what a worker's claim of a vertex begins with; nothing changes. Fails with the first of 131 `NoWorker`,
+    /// 132 `Busy`, 133 `NoVertex`, 134 `NotReady` and 135 `Held` that applies, or with 141 `Memory`: for the text of
+    /// the key that is held, or if nothing else refuses it.
     pub fn begin(
         &self,
         alloc: Global,
@@ -143,9 +144,10 @@ impl Workers {
     }
 }
 
-// Makes the job and the execution of a vertex, before its first micro-step, with the caches that it wants, as they were found: both have
-// the trees of the inputs and the cache instances that a lease will give; the execution also has an empty tree for each output, and where
-// its commands run. Fails with 134 `NotReady` where an input is not there, with 141 `Memory`.
+// Makes the job and the execution of a vertex, before its first micro-step, with the caches that it wants, as they were
+// found: both have the trees of the inputs and the cache instances that a lease will give; the execution also has an
+// empty tree for each output, and where its commands run. Fails with 134 `NotReady` if an input is not there, with 141
+// `Memory`.
 fn begun_with(
     alloc: Global,
     vertices: &Vertices,

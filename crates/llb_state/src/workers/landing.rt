@@ -1,4 +1,5 @@
-//! Compares a job with what a worker has left to do, by value, and puts what the job's micro-steps left in the place of what the worker had.
+//! Compares a job with what a worker still has to do, by value, and replaces what the worker had by what the job's
+//! micro-steps left.
 
 ghost use Rattle.std.specs.Prelude.{◌≡◌, ◌↔◌, ◌<◌, length, true, Some, slice_get, slice_set, is_some, IsTrue};
 ghost use Rattle.std.specs.Bool.{OnTrue, OnFalse};
@@ -25,7 +26,7 @@ use llb_execution::{Job, Outcome, Program};
 use llb_wire::Same;
 
 impl Workers {
-    /// Returns whether a job is what a worker has left to do, with the caches as they are now. Does not allocate.
+    /// Returns whether a job is what a worker still has to do, with the caches as they are now. Does not allocate.
     pub fn is_run_of(&self, vertices: &Vertices, w: u32, job: &Job) -> bool
         requires there { (x : machine.Execution) → slice_get self.now.workers w ≡ Some (Runs x)
             → is_some (slice_get vertices.now.build.graph.vertices x.vertex) ≡ true }
@@ -39,7 +40,8 @@ impl Workers {
         }
     }
 
-    /// Puts what the micro-steps of an outcome left in the place of what its worker had, and writes its instances. Does not allocate.
+    /// Replaces what a worker had by what the micro-steps of its outcome left, and writes its instances. Does not
+    /// allocate.
     pub fn land(&mut self, vertices: &Vertices, w: u32, outcome: Outcome)
         requires runs { RunsJob vertices.now self.old w outcome.job }
         requires fits { Fits vertices.now.build self.old }
@@ -55,7 +57,7 @@ impl Workers {
     }
 }
 
-// Returns whether a job is what an execution has left to do, with the caches as they are now.
+// Returns whether a job is what an execution still has to do, with the caches as they are now.
 fn is_left(vertices: &Vertices, caches: &Caches, w: u32, execution: &Execution, job: &Job) -> bool
     requires vertex { is_some (slice_get vertices.now.build.graph.vertices execution.now.vertex) ≡ true }
     requires within { (p : model.Instance) → Has execution.now.places.items p → p.number < length (trees_of caches.now.rows p.key) }
@@ -68,7 +70,7 @@ fn is_left(vertices: &Vertices, caches: &Caches, w: u32, execution: &Execution, 
         && has_numbers(&execution.places, job.instances())
 }
 
-// Returns whether it is the program of a vertex of the graph.
+// Returns whether a program is that of a vertex of the graph.
 fn has_program(vertices: &Vertices, v: u32, program: &Program) -> bool
     requires { is_some (slice_get vertices.now.build.graph.vertices v) ≡ true }
     ensures { IsTrue result ↔ (program.now ≡ program_at (slice_get vertices.now.build.graph.vertices v)) }

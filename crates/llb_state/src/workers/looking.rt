@@ -16,8 +16,8 @@ use llb_execution::Look;
 use llb_tree::Tree;
 
 impl Workers {
-    /// Returns tree i of those that a worker works on (`Workspace::look`), that of a cache instance as it is now; `None` where the worker is
-    /// idle, past the last worker, or past the last tree. Does not allocate.
+    /// Returns tree i of those that a worker works on (`Workspace::look`), that of a cache instance as it is now;
+    /// `None` if the worker is idle, past the last worker, or past the last tree. Does not allocate.
     pub fn worked_on(&self, w: u32, i: u32) -> Option<&Tree>
         ensures { option_map (λ t. t.now) result ≡ slice_get (worked_by (store_of self.now.rows) (runs (slice_get self.now.workers w))) i }
     {
@@ -29,7 +29,7 @@ impl Workers {
     }
 }
 
-// Tree i of those that an execution works on, whose instances are there.
+// Returns tree i of those that an execution works on, whose instances are there.
 fn tree_in<'a>(caches: &'a Caches, execution: &'a Execution, i: u32) -> Option<&'a Tree>
     requires { (p : model.Instance) → Has execution.now.places.items p → p.number < length (trees_of caches.now.rows p.key) }
     ensures { option_map (λ t. t.now) result ≡ slice_get (worked_by (store_of caches.now.rows) (Some (execution_of execution.now))) i }
@@ -43,7 +43,7 @@ fn tree_in<'a>(caches: &'a Caches, execution: &'a Execution, i: u32) -> Option<&
     }
 }
 
-// The tree of instance k of those that are held, which are there.
+// Returns the tree of the held instance at index k; all held instances are there.
 fn instance_at<'a>(caches: &'a Caches, places: &[Instance], k: usize) -> Option<&'a Tree>
     requires { (p : model.Instance) → Has places.now p → p.number < length (trees_of caches.now.rows p.key) }
     ensures { option_map (λ t. t.now) result ≡ slice_get (trees_at (store_of caches.now.rows) places.now) k }
@@ -54,7 +54,7 @@ fn instance_at<'a>(caches: &'a Caches, places: &[Instance], k: usize) -> Option<
     caches.instance(&place.key, place.number)
 }
 
-// The instance of a number.
+// Returns the instance at index k.
 fn place_at(places: &[Instance], k: usize) -> Option<&Instance>
     ensures { option_map (λ p. p.now) result ≡ slice_get places.now k }
 {

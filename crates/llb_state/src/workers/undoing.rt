@@ -51,7 +51,9 @@ pub enum Back {
 /// The event by which a worker leaves what it runs.
 #[derive(Clone, Copy)]
 pub enum End {
+    /// The execution was finished.
     Settle,
+    /// The execution was given up.
     Cancel,
 }
 
@@ -85,8 +87,8 @@ impl Undo {
 }
 
 impl Workers {
-    /// Returns what puts an event back, before it is done. Fails with 131 `NoWorker` or 136 `NotRunning` where the event would, and with
-    /// 141 `Memory`.
+    /// Returns what puts an event back, before it is done. Fails with 131 `NoWorker` or 136 `NotRunning` if the event
+    /// would, and with 141 `Memory`.
     pub fn before(
         &self,
         alloc: Global,
@@ -229,7 +231,7 @@ fn not_running(end: End) -> WalkFault
     }
 }
 
-// Returns the seat of a worker; `None` past the last worker.
+// Returns the state of a worker; `None` past the last worker.
 fn seat_of(seats: &[Desk], w: u32) -> Option<&Desk>
     ensures { option_map (λ d. d.now) result ≡ slice_get seats.now w }
 {

@@ -40,7 +40,7 @@ varint_prefix (suc more) (b ∷ bytes) v n (suc k) rest e le =
       | inr l ↦ rw (l.0, varint_prefix more bytes l.1.0.0 l.1.0.1 k rest l.1.1 (omega (arith, le, l.1.3)), l.1.2, l.1.3) refl
     ]
 
--- ---- places
+-- ---- positions
 
 dropped : (bytes rest : List ℕ) (at k : ℕ) → at ≤ k → k ≤ length bytes → drop at (take k bytes ++ rest) ≡ take (k - at) (drop at bytes) ++ rest
 dropped bytes rest at k le inside =
@@ -48,7 +48,7 @@ dropped bytes rest at k le inside =
     drop-append-le at (take k bytes) rest (omega (arith, length-take k bytes, le, inside))
     ∙ ap (λ xs. xs ++ rest) (subst (λ (j : ℕ). drop at (take j bytes) ≡ take (k - at) (drop at bytes)) sum (drop-take at (k - at) bytes))
 
--- a number and its end, read at a place, with no need of the bytes from k on
+-- a number and its end, read at a position, with no need of the bytes from k on
 pub record Local (read : List ℕ → ℕ → Result (ℕ × ℕ) WireFault) (bytes : List ℕ) (at : ℕ) (x : ℕ × ℕ) : Type 0 where
   pub begins : at ≤ x.1
   pub inside : x.1 ≤ length bytes
@@ -97,7 +97,7 @@ fixed_local w bytes at x le e =
 
 -- ---- records
 
--- a field that is read, its payload not before a place, with no need of the bytes from its end on
+-- a field that is read, its payload not before a position, with no need of the bytes from its end on
 pub record LocalField (read : List ℕ → Result Field WireFault) (bytes : List ℕ) (at : ℕ) (f : Field) : Type 0 where
   pub begins : at ≤ f.start
   pub ordered : f.start ≤ f.«end»

@@ -1,4 +1,4 @@
--- The grammar of records and their reading are one: a record is read exactly where one is spelled, from its own bytes; bytes
+-- The grammar of records and their reading are one: a record is read exactly if one is spelled, from its own bytes; bytes
 -- spell one list of records at most, the one that a walk over them meets; and no record is written in fewer bytes.
 use Rattle.std.proofs.Common.{◌≡◌, ℕ, ◌+◌, ◌-◌, ◌*◌, ◌/◌, ◌%◌, ◌^◌, ◌<◌, ◌≤◌, Bool, true, false, cond, ltb, eqb, List, [], ◌∷◌, ◌++◌}
 use Rattle.std.proofs.Common.{length, take, drop, Option, Some, None, Result, Ok, Err, refl, sym, ap, subst, ◌∙◌, append_assoc, arith}
@@ -185,13 +185,13 @@ wire_ok code w e = go code w (eqb code 0) (eqb code 1) (eqb code 2) (eqb code 5)
   go code w false false false true p q r s e = eqb-true code 5 s ∙ ap code_of (ok_wire wire.I32 w e)
   go code w false false false false p q r s e = absurd cc
 
--- the bytes from a place up to another, in two orders
+-- the bytes from a position up to another, in two orders
 between_is : (bytes : List ℕ) (at last : ℕ) → at ≤ last → drop at (take last bytes) ≡ between at last bytes
 between_is bytes at last le =
     let sum : at + (last - at) ≡ last = omega (arith, le) in
     ap (λ (k : ℕ). drop at (take k bytes)) (sym sum) ∙ drop-take at (last - at) bytes
 
--- they fall apart at a place between
+-- they split at a position between
 between_split : (bytes : List ℕ) (at mid last : ℕ) → at ≤ mid → mid ≤ last → drop at (take last bytes) ≡ drop at (take mid bytes) ++ drop mid (take last bytes)
 between_split bytes at mid last low high =
     let width : at + (mid - at) ≡ mid = omega (arith, low) in
@@ -210,7 +210,7 @@ ok_field f = Ok f
 field_is : (f g : Field) → ok_field f ≡ ok_field g → f ≡ g
 field_is f g e = cc
 
--- a payload that was read, in the bytes from its place on
+-- a payload that was read, in the bytes from its position on
 pub record FoundPayload (n : ℕ) (w : Wire) (bytes : List ℕ) (at : ℕ) (f : Field) : Type 0 where
   pub number : f.number ≡ n
   pub wire : f.wire ≡ w
@@ -279,7 +279,7 @@ payload_found n wire.Len bytes at f are le e =
       payload = (drop at (take v.0.1 bytes), between_split bytes at v.0.1 (v.0.1 + v.0.0) (omega (arith, h.0)) (omega arith), h.2, size);
     })
 
--- a record that was read at a place
+-- a record that was read at a position
 pub record FoundRecord (bytes : List ℕ) (at : ℕ) (f : Field) : Type 0 where
   pub begins : at < f.start
   pub ordered : f.start ≤ f.«end»
@@ -309,7 +309,7 @@ found_by_parts bytes at f tag n w are le tag_read number_read wire_read payload_
       };
     }
 
--- what is read at a place of bytes is a record by the grammar
+-- what is read at a position of bytes is a record by the grammar
 pub record_found_at : (bytes : List ℕ) (at : ℕ) (f : Field) → AreBytes bytes → at ≤ length bytes → field_at bytes at ≡ Ok f → FoundRecord bytes at f
 unfolding field_at
 record_found_at bytes at f are le e =
@@ -394,7 +394,7 @@ drop_whole xs k e = go (drop k xs) (omega (arith, length-drop k xs, e)) where
   go [] e = refl
   go (y ∷ ys) e = absurd (omega (arith, e))
 
--- where a walk ends well, the bytes from there on spell what it met
+-- if a walk ends well, the bytes from there on spell what it met
 walk_spelled : (bytes : List ℕ) (rs : List Record) (at : ℕ) → AreBytes bytes → at ≤ length bytes → Walks bytes at rs → SpellRecords (drop at bytes) rs
 walk_spelled bytes [] at are le w = record { whole = drop_whole bytes at (ended bytes at w); each = tt }
 walk_spelled bytes (r ∷ rs) at are le w =
@@ -430,7 +430,7 @@ spelled_walk before (r ∷ rs) each =
       subst (λ (k : ℕ). Walks bytes k rs) (length-append before r.text) there,
     )
 
--- a walk over bytes ends well exactly where they spell the records that it meets
+-- a walk over bytes ends well exactly if they spell the records that it meets
 pub walk_is : (bytes : List ℕ) (rs : List Record) → AreBytes bytes → Walks bytes 0 rs ↔ SpellRecords bytes rs
 walk_is bytes rs are = (
   λ w. walk_spelled bytes rs 0 are (omega arith) w,

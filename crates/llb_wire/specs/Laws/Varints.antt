@@ -1,4 +1,4 @@
--- A number is read exactly where one is spelled; its shortest spelling is read again, whatever follows it, and no spelling
+-- A number is read exactly if one is spelled; its shortest spelling is read again, whatever follows it, and no spelling
 -- is shorter.
 use Rattle.std.proofs.Common.{zero-add, ◌≡◌, ℕ, zero, suc, ◌+◌, ◌-◌, ◌*◌, ◌/◌, ◌%◌, ◌^◌, ◌<◌, ◌≤◌, Bool, true, false, cond, ltb, List, []}
 use Rattle.std.proofs.Common.{◌∷◌, ◌++◌, length, get_or, take, drop, Result, Ok, Err, ◌⊎◌, inl, inr, refl, sym, ap, subst, ◌∙◌, arith}
@@ -149,9 +149,9 @@ pub are_bytes-back : (xs ys : List ℕ) → AreBytes (xs ++ ys) → AreBytes ys
 are_bytes-back [] ys h = h
 are_bytes-back (x ∷ xs) ys h = are_bytes-back xs ys h.1
 
--- ---- at a place
+-- ---- at a position
 
--- the number that is read at a place of bytes is spelled there
+-- the number that is read at a position of bytes is spelled there
 pub varint_found : (bytes : List ℕ) (at : ℕ) (x : ℕ × ℕ) → AreBytes bytes → at ≤ length bytes → varint_at bytes at ≡ Ok x → VarintAt bytes at x.0 x.1
 varint_found bytes at x are le e =
     let m = bind_ok (varint_from 9 (drop at bytes)) (λ (m : ℕ × ℕ). Ok (m.0, at + m.1)) x e in
@@ -170,7 +170,7 @@ varint_found bytes at x are le e =
       spelled = record { spells = spelled; short = omega (arith, length-take (x.1 - at) (drop at bytes), f.1, len); small = omega (arith, small, value) };
     }
 
--- the number that is spelled at a place is read there
+-- the number that is spelled at a position is read there
 pub varint_only : (bytes : List ℕ) (at n last : ℕ) → VarintAt bytes at n last → varint_at bytes at ≡ Ok (n, last)
 varint_only bytes at n last h =
     let len : length (take (last - at) (drop at bytes)) ≡ last - at =
