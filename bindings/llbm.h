@@ -6,7 +6,7 @@
  * signal handler and none in the forked child of a process with several threads. Each pointer is to as many bytes as the length after it
  * says, and is not null, also where the length is 0; bytes behind a `const` pointer do not change while the call runs, and no other pointer
  * of the call leads to the bytes behind a pointer that is not `const`. `malloc`, `realloc` and `free` are those of one allocator, and align
- * a block to each power of two up to 16 that divides its size. The thread's stack has 8 MiB.
+ * a block to each power of two up to 16 that divides its size. The thread's stack has 256 KiB; no proof covers how deep it gets.
  *
  * What a call returns: the status of the program's command. 0: done. 1: of llb_run, a vertex failed; of llb_line, the line ended the
  * session. 2: what was handed in is refused. 3: memory was refused. 4: of llb_line, no session is open. At 2 and 3 the messages have a line

@@ -65,7 +65,8 @@ def build(top: pathlib.Path, at: pathlib.Path, to: pathlib.Path, jobs: int) -> b
     words += ["--antt-project", f"{at}/rattle/logic/antt-project.json", "--logic-built", f"{at}/logic_built"]
     words += ["--toolchain", f"{at}/toolchain", "--jobs", str(jobs), "-o", str(to)]
     done = subprocess.run(
-        words, cwd=top / "crates" / CRATE, stdin=subprocess.DEVNULL, stdout=subprocess.PIPE, text=True
+        words, cwd=top / "crates" / CRATE, stdin=subprocess.DEVNULL,
+        stdout=subprocess.PIPE, stderr=subprocess.STDOUT, text=True, errors="replace",
     )
     lines = done.stdout.splitlines()
     print("\n".join(lines[-1:] if done.returncode == 0 else lines[-40:]), flush=True)
