@@ -48,6 +48,7 @@ class Page:
         self.browser.faults.clear()
         self.browser.go(self.url + fragment, READY)
         same(self.run(READY), "yes", self.text("said") or "ready")
+        self.run("addEventListener('keyup', () => { globalThis.released = true; }, true)")
 
     def run(self, text: str) -> Any:
         """Returns the value of an expression of the page."""
@@ -65,7 +66,9 @@ class Page:
     def press(self, *keys: str) -> None:
         """Presses keys, one after another."""
         for key in keys:
+            self.run("globalThis.released = false")
             self.browser.key(key)
+            self.browser.wait("globalThis.released")
             self.settle()
 
     def settle(self) -> None:
