@@ -9,8 +9,6 @@ mod asm;
 #[cfg(test)]
 mod cache;
 #[cfg(test)]
-mod entries;
-#[cfg(test)]
 mod faults;
 #[cfg(test)]
 mod fileop;

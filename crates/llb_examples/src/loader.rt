@@ -1,17 +1,16 @@
 //! Rows under digest texts of any kind: the graph that they are, or why they are refused. Rows are written as `DIGEST = NAME`, with `; ` between
-//! them, NAME being that of an entry of `entries`.
+//! them, NAME being that of an entry of `llb_samples`.
 
-use super::entries::ENTRIES;
-use super::told::{block, is_same, prints};
-use llb_asm::assemble;
+use super::told::{is_same, prints, say};
 use llb_loader::{Graph, LoadFault, Row, link};
 use llb_ops::Entries;
+use llb_samples as samples;
 use llb_wire::{Bytes, Text};
 use std::alloc::Global;
 use std::process::Abort;
 
-fn entries_of(rt: &impl Abort, alloc: Global, text: &str) -> Entries {
-    assemble(alloc, text.as_bytes()).expect(rt, "entries")
+fn entries_of(rt: &impl Abort, alloc: Global, written: &str) -> Entries {
+    samples::entries_of(alloc, written).expect(rt, "entries")
 }
 
 fn push_row(rt: &impl Abort, rows: &mut Vec<Row>, digest: &str, entry: &[u8]) {
@@ -24,7 +23,7 @@ fn push_row(rt: &impl Abort, rows: &mut Vec<Row>, digest: &str, entry: &[u8]) {
 fn push_given(rt: &impl Abort, rows: &mut Vec<Row>, given: &str) {
     let alloc = *rows.allocator();
     let (digest, name) = given.split_once(" = ").expect(rt, "a row");
-    let entries = entries_of(rt, alloc, block(ENTRIES, name).unwrap_or(""));
+    let entries = entries_of(rt, alloc, name);
     let entry = entries.as_slice().first().expect(rt, "an entry");
     push_row(rt, rows, digest, entry.as_slice());
 }
@@ -111,32 +110,30 @@ fn rows_are_graphs(rt: HostRuntime) {
     }
 }
 
-// The op of a chain that reads the output of the op of that number, or makes `/a` where there is none.
-fn push_op(rt: &impl Abort, text: &mut String, below: Option<u32>) {
-    match below {
-        None => text.push_str(block(ENTRIES, "MAKES_A").unwrap_or("")),
-        Some(below) => write!(
-            text,
-            "op {{\ninputs {{\ndigest \"{below}\"\n}}\nmerge {{\ninputs {{\n}}\n}}\n}}\n"
-        ),
-    }
+// An op of a chain, which reads the output of the op of that number.
+fn push_op(rt: &impl Abort, text: &mut String, below: u32) {
+    write!(
+        text,
+        "op {{\ninputs {{\ndigest \"{below}\"\n}}\nmerge {{\ninputs {{\n}}\n}}\n}}\n"
+    )
     .expect(rt, "memory");
 }
 
-// A chain of ops, and the terminal on the first.
+// A chain of ops, the last of which makes `/a`, and the terminal on the first.
 fn chain_text(rt: &impl Abort, alloc: Global, count: u32) -> String {
     let mut text = String::new(alloc);
     for at in 1..count {
-        push_op(rt, &mut text, Some(at));
+        push_op(rt, &mut text, at);
     }
-    push_op(rt, &mut text, None);
-    push_op(rt, &mut text, Some(0));
+    let last = samples::entries_text(alloc, "MAKES_A").expect(rt, "memory");
+    say(rt, &mut text, last.as_str());
+    push_op(rt, &mut text, 0);
     text
 }
 
 fn chain(rt: &impl Abort, alloc: Global, count: u32) -> Vec<Row> {
     let text = chain_text(rt, alloc, count);
-    let entries = entries_of(rt, alloc, text.as_str());
+    let entries = samples::entries_in(alloc, text.as_str()).expect(rt, "entries");
     let mut rows = Vec::new(alloc);
     for (at, entry) in entries.as_slice().iter().enumerate() {
         let digest = at.to_string(alloc).expect(rt, "memory");

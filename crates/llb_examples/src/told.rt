@@ -1,6 +1,7 @@
 //! Trees by their rows, and how they are written in a line of text: for each entry a `d` or an `f` and its path, its mode and owner where they
 //! are not those of a new one, and the content of a file after `=`.
 
+use llb_samples::push_path;
 use llb_tree::{Bytes, Entry, Meta, Name, Node, Path, Tree, TreeFault};
 use std::alloc::Global;
 use std::fmt::Display;
@@ -102,25 +103,9 @@ pub(crate) fn repeated(
     text
 }
 
-// The lines after the one with `== ` and the name; what comes there after `: ` is for the reader.
-pub(crate) fn block<'a>(text: &'a str, wanted: &str) -> Option<&'a str> {
-    for block in text.split("== ") {
-        if let Some((head, lines)) = block.split_once('\n') {
-            let (name, _) = head.split_once(": ").unwrap_or((head, ""));
-            if name == wanted {
-                return Some(lines);
-            }
-        }
-    }
-    None
-}
-
 // A path by its names.
 pub(crate) fn say_path(rt: &impl Abort, text: &mut String, path: &Path) {
-    for name in path.names() {
-        say(rt, text, "/");
-        say(rt, text, name.as_str());
-    }
+    push_path(text, path).expect(rt, "memory");
 }
 
 pub(crate) fn kind_of(entry: &Entry<'_>) -> &'static str {

@@ -196,9 +196,14 @@ const ROWS: &[Row] = &[
         "89 0 Script 71 nosuch",
     ),
     ("load", "raw 3a00; RESULT 0", "91", "88 0 DiffOp"),
-    ("link", " = a MAKES_A = b D_ON_A = t ON_B", "91", "2 1"),
-    ("link", " = b D_ON_A = a MAKES_A = t ON_B", "91", "2 1"),
-    ("link", " = a MAKES_A = b SCRIPT_ON_A = t ON_B", "91", "2 1"),
+    ("link", " = A MAKES_A = B D_ON_A = T NAMES_B", "91", "2 1"),
+    ("link", " = B D_ON_A = A MAKES_A = T NAMES_B", "91", "2 1"),
+    (
+        "link",
+        " = A MAKES_A = B SCRIPT_ON_A = T NAMES_B",
+        "91",
+        "2 1",
+    ),
     ("Graph::copy", CHANGED, "", "3 2"),
     (
         "Locals::add p",

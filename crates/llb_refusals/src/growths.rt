@@ -2,7 +2,7 @@
 //! that no allocator grants.
 
 use super::told::is_same;
-use super::written::tree_text;
+use llb_samples::tree_text;
 use std::alloc::Global;
 use std::process::Abort;
 

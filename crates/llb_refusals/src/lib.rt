@@ -11,8 +11,6 @@ mod boards;
 #[cfg(test)]
 mod caches;
 #[cfg(test)]
-mod entries;
-#[cfg(test)]
 mod graphs;
 #[cfg(test)]
 mod growths;

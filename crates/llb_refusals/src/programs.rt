@@ -2,12 +2,13 @@
 
 use super::growths::{MOST, Row, Trial, are_refused, is_lack, print_count, refuse, was_refused};
 use super::told::{bytes_told, is_same, say, text_told};
-use super::written::{definition_of, entries_text, locals_of, tree_text};
+use super::written::{definition_of, entries_text, locals_of};
 use llb_commands::{
     ReadFault, WordsFault, asm_over, command_of, dis_over, read_bounded, run_many_over, run_over,
     show_over, step_over,
 };
 use llb_loader::Locals;
+use llb_samples::tree_text;
 use std::alloc::Global;
 use std::process::Abort;
 use std::sync::Wait;

@@ -5,9 +5,9 @@ use super::growths::{
     MOST, Row, Trial, are_refused, is_lack, print_count, refuse, refuse_thread, was_refused,
 };
 use super::told::{fault_told, is_same, text_told, tree_told};
-use super::written::tree_text;
 use llb_board::{Board, Status, WorkerStatus};
 use llb_ready::{ReadyFault, ReadyQueue};
+use llb_samples::tree_text;
 use llb_stepper::Stepper;
 use llb_work::{RunEnd, run_alone, run_workers};
 use std::alloc::Global;

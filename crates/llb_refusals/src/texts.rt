@@ -2,11 +2,12 @@
 
 use super::growths::{Row, Trial, are_refused};
 use super::told::{bytes_told, fault_told, path_of, path_told, say, text_told, tree_told};
-use super::written::{entries_of, entries_text, tree_named, tree_text};
+use super::written::{entries_of, entries_text, tree_named};
 use llb_asm::{AsmFault, assemble, disassemble};
 use llb_fileop::{ActFault, resolve};
 use llb_glob::{Pattern, PatternFault};
 use llb_ops::{Entries, write_definition};
+use llb_samples::tree_text;
 use llb_tree::{Path, Tree};
 use llb_treetext::{PrintFault, TextFault, print_tree, read_tree, tree_digest};
 use llb_wire::{Over, Same, Text, all_same};

@@ -1,8 +1,9 @@
 //! The texts of values.
 
+use llb_samples::{push_path, text_of_tree};
 use llb_tree::{Path, Tree};
-use llb_treetext::{print_tree, read_tree, tree_digest};
-use llb_wire::{Over, Text, push_hex};
+use llb_treetext::tree_digest;
+use llb_wire::{Text, push_hex};
 use std::alloc::Global;
 use std::fmt::Display;
 use std::process::Abort;
@@ -34,10 +35,7 @@ pub(crate) fn bytes_told(rt: &impl Abort, alloc: Global, bytes: &[u8]) -> String
 // A path by its names.
 pub(crate) fn path_told(rt: &impl Abort, alloc: Global, path: &Path) -> String {
     let mut text = String::new(alloc);
-    for name in path.names() {
-        say(rt, &mut text, "/");
-        say(rt, &mut text, name.as_str());
-    }
+    push_path(&mut text, path).expect(rt, "memory");
     text
 }
 
@@ -48,16 +46,11 @@ fn digest_told(rt: &impl Abort, alloc: Global, tree: &Tree) -> String {
 
 // A tree by its text, or by its digest where that is long.
 pub(crate) fn tree_told(rt: &impl Abort, alloc: Global, tree: &Tree) -> String {
-    let mut text = Vec::new(alloc);
-    print_tree(alloc, tree, &mut Over::new(&mut text)).expect(rt, "memory");
+    let text = text_of_tree(alloc, tree).expect(rt, "a text");
     if text.len() > 1000 {
         return digest_told(rt, alloc, tree);
     }
-    String::from_utf8(text).ok().expect(rt, "a text")
-}
-
-pub(crate) fn tree_of(rt: &impl Abort, alloc: Global, text: &str) -> Tree {
-    read_tree(alloc, text.as_bytes()).expect(rt, "a tree")
+    text
 }
 
 pub(crate) fn path_of(rt: &impl Abort, alloc: Global, text: &str) -> Path {

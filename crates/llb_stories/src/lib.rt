@@ -19,10 +19,6 @@ mod crew;
 #[cfg(test)]
 mod crowds;
 #[cfg(test)]
-mod definitions;
-#[cfg(test)]
-mod execution_definitions;
-#[cfg(test)]
 mod executions;
 #[cfg(test)]
 mod farm;
@@ -34,8 +30,6 @@ mod gates;
 mod instances;
 #[cfg(test)]
 mod landings;
-#[cfg(test)]
-mod local_trees;
 #[cfg(test)]
 mod looks;
 #[cfg(test)]

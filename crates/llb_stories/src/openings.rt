@@ -3,13 +3,13 @@
 
 use super::calls::{are_done, opened};
 use super::instances::{K_LOCKED, K_SHARED};
-use super::local_trees::OLD_AND_F;
 use super::runs::D_ON_SECOND;
 use super::told::{is_answered, is_so, row_holds};
 use super::written::{CacheRow, board_of, graph_from, needs_of};
 use llb_board::{Board, OpenFault};
 use llb_cache::{Caches, Many};
 use llb_loader::Locals;
+use llb_samples::OLD_AND_F;
 use std::alloc::Global;
 use std::process::Abort;
 

@@ -4,10 +4,11 @@
 
 use super::sessions::{Way, are_stories, wanted};
 use super::told::{is_so, prints, say_tree};
-use super::written::{graph_from, locals_named, locals_of};
+use super::written::{graph_from, locals_of};
 use llb_contents::laws::contents_are_handed_on;
 use llb_loader::Graph;
 use llb_plain::{Outcome, Outcomes, PlainFault, evaluate};
+use llb_samples::locals_named;
 use llb_tree::Tree;
 use std::alloc::Global;
 use std::process::Abort;

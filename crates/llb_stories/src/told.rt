@@ -9,9 +9,8 @@ use super::sessions::wanted;
 use super::written::{CacheRow, key_of};
 use llb_board::laws::headline;
 use llb_board::{Board, Event, Job, WorkerStatus};
+use llb_samples::text_of_tree;
 use llb_tree::Tree;
-use llb_treetext::print_tree;
-use llb_wire::Over;
 use std::alloc::Global;
 use std::fmt::Display;
 use std::process::Abort;
@@ -49,19 +48,9 @@ fn say_worker(rt: &impl Abort, text: &mut String, status: Option<WorkerStatus>) 
     }
 }
 
-fn bytes_of(rt: &impl Abort, alloc: Global, tree: &Tree) -> Vec<u8> {
-    let mut bytes = Vec::new(alloc);
-    print_tree(alloc, tree, &mut Over::new(&mut bytes)).expect(rt, "memory");
-    bytes
-}
-
 pub(crate) fn say_tree(rt: &impl Abort, text: &mut String, tree: &Tree) {
-    let bytes = bytes_of(rt, *text.allocator(), tree);
-    say(
-        rt,
-        text,
-        str::from_utf8(bytes.as_slice()).unwrap_or("no text"),
-    );
+    let lines = text_of_tree(*text.allocator(), tree).expect(rt, "a text");
+    say(rt, text, lines.as_str());
 }
 
 // The numbers of instances, each with its tree.

@@ -1,0 +1,14 @@
+//! Samples for the crates of tests: entries of definitions and trees by their names, what is written of them, and paths and trees as texts. Nothing
+//! here ends a test: each call returns `None`, or the refusal of memory, where it has no answer.
+#![tactic(auto)]
+
+mod entries;
+mod locals;
+mod shown;
+mod trees;
+mod written;
+
+pub use locals::{OLD_AND_F, locals_named, locals_of};
+pub use shown::{push_path, text_of_tree};
+pub use trees::{tree_from, tree_named, tree_text};
+pub use written::{block, definition_of, entries_in, entries_of, entries_text, graph_in, graph_of};

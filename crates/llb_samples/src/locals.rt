@@ -1,0 +1,76 @@
+//! Local trees by the texts of their trees, each after a line with `== ` and the name of its source.
+
+use crate::trees::tree_from;
+use llb_loader::Locals;
+use llb_wire::Text;
+use std::alloc::Global;
+
+// A local tree `p`, which is empty, and no other.
+const EMPTY_P: &str = "== p\nd 0755 0 0 /\n";
+
+/// The local tree `p`, which has a file `/old`, and `q`, which has a file `/f`.
+pub const OLD_AND_F: &str = "== p
+d 0755 0 0 /
+f 0644 0 0 6869 /old
+== q
+d 0755 0 0 /
+f 0644 0 0 6869 /f
+";
+
+// `p` is empty, and `q` has a directory `/sub` with a file `/sub/f`.
+const EMPTY_AND_SUB: &str = "== p
+d 0755 0 0 /
+== q
+d 0755 0 0 /
+d 0755 0 0 /sub
+f 0644 0 0 6869 /sub/f
+";
+
+// The same with a token in the place of the content of `/sub/f`: the byte 255, and the number 1 in four bytes.
+const SUB_BY_A_TOKEN: &str = "== p
+d 0755 0 0 /
+== q
+d 0755 0 0 /
+d 0755 0 0 /sub
+f 0644 0 0 ff00000001 /sub/f
+";
+
+// The tree of `examples/tour.tree`.
+const SOURCE_TREE: &str = "== source
+d 0755 0 0 /
+d 0755 0 0 /text
+f 0644 0 0 68656c6c6f2c0a /text/head
+f 0644 0 0 776f726c640a /text/tail
+";
+
+/// Returns the text of the local trees of that name; none where there is none.
+pub fn locals_named(name: &str) -> &'static str {
+    match name {
+        "EMPTY_P" => EMPTY_P,
+        "OLD_AND_F" => OLD_AND_F,
+        "EMPTY_AND_SUB" => EMPTY_AND_SUB,
+        "SUB_BY_A_TOKEN" => SUB_BY_A_TOKEN,
+        "SOURCE_TREE" => SOURCE_TREE,
+        _ => "",
+    }
+}
+
+fn is_added(locals: &mut Locals, alloc: Global, name: &str, text: &str) -> bool {
+    match (Text::from_str(alloc, name), tree_from(alloc, text)) {
+        (Ok(name), Some(tree)) => locals.add(name, tree).is_ok(),
+        _ => false,
+    }
+}
+
+/// Returns the local trees of a text.
+pub fn locals_of(alloc: Global, given: &str) -> Option<Locals> {
+    let mut locals = Locals::new(alloc);
+    for local in given.split("== ") {
+        if let Some((name, text)) = local.split_once('\n') {
+            if !is_added(&mut locals, alloc, name, text) {
+                return None;
+            }
+        }
+    }
+    Some(locals)
+}

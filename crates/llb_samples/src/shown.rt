@@ -1,0 +1,22 @@
+//! Paths and trees as texts.
+
+use llb_tree::{Path, Tree};
+use llb_treetext::print_tree;
+use llb_wire::Over;
+use std::alloc::{AllocError, Global};
+
+/// Puts a path at the end of a text, by its names.
+pub fn push_path(text: &mut String, path: &Path) -> Result<(), AllocError> {
+    for name in path.names() {
+        text.push_str("/")?;
+        text.push_str(name.as_str())?;
+    }
+    Ok(())
+}
+
+/// Returns the text of a tree, as the program prints it.
+pub fn text_of_tree(alloc: Global, tree: &Tree) -> Option<String> {
+    let mut text = Vec::new(alloc);
+    print_tree(alloc, tree, &mut Over::new(&mut text)).ok()?;
+    String::from_utf8(text).ok()
+}
