@@ -2,7 +2,7 @@
 //! the same steps.
 
 use super::growths::{Row, Trial, are_refused};
-use super::told::{fault_told, text_told, tree_told};
+use super::told::{fault_told, text_told, tree_or_fault, tree_told};
 use super::written::{entries_of, tree_and_twin, tree_named};
 use llb_fileop::{ActFault, act};
 use llb_merge::{Memory, lay, lay_onto, lay_over};
@@ -33,17 +33,23 @@ struct OnTrees {
     answer: Answer,
 }
 
-fn two_copies(rt: &impl Abort, alloc: Global, tree: &Tree) -> Vec<Tree> {
-    let mut copies = Vec::new(alloc);
-    for _ in 0..2 {
-        let copy = tree.copy().expect(rt, "memory");
-        copies.push(copy).expect(rt, "memory");
-    }
-    copies
+fn copied(rt: &impl Abort, tree: &Tree) -> Tree {
+    tree.copy().expect(rt, "memory")
 }
 
-// The op of one action: its member, and its fields with a comma between them.
-fn op_of(rt: &impl Abort, alloc: Global, action: &str) -> Op {
+fn two_copies(rt: &impl Abort, alloc: Global, tree: &Tree) -> Vec<Tree> {
+    vec![in alloc; copied(rt, tree), copied(rt, tree)].expect(rt, "memory")
+}
+
+// The first op of entries.
+fn op_in(rt: &impl Abort, alloc: Global, written: &str) -> Op {
+    let entries = entries_of(rt, alloc, written);
+    let entry = entries.as_slice().first().expect(rt, "an entry");
+    read_op(alloc, entry.as_slice()).expect(rt, "an op")
+}
+
+// The text of the op of one action: its member, and its fields with a comma between them.
+fn op_text(rt: &impl Abort, alloc: Global, action: &str) -> String {
     let mut text = String::new(alloc);
     let (kind, fields) = action.split_once(": ").unwrap_or((action, ""));
     write!(text, "op {{\nfile {{\nactions {{\n{kind} {{\n").expect(rt, "memory");
@@ -51,9 +57,17 @@ fn op_of(rt: &impl Abort, alloc: Global, action: &str) -> Op {
         write!(text, "{field}\n").expect(rt, "memory");
     }
     text.push_str("}\n}\n}\n}\n").expect(rt, "memory");
-    let entries = entries_of(rt, alloc, text.as_str());
-    let entry = entries.as_slice().first().expect(rt, "an entry");
-    read_op(alloc, entry.as_slice()).expect(rt, "an op")
+    text
+}
+
+// The op of a call that is an action; of another call any.
+fn op_of(rt: &impl Abort, alloc: Global, call: &str) -> Op {
+    let action = if call.contains(": ") {
+        call
+    } else {
+        "rm: path \"/\""
+    };
+    op_in(rt, alloc, op_text(rt, alloc, action).as_str())
 }
 
 fn action_in(op: &Op) -> Option<&Action> {
@@ -70,10 +84,30 @@ fn acted(alloc: Global, op: &Op, base: &Tree, second: &Tree) -> Answer {
     }
 }
 
+fn laid(alloc: Global, base: &Tree, second: &Tree) -> Answer {
+    Answer::Laid(lay(alloc, base, second))
+}
+
+fn laid_over(base: &mut Tree, second: &Tree) -> Answer {
+    Answer::LaidOver(lay_over(base, second))
+}
+
 fn laid_onto(handed: &mut Vec<Tree>, second: &Tree) -> Answer {
     match handed.pop() {
         Some(tree) => Answer::Laid(lay_onto(tree, second)),
         None => Answer::None,
+    }
+}
+
+impl OnTrees {
+    // The answer of the call.
+    fn answered(&mut self, alloc: Global) -> Answer {
+        match self.call {
+            "lay" => laid(alloc, &self.base, &self.second),
+            "lay_onto" => laid_onto(&mut self.handed, &self.second),
+            "lay_over" => laid_over(&mut self.base, &self.second),
+            _ => acted(alloc, &self.op, &self.base, &self.second),
+        }
     }
 }
 
@@ -84,15 +118,7 @@ impl Trial for OnTrees {
         let (base, twin) = tree_and_twin(rt, alloc, on);
         OnTrees {
             call,
-            op: op_of(
-                rt,
-                alloc,
-                if call.contains(": ") {
-                    call
-                } else {
-                    "rm: path \"/\""
-                },
-            ),
+            op: op_of(rt, alloc, call),
             handed: two_copies(rt, alloc, &twin),
             base,
             twin,
@@ -103,21 +129,16 @@ impl Trial for OnTrees {
     }
 
     fn call(&mut self, alloc: Global) {
-        self.answer = match self.call {
-            "lay" => Answer::Laid(lay(alloc, &self.base, &self.second)),
-            "lay_onto" => laid_onto(&mut self.handed, &self.second),
-            "lay_over" => Answer::LaidOver(lay_over(&mut self.base, &self.second)),
-            _ => acted(alloc, &self.op, &self.base, &self.second),
-        };
+        self.answer = self.answered(alloc);
     }
 
     fn told(&self, rt: &impl Abort, alloc: Global) -> String {
         match &self.answer {
             Answer::None => text_told(rt, alloc, "nothing"),
-            Answer::Acted(Ok(tree)) | Answer::Laid(Ok(tree)) => tree_told(rt, alloc, tree),
+            Answer::Acted(acted) => tree_or_fault(rt, alloc, acted),
+            Answer::Laid(laid) => tree_or_fault(rt, alloc, laid),
             Answer::LaidOver(Ok(())) => tree_told(rt, alloc, &self.base),
-            Answer::Acted(Err(fault)) => fault_told(rt, alloc, fault),
-            Answer::Laid(Err(fault)) | Answer::LaidOver(Err(fault)) => fault_told(rt, alloc, fault),
+            Answer::LaidOver(Err(fault)) => fault_told(rt, alloc, fault),
         }
     }
 

@@ -41,10 +41,18 @@ fn met(
     aim_is_met(alloc, text.as_bytes(), definition, entries, board, stepper)
 }
 
+fn copy_told(rt: &impl Abort, alloc: Global, board: &Board) -> String {
+    alone_told(rt, alloc, copy_of(rt, board))
+}
+
+fn board_in(stepper: &Stepper) -> &Board {
+    stepper.board()
+}
+
 // The trees of the results, once each board is run to its end.
 fn results_told(rt: &impl Abort, alloc: Global, board: &Board, stepper: &Stepper) -> String {
-    let mut text = alone_told(rt, alloc, copy_of(rt, board));
-    let other = alone_told(rt, alloc, copy_of(rt, stepper.board()));
+    let mut text = copy_told(rt, alloc, board);
+    let other = copy_told(rt, alloc, board_in(stepper));
     say(rt, &mut text, other.as_str());
     text
 }

@@ -113,6 +113,14 @@ fn stepped(board: &mut Board, w: u32) -> Answer {
     Answer::Stepped(board.step(w))
 }
 
+fn is_claimed(board: &mut Board, w: u32, v: u32) -> bool {
+    board.claim(w, v).is_ok()
+}
+
+fn is_stepped(board: &mut Board, w: u32) -> bool {
+    board.step(w).is_ok()
+}
+
 fn is_settled(board: &mut Board, w: u32) -> bool {
     board.settle(w).is_ok()
 }
@@ -123,8 +131,8 @@ fn is_cancelled(board: &mut Board, w: u32) -> bool {
 
 fn is_done(board: &mut Board, event: Event) -> bool {
     match event {
-        Event::Claim(w, v) => matches!(claimed(board, w, v), Answer::Claimed(Ok(_))),
-        Event::Step(w) => matches!(stepped(board, w), Answer::Stepped(Ok(_))),
+        Event::Claim(w, v) => is_claimed(board, w, v),
+        Event::Step(w) => is_stepped(board, w),
         Event::Settle(w) => is_settled(board, w),
         Event::Cancel(w) => is_cancelled(board, w),
     }
@@ -256,12 +264,14 @@ struct OnBoard {
     answer: Answer,
 }
 
+fn job_of(board: &mut Board, v: u32) -> Option<Job> {
+    board.claim(0, v).ok()
+}
+
 // The job of a claim.
 fn push_job(rt: &impl Abort, jobs: &mut Vec<Job>, board: &mut Board, v: u32) {
-    match claimed(board, 0, v) {
-        Answer::Claimed(Ok(job)) => jobs.push(job).expect(rt, "memory"),
-        _ => panic!(rt; "no job"),
-    }
+    let job = job_of(board, v).expect(rt, "a job");
+    jobs.push(job).expect(rt, "memory");
 }
 
 fn worked(alloc: Global, jobs: &mut Vec<Job>) -> Answer {
@@ -269,6 +279,22 @@ fn worked(alloc: Global, jobs: &mut Vec<Job>) -> Answer {
         Some(job) => Answer::Worked(work(alloc, job, &Open)),
         None => Answer::None,
     }
+}
+
+fn has_view(board: &Board) -> Answer {
+    Answer::Looked(board.worked_on(0, 1).is_some())
+}
+
+fn has_cache(board: &Board) -> Answer {
+    Answer::Looked(board.cached(0, 0).is_some())
+}
+
+fn copied(board: &Board) -> Answer {
+    Answer::Copied(board.copy())
+}
+
+fn events_copied(board: &Board) -> Answer {
+    Answer::Events(board.events().copy())
 }
 
 fn event_done(board: &mut Board, event: Event) -> Answer {
@@ -286,6 +312,16 @@ fn board_called(board: &mut Board, call: &str) -> Answer {
     }
 }
 
+// A worker at work on a vertex, and how the board is then.
+fn work_told(rt: &impl Abort, alloc: Global, w: u32, v: u32, name: &str) -> String {
+    format!(in alloc; "{w} at {v}, {name}").expect(rt, "memory")
+}
+
+// A micro-step, and how the board is then.
+fn stepped_told(rt: &impl Abort, alloc: Global, stepped: Stepped, name: &str) -> String {
+    format!(in alloc; "{stepped:?}, {name}").expect(rt, "memory")
+}
+
 fn name_of(is_same: bool) -> &'static str {
     if is_same { "the board" } else { "another" }
 }
@@ -297,13 +333,11 @@ impl OnBoard {
     }
 
     fn claim_told(&self, rt: &impl Abort, alloc: Global, job: &Job) -> String {
-        let (w, v, name) = (job.worker(), job.vertex(), self.behind());
-        format!(in alloc; "{w} at {v}, {name}").expect(rt, "memory")
+        work_told(rt, alloc, job.worker(), job.vertex(), self.behind())
     }
 
     fn step_told(&self, rt: &impl Abort, alloc: Global, stepped: Stepped) -> String {
-        let name = self.behind();
-        format!(in alloc; "{stepped:?}, {name}").expect(rt, "memory")
+        stepped_told(rt, alloc, stepped, self.behind())
     }
 
     fn events_told(&self, events: &Events) -> &'static str {
@@ -323,6 +357,20 @@ impl OnBoard {
 fn outcome_told(rt: &impl Abort, alloc: Global, outcome: &Outcome) -> String {
     let (count, is_failed) = (outcome.count(), outcome.fault().is_some());
     format!(in alloc; "{count} done, {is_failed}").expect(rt, "memory")
+}
+
+impl OnBoard {
+    // The answer of the call.
+    fn answered(&mut self, alloc: Global) -> Answer {
+        match self.call {
+            "Board::copy" => copied(&self.board),
+            "Events::copy" => events_copied(&self.board),
+            "Board::worked_on" => has_view(&self.board),
+            "Board::cached" => has_cache(&self.board),
+            call if call.starts_with("work ") => worked(alloc, &mut self.jobs),
+            call => board_called(&mut self.board, call),
+        }
+    }
 }
 
 impl Trial for OnBoard {
@@ -356,14 +404,7 @@ impl Trial for OnBoard {
     }
 
     fn call(&mut self, alloc: Global) {
-        self.answer = match self.call {
-            "Board::copy" => Answer::Copied(self.board.copy()),
-            "Events::copy" => Answer::Events(self.board.events().copy()),
-            "Board::worked_on" => Answer::Looked(self.board.worked_on(0, 1).is_some()),
-            "Board::cached" => Answer::Looked(self.board.cached(0, 0).is_some()),
-            call if call.starts_with("work ") => worked(alloc, &mut self.jobs),
-            call => board_called(&mut self.board, call),
-        };
+        self.answer = self.answered(alloc);
     }
 
     fn told(&self, rt: &impl Abort, alloc: Global) -> String {

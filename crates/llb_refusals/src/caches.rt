@@ -49,14 +49,18 @@ fn key_of(rt: &impl Abort, alloc: Global, id: &str, way: &str, tree: &str) -> Ke
     }
 }
 
+fn need_of(rt: &impl Abort, alloc: Global, need: &str) -> Need {
+    let (id, rest) = need.split_once(' ').unwrap_or((need, ""));
+    let (way, tree) = rest.split_once(' ').unwrap_or((rest, ""));
+    let key = key_of(rt, alloc, id, way, tree);
+    let tree = tree_named(rt, alloc, if tree.is_empty() { "EMPTY" } else { tree });
+    Need { key, tree }
+}
+
 fn needs_of(rt: &impl Abort, alloc: Global, written: &'static str) -> Many<Need> {
     let mut needs = Vec::new(alloc);
     for need in written.split(", ") {
-        let (id, rest) = need.split_once(' ').unwrap_or((need, ""));
-        let (way, tree) = rest.split_once(' ').unwrap_or((rest, ""));
-        let key = key_of(rt, alloc, id, way, tree);
-        let tree = tree_named(rt, alloc, if tree.is_empty() { "EMPTY" } else { tree });
-        needs.push(Need { key, tree }).expect(rt, "memory");
+        needs.push(need_of(rt, alloc, need)).expect(rt, "memory");
     }
     Many::new(needs)
 }
@@ -68,12 +72,17 @@ fn leased(caches: &mut Caches, needs: Many<Need>) -> Answer {
     Answer::None
 }
 
+// Takes a lease, where one can be had.
+fn lease_out(caches: &mut Caches, needs: Many<Need>) {
+    let _ = leased(caches, needs);
+}
+
 // Caches with leases out, each of which has needs.
 fn caches_of(rt: &impl Abort, alloc: Global, out: &'static str) -> Caches {
     let mut caches = Caches::new(alloc);
     for needs in out.split(" then ") {
         if !needs.is_empty() {
-            let _ = leased(&mut caches, needs_of(rt, alloc, needs));
+            lease_out(&mut caches, needs_of(rt, alloc, needs));
         }
     }
     caches
@@ -130,6 +139,17 @@ impl OnCaches {
     }
 }
 
+impl OnCaches {
+    // The answer of the call.
+    fn answered(&mut self, alloc: Global) -> Answer {
+        match self.call {
+            "Caches::copy" => Answer::Copied(self.caches.copy()),
+            "Lent::new" => Answer::Ready(Lent::new(alloc, &self.instances, 2)),
+            _ => taken(&mut self.caches, &mut self.needs),
+        }
+    }
+}
+
 impl Trial for OnCaches {
     fn ready(rt: &impl Abort, alloc: Global, row: &Row) -> OnCaches {
         let (call, on, _, _) = *row;
@@ -145,11 +165,7 @@ impl Trial for OnCaches {
     }
 
     fn call(&mut self, alloc: Global) {
-        self.answer = match self.call {
-            "Caches::copy" => Answer::Copied(self.caches.copy()),
-            "Lent::new" => Answer::Ready(Lent::new(alloc, &self.instances, 2)),
-            _ => taken(&mut self.caches, &mut self.needs),
-        };
+        self.answer = self.answered(alloc);
     }
 
     fn told(&self, rt: &impl Abort, alloc: Global) -> String {

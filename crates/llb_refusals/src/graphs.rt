@@ -1,7 +1,7 @@
 //! Definitions as graphs, local trees, and the plain outcomes.
 
 use super::growths::{Row, Trial, are_refused};
-use super::told::{fault_told, say, text_of, text_told, tree_told};
+use super::told::{fault_told, numbers_told, say, text_of, text_told, tree_told};
 use super::written::{definition_of, entries_of, graph_of, locals_of, tree_named};
 use llb_loader::{Graph, LoadFault, Locals, Memory, Row as Linked, link, load};
 use llb_plain::{Outcomes, PlainFault, evaluate};
@@ -77,8 +77,7 @@ fn linked(alloc: Global, rows: &[Linked]) -> Answer {
 
 // How many vertices there are, and the vertex of the result.
 fn graph_told(rt: &impl Abort, alloc: Global, graph: &Graph) -> String {
-    let (count, last) = (graph.vertices().len(), graph.result().vertex);
-    format!(in alloc; "{count} {last}").expect(rt, "memory")
+    numbers_told(rt, alloc, graph.vertices().len(), graph.result().vertex)
 }
 
 fn local_told(rt: &impl Abort, text: &mut String, locals: &Locals, name: &str) {
@@ -108,20 +107,42 @@ fn outcomes_told(rt: &impl Abort, alloc: Global, outcomes: &Outcomes) -> String 
     }
 }
 
+impl OnGraph {
+    // The answer of the call.
+    fn answered(&mut self, alloc: Global) -> Answer {
+        match self.call {
+            "load" => Answer::Graph(load(alloc, self.definition.as_slice())),
+            "link" => linked(alloc, &self.rows),
+            "Graph::copy" => Answer::Copied(self.graph.copy()),
+            "Locals::copy" => Answer::Locals(self.locals.copy()),
+            "evaluate" => Answer::Outcomes(evaluate(alloc, &self.graph, &self.locals)),
+            _ => added(&mut self.locals, &mut self.handed),
+        }
+    }
+}
+
+// A text that one call needs, and another for the other calls.
+fn on_call<'a>(call: &str, wanted: &str, text: &'a str, other: &'a str) -> &'a str {
+    if call == wanted { text } else { other }
+}
+
+// The entries of the graph that a call is made on; any where the call makes one.
+fn graph_for<'a>(call: &str, written: &'a str) -> &'a str {
+    match call {
+        "load" | "link" => "MAKES_A; RESULT 0",
+        _ => written,
+    }
+}
+
 impl Trial for OnGraph {
     fn ready(rt: &impl Abort, alloc: Global, row: &Row) -> OnGraph {
         let (call, on, _, _) = *row;
         let (written, locals) = on.split_once(" on ").unwrap_or((on, ""));
-        let is_made = call == "load" || call == "link";
-        let graph = if is_made {
-            "MAKES_A; RESULT 0"
-        } else {
-            written
-        };
+        let graph = graph_for(call, written);
         OnGraph {
             call,
-            definition: definition_of(rt, alloc, if call == "load" { written } else { graph }),
-            rows: rows_of(rt, alloc, if call == "link" { written } else { "" }),
+            definition: definition_of(rt, alloc, on_call(call, "load", written, graph)),
+            rows: rows_of(rt, alloc, on_call(call, "link", written, "")),
             graph: graph_of(rt, alloc, graph),
             other: graph_of(rt, alloc, graph),
             locals: locals_of(rt, alloc, locals),
@@ -132,14 +153,7 @@ impl Trial for OnGraph {
     }
 
     fn call(&mut self, alloc: Global) {
-        self.answer = match self.call {
-            "load" => Answer::Graph(load(alloc, self.definition.as_slice())),
-            "link" => linked(alloc, &self.rows),
-            "Graph::copy" => Answer::Copied(self.graph.copy()),
-            "Locals::copy" => Answer::Locals(self.locals.copy()),
-            "evaluate" => Answer::Outcomes(evaluate(alloc, &self.graph, &self.locals)),
-            _ => added(&mut self.locals, &mut self.handed),
-        };
+        self.answer = self.answered(alloc);
     }
 
     fn told(&self, rt: &impl Abort, alloc: Global) -> String {

@@ -2,7 +2,7 @@
 
 use super::growths::{Row, Trial, are_refused};
 use super::told::{bytes_told, fault_told, text_told};
-use super::written::{definition_of, entries_of};
+use super::written::{definition_of, entries_of, entries_told};
 use llb_ops::{
     Actions, Entries, FileOp, Kind, Op, OpFault, read_definition, read_op, write_definition,
     write_op,
@@ -72,9 +72,20 @@ fn op_told(rt: &impl Abort, alloc: Global, op: &Op) -> String {
     bytes_told(rt, alloc, bytes.as_slice())
 }
 
-fn entries_told(rt: &impl Abort, alloc: Global, entries: &Entries) -> String {
-    let bytes = write_definition(alloc, entries).expect(rt, "memory");
-    bytes_told(rt, alloc, bytes.as_slice())
+impl OnEntries {
+    // The answer of the call.
+    fn answered(&mut self, alloc: Global) -> Answer {
+        match self.call {
+            "read_op" => read_first(alloc, &self.entries),
+            "write_op" => Answer::Bytes(write_op(alloc, &self.op)),
+            "read_definition" => {
+                Answer::Entries(read_definition(alloc, self.definition.as_slice()))
+            }
+            "write_definition" => Answer::Bytes(write_definition(alloc, &self.entries)),
+            "FileOp::copy" => copy_file(&self.op),
+            _ => copy_actions(&self.op),
+        }
+    }
 }
 
 impl Trial for OnEntries {
@@ -93,16 +104,7 @@ impl Trial for OnEntries {
     }
 
     fn call(&mut self, alloc: Global) {
-        self.answer = match self.call {
-            "read_op" => read_first(alloc, &self.entries),
-            "write_op" => Answer::Bytes(write_op(alloc, &self.op)),
-            "read_definition" => {
-                Answer::Entries(read_definition(alloc, self.definition.as_slice()))
-            }
-            "write_definition" => Answer::Bytes(write_definition(alloc, &self.entries)),
-            "FileOp::copy" => copy_file(&self.op),
-            _ => copy_actions(&self.op),
-        };
+        self.answer = self.answered(alloc);
     }
 
     fn told(&self, rt: &impl Abort, alloc: Global) -> String {

@@ -115,11 +115,9 @@ fn other(alloc: Global, call: &str, mut input: &[u8], ran: &mut Ran) {
 
 // Commands, each in a line.
 fn lines_of(rt: &impl Abort, alloc: Global, commands: &str) -> String {
-    let mut text = String::new(alloc);
-    for command in commands.split("; ") {
-        say(rt, &mut text, command);
-        say(rt, &mut text, "\n");
-    }
+    let lines: Vec<&str> = commands.split("; ").collect(alloc).expect(rt, "memory");
+    let mut text = lines.join(alloc, "\n").expect(rt, "memory");
+    say(rt, &mut text, "\n");
     text
 }
 

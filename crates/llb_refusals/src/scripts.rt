@@ -184,6 +184,23 @@ impl OnView {
     }
 }
 
+impl OnView {
+    // The answer of the call.
+    fn answered(&mut self, alloc: Global) -> Answer {
+        let view = &mut self.view;
+        match self.call {
+            "View::make" => made(&mut self.handed),
+            "View::copy" => Answer::View(view.copy()),
+            "Shown::copy" => copied_shown(view),
+            "Setting::copy" => Answer::Setting(self.setting.copy()),
+            "read_script" => read(alloc, &self.args),
+            "Script::copy" => Answer::Script(self.script.copy()),
+            "Command::copy" => copied_command(&self.script),
+            _ => ran(alloc, &self.script, &self.setting, view),
+        }
+    }
+}
+
 impl Trial for OnView {
     fn ready(rt: &impl Abort, alloc: Global, row: &Row) -> OnView {
         let (call, on, _, _) = *row;
@@ -210,17 +227,7 @@ impl Trial for OnView {
     }
 
     fn call(&mut self, alloc: Global) {
-        let view = &mut self.view;
-        self.answer = match self.call {
-            "View::make" => made(&mut self.handed),
-            "View::copy" => Answer::View(view.copy()),
-            "Shown::copy" => copied_shown(view),
-            "Setting::copy" => Answer::Setting(self.setting.copy()),
-            "read_script" => read(alloc, &self.args),
-            "Script::copy" => Answer::Script(self.script.copy()),
-            "Command::copy" => copied_command(&self.script),
-            _ => ran(alloc, &self.script, &self.setting, view),
-        };
+        self.answer = self.answered(alloc);
     }
 
     fn told(&self, rt: &impl Abort, alloc: Global) -> String {

@@ -36,6 +36,10 @@ fn done(stepper: &mut Stepper, event: Event) -> Answer {
     Answer::Done(stepper.do_event(event))
 }
 
+fn stop_of(stepper: &mut Stepper) -> Option<Stop> {
+    stepper.go().ok()
+}
+
 fn gone(stepper: &mut Stepper) -> Answer {
     Answer::Gone(stepper.go())
 }
@@ -53,11 +57,16 @@ fn asked(stepper: &mut Stepper, line: &str) -> Answer {
     }
 }
 
+// Asks, and lets the answer go.
+fn ask(stepper: &mut Stepper, line: &str) {
+    let _ = asked(stepper, line);
+}
+
 fn stepper_of(rt: &impl Abort, alloc: Global, on: &'static str) -> Stepper {
     let (board, lines) = on.split_once(" then ").unwrap_or((on, ""));
     let mut stepper = Stepper::new(alloc, board_of(rt, alloc, &board_in(rt, board)));
     for line in lines.split("; ") {
-        let _ = asked(&mut stepper, line);
+        ask(&mut stepper, line);
     }
     stepper
 }
@@ -65,7 +74,7 @@ fn stepper_of(rt: &impl Abort, alloc: Global, on: &'static str) -> Stepper {
 // The events of a run to its end by one worker.
 fn run_of(rt: &impl Abort, alloc: Global, on: &'static str) -> Vec<Event> {
     let mut stepper = stepper_of(rt, alloc, on);
-    let _ = gone(&mut stepper);
+    let _ = stop_of(&mut stepper);
     Vec::from_slice(alloc, stepper.board().events().as_slice()).expect(rt, "memory")
 }
 
@@ -92,14 +101,25 @@ impl OnStepper {
 
     // Whether the stepper and the like of it go to the same place, from which each comes back.
     fn goes_alike(&mut self) -> bool {
-        match (gone(&mut self.stepper), gone(&mut self.twin)) {
-            (Answer::Gone(Ok(stop)), Answer::Gone(Ok(other))) => {
+        match (stop_of(&mut self.stepper), stop_of(&mut self.twin)) {
+            (Some(stop), Some(other)) => {
                 let are_there = are_same(self.stepper.board(), self.twin.board());
                 back_many(&mut self.stepper, stop.events);
                 back_many(&mut self.twin, other.events);
                 are_there && stop == other
             }
             _ => false,
+        }
+    }
+}
+
+impl OnStepper {
+    // The answer of the call.
+    fn answered(&mut self, _alloc: Global) -> Answer {
+        match self.call {
+            "replay" => replayed(&mut self.stepper, &self.events),
+            "record_line 1" => Answer::Line(self.stepper.record_line(1)),
+            _ => asked(&mut self.stepper, self.call),
         }
     }
 }
@@ -116,12 +136,8 @@ impl Trial for OnStepper {
         }
     }
 
-    fn call(&mut self, _alloc: Global) {
-        self.answer = match self.call {
-            "replay" => replayed(&mut self.stepper, &self.events),
-            "record_line 1" => Answer::Line(self.stepper.record_line(1)),
-            _ => asked(&mut self.stepper, self.call),
-        };
+    fn call(&mut self, alloc: Global) {
+        self.answer = self.answered(alloc);
     }
 
     fn told(&self, rt: &impl Abort, alloc: Global) -> String {

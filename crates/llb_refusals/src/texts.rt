@@ -1,12 +1,12 @@
 //! Texts that are read and written: trees, patterns, the paths of actions, and entries.
 
 use super::growths::{Row, Trial, are_refused};
-use super::told::{bytes_told, fault_told, path_of, path_told, say, text_told, tree_told};
-use super::written::{entries_of, entries_text, tree_named};
+use super::told::{fault_told, path_of, path_told, say, text_told, tree_told};
+use super::written::{entries_of, entries_text, entries_told, tree_named};
 use llb_asm::{AsmFault, assemble, disassemble};
 use llb_fileop::{ActFault, resolve};
 use llb_glob::{Pattern, PatternFault};
-use llb_ops::{Entries, write_definition};
+use llb_ops::Entries;
 use llb_samples::tree_text;
 use llb_tree::{Path, Tree};
 use llb_treetext::{PrintFault, TextFault, print_tree, read_tree, tree_digest};
@@ -57,11 +57,6 @@ fn resolved_told(rt: &impl Abort, alloc: Global, path: &Path, ends: bool) -> Str
     text
 }
 
-fn entries_told(rt: &impl Abort, alloc: Global, entries: &Entries) -> String {
-    let bytes = write_definition(alloc, entries).expect(rt, "memory");
-    bytes_told(rt, alloc, bytes.as_slice())
-}
-
 fn out_told(rt: &impl Abort, alloc: Global, out: &[u8]) -> String {
     text_told(rt, alloc, str::from_utf8(out).unwrap_or("no text"))
 }
@@ -105,6 +100,22 @@ impl OnText {
     }
 }
 
+impl OnText {
+    // The answer of the call.
+    fn answered(&mut self, alloc: Global) -> Answer {
+        let text = self.text.as_str();
+        match self.call {
+            "print_tree" => print(alloc, &self.tree, &mut self.out),
+            "disassemble" => write(alloc, &self.entries, &mut self.out),
+            "read_tree" => Answer::Tree(read_tree(alloc, text.as_bytes())),
+            "tree_digest" => Answer::Digest(tree_digest(alloc, &self.tree)),
+            "Pattern::read" => Answer::Pattern(Pattern::read(alloc, text)),
+            "resolve" => Answer::Path(resolve(alloc, text)),
+            _ => Answer::Entries(assemble(alloc, text.as_bytes())),
+        }
+    }
+}
+
 impl Trial for OnText {
     fn ready(rt: &impl Abort, alloc: Global, row: &Row) -> OnText {
         let (call, on, _, wanted) = *row;
@@ -134,16 +145,7 @@ impl Trial for OnText {
     }
 
     fn call(&mut self, alloc: Global) {
-        let text = self.text.as_str();
-        self.answer = match self.call {
-            "print_tree" => print(alloc, &self.tree, &mut self.out),
-            "disassemble" => write(alloc, &self.entries, &mut self.out),
-            "read_tree" => Answer::Tree(read_tree(alloc, text.as_bytes())),
-            "tree_digest" => Answer::Digest(tree_digest(alloc, &self.tree)),
-            "Pattern::read" => Answer::Pattern(Pattern::read(alloc, text)),
-            "resolve" => Answer::Path(resolve(alloc, text)),
-            _ => Answer::Entries(assemble(alloc, text.as_bytes())),
-        };
+        self.answer = self.answered(alloc);
     }
 
     fn told(&self, rt: &impl Abort, alloc: Global) -> String {

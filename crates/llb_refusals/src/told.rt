@@ -53,6 +53,23 @@ pub(crate) fn tree_told(rt: &impl Abort, alloc: Global, tree: &Tree) -> String {
     text
 }
 
+// What a tree that a call makes is, or its fault.
+pub(crate) fn tree_or_fault<E: Display>(
+    rt: &impl Abort,
+    alloc: Global,
+    made: &Result<Tree, E>,
+) -> String {
+    match made {
+        Ok(tree) => tree_told(rt, alloc, tree),
+        Err(fault) => fault_told(rt, alloc, fault),
+    }
+}
+
+// Two numbers, with a space between them.
+pub(crate) fn numbers_told(rt: &impl Abort, alloc: Global, one: usize, other: u32) -> String {
+    format!(in alloc; "{one} {other}").expect(rt, "memory")
+}
+
 pub(crate) fn path_of(rt: &impl Abort, alloc: Global, text: &str) -> Path {
     Path::read(alloc, text).expect(rt, "a path")
 }

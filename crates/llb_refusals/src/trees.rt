@@ -1,7 +1,7 @@
 //! Paths and trees, which are named as in `written`.
 
 use super::growths::{Row, Trial, are_refused};
-use super::told::{fault_told, path_of, path_told, say, text_told, tree_told};
+use super::told::{fault_told, path_of, path_told, say, text_told, tree_or_fault, tree_told};
 use super::written::{tree_and_twin, tree_named};
 use llb_tree::{Bytes, Meta, Names, Path, Tree, TreeFault};
 use llb_wire::Same;
@@ -72,6 +72,25 @@ impl OnTree {
     }
 }
 
+impl OnTree {
+    // The answer of the call.
+    fn answered(&mut self, alloc: Global) -> Answer {
+        let (tree, path) = (&mut self.tree, &self.path);
+        match self.call {
+            "read" => Answer::Walked(Path::read(alloc, self.words)),
+            "read_from" => Answer::Walked(Path::read_from(alloc, path, self.words)),
+            "empty" => Answer::Made(Tree::empty(alloc)),
+            "copy" => Answer::Made(tree.copy()),
+            "subtree" => Answer::Made(tree.subtree(path)),
+            "list" => Answer::Listed(tree.list(path)),
+            "put_file" => put_file(tree, path, &mut self.contents, self.meta),
+            "put_dir" => Answer::Done(tree.put_dir(path, Meta::new_dir())),
+            "remove" => Answer::Done(tree.remove(path)),
+            _ => Answer::Done(tree.graft(path, &self.grafted)),
+        }
+    }
+}
+
 impl Trial for OnTree {
     fn ready(rt: &impl Abort, alloc: Global, row: &Row) -> OnTree {
         let (call, words) = row.0.split_once(' ').unwrap_or((row.0, ""));
@@ -91,31 +110,17 @@ impl Trial for OnTree {
     }
 
     fn call(&mut self, alloc: Global) {
-        let (tree, path) = (&mut self.tree, &self.path);
-        self.answer = match self.call {
-            "read" => Answer::Walked(Path::read(alloc, self.words)),
-            "read_from" => Answer::Walked(Path::read_from(alloc, path, self.words)),
-            "empty" => Answer::Made(Tree::empty(alloc)),
-            "copy" => Answer::Made(tree.copy()),
-            "subtree" => Answer::Made(tree.subtree(path)),
-            "list" => Answer::Listed(tree.list(path)),
-            "put_file" => put_file(tree, path, &mut self.contents, self.meta),
-            "put_dir" => Answer::Done(tree.put_dir(path, Meta::new_dir())),
-            "remove" => Answer::Done(tree.remove(path)),
-            _ => Answer::Done(tree.graft(path, &self.grafted)),
-        };
+        self.answer = self.answered(alloc);
     }
 
     fn told(&self, rt: &impl Abort, alloc: Global) -> String {
         match &self.answer {
             Answer::None => text_told(rt, alloc, "nothing"),
             Answer::Done(done) => self.tree_told(rt, alloc, done),
-            Answer::Made(Ok(tree)) => tree_told(rt, alloc, tree),
+            Answer::Made(made) => tree_or_fault(rt, alloc, made),
             Answer::Listed(Ok(names)) => names_told(rt, alloc, names),
             Answer::Walked(Ok(path)) => path_told(rt, alloc, path),
-            Answer::Made(Err(fault)) | Answer::Listed(Err(fault)) | Answer::Walked(Err(fault)) => {
-                fault_told(rt, alloc, fault)
-            }
+            Answer::Listed(Err(fault)) | Answer::Walked(Err(fault)) => fault_told(rt, alloc, fault),
         }
     }
 

@@ -1,8 +1,8 @@
 //! What calls are made on, as it is written: trees by their names, definitions by their entries (`llb_samples`), and local trees.
 
-use super::told::text_of;
+use super::told::{bytes_told, text_of};
 use llb_loader::{Graph, Locals};
-use llb_ops::Entries;
+use llb_ops::{Entries, write_definition};
 use llb_samples as samples;
 use llb_tree::Tree;
 use llb_wire::Bytes;
@@ -10,7 +10,7 @@ use std::alloc::Global;
 use std::process::Abort;
 
 /// Returns the tree of that name.
-pub(crate) fn tree_named(rt: &impl Abort, alloc: Global, name: &'static str) -> Tree {
+pub(crate) fn tree_named(rt: &impl Abort, alloc: Global, name: &str) -> Tree {
     samples::tree_named(alloc, name).expect(rt, "a tree")
 }
 
@@ -40,8 +40,21 @@ pub(crate) fn definition_of(rt: &impl Abort, alloc: Global, written: &str) -> By
     samples::definition_of(alloc, written).expect(rt, "a definition")
 }
 
+/// Returns the bytes of the definition of entries, in hexadecimal.
+pub(crate) fn entries_told(rt: &impl Abort, alloc: Global, entries: &Entries) -> String {
+    let bytes = write_definition(alloc, entries).expect(rt, "memory");
+    bytes_told(rt, alloc, bytes.as_slice())
+}
+
 pub(crate) fn graph_of(rt: &impl Abort, alloc: Global, written: &str) -> Graph {
     samples::graph_of(alloc, written).expect(rt, "a graph")
+}
+
+fn add_local(rt: &impl Abort, alloc: Global, locals: &mut Locals, name: &str, tree: &str) {
+    let tree = tree_named(rt, alloc, tree);
+    locals
+        .add(text_of(rt, alloc, name), tree)
+        .expect(rt, "memory");
 }
 
 /// Makes local trees, as `NAME=TREE`, with a space between them.
@@ -49,10 +62,7 @@ pub(crate) fn locals_of(rt: &impl Abort, alloc: Global, given: &'static str) -> 
     let mut locals = Locals::new(alloc);
     for local in given.split(' ') {
         if let Some((name, tree)) = local.split_once('=') {
-            let tree = tree_named(rt, alloc, tree);
-            locals
-                .add(text_of(rt, alloc, name), tree)
-                .expect(rt, "memory");
+            add_local(rt, alloc, &mut locals, name, tree);
         }
     }
     locals

@@ -50,10 +50,45 @@ f 0644 0 0 6869 /sub/f
 d 0755 0 0 /
 d 0755 0 0 /s
 f 0644 0 0 6869 /s/f
+== TWO
+d 0755 0 0 /
+d 0755 0 0 /e
+f 0644 0 0 78 /f
+== NESTED
+d 0755 0 0 /
+d 0700 1 1 /a
+f 0644 2 2 78 /a/b
+d 0755 3 3 /a-
+d 0711 0 0 /a-/c
+f 0600 0 0 79 /a-/c/d
+f 0644 0 0 7a /b
+== SHARED: a tree of which others are made
+d 0755 0 0 /
+d 0755 0 0 /a
+f 0644 0 0 78 /a/b
+d 0755 0 0 /a/c
+f 0644 0 0 79 /a/c/d
+== LOWER: a tree that another one is laid over
+d 0700 1 1 /
+d 0700 1 1 /a
+f 0600 1 1 6c6f77 /a/x
+f 0600 1 1 6c6f77 /a/y
+f 0600 1 1 6c6f77 /c
+d 0700 1 1 /z
+f 0600 1 1 6c6f77 /z/w
+== UPPER: that one
+d 0755 0 0 /
+d 0755 2 2 /a
+f 0644 2 2 7570 /a/x
+d 0755 2 2 /b
+f 0644 2 2 7570 /b/e
+d 0755 2 2 /c
+f 0644 2 2 7570 /c/d
+f 0644 2 2 7570 /z
 ";
 
 /// Returns the text of the tree of that name; the name itself where there is none.
-pub fn tree_text(name: &'static str) -> &'static str {
+pub fn tree_text<'a>(name: &'a str) -> &'a str {
     block(TREES, name).unwrap_or(name)
 }
 
@@ -73,7 +108,7 @@ fn wide_text(alloc: Global) -> Result<String, AllocError> {
 }
 
 /// Returns the tree of that name, or of the text that is in the place of a name. `WIDE` has a directory `/d` with the empty files `000` to `999`.
-pub fn tree_named(alloc: Global, name: &'static str) -> Option<Tree> {
+pub fn tree_named(alloc: Global, name: &str) -> Option<Tree> {
     match name {
         "WIDE" => tree_from(alloc, wide_text(alloc).ok()?.as_str()),
         _ => tree_from(alloc, tree_text(name)),

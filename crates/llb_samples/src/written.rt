@@ -26,11 +26,8 @@ pub fn block<'a>(text: &'a str, wanted: &str) -> Option<&'a str> {
 }
 
 fn push_lines(text: &mut String, lines: &str) -> Result<(), AllocError> {
-    for line in lines.split(" | ") {
-        text.push_str(line)?;
-        text.push_str("\n")?;
-    }
-    Ok(())
+    text.extend(lines.chars().map(|c| if c == '|' { '\n' } else { c }))?;
+    text.push_str("\n")
 }
 
 // An exec up to its first mount, without its end.
