@@ -66,12 +66,12 @@ def data_in(place: str) -> bytes:
 def changed_sources(options: argparse.Namespace, known: Names) -> Names:
     """Returns the names of the sources that have another tree for NEW than for OLD."""
     before, after = dict(options.before), dict(options.after)
-    for place in [*before.values(), *after.values()]:
-        if not os.path.exists(place):
-            raise Refused(f"{place}: {os.strerror(errno.ENOENT)}")
     for name in [*options.changed, *before, *after]:
         if name not in known:
             raise Refused(f"{name}: neither definition has this local source")
+    for place in [*before.values(), *after.values()]:
+        if not os.path.exists(place):
+            raise Refused(f"{place}: {os.strerror(errno.ENOENT)}")
     changed = {*options.changed, *(before.keys() ^ after.keys())}
     for name in (before.keys() & after.keys()) - changed:
         if tree_digest(before[name]) != tree_digest(after[name]):
