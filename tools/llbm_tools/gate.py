@@ -3,11 +3,12 @@
 In: the repository around this folder. The parts are, in this order: `tools/lines` (if this is a git repository),
 `tools/style`, `tools/claims --check` and `tools/floors`; `rt ci`, which does every proof from nothing, unless --after
 is given; `tools/refuse`, on the tests of `llb_refusals` that `rt ci` built; `tools/library`, which builds the static
-library, and `tools/bindings`, which tries it in each language that is there; on each of the two programs that `rt ci`
-left in crates/llbm/out, or on --llbm PROGRAM alone: `examples/check` and `tools/tries`; on the first of them
-`tools/test`, `tools/page-tests` on the page that `tools/wasm` made, if it is there, `tools/replay` on the pages with
-commands (README.md, and docs/ARCHITECTURE.md, FORMATS.md and TOOLS.md), and `tools/fuzz`, for a minute or for --fuzz
-SECONDS, with the seed 1 or --seed N. With --more-edits `tools/more-edits` follows on `rt ci`.
+library, and `tools/bindings`, which tries it in each language that is there; `tools/wasm`, which makes the page, if a
+browser, Node and `wasm-opt` are there; on each of the two programs that `rt ci` left in crates/llbm/out, or on --llbm
+PROGRAM alone: `examples/check` and `tools/tries`; on the first of them `tools/test`, `tools/page-tests` on the page, if
+it was made, `tools/replay` on the pages with commands (README.md, and docs/ARCHITECTURE.md, FORMATS.md and TOOLS.md),
+and `tools/fuzz`, for a minute or for --fuzz SECONDS, with the seed 1 or --seed N. With --more-edits `tools/more-edits`
+follows on `rt ci`.
 
 With --quick nothing is proved, and no wrong body is tried. `tools/unproved-program` compiles the program, and `rt try
 --test` the tests of the crates of tests, as many at a time as there are processors, or --jobs N; the other parts follow
@@ -29,6 +30,7 @@ import contextlib
 import os
 import pathlib
 import re
+import shutil
 import signal
 import subprocess
 import sys
@@ -37,7 +39,7 @@ import time
 from collections.abc import Iterator
 from typing import IO, NamedTuple
 
-from llbm_tools import installing, minutes, paths
+from llbm_tools import browser, installing, minutes, module_cases, paths, wasm
 from llbm_tools.paths import ROOT
 
 PROGRAMS = [ROOT / "crates" / "llbm" / "out" / name for name in ("llbm", "llbm.by-rattle")]
@@ -253,6 +255,12 @@ def parts_with(programs: list[str], fuzz: int, seed: str, *tried: str) -> Iterat
     yield tool("fuzz", str(fuzz), "--llbm", first, "--seed", seed)
 
 
+def parts_of_page() -> Iterator[Part]:
+    """Yields the part that makes the page, if its tests can use it: with a browser, Node and `wasm-opt`."""
+    if browser.found() and module_cases.node() and shutil.which(wasm.LOWERING):
+        yield tool("wasm")
+
+
 def parts(options: argparse.Namespace) -> Iterator[Part]:
     """Yields the parts of the whole gate, in order."""
     yield from parts_without_program()
@@ -263,6 +271,7 @@ def parts(options: argparse.Namespace) -> Iterator[Part]:
     yield tool("refuse")
     yield tool("library")
     yield tool("bindings")
+    yield from parts_of_page()
     programs = [os.path.abspath(options.llbm)] if options.llbm else list(map(str, PROGRAMS))
     yield from parts_with(programs, options.fuzz or MINUTE, options.seed)
 

@@ -7,7 +7,8 @@ command on each example and sessions over it, and with --cases FOLDER the stored
 answer of its session is compared with that of `llbm step` to the same line. --pictures FOLDER writes pictures of its
 views there.
 
-Out: on standard output a line for each test that failed, measured times, and then how many tests there were. Where
+Out: on standard output a line for each test that failed, measured times, and then how many tests there were. A test in
+the browser that fails is tried once more, and a line says so. Where
 Node, a browser, or the page is missing, the tests that need it are counted as skipped, and the line says why.
 
 Exit status: 0 all tests pass; 1 some fail; 2 the command line is refused, or there is no program; 3 a read or a write
@@ -90,7 +91,7 @@ def browser_tests(options: argparse.Namespace, program: str, outcome: Outcome) -
         page_files.write(pathlib.Path(folder), (options.page / page_files.MODULE).read_bytes())
         page = Page(opened, url, program)
         for case in page_cases.CASES:
-            outcome.take(f"in the browser: {case.__name__}", result(lambda case=case: case(page)))  # type: ignore[misc]
+            outcome.take(f"in the browser: {case.__name__}", result_in_browser(page, case))
         if options.pictures:
             options.pictures.mkdir(parents=True, exist_ok=True)
             page_pictures.take_pictures(page, options.pictures)
@@ -107,6 +108,15 @@ def result(work: Callable[[], None]) -> str:
     except browser.BrowserFailed as fault:
         return f"the browser: {fault}"
     return ""
+
+
+def result_in_browser(page: Page, case: Callable[[Page], None]) -> str:
+    """Does a test in the browser, a second time if it fails, since it waits for pictures; returns what is wrong."""
+    wrong = result(lambda: case(page))
+    if wrong:
+        print(common.printable(f"tried again: {case.__name__}: {wrong}")[:1000], flush=True)
+        wrong = result(lambda: case(page))
+    return wrong
 
 
 def tests(options: argparse.Namespace) -> int:
