@@ -2,7 +2,8 @@
 
 In: the crate llb_embed, crates.txt, and crates/*/out/rlib of the repository around this folder, or of --repository
 DIRECTORY; and the kit that `rt doc` names. `rt ci` proves the crate, but builds no static library: so it is proved
-once more here, which takes one to three minutes, and then built.
+once more here, which takes one to three minutes, and then built. What was proved is kept in the crate's out/, for the
+next build and for `tools/wasm`.
 
 Out: the archive out/libllbm.a of the repository, or -o FILE, which is replaced if it exists. It has the crate's code,
 the code of other crates that this reaches, and the kit's three functions over `malloc`, `realloc` and `free`; it can
@@ -63,6 +64,9 @@ def build(top: pathlib.Path, at: pathlib.Path, to: pathlib.Path, jobs: int) -> b
     words = [str(at / "bin" / "rattle"), "build", *words_for(top, at), "--links", f"{CRATE}="]
     words += ["--crate-type", "staticlib"]
     words += ["--antt-project", f"{at}/rattle/logic/antt-project.json", "--logic-built", f"{at}/logic_built"]
+    kept = top / "crates" / CRATE / "out" / "incremental"
+    kept.mkdir(parents=True, exist_ok=True)
+    words += ["--incremental", str(kept)]
     words += ["--toolchain", f"{at}/toolchain", "--jobs", str(jobs), "-o", str(to)]
     done = subprocess.run(
         words, cwd=top / "crates" / CRATE, stdin=subprocess.DEVNULL,
