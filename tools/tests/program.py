@@ -155,7 +155,8 @@ class WithProgram(Folder):
 
     def test_progress_changes_nothing_else(self):
         for number, (name, given, sources) in enumerate(self.sources()):
-            workers = f"--workers={number + 1}"
+            # What several workers find in a cache depends on their order.
+            workers = "--workers=1" if name == "cache" else f"--workers={number + 1}"
             plain = self.build(given, workers, *sources, result=f"plain-{number}.tar")
             done = self.build(given, workers, "--progress", *sources, result=f"progress-{number}.tar")
             self.assertEqual(self.without_progress(plain)[0], [])
