@@ -7,6 +7,8 @@ mod actions;
 #[cfg(test)]
 mod aims;
 #[cfg(test)]
+mod board_rows;
+#[cfg(test)]
 mod boards;
 #[cfg(test)]
 mod caches;
