@@ -1,12 +1,13 @@
-"""Prints what has to be read to believe a statement, and maintains the lists in docs/CLAIMS.md.
+"""Prints what has to be read to believe a statement, and maintains the tables in docs/CLAIMS.md.
 
 In: the sources in crates/. `tools/claims STATEMENT` prints every definition that a statement depends on, nearest first,
-each with its file and line; STATEMENT is a column of the table in docs/CLAIMS.md: aim, load, assemble, disassemble,
-run, show, asm, dis, step or program. `--write` writes the lists in docs/CLAIMS.md from the sources: the files to read
-for each statement with the number of lines in each, and the wrong bodies that the prover refuses. `--check` compares
-the page with the sources.
+each with its file and line, then the types of src/ that they name, and the number of lines in each file; STATEMENT is a
+column of the table in docs/CLAIMS.md: aim, load, assemble, disassemble, run, show, asm, dis, step or program.
+`--bodies` prints the wrong bodies that the prover refuses, each with its file and its function. `--write` writes the
+tables in docs/CLAIMS.md from the sources: for each statement the number of lines to read in each crate, and the number
+of wrong bodies of each crate. `--check` compares the page with the sources.
 
-Out: definitions on standard output, or with --check a line for each list that differs.
+Out: definitions or wrong bodies on standard output, or with --check a line for each table that differs.
 
 Exit status: 0 done, or the page agrees with the sources; 1 it does not; 2 the command line is refused; 3 a read or a
 write failed.
@@ -45,28 +46,36 @@ def resting(library: Library, statement: str) -> tuple[list[Definition], list[st
     return library.cone(*contract(library.root / "crates" / crate / "src" / file, name))
 
 
+def counted(definitions: list[Definition]) -> dict[tuple[str, str], int]:
+    """Returns how many lines of each file the definitions have, the nearest file first."""
+    lines: dict[tuple[str, str], int] = {}
+    for one in definitions:
+        lines[one.crate, one.file] = lines.get((one.crate, one.file), 0) + len(one.lines)
+    return lines
+
+
+def table_of(head: list[str], rows: list[list[str]]) -> list[str]:
+    """Returns the lines of a table whose first column has words and whose other columns have numbers."""
+    return ["| " + " | ".join(row) + " |" for row in [head, ["---"] + ["--:"] * (len(head) - 1), *rows]]
+
+
 def reading(library: Library) -> list[str]:
-    """Returns the table of files to read, with how many lines of each."""
+    """Returns the table of crates to read, with how many lines of each."""
     cones = {name: resting(library, name) for name in STATEMENTS}
-    lines: dict[tuple[str, str], dict[str, int]] = {}
+    lines: dict[str, dict[str, int]] = {}
     for name, (definitions, _) in cones.items():
-        for one in definitions:
-            counts = lines.setdefault((one.crate, one.file), dict.fromkeys(STATEMENTS, 0))
-            counts[name] += len(one.lines)
-    head = ["File", *STATEMENTS]
-    rows = [
-        [f"`{crate}/specs/{file}.antt`", *(str(it or "") for it in counts.values())]
-        for (crate, file), counts in lines.items()
-    ]
+        for (crate, _), count in counted(definitions).items():
+            lines.setdefault(crate, dict.fromkeys(STATEMENTS, 0))[name] += count
+    rows = [[f"`{crate}`", *(str(it or "") for it in counts.values())] for crate, counts in lines.items()]
     sums = [
         ["definitions", *(str(len(them)) for them, _ in cones.values())],
-        ["files", *(str(len({(it.crate, it.file) for it in them})) for them, _ in cones.values())],
-        ["lines", *(str(sum(len(it.lines) for it in them)) for them, _ in cones.values())],
+        ["files", *(str(len(counted(them))) for them, _ in cones.values())],
+        ["lines", *(str(sum(counted(them).values())) for them, _ in cones.values())],
         ["types of `src/`", *(str(len(types)) for _, types in cones.values())],
     ]
     whole = sum(len(it.read_text("utf-8").splitlines()) for it in library.root.glob("crates/*/specs/*.antt"))
-    table = [head, ["---"] + ["--:"] * len(STATEMENTS), *sums, *rows]
-    return [*("| " + " | ".join(row) + " |" for row in table), "", f"All files of `specs/` have {whole} lines."]
+    table = table_of(["Lines in", *STATEMENTS], [*sums, *rows])
+    return [*table, "", f"All files of `specs/` have {whole} lines."]
 
 
 def edited(crate: pathlib.Path, edit: pathlib.Path) -> str:
@@ -84,21 +93,38 @@ def edits_of(crate: pathlib.Path) -> list[pathlib.Path]:
     return sorted((edit for folder in folders for edit in folder.glob("*.edit")), key=lambda edit: edit.stem)
 
 
-def edits(library: Library) -> list[str]:
+def crates_with_edits(library: Library) -> list[tuple[pathlib.Path, list[pathlib.Path]]]:
+    """Returns the folders of the crates that have edits, in the order of crates.txt, each with its edits."""
+    lines = (library.root / "crates.txt").read_text("utf-8").splitlines()
+    names = [words[0] for line in lines if (words := line.partition(":")[0].split())]
+    crates = [library.root / "crates" / name for name in names]
+    return [(crate, found) for crate in crates if (found := edits_of(crate))]
+
+
+def tried_by(found: list[pathlib.Path]) -> str:
+    """Returns what tries the edits of a crate."""
+    return "the gate" if found[0].parent.name == "must-fail" else "`tools/more-edits`"
+
+
+def bodies(library: Library) -> list[str]:
     """Returns the list of wrong bodies, crate by crate."""
-    items, count = [], 0
-    for line in (library.root / "crates.txt").read_text("utf-8").splitlines():
-        names = line.partition(":")[0].split()
-        crate = library.root / "crates" / "".join(names[:1])
-        found = edits_of(crate) if names else []
-        if not found:
-            continue
-        by = "the gate" if found[0].parent.name == "must-fail" else "`tools/more-edits`"
-        bodies = "; ".join(f"{edit.stem.replace('_', ' ')} ({edited(crate, edit)})" for edit in found)
-        text = f"- `{crate.name}`, tried by {by}: {bodies}."
+    items = []
+    for crate, found in crates_with_edits(library):
+        each = "; ".join(f"{edit.stem.replace('_', ' ')} ({edited(crate, edit)})" for edit in found)
+        text = f"- `{crate.name}`, tried by {tried_by(found)}: {each}."
         items += textwrap.wrap(text, COLUMNS, subsequent_indent="  ", break_long_words=False, break_on_hyphens=False)
-        count += len(found)
-    return [f"{count} wrong bodies.", "", *items]
+    return items
+
+
+def edits(library: Library) -> list[str]:
+    """Returns how many wrong bodies there are, and how many of each crate."""
+    crates = crates_with_edits(library)
+    parts = []
+    for by in ("the gate", "`tools/more-edits`"):
+        counts = [f"`{crate.name}` {len(found)}" for crate, found in crates if tried_by(found) == by]
+        parts.append(f"tried by {by}: {', '.join(counts)}")
+    text = f"{sum(len(found) for _, found in crates)} wrong bodies; {'; '.join(parts)}."
+    return textwrap.wrap(text, COLUMNS, break_long_words=False, break_on_hyphens=False)
 
 
 def page_of(text: str, lists: dict[str, list[str]]) -> tuple[str, list[str]]:
@@ -115,24 +141,27 @@ def page_of(text: str, lists: dict[str, list[str]]) -> tuple[str, list[str]]:
 
 
 def write_or_check(library: Library, writes: bool) -> int:
-    """Writes the lists of the page, or compares them; returns the exit status."""
+    """Writes the tables of the page, or compares them; returns the exit status."""
     page, differing = page_of(PAGE.read_text("utf-8"), {"reading": reading(library), "wrong bodies": edits(library)})
     if writes:
         PAGE.write_text(page, "utf-8")
         return 0
     for name in differing:
-        print(f"docs/CLAIMS.md: the list `{name}` differs from the sources: run tools/claims --write")
+        print(f"docs/CLAIMS.md: the part `{name}` differs from the sources: run tools/claims --write")
     return 1 if differing else 0
 
 
 def show(library: Library, statement: str) -> None:
-    """Prints the definitions that a statement depends on."""
+    """Prints the definitions that a statement depends on, and in which files they are."""
     definitions, types = resting(library, statement)
     for one in definitions:
         print(f"{one.crate}/specs/{one.file}.antt:{one.first}")
         print("\n".join(one.lines), end="\n\n")
     print("Types to be read in src/:")
     print("\n".join(types))
+    print("\nLines in each file, nearest first:")
+    for (crate, file), count in counted(definitions).items():
+        print(f"{count:5} {crate}/specs/{file}.antt")
 
 
 def parse_options() -> argparse.Namespace:
@@ -144,16 +173,20 @@ def parse_options() -> argparse.Namespace:
     what.add_argument(
         "statement", metavar="STATEMENT", nargs="?", choices=[*STATEMENTS], help=f"one of {', '.join(STATEMENTS)}"
     )
-    what.add_argument("--write", action="store_true", help="write the lists in docs/CLAIMS.md")
+    what.add_argument("--bodies", action="store_true", help="print the wrong bodies that the prover refuses")
+    what.add_argument("--write", action="store_true", help="write the tables in docs/CLAIMS.md")
     what.add_argument("--check", action="store_true", help="compare them with the sources")
     return parser.parse_args()
 
 
 def work(library: Library, options: argparse.Namespace) -> int:
     """Does what the command line asks for, and returns the exit status."""
-    if not options.statement:
+    if options.write or options.check:
         return write_or_check(library, options.write)
-    show(library, options.statement)
+    if options.bodies:
+        print("\n".join(bodies(library)))
+    else:
+        show(library, options.statement)
     sys.stdout.flush()
     return 0
 
