@@ -39,7 +39,7 @@ class NoLine(Exception):
 
 
 class Cause(NamedTuple):
-    """A row of the table of all faults."""
+    """A fault of the table of all faults; a row has one, or several that differ in their names alone."""
 
     name: str
     arguments: tuple[str, ...]
@@ -143,8 +143,9 @@ class Page:
         elif head == "Failure":
             self.failures += [Failure(bare(line), bare(name), *rest) for line, name, *rest in rows]
         elif head == "Fault":
-            for number, cause, words, *rest in rows:
-                self.causes.setdefault(int(number), []).append(Cause(bare(cause), words_of(words), *rest))
+            for number, causes, words, *rest in rows:
+                same = [Cause(bare(name), words_of(words), *rest) for name in causes.split(", ")]
+                self.causes.setdefault(int(number), []).extend(same)
 
     def causes_of(self, number: int) -> list[Cause]:
         """Returns the rows of a number, without repeated sentences: those that the program prints, or else all."""
