@@ -8,7 +8,7 @@ pub record Recorded : Type 0 where
   pub list : List Event
   pub room : ℕ
 
--- the room for events, and by number how often each vertex was cancelled
+-- the room for events, and for each vertex how often it was cancelled
 pub record Space : Type 0 where
   pub room : ℕ
   pub cancels : List ℕ

@@ -46,7 +46,7 @@ pub record RunsShared (b : BoardValue) (w : ℕ) : Type 0 where
   pub runs : slice_get b.state.workers w ≡ Some (Runs x)
   pub shared : has_shared x ≡ true
 
--- a cause is the first for which a job's outcome is refused
+-- this cause refuses the outcome of a job, and no earlier one applies
 abbrev pub StandsInWay : BoardValue → ℕ → Job → LandCause → Type 0
 StandsInWay b w job cause.NoWorker = slice_get b.state.workers w ≡ None
 StandsInWay b w job cause.NotRunning = slice_get b.state.workers w ≡ Some Idle

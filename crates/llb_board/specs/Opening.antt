@@ -21,7 +21,7 @@ abbrev pub open_unless : Option (List ℕ) → Build → CachesValue → ℕ →
 open_unless (Some name) b c workers = Err (opening.MissingLocal name b.graph b.locals c)
 open_unless None b c workers = open_with b c workers
 
--- the rule of opening: a local tree that is missing is told first
+-- the rule of opening: a missing local tree is reported before any other cause
 abbrev pub open_of : Build → CachesValue → ℕ → Result BoardValue OpenFault
 open_of b c workers = open_unless (missing_local b.locals b.graph.vertices) b c workers
 

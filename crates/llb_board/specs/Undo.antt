@@ -51,7 +51,7 @@ walk_of b (event.Cancel w) = told_as walk.Cancel (cancel_of b w)
 abbrev pub GivesWalk : {X Y : Type 0} → (X → Y) → Result X WalkFault → Result Y WalkFault → Type 0
 GivesWalk = answer.Gives walk_memory
 
--- ---- the event taken back
+-- ---- what the board was before the event
 
 -- the statuses of the vertices before the event
 abbrev pub statuses_before : Back → List Status → List Status

@@ -133,7 +133,7 @@ pub fn lands_as_block(board: &Board)
 }
 
 /// Proves that an exec is finished after its last command, or as soon as the last status is not 0 and every later command is joined by `&&`.
-/// Its fault is then the exit of the last command that ran, exactly where that status is not 0. This holds for a script run by itself, and for
+/// Its fault is then the exit of the last command that ran, exactly if that status is not 0. This holds for a script run by itself, and for
 /// every worker on this board and after any list of granted events, whatever others do to shared caches meanwhile.
 pub fn execs_end_by_last_status(board: &Board)
     ensures alone { machine.FailsByLastStatus }

@@ -107,7 +107,7 @@ named (Some p) = p.0
 abbrev pub local_words : List Row → List Text
 local_words rows = unwrap_or (all_of (codes "local") rows) []
 
--- the words that name the rows of a local tree
+-- the words for local sources among the matches of the named command; none without a command
 abbrev pub named_local_words : Option (Text × List Row) → List Text
 named_local_words None = []
 named_local_words (Some p) = local_words p.1

@@ -1,4 +1,4 @@
--- The page that follows the line of refused words: that of help or of the version, where `clap` refuses the words because they ask for it.
+-- The page that follows the line of refused words: that of help or of the version, if `clap` refuses the words because they ask for it.
 use Rattle.std.specs.Prelude.{◌≡◌, ◌⊎◌, ℕ, if◌then◌else◌, List, [], ◌∷◌, ◌++◌, codes, Option, Some, None, Result, Ok, Err}
 use Rattle.std.specs.Io.KnownBytes.{Appends}
 use Rattle.std.specs.Str.{bytes_eq}

@@ -1,7 +1,7 @@
 //! Caches, as transcripts. A line with `> ` first is a call, and the lines after it are its result; one with `# ` first says what the
 //! next calls show. A need is the ID and the way of its key, the index of its seed or `-`, and the name of the one file in its tree, where it
 //! has one. `lease NEED, ..` prints the number of the lease and of the instance of each need, or the fault; `see LEASE NEED` the name of the
-//! file in what a lease has there, which `set LEASE NEED NAME` changes, and `back LEASE` releases a lease; leases are named by their place
+//! file in what a lease has there, which `set LEASE NEED NAME` changes, and `back LEASE` releases a lease; leases are named by their position
 //! among those granted. `count NEED` prints how many instances a key has, how many leases are out, and each instance's file; `next NEED` the
 //! instance that a lease would have now, or `shut`; `look ROW NEED` what a look-up finds of a key that tries row ROW first (`-` for none): its
 //! row, `held` or `free`, the number of the instance that a lease would have, and that instance's file, where it is there; `near ROW NEED, ..`
@@ -232,7 +232,7 @@ fn say_count(rt: &impl Abort, alloc: Global, text: &mut String, caches: &Caches,
     say(rt, text, "\n");
 }
 
-// The instance that a lease of the key would have now, or that it would be refused.
+// Prints the number of the instance that a lease of the key would have, or `shut` if it would be refused.
 fn say_next(rt: &impl Abort, alloc: Global, text: &mut String, caches: &Caches, need: &str) {
     let key = key_of(rt, alloc, &row_of(need));
     match next_instance(caches, &key) {

@@ -1,4 +1,4 @@
-//! One tree laid over another in a way: shown by the entries of the result.
+//! One tree laid over another, with the modes and owners that a `Way` sets: shown by the entries of the result.
 
 use super::stage::are_told;
 use super::told::{Row, is_so, made, row_holds};

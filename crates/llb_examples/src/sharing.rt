@@ -180,8 +180,8 @@ fn the_tree_is_edited_and_what_was_taken_stays(rt: HostRuntime) {
     are_told(&rt, rt.alloc(), TREE_IS_EDITED);
 }
 
-// Whether the tree's copy is the same, then an edit changes the tree that it is done on and leaves one that it is refused on, and
-// leaves the copy.
+// Returns whether a copy is the same as its tree, an edit changes the tree if it is done and leaves it if memory is refused, and the
+// copy stays as it was.
 fn is_whole(alloc: Global, call: &str) -> Result<bool, TreeFault> {
     let fresh = tree_of(alloc, SHARED)?;
     let mut tree = tree_of(alloc, SHARED)?;

@@ -51,7 +51,7 @@ pub data Role : Type 0 where
   Laid : Role
   MountAt : List (List ℕ) → Role
 
--- a role that borrows its dest
+-- the role of a part, with its borrowed dest as a value
 abbrev pub role_in : Part → Role
 role_in part.Local = Local
 role_in part.Input = Input

@@ -15,7 +15,7 @@ use llb_mount::Shown;
 use llb_ops::{Action, Kind, Mount};
 use llb_tree::Tree;
 
-/// Returns the outputs of what all micro-steps of a vertex left.
+/// Returns the outputs of a vertex, from its workspace after all its micro-steps.
 pub(crate) fn outputs_of(own: Own, outputs: Vec<Tree>, vertex: &Vertex) -> Vec<Tree>
     requires { outputs.items ≡ replicate (length outputs.items) empty_tree }
     ensures { result.items ≡ outputs_of (record (program_of vertex.now) { outputs = length outputs.items }) (own_of own) }

@@ -178,9 +178,9 @@ kind_outputs _ = 0
 abbrev pub output_count : Op → ℕ
 output_count op = kind_outputs op.kind
 
--- ---- what is asked of one kind alone
+-- ---- properties of ops of one kind
 
--- a property of the source that an op is, which holds of any other op
+-- a source op has the property; so has an op of any other kind
 abbrev pub OfSource : (SourceOp → Type 0) → Option Kind → Type 0
 OfSource P (Some (Source s)) = P s
 OfSource P _ = ⊤

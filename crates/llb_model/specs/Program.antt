@@ -329,7 +329,7 @@ abbrev pub tried : Work → Result Workspace VertexFault → Left
 tried work (Ok workspace) = no_fault (record work { own = workspace })
 tried work (Err f) = record { work = work; fault = Some f }
 
--- what micro-step k leaves of a work
+-- the work after micro-step k, and its fault, if it has one
 unfoldable pub micro_step : ℕ → MicroStep → Work → Left
 micro_step k ReadLocal work = no_fault work
 micro_step k (Act action) work = tried work (act_on k action work.own)

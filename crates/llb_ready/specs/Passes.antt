@@ -18,6 +18,6 @@ capacity_of q = ruled_capacity q.queue
 abbrev pub IsReadyPassOf : ReadyQueue → ReadyPass → Type 0
 IsReadyPassOf q p = IsPassOf q.queue p.pass × ((hand_of p).room ≡ capacity_of q)
 
--- A pass is whole if no part of it is with another pass.
+-- A pass is whole if it is not split.
 abbrev pub IsWhole : ReadyPass → Type 0
 IsWhole p = HasAll (hand_of p)

@@ -98,7 +98,7 @@ fn is_among(lack: &str, came: &[String]) -> bool {
     false
 }
 
-// Whether each of the faults that have to come is among those that came.
+// Returns whether each expected fault came.
 fn all_came(lacks: &str, came: &[String]) -> bool {
     for lack in lacks.split(" and ") {
         if !is_among(lack, came) {

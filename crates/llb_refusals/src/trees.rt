@@ -73,7 +73,7 @@ impl OnTree {
 }
 
 impl OnTree {
-    // The answer of the call.
+    // Makes the call, and returns its answer.
     fn answered(&mut self, alloc: Global) -> Answer {
         let (tree, path) = (&mut self.tree, &self.path);
         match self.call {

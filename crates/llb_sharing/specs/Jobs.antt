@@ -43,6 +43,6 @@ pub record LandsHere (b : BoardValue) (w : ℕ) (x : Execution) (o : OutcomeValu
   pub whole : IsOutcome (given_to w x.vertex o.job) o.count o.left
   pub only : (p : OutcomeValue) → p.job ≡ given_to w x.vertex o.job → IsOutcome p.job p.count p.left → p ≡ credited_to w x.vertex o
 
--- what is worked out over graph g lands on the board
+-- an outcome that was worked out over graph g lands on the board
 abbrev pub WorkedElsewhereLands : Numbered → BoardValue → Type 0
 WorkedElsewhereLands g b = (ls : List Local) (v w : ℕ) (x : Execution) (o : OutcomeValue) → IsWorkedElsewhere g ls v b w x o → LandsHere b w x o

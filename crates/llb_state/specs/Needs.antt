@@ -38,7 +38,7 @@ unless_held needs (Some k) = Err (claim.Held k)
 abbrev pub places_taken : Leases → List Need → List Instance
 places_taken out needs = map (λ (n : Need). cache.place_for out n.key) needs
 
--- a cache that is wanted, as the model has it
+-- a wanted cache, as a need of the model
 abbrev pub need_of : Wanted → Need
 need_of w = record { mount = w.mount; key = w.key; input = w.input }
 

@@ -73,7 +73,7 @@ worked steps x trees = worked_by x trees (next_step steps x)
 abbrev pub Written : Type 0
 Written = Execution × List Row × Reply
 
--- the same with the trees written to the rows of the caches
+-- the result of a micro-step, with its trees written to the rows of the caches
 abbrev pub written_by : List Row → List Instance → Result Worked StepFault → Result Written StepFault
 written_by rows ps (Ok w) = Ok (w.execution, put_each rows ps w.trees, w.reply)
 written_by rows ps (Err e) = Err e

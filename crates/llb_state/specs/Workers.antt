@@ -38,7 +38,7 @@ Fits b ws = ws.supplies ≡ map (needed b) ws.workers
 abbrev pub state_in : VerticesValue → WorkersValue → State
 state_in vs ws = record { statuses = vs.statuses; workers = ws.workers; store = store_of ws.rows }
 
--- what the table gives for a claim and a step, with the cause as a fault
+-- the table's answer to a claim of vertex v by worker w on this state
 abbrev pub claim_in : VerticesValue → WorkersValue → ℕ → ℕ → Result (State × Reply) ClaimFault
 claim_in vs ws w v = (claim_grant vs.build (state_in vs ws) w v)
 

@@ -12,7 +12,7 @@ use std::alloc::{AllocError, Global};
 use std::collections::BTreeSet;
 use std::marker::Model;
 
-// What the breakpoints of a list wait for.
+// The breakpoints of a list, by what they wait for.
 #[derive(Drop)]
 struct Kinds {
     /// The vertices with a breakpoint at their claims.

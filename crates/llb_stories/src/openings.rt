@@ -82,7 +82,7 @@ fn left(rt: &impl Abort, alloc: Global, definition: &str, events: &str) -> Cache
     caches
 }
 
-// An empty instance of each key, in that order.
+// Makes caches that have an empty instance of each key, in that order.
 fn in_order(rt: &impl Abort, alloc: Global, rows: &[CacheRow]) -> Caches {
     let needs = needs_of(rt, alloc, rows);
     let mut caches = Caches::new(alloc);

@@ -38,7 +38,7 @@ fn say(rt: &impl Abort, alloc: Global, stepper: &mut Stepper, line: &str, out: &
     }
 }
 
-// Whether the commands of a transcript print what comes after them.
+// Returns whether the commands of a transcript print the lines that follow them.
 pub(crate) fn is_told(rt: &impl Abort, alloc: Global, stepper: &mut Stepper, told: &str) -> bool {
     let mut out = Vec::new(alloc);
     for line in told.lines() {

@@ -10,7 +10,7 @@ abbrev pub ArePlain : Build → List Bool → Type 0
 ArePlain b marks = (v : ℕ) → unwrap_or (slice_get marks v) false ≡ is_plain b v
 
 module _ {L : Type 0} where
-  -- the whole pass of the queue, for each of n workers a list and room for a thread, and the marks of the vertices
+  -- what n workers need: the whole pass of the queue, a list and room for a thread for each, and the marks of the plain vertices
   pub record IsSupplyFor (b : Build) (n : ℕ) (s : Supply L) : Type 0 where
     pub pass : IsUncut s.queue s.pass
     pub lists : vec_len s.lists ≡ n
