@@ -224,8 +224,8 @@ class WithProgram(Folder):
                     self.assertEqual((done.returncode, done.stderr), (0, b""), given)
 
     def test_each_line_for_173_is_accepted(self):
-        lines = [re.sub("[VWI]", "0", row.line) for row in faults.read_page().lines[173]]
-        self.assertEqual((len(set(lines)), lines[-1]), (14, "quit"))
+        lines = [re.sub("[VWIK]", "0", row.line) for row in faults.read_page().lines[173]]
+        self.assertEqual((len(set(lines)), lines[-1]), (18, "quit"))
         answers = self.output("step", EXAMPLES / "first-run.definition", given="\n".join(lines).encode())
         self.assertNotIn(b"fault 173", answers)
 
