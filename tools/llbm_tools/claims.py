@@ -3,7 +3,8 @@
 In: the sources in crates/. `tools/claims STATEMENT` prints every definition that a statement depends on, nearest first,
 each with its file and line, then the types of src/ that they name, and the number of lines in each file; STATEMENT is a
 column of the table in docs/CLAIMS.md: aim, load, assemble, disassemble, run, show, asm, dis, step or program.
-`--bodies` prints the wrong bodies that the prover refuses, each with its file and its function. `--write` writes the
+`--first` prints the definitions that docs/CLAIMS.md has read first, in its order, each below its question. `--bodies`
+prints the wrong bodies that the prover refuses, each with its file and its function. `--write` writes the
 tables in docs/CLAIMS.md from the sources: for each statement the number of lines to read in each crate, and the number
 of wrong bodies of each crate. `--check` compares the page with the sources.
 
@@ -25,6 +26,8 @@ from llbm_tools.streams import exit_status
 
 PAGE = ROOT / "docs" / "CLAIMS.md"
 COLUMNS = 160
+FILE = re.compile(r"`(?:(\w+)/specs/)?(\w+)\.antt`")
+QUESTION = re.compile(r"- `(\w+)`: (.*)")
 FUNCTION = re.compile(r"\s*(?:pub(?:\(\w+\))? )?(?:const |unsafe )?fn (\w+)")
 STATEMENTS = {
     "aim": ("llb_commands", "laws.rt", "aim"),
@@ -44,6 +47,28 @@ def resting(library: Library, statement: str) -> tuple[list[Definition], list[st
     """Returns the definitions and the types of src/ that a statement depends on."""
     crate, file, name = STATEMENTS[statement]
     return library.cone(*contract(library.root / "crates" / crate / "src" / file, name))
+
+
+def first(library: Library) -> list[tuple[Definition, str]]:
+    """Returns the definitions that the page has read first, in its order, each with its question.
+
+    A group of them begins with a paragraph that names their files; one without a crate is in the crate before it.
+    """
+    known = {(one.crate, one.file, one.name): one for one in resting(library, "aim")[0]}
+    section = PAGE.read_text("utf-8").partition("\n## The definitions to read first\n")[2].partition("\n### ")[0]
+    found: list[tuple[Definition, str]] = []
+    files: list[tuple[str, str]] = []
+    for part in re.split(r"\n\n|\n(?=- )", section):
+        text = " ".join(part.split())
+        if asked := QUESTION.fullmatch(text):
+            keys = [(*file, asked[1]) for file in files]
+            found += [(known[key], asked[2]) for key in keys if key in known][:1]
+        elif text.startswith("**"):
+            crate, files = "", []
+            for named, file in FILE.findall(text):
+                crate = named or crate
+                files.append((crate, file))
+    return found
 
 
 def counted(definitions: list[Definition]) -> dict[tuple[str, str], int]:
@@ -164,6 +189,13 @@ def show(library: Library, statement: str) -> None:
         print(f"{count:5} {crate}/specs/{file}.antt")
 
 
+def show_first(library: Library) -> None:
+    """Prints the definitions that the page has read first, each below its question."""
+    for one, question in first(library):
+        print(f"{one.name}: {question}\n{one.crate}/specs/{one.file}.antt:{one.first}")
+        print("\n".join(one.lines), end="\n\n")
+
+
 def parse_options() -> argparse.Namespace:
     """Parses the command line."""
     parser = argparse.ArgumentParser(
@@ -173,6 +205,7 @@ def parse_options() -> argparse.Namespace:
     what.add_argument(
         "statement", metavar="STATEMENT", nargs="?", choices=[*STATEMENTS], help=f"one of {', '.join(STATEMENTS)}"
     )
+    what.add_argument("--first", action="store_true", help="print the definitions to read first")
     what.add_argument("--bodies", action="store_true", help="print the wrong bodies that the prover refuses")
     what.add_argument("--write", action="store_true", help="write the tables in docs/CLAIMS.md")
     what.add_argument("--check", action="store_true", help="compare them with the sources")
@@ -183,7 +216,9 @@ def work(library: Library, options: argparse.Namespace) -> int:
     """Does what the command line asks for, and returns the exit status."""
     if options.write or options.check:
         return write_or_check(library, options.write)
-    if options.bodies:
+    if options.first:
+        show_first(library)
+    elif options.bodies:
         print("\n".join(bodies(library)))
     else:
         show(library, options.statement)

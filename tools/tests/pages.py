@@ -6,7 +6,7 @@ from collections.abc import Iterator
 from pathlib import Path
 
 from llbm_tools import proved
-from llbm_tools.claims import resting
+from llbm_tools.claims import first, resting
 from llbm_tools.definitions import Library
 from tests.base import ROOT
 
@@ -184,6 +184,7 @@ class Reading(unittest.TestCase):
         self.assertLessEqual(set(names), rests_on.keys())
         self.assertEqual(len(names), len(set(names)))
         self.assertIn(f"Read these {len(names)} ", text)
+        self.assertEqual([one.name for one, _ in first(Library())], names)
 
 
 class Architecture(unittest.TestCase):

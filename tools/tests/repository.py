@@ -260,6 +260,16 @@ class Claims(unittest.TestCase):
         for name in (b"pub record Aim ", b"unfoldable pub table : ", b"abbrev pub outcome : ", b"pub record Replays "):
             self.assertIn(name, done.stdout)
 
+    def test_the_definitions_to_read_first_are_below_their_questions(self):
+        done = run("claims", "--first")
+        self.assertEqual((done.returncode, done.stderr), (0, b""))
+        self.assertRegex(done.stdout, rb"\AAim: .*\?\nllb_commands/specs/Aim\.antt:[0-9]+\n-- ")
+
+    def test_the_wrong_bodies_are_listed_with_their_functions(self):
+        done = run("claims", "--bodies")
+        self.assertEqual((done.returncode, done.stderr), (0, b""))
+        self.assertIn(b"locked key granted twice (`search.rt`, `look_up`)", b" ".join(done.stdout.split()))
+
     def test_an_unknown_statement_is_refused(self):
         done = run("claims", "nothing")
         self.assertEqual(done.returncode, 2)
