@@ -1,5 +1,6 @@
 -- From what the checks find among linked rows to the refusals of the rows.
-use Rattle.std.proofs.Common.{◌≡◌, ◌↔◌, ℕ, ◌<◌, ◌≤◌, Bool, List, [], length, map, get_or, Option, Some, None, IfSome, refl, inl, inr, sym, ◌∙◌, ap, subst, arith}
+use Rattle.std.proofs.Common.{◌≡◌, ◌↔◌, ℕ, ◌<◌, ◌≤◌, Bool, true, false, IsTrue, List, [], length, map, get_or}
+use Rattle.std.proofs.Common.{Option, Some, None, IfSome, refl, inl, inr, sym, ◌∙◌, ap, subst, arith}
 use Rattle.std.proofs.lemmas.List.{length-map, get_or_default}
 use Rattle.std.specs.List.{All}
 use Rattle.std.specs.Option.{IfNone}
@@ -16,7 +17,7 @@ use Rattle.llb_loader.specs.Graph.{Numbered, IsGraph}
 use Rattle.llb_loader.specs.Rows.{lists, inputs, InRange, Reached}
 use Rattle.llb_loader.specs.Placing.{IsMarked}
 use Rattle.llb_loader.specs.Numbering.{IsNumbering, HasCycle}
-use Rattle.llb_loader.specs.RowLookup.{IsTerminal, terminal_in, row_named, rows_named, graph_of}
+use Rattle.llb_loader.specs.RowLookup.{AllSame, Collides, IsTerminal, terminal_in, row_named, rows_named, graph_of}
 use Rattle.llb_loader.specs.Features.{feature_of}
 use Rattle.llb_loader.specs.Rules.{IsBelow, output_count, MeetsRules}
 use Rattle.llb_loader.specs.Linking.{Plan, plan, numbered_of, op_at, input_at, links_in, Refused, GraphOf}
@@ -24,6 +25,7 @@ use Rattle.llb_loader.specs.Linking.{IsApart, IsStarted, IsNamed, IsPlanOf, Reac
 use Rattle.llb_loader.specs.Checks.{NamesAll, RefusesStart, RefusesUnknown, RefusesFeature, RefusesRule, RefusesIndex, FitsAll, asked_of}
 use Rattle.llb_loader.specs.Building.{IsBuildable, AreBuilt, edge_to}
 use Rattle.llb_loader.specs.Stages.{plan_in, IsLinked, IsLinkedFrom}
+use Rattle.llb_loader.proofs.Parts.{op_read}
 use Rattle.llb_loader.proofs.Plans.{in_range}
 use Rattle.llb_loader.proofs.Refusals.{started_below, planned, unplanned, refused_by, refuses_unknown, all_named}
 use Rattle.llb_loader.proofs.Refusals.{refuses_feature, refuses_rule, refuses_index, asked_linked, asked_there, indexes_fit}
@@ -92,10 +94,14 @@ module _ (l : Linked) (is : IsLinked l) (ops : List Op) (links : List (Vec ℕ))
 
   -- a cycle refuses the rows
   pub cyclic : (found : Option (Vec ℕ)) → found ≡ None → IfNone found (HasCycle (lists links) l.start) → Refused l.rows.now l.ops.items Cycle
-  cyclic found none h = refused_by l.rows.now l.ops.items (plan_in l) Cycle is.planned
-      (is.named, subst (λ (g : List (List ℕ)). HasCycle g l.start) planned_links (subst (λ (o : Option (Vec ℕ)). IfNone o (HasCycle (lists links) l.start)) none h))
+  cyclic found none h = refused_by l.rows.now l.ops.items (plan_in l) Cycle is.planned (
+    is.named,
+    subst (λ (g : List (List ℕ)). HasCycle g l.start) planned_links
+        (subst (λ (o : Option (Vec ℕ)). IfNone o (HasCycle (lists links) l.start)) none h),
+  )
 
-  module _ (found : Option (Vec ℕ)) (order : Vec ℕ) (some : found ≡ Some order) (numbering : IfSome found (λ o. IsNumbering (lists links) l.start o.items)) where
+  module _ (found : Option (Vec ℕ)) (order : Vec ℕ) (some : found ≡ Some order)
+      (numbering : IfSome found (λ o. IsNumbering (lists links) l.start o.items)) where
     ordered : IsOrdered (plan_in l) order.items
     ordered = record {
       named = is.named;
@@ -149,64 +155,91 @@ module _ (l : Linked) (is : IsLinked l) (ops : List Op) (links : List (Vec ℕ))
         }
 
 -- what refuses linked rows refuses those that they are linked from
-pub refused_from : (rows : List Row) (ops : List Op) (l : Linked) (e : LoadFault) → IsLinkedFrom rows ops l → Refused l.rows.now l.ops.items e → Refused rows ops e
-refused_from rows ops l e from r = subst (λ (xs : List Row). Refused xs ops e) from.same_rows (subst (λ (xs : List Op). Refused l.rows.now xs e) from.same_ops r)
+pub refused_from : (rows : List Row) (ops : List Op) (l : Linked) (e : LoadFault) → IsLinkedFrom rows ops l
+    → Refused l.rows.now l.ops.items e → Refused rows ops e
+refused_from rows ops l e from r = subst (λ (xs : List Row). Refused xs ops e) from.same_rows
+    (subst (λ (xs : List Op). Refused l.rows.now xs e) from.same_ops r)
 
 -- the graph of linked rows is that of the rows that they are linked from
-pub graph_from : (rows : List Row) (ops : List Op) (l : Linked) (g : Numbered) → IsLinkedFrom rows ops l → GraphOf l.rows.now l.ops.items g → GraphOf rows ops g
-graph_from rows ops l g from r = subst (λ (xs : List Row). GraphOf xs ops g) from.same_rows (subst (λ (xs : List Op). GraphOf l.rows.now xs g) from.same_ops r)
+pub graph_from : (rows : List Row) (ops : List Op) (l : Linked) (g : Numbered) → IsLinkedFrom rows ops l
+    → GraphOf l.rows.now l.ops.items g → GraphOf rows ops g
+graph_from rows ops l g from r = subst (λ (xs : List Row). GraphOf xs ops g) from.same_rows
+    (subst (λ (xs : List Op). GraphOf l.rows.now xs g) from.same_ops r)
 
--- ---- the terminal's first input
+-- ---- the names in the rows
 
-module _ (rows : List Row) (ops : List Op) (t : ℕ) (apart : IsApart rows) (terminal : IsTerminal rows t) (found : t ≡ terminal_in rows) where
+-- the links that are shown are those of the ops, which were read as they are
+pub links_are : (rows : List Row) (t : ℕ) (ops read : List Op) (links shown : List (Vec ℕ)) → shown ≡ links → lists links ≡ graph_of rows t read → read ≡ ops
+    → lists shown ≡ graph_of rows t ops
+links_are rows t ops read links shown e f g = ap (λ (xs : List (Vec ℕ)). lists xs) e ∙ f ∙ ap (graph_of rows t) g
+
+module _ (rows : List Row) (ops : List Op) (t : ℕ) (several : AllSame rows → IsTrue false) (apart : (k : ℕ) → ¬ Collides rows k)
+    (terminal : IsTerminal rows t) (found : t ≡ terminal_in rows) (len : length ops ≡ length rows) (op : Op) (at : op ≡ get_or ops t op) where
+  last : op_at ops t ≡ op
+  last = op_read ops t op (let h = terminal.holds.0 in omega (arith, h, len)) at
+
+  are_apart : IsApart rows
+  are_apart = record { several = λ a. (let t : IsTrue false = several a in let x : false ≡ true = t in cc); apart = apart }
+
   start_refuses : (e : LoadFault) → RefusesStart rows t (op_at ops t) e → Refused rows ops e
   start_refuses e (inl (same, none)) = subst (λ (x : LoadFault). Refused rows ops x) (sym same) (
-    apart,
+    are_apart,
     subst (λ (n : ℕ). IsTerminal rows n) found terminal,
     subst (λ (n : ℕ). (op_at ops n).inputs ≡ []) found none,
   )
   start_refuses e (inr (same, some, none)) = subst (λ (x : LoadFault). Refused rows ops x) (sym same)
       (refused_by rows ops (plan rows ops t 0) (UnknownDigest t 0) (unplanned rows ops t found none) (inl (record {
-        result = record { apart = apart; terminal = terminal; input = some };
+        result = record { apart = are_apart; terminal = terminal; input = some };
         unknown = none;
         row = refl;
         input = refl;
       })))
 
   -- where the terminal has no input, or its first one names no row, the rows are refused
-  pub refused_start : (op : Op) → op_at ops t ≡ op → (e : LoadFault) → RefusesStart rows t op e → Refused rows ops e
-  refused_start op read e r = start_refuses e (subst (λ (o : Op). RefusesStart rows t o e) (sym read) r)
+  pub refused_start : (e : LoadFault) → RefusesStart rows t op e → Refused rows ops e
+  refused_start e r = start_refuses e (subst (λ (o : Op). RefusesStart rows t o e) (sym last) r)
 
-  -- where it names a row, that row is the result's
-  pub started : (op : Op) (s : ℕ) → op_at ops t ≡ op → 0 < length op.inputs → row_named rows t (input_at op 0).digest ≡ Some s → IsStarted (plan rows ops t s)
-  started op s read some named = record {
-    result = record { apart = apart; terminal = terminal; input = subst (λ (o : Op). 0 < length o.inputs) (sym read) some };
-    start = subst (λ (o : Op). row_named rows t (input_at o 0).digest ≡ Some s) (sym read) named;
-  }
+  module _ (s : ℕ) (some : 0 < length op.inputs) (named : row_named rows t (input_at op 0).digest ≡ Some s)
+      (links : List (Vec ℕ)) (same : lists links ≡ graph_of rows t ops) (seen : List Bool) (marked : (k : ℕ) → IsMarked seen k ↔ Reached (lists links) s k)
+      (read : List Op) (same_ops : read ≡ ops) (marks : List Bool) (same_marks : marks ≡ seen) where
+    started : IsStarted (plan rows ops t s)
+    started = record {
+      result = record { apart = are_apart; terminal = terminal; input = subst (λ (o : Op). 0 < length o.inputs) (sym last) some };
+      start = subst (λ (o : Op). row_named rows t (input_at o 0).digest ≡ Some s) (sym last) named;
+    }
 
-  module _ (op : Op) (s : ℕ) (read : op_at ops t ≡ op) (some : 0 < length op.inputs) (named : row_named rows t (input_at op 0).digest ≡ Some s)
-      (links : List (Vec ℕ)) (same : lists links ≡ graph_of rows t ops) (seen : List Bool) (marked : (k : ℕ) → IsMarked seen k ↔ Reached (lists links) s k) where
     reached_rows : (k : ℕ) → IsMarked seen k ↔ ReachedRow (plan rows ops t s) k
     reached_rows = subst (λ (g : List (List ℕ)). (k : ℕ) → IsMarked seen k ↔ Reached g s k) same marked
 
     is_plan : IsPlanOf rows ops (plan rows ops t s)
-    is_plan = planned rows ops t s found (started op s read some named).start
+    is_plan = planned rows ops t s found started.start
 
     -- the first input of a marked row that names no row refuses the rows
-    pub refused_unknown : (e : LoadFault) → RefusesUnknown rows t ops (IsMarked seen) e → Refused rows ops e
-    refused_unknown e r = refused_by rows ops (plan rows ops t s) e is_plan
-        (refuses_unknown (plan rows ops t s) (IsMarked seen) (started op s read some named) reached_rows e r)
+    pub refused_unknown : (e : LoadFault) → RefusesUnknown rows t read (IsMarked marks) e → Refused rows ops e
+    refused_unknown e r = refused_by rows ops (plan rows ops t s) e is_plan (refuses_unknown (plan rows ops t s) (IsMarked seen) started reached_rows e
+        (subst (λ (xs : List Op). RefusesUnknown rows t xs (IsMarked seen) e) same_ops
+        (subst (λ (xs : List Bool). RefusesUnknown rows t read (IsMarked xs) e) same_marks r)))
 
     -- where there is none, the plan is that of the rows, and each input of a reached row names a row
-    pub resolved : ((k : ℕ) → IsMarked seen k → NamesAll rows t (op_at ops k) (length (op_at ops k).inputs))
+    pub resolved : ((k : ℕ) → IsMarked marks k → NamesAll rows t (op_at read k) (length (op_at read k).inputs))
         → IsPlanOf rows ops (plan rows ops t s) × IsNamed (plan rows ops t s) × ((k : ℕ) → IsMarked seen k ↔ ReachedRow (plan rows ops t s) k)
-    resolved names = (is_plan, all_named (plan rows ops t s) (IsMarked seen) (started op s read some named) reached_rows names, reached_rows)
+    resolved names = (
+      is_plan,
+      all_named (plan rows ops t s) (IsMarked seen) started reached_rows
+          (subst (λ (xs : List Op). (k : ℕ) → IsMarked seen k → NamesAll rows t (op_at xs k) (length (op_at xs k).inputs)) same_ops
+          (subst (λ (xs : List Bool). (k : ℕ) → IsMarked xs k → NamesAll rows t (op_at read k) (length (op_at read k).inputs)) same_marks names)),
+      reached_rows,
+    )
 
 -- ---- the graph of linked rows in which nothing is refused
 
 -- the terminal has an op
 pub terminal_there : (l : Linked) → IsLinked l → l.terminal < length l.ops.items
 terminal_there l is = let t = is.named.started.result.terminal.holds.0 in let n = is.len in omega (arith, t, n)
+
+-- there is a list of links for each row
+pub links_there : (l : Linked) → IsLinked l → length l.links.items ≡ length l.rows.now
+links_there l is = graph_len l.rows.now l.ops.items l.terminal l.links.items is.len is.links
 
 -- the result's row is one of the rows
 pub start_there : (l : Linked) → IsLinked l → l.start < length l.rows.now

@@ -20,5 +20,9 @@ returns-in_err-order-clause-refused c =
 
 pub returns-clause-graph : goal.returns-clause-graph
 returns-clause-graph c = MatchResult-weaker c.into_graph.result c.into_graph.ensures.graph
-    (λ g x. (c.in_ok-ops.ops.items, c.in_ok-ops.ensures.read, graph_from c.args.rows.now c.in_ok-ops.ops.items c.in_ok-linked.linked g c.in_ok-linked.ensures.linked x))
+    (λ g x. (
+      c.in_ok-ops.ops.items,
+      c.in_ok-ops.ensures.read,
+      graph_from c.args.rows.now c.in_ok-ops.ops.items c.in_ok-linked.linked g c.in_ok-linked.ensures.linked x,
+    ))
     (λ e t. t)

@@ -11,7 +11,7 @@ use Rattle.llb_loader.specs.Linking.{Plan, op_at, input_at}
 use Rattle.llb_loader.specs.Stages.{plan_in}
 use Rattle.llb_loader.specs.Building.{IsBuildable, AreBuilt, edge_to}
 use Rattle.llb_loader.proofs.Parts.{op_read}
-use Rattle.llb_loader.proofs.Stages.{graph_len, graph_below, terminal_there, start_there, order_below, last_input, ops_buildable, is_numbered, graph_of_rows}
+use Rattle.llb_loader.proofs.Stages.{links_there, graph_below, terminal_there, start_there, order_below, last_input, ops_buildable, is_numbered, graph_of_rows}
 use Rattle.llb_loader.proofs.linking.Linked.into_graph.Goals as goal
 
 pub ranks_of-requires-clause-numbering : goal.ranks_of-requires-clause-numbering
@@ -21,8 +21,16 @@ ranks_of-requires-clause-numbering c = subst (λ (xs : List (Vec ℕ)). IsNumber
 
 pub ranks_of-requires-clause-range : goal.ranks_of-requires-clause-range
 ranks_of-requires-clause-range c = order_below c.args.self c.requires.linked c.args.order.now c.requires.whole c.requires.short (length c.deref.result.now)
-    (let a = graph_len c.args.self.rows.now c.args.self.ops.items c.args.self.terminal c.args.self.links.items c.requires.linked.len c.requires.linked.links in
+    (let a = links_there c.args.self c.requires.linked in
     let e = ap (λ (xs : List (Vec ℕ)). length xs) c.deref.ensures.value in omega (arith, a, e))
+
+pub index-requires : goal.index-requires
+index-requires c =
+    let b = start_there c.args.self c.requires.linked in
+    let n = c.in_ok-ranks.ensures.len in
+    let a = links_there c.args.self c.requires.linked in
+    let e = ap (λ (xs : List (Vec ℕ)). length xs) c.deref.ensures.value in
+    omega (arith, a, b, e, n)
 
 pub first_edge-result-requires-clause-some : goal.first_edge-result-requires-clause-some
 first_edge-result-requires-clause-some c = (last_input c.args.self c.requires.linked c.args.order.now c.requires.whole c.requires.short c.index-2.result.now
@@ -35,7 +43,7 @@ first_edge-result-requires-clause-index c = (last_input c.args.self c.requires.l
 pub first_edge-result-requires-clause-vertex : goal.first_edge-result-requires-clause-vertex
 first_edge-result-requires-clause-vertex c =
     let s : c.args.self.start < length c.in_ok-ranks.ranks.items = (let b = start_there c.args.self c.requires.linked in let n = c.in_ok-ranks.ensures.len in
-    let a = graph_len c.args.self.rows.now c.args.self.ops.items c.args.self.terminal c.args.self.links.items c.requires.linked.len c.requires.linked.links in
+    let a = links_there c.args.self c.requires.linked in
     let e = ap (λ (xs : List (Vec ℕ)). length xs) c.deref.ensures.value in omega (arith, a, b, e, n)) in
     let small : All (λ r. r < 65_536) c.in_ok-ranks.ranks.items = c.in_ok-ranks.ensures.small 65_536 (omega arith)
     (let s = c.requires.short in let f = c.requires.linked.few in omega (arith, s, f)) in
@@ -43,14 +51,14 @@ first_edge-result-requires-clause-vertex c =
 
 pub vertices_of-requires-clause-links : goal.vertices_of-requires-clause-links
 vertices_of-requires-clause-links c =
-    let a = graph_len c.args.self.rows.now c.args.self.ops.items c.args.self.terminal c.args.self.links.items c.requires.linked.len c.requires.linked.links in
+    let a = links_there c.args.self c.requires.linked in
     let e = ap (λ (xs : List (Vec ℕ)). length xs) c.deref-2.ensures.value in
     omega (arith, a, e)
 
 pub vertices_of-requires-clause-range : goal.vertices_of-requires-clause-range
 vertices_of-requires-clause-range c = subst (λ (xs : List (Vec ℕ)). InRange (lists xs) (length c.deref-3.result.now)) (sym c.deref-2.ensures.value)
     (graph_below c.args.self.rows.now c.args.self.ops.items c.args.self.terminal c.args.self.links.items c.requires.linked.links (length c.deref-3.result.now)
-    (let a = graph_len c.args.self.rows.now c.args.self.ops.items c.args.self.terminal c.args.self.links.items c.requires.linked.len c.requires.linked.links in
+    (let a = links_there c.args.self c.requires.linked in
     let b = c.in_ok-ranks.ensures.len in let d = ap (λ (xs : List ℕ). length xs) c.deref-3.ensures.value in
     let e = ap (λ (xs : List (Vec ℕ)). length xs) c.deref.ensures.value in omega (arith, a, b, d, e)))
 
@@ -82,7 +90,7 @@ built_by p order ranks now links read vs e d b = subst (λ (r : List ℕ). AreBu
 pub of_parts-requires : goal.of_parts-requires
 of_parts-requires c =
     let s : c.args.self.start < length c.in_ok-ranks.ranks.items = (let b = start_there c.args.self c.requires.linked in let n = c.in_ok-ranks.ensures.len in
-    let a = graph_len c.args.self.rows.now c.args.self.ops.items c.args.self.terminal c.args.self.links.items c.requires.linked.len c.requires.linked.links in
+    let a = links_there c.args.self c.requires.linked in
     let e = ap (λ (xs : List (Vec ℕ)). length xs) c.deref.ensures.value in omega (arith, a, b, e, n)) in
     is_numbered c.args.self c.requires.linked c.args.order.now c.requires.whole c.requires.short c.in_ok-ranks.ranks.items c.in_ok-ranks.ensures.inverse
     c.in_ok-vertices.vertices.items c.in_ok-vertices.ensures.len
@@ -90,12 +98,13 @@ of_parts-requires c =
     c.in_ok-vertices.vertices.items c.deref-2.ensures.value c.deref-3.ensures.value c.in_ok-vertices.ensures.built) c.first_edge-result.result
     (result_is c.args.self.ops.items c.args.self.terminal c.args.self.start c.in_ok-ranks.ranks.items c.first_edge-result.result c.index.result.now
     c.index-2.result.now s c.index.ensures
-    (op_read c.args.self.ops.items c.args.self.terminal c.index-2.result.now (terminal_there c.args.self c.requires.linked) c.index-2.ensures) c.first_edge-result.ensures)
+    (op_read c.args.self.ops.items c.args.self.terminal c.index-2.result.now (terminal_there c.args.self c.requires.linked) c.index-2.ensures)
+    c.first_edge-result.ensures)
 
 pub returns-clause-graph : goal.returns-clause-graph
 returns-clause-graph c =
     let s : c.args.self.start < length c.in_ok-ranks.ranks.items = (let b = start_there c.args.self c.requires.linked in let n = c.in_ok-ranks.ensures.len in
-    let a = graph_len c.args.self.rows.now c.args.self.ops.items c.args.self.terminal c.args.self.links.items c.requires.linked.len c.requires.linked.links in
+    let a = links_there c.args.self c.requires.linked in
     let e = ap (λ (xs : List (Vec ℕ)). length xs) c.deref.ensures.value in omega (arith, a, b, e, n)) in
     graph_of_rows c.args.self c.requires.linked c.args.order.now c.requires.whole c.requires.short c.in_ok-ranks.ranks.items c.in_ok-ranks.ensures.inverse
     c.in_ok-vertices.vertices.items c.in_ok-vertices.ensures.len
@@ -103,5 +112,6 @@ returns-clause-graph c =
     c.in_ok-vertices.vertices.items c.deref-2.ensures.value c.deref-3.ensures.value c.in_ok-vertices.ensures.built) c.first_edge-result.result
     (result_is c.args.self.ops.items c.args.self.terminal c.args.self.start c.in_ok-ranks.ranks.items c.first_edge-result.result c.index.result.now
     c.index-2.result.now s c.index.ensures
-    (op_read c.args.self.ops.items c.args.self.terminal c.index-2.result.now (terminal_there c.args.self c.requires.linked) c.index-2.ensures) c.first_edge-result.ensures)
+    (op_read c.args.self.ops.items c.args.self.terminal c.index-2.result.now (terminal_there c.args.self c.requires.linked) c.index-2.ensures)
+    c.first_edge-result.ensures)
     c.in_ok-of_parts.field-0 c.in_ok-of_parts.ensures
