@@ -1,5 +1,5 @@
 -- From what the checks find among the marked rows to the refusals of the plan.
-use Rattle.std.proofs.Common.{◌≡◌, ◌≢◌, ℕ, ◌<◌, ◌≤◌, Bool, true, false, cond, eqb, List, [], ◌⊎◌, ◌↔◌, inl, inr, Option, Some, None, length}
+use Rattle.std.proofs.Common.{◌≡◌, ◌≢◌, ℕ, ◌<◌, ◌≤◌, Bool, false, cond, eqb, List, [], ◌⊎◌, ◌↔◌, inl, inr, Option, Some, None, length}
 use Rattle.std.proofs.Common.{get_or, map, refl, sym, ◌∙◌, ap, subst, arith, pos}
 use Rattle.std.proofs.lemmas.Bool.{cases_eq, cases_lt, cases_Bool, eq-eqb, ne_eqb}
 use Rattle.std.proofs.lemmas.List.{get_or-map}
@@ -17,13 +17,6 @@ use Rattle.llb_loader.specs.Linking.{Foremost, HasResult, IsStarted, IsNamed, Is
 use Rattle.llb_loader.specs.Linking.{Refused}
 use Rattle.llb_loader.specs.Checks.{NamesAll, RefusesUnknown, RefusesFeature, RefusesRule, RefusesIndex, FitsAll, FirstBad, asked_of, count_there}
 use Rattle.llb_loader.proofs.Plans.{named_below, in_range, graph_at, row_below, NamedAt, named_at}
-
--- a count that is tested not to be 0 is at least 1
-pub not_empty : (n : ℕ) → false ≡ eqb n 0 → 0 < n
-not_empty n e = elim (cases_lt 0 n) [
-  | inl l ↦ l
-  | inr g ↦ absurd (let z : n ≡ 0 = omega (arith, g) in let y : eqb n 0 ≡ true = eq-eqb n 0 z in let w : false ≡ true = e ∙ y in cc)
-]
 
 -- ---- the parts of a plan
 

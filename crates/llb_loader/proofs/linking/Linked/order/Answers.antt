@@ -1,7 +1,5 @@
-use Rattle.std.proofs.Common.{◌≡◌, ◌∙◌, ap, map, List, sym, arith}
+use Rattle.std.proofs.Common.{◌∙◌, arith}
 use Rattle.std.proofs.lemmas.Result.{err_from_is_err_and}
-use Rattle.llb_ops.specs.declared.op.Op.{Op}
-use Rattle.llb_loader.specs.Rules.{output_count}
 use Rattle.llb_loader.proofs.Stages.{below, lens, marked, limited, asked, there, cyclic, unsupported, invalid, bad_index, whole_order}
 use Rattle.llb_loader.proofs.linking.Linked.order.Goals as goal
 
