@@ -15,6 +15,7 @@ pub mod Refusals
 pub mod Builds
 pub mod Trees
 pub mod Whole
+pub mod Stages
 pub mod Single
 pub mod Lengths
 pub mod Executions

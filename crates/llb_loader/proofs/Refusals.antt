@@ -1,5 +1,5 @@
 -- From what the checks find among the marked rows to the refusals of the plan.
-use Rattle.std.proofs.Common.{◌≡◌, ◌≢◌, ℕ, ◌<◌, ◌≤◌, Bool, true, false, cond, eqb, List, [], ◌⊎◌, ◌↔◌, inl, inr, Option, Some, None, length}
+use Rattle.std.proofs.Common.{◌≡◌, ◌≢◌, ℕ, ◌<◌, ◌≤◌, Bool, false, cond, eqb, List, [], ◌⊎◌, ◌↔◌, inl, inr, Option, Some, None, length}
 use Rattle.std.proofs.Common.{get_or, map, refl, sym, ◌∙◌, ap, subst, arith, pos}
 use Rattle.std.proofs.lemmas.Bool.{cases_eq, cases_lt, cases_Bool, eq-eqb, ne_eqb}
 use Rattle.std.proofs.lemmas.List.{get_or-map}
@@ -17,13 +17,6 @@ use Rattle.llb_loader.specs.Linking.{Foremost, HasResult, IsStarted, IsNamed, Is
 use Rattle.llb_loader.specs.Linking.{Refused}
 use Rattle.llb_loader.specs.Checks.{NamesAll, RefusesUnknown, RefusesFeature, RefusesRule, RefusesIndex, FitsAll, FirstBad, asked_of, count_there}
 use Rattle.llb_loader.proofs.Plans.{named_below, in_range, graph_at, row_below, NamedAt, named_at}
-
--- a count that is tested not to be 0 is at least 1
-pub not_empty : (n : ℕ) → false ≡ eqb n 0 → 0 < n
-not_empty n e = elim (cases_lt 0 n) [
-  | inl l ↦ l
-  | inr g ↦ absurd (let z : n ≡ 0 = omega (arith, g) in let y : eqb n 0 ≡ true = eq-eqb n 0 z in let w : false ≡ true = e ∙ y in cc)
-]
 
 -- ---- the parts of a plan
 
@@ -67,10 +60,10 @@ refused_by rows ops p e of r = subst (λ (q : Plan). Refuses q e) of.same r
 -- ---- the first refusals
 
 -- where the marked rows are the reached ones, the first input of theirs that names no row refuses the plan
-pub refuses_unknown : (rows : List Row) (ops : List Op) (t s : ℕ) (Marked : ℕ → Type 0) → IsStarted (plan rows ops t s)
-    → ((k : ℕ) → Marked k ↔ ReachedRow (plan rows ops t s) k) → (e : LoadFault) → RefusesUnknown rows t ops Marked e → Refuses (plan rows ops t s) e
-refuses_unknown rows ops t s Marked started exact e (k, i, same, marked, first, before) =
-    subst (λ (x : LoadFault). Refuses (plan rows ops t s) x) (sym same) (inr (
+pub refuses_unknown : (p : Plan) (Marked : ℕ → Type 0) → IsStarted p
+    → ((k : ℕ) → Marked k ↔ ReachedRow p k) → (e : LoadFault) → RefusesUnknown p.rows p.terminal p.ops Marked e → Refuses p e
+refuses_unknown p Marked started exact e (k, i, same, marked, first, before) =
+    subst (λ (x : LoadFault). Refuses p x) (sym same) (inr (
       started,
       record {
         holds = record { input = record { reached = (exact k).0 marked; here = first.here }; unknown = first.unknown };
@@ -80,7 +73,7 @@ refuses_unknown rows ops t s Marked started exact e (k, i, same, marked, first, 
             | inl q ↦ inr (
               sym q,
               (elim (cases_lt h i) [
-                | inl l ↦ absurd (first.before h l (subst (λ (n : ℕ). row_named rows t (input_at (op_at ops n) h).digest ≡ None) q u.unknown))
+                | inl l ↦ absurd (first.before h l (subst (λ (n : ℕ). row_named p.rows p.terminal (input_at (op_at p.ops n) h).digest ≡ None) q u.unknown))
                 | inr m ↦ m
               ]),
             )
@@ -91,19 +84,19 @@ refuses_unknown rows ops t s Marked started exact e (k, i, same, marked, first, 
     ))
 
 -- where the inputs of each marked row name rows, those of each reached one do
-pub all_named : (rows : List Row) (ops : List Op) (t s : ℕ) (Marked : ℕ → Type 0) → IsStarted (plan rows ops t s)
-    → ((k : ℕ) → Marked k ↔ ReachedRow (plan rows ops t s) k) → ((k : ℕ) → Marked k → NamesAll rows t (op_at ops k) (length (op_at ops k).inputs))
-    → IsNamed (plan rows ops t s)
-all_named rows ops t s Marked started exact named = record {
+pub all_named : (p : Plan) (Marked : ℕ → Type 0) → IsStarted p
+    → ((k : ℕ) → Marked k ↔ ReachedRow p k) → ((k : ℕ) → Marked k → NamesAll p.rows p.terminal (op_at p.ops k) (length (op_at p.ops k).inputs))
+    → IsNamed p
+all_named p Marked started exact named = record {
   started = started;
   named = λ k i u. named k ((exact k).1 u.input.reached) i u.input.here u.unknown;
 }
 
 -- where the marked rows are the reached ones, the first of them that has a feature refuses the plan
-pub refuses_feature : (rows : List Row) (ops : List Op) (t s : ℕ) (order : List ℕ) (Marked : ℕ → Type 0) → IsOrdered (plan rows ops t s) order
-    → ((k : ℕ) → Marked k ↔ ReachedRow (plan rows ops t s) k) → (e : LoadFault) → RefusesFeature ops Marked e → Refuses (plan rows ops t s) e
-refuses_feature rows ops t s order Marked ordered exact e (k, f, same, marked, feature, before) =
-    subst (λ (x : LoadFault). Refuses (plan rows ops t s) x) (sym same) (
+pub refuses_feature : (p : Plan) (order : List ℕ) (Marked : ℕ → Type 0) → IsOrdered p order
+    → ((k : ℕ) → Marked k ↔ ReachedRow p k) → (e : LoadFault) → RefusesFeature p.ops Marked e → Refuses p e
+refuses_feature p order Marked ordered exact e (k, f, same, marked, feature, before) =
+    subst (λ (x : LoadFault). Refuses p x) (sym same) (
       order,
       ordered,
       record {
@@ -114,10 +107,10 @@ refuses_feature rows ops t s order Marked ordered exact e (k, f, same, marked, f
     )
 
 -- where the marked rows are the reached ones, the first of them that breaks a rule refuses the plan
-pub refuses_rule : (rows : List Row) (ops : List Op) (t s : ℕ) (order : List ℕ) (Marked : ℕ → Type 0) → IsSupported (plan rows ops t s) order
-    → ((k : ℕ) → Marked k ↔ ReachedRow (plan rows ops t s) k) → (e : LoadFault) → RefusesRule ops Marked e → Refuses (plan rows ops t s) e
-refuses_rule rows ops t s order Marked taken exact e (k, r, same, marked, broken, before) =
-    subst (λ (x : LoadFault). Refuses (plan rows ops t s) x) (sym same) (
+pub refuses_rule : (p : Plan) (order : List ℕ) (Marked : ℕ → Type 0) → IsSupported p order
+    → ((k : ℕ) → Marked k ↔ ReachedRow p k) → (e : LoadFault) → RefusesRule p.ops Marked e → Refuses p e
+refuses_rule p order Marked taken exact e (k, r, same, marked, broken, before) =
+    subst (λ (x : LoadFault). Refuses p x) (sym same) (
       order,
       taken,
       record {
@@ -246,10 +239,10 @@ module _ (p : Plan) (seen : List Bool) (exact : (k : ℕ) → IsMarked seen k �
   }
 
 -- where the marked rows are the reached ones, the first input looked at that has the index of no output refuses the plan
-pub refuses_index : (rows : List Row) (ops : List Op) (t s : ℕ) (order : List ℕ) (seen : List Bool) → IsValid (plan rows ops t s) order
-    → length ops ≡ length rows
-    → ((k : ℕ) → IsMarked seen k ↔ ReachedRow (plan rows ops t s) k) → (e : LoadFault)
-    → RefusesIndex ops (links_in (plan rows ops t s)) (map output_count ops) seen t e → Refuses (plan rows ops t s) e
-refuses_index rows ops t s order seen valid len exact e (k, i, same, h, first, before) =
-    subst (λ (x : LoadFault). Refuses (plan rows ops t s) x) (sym same)
-    (order, valid, foremost_bad (plan rows ops t s) seen exact valid.supported.ordered.named len k i first before)
+pub refuses_index : (p : Plan) (order : List ℕ) (seen : List Bool) → IsValid p order
+    → length p.ops ≡ length p.rows
+    → ((k : ℕ) → IsMarked seen k ↔ ReachedRow p k) → (e : LoadFault)
+    → RefusesIndex p.ops (links_in p) (map output_count p.ops) seen p.terminal e → Refuses p e
+refuses_index p order seen valid len exact e (k, i, same, h, first, before) =
+    subst (λ (x : LoadFault). Refuses p x) (sym same)
+    (order, valid, foremost_bad p seen exact valid.supported.ordered.named len k i first before)

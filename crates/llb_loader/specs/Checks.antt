@@ -1,9 +1,9 @@
 -- What the checks over the marked rows find: each looks at the rows in their order and stops at the first that fails.
-use Rattle.std.specs.Prelude.{◌≡◌, ◌≢◌, ℕ, ◌<◌, ◌==◌, Bool, false, cond, List, length, slice_index_or, Some, None}
+use Rattle.std.specs.Prelude.{◌≡◌, ◌≢◌, ℕ, ◌<◌, ◌==◌, ◌⊎◌, Bool, false, cond, List, [], length, slice_index_or, Some, None}
 use Rattle.llb_ops.specs.declared.op.Op.{Op}
 use Rattle.llb_loader.specs.declared.row.Row.{Row}
 use Rattle.llb_loader.specs.declared.fault.LoadFault.{LoadFault}
-use Rattle.llb_loader.specs.declared.fault.LoadFault.TheVariants.{UnknownDigest, Unsupported, Invalid, BadIndex}
+use Rattle.llb_loader.specs.declared.fault.LoadFault.TheVariants.{NoResult, UnknownDigest, Unsupported, Invalid, BadIndex}
 use Rattle.llb_loader.specs.declared.fault.Feature.{Feature}
 use Rattle.llb_loader.specs.declared.fault.Rule.{Rule}
 use Rattle.llb_loader.specs.Rows.{inputs}
@@ -11,6 +11,11 @@ use Rattle.llb_loader.specs.RowLookup.{row_named}
 use Rattle.llb_loader.specs.Linking.{op_at, input_at}
 use Rattle.llb_loader.specs.Features.{feature_of}
 use Rattle.llb_loader.specs.Rules.{MeetsRules, BreaksFirst, IsBelow}
+
+-- e says that the terminal's op has no input, or that its first one is the digest of no row
+abbrev pub RefusesStart : List Row → ℕ → Op → LoadFault → Type 0
+RefusesStart rows t op e = ((e ≡ NoResult) × (op.inputs ≡ []))
+    ⊎ ((e ≡ UnknownDigest t 0) × (0 < length op.inputs) × (row_named rows t (input_at op 0).digest ≡ None))
 
 -- the first n inputs of an op are digests of rows
 abbrev pub NamesAll : List Row → ℕ → Op → ℕ → Type 0

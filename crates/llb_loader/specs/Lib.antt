@@ -1,6 +1,6 @@
 -- Read first Load and Link (what loading returns), Linking (the graph of the rows, or the first fault) with Rows and Numbering, Graph (what is true of every
 -- graph), Features and Rules (what is not taken, and what an op has to be) with Mounts, MountTypes and Scripts, then Locals, Missing, Faults and Laws.
--- Checking, Checks, Placing, RowLookup, Reading, Building and KeyOrder are the parts of the code's own way.
+-- Checking, Checks, Stages, Placing, RowLookup, Reading, Building and KeyOrder are the parts of the code's own way.
 pub mod Rows
 pub mod Mounts
 pub mod MountTypes
@@ -19,6 +19,7 @@ pub mod Features
 pub mod Linking
 pub mod Reading
 pub mod Checks
+pub mod Stages
 pub mod Building
 pub mod Link
 pub mod Load

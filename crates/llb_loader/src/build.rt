@@ -46,6 +46,8 @@ pub(crate) fn vertices_of(
     Ok(vertices)
 }
 
+// Returns an empty op, to leave in the place of one that is taken out.
+
 fn no_op(alloc: Global) -> Op {
     Op {
         inputs: Many::new(Vec::new(alloc)),
@@ -53,6 +55,8 @@ fn no_op(alloc: Global) -> Op {
         extra: Bytes::new(Vec::new(alloc)),
     }
 }
+
+// Makes the vertex of an op whose inputs name these rows, under the numbers of the rows.
 
 fn vertex_of(
     alloc: Global,
@@ -91,6 +95,8 @@ fn script_in(alloc: Global, op: &Op) -> Result<Option<Script>, Memory>
     }
 }
 
+// Reads the script in the words of an exec; `None` if it has none.
+
 fn commands_in(alloc: Global, meta: &Option<Meta>) -> Result<Option<Script>, Memory>
     ensures { IfOk result (λ script. script ≡ commands_in meta.now) }
 {
@@ -107,6 +113,8 @@ fn commands_in(alloc: Global, meta: &Option<Meta>) -> Result<Option<Script>, Mem
         Err(_) => Ok(None),
     }
 }
+
+// Returns the edges of the op's inputs, in their order.
 
 fn edges_of(
     alloc: Global,

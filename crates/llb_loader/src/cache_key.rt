@@ -6,7 +6,7 @@ ghost use Rattle.std.specs.Option.{option_copied, option_cmp};
 ghost use Rattle.llb_loader.specs.Mounts.{key_of, seed_of, seed_by};
 ghost use Rattle.llb_loader.specs.KeyOrder.{seed_cmp};
 
-use crate::mount_type::cache_in;
+use crate::mounts::cache_in;
 use llb_ops::{Input, Mount};
 use std::cmp::Ordering;
 use std::marker::Model;

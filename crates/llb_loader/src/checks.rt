@@ -171,6 +171,8 @@ fn first_bad(op: &Op, named: &[usize], counts: &[usize], asked: usize) -> Option
     None
 }
 
+// Returns whether the input has the index of one of `count` outputs.
+
 fn is_output_of(count: usize, input: &Input) -> bool
     ensures { IsTrue result ↔ IsBelow count input.now.index }
 {

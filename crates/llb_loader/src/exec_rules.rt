@@ -41,6 +41,8 @@ pub(crate) fn broken_in_exec(
     broken_script(alloc, exec)
 }
 
+// Returns the first broken rule on what is run, whatever the inputs are.
+
 fn broken_word(exec: &ExecOp) -> Option<Rule>
     ensures { (inputs : List Input) → IsFirstBroken inputs (Some (kind.Exec exec.now)) word_rules result }
 {
@@ -55,6 +57,8 @@ fn broken_word(exec: &ExecOp) -> Option<Rule>
     }
     None
 }
+
+// Returns the first broken rule on where the mounts are, whatever the inputs are.
 
 fn broken_path(alloc: Global, exec: &ExecOp) -> Result<Option<Rule>, Memory>
     ensures { IfOk result (λ broken. (inputs : List Input) → IsFirstBroken inputs (Some (kind.Exec exec.now)) path_rules broken) }
@@ -79,6 +83,8 @@ fn broken_path(alloc: Global, exec: &ExecOp) -> Result<Option<Rule>, Memory>
     Ok(None)
 }
 
+// Returns the first broken rule on what the mounts show, and on their outputs.
+
 fn broken_mount(alloc: Global, inputs: &[Input], exec: &ExecOp) -> Result<Option<Rule>, AllocError>
     ensures { IfOk result (IsFirstBroken inputs.now (Some (kind.Exec exec.now)) mount_rules) }
 {
@@ -95,6 +101,8 @@ fn broken_mount(alloc: Global, inputs: &[Input], exec: &ExecOp) -> Result<Option
     Ok(None)
 }
 
+// Returns whether each mount is of a known type.
+
 fn all_known(mounts: &[Mount]) -> bool
     ensures { IsTrue result ↔ All (λ m. IsBelow 5 m.mount_type) mounts.now }
 {
@@ -106,11 +114,15 @@ fn all_known(mounts: &[Mount]) -> bool
     true
 }
 
+// Returns whether the number is at least 0 and below the count.
+
 fn is_below(count: u32, number: i32) -> bool
     ensures { IsTrue result ↔ IsBelow count number }
 {
     number >= 0 && (number as u32) < count
 }
+
+// Returns whether each mount shows one of `count` inputs, or nothing, if it is to.
 
 fn all_show(count: usize, mounts: &[Mount]) -> bool
     ensures { IsTrue result ↔ All (ShowsInput count) mounts.now }
@@ -123,6 +135,8 @@ fn all_show(count: usize, mounts: &[Mount]) -> bool
     true
 }
 
+// Returns whether a bind or cache mount shows one of `count` inputs, or nothing.
+
 fn shows_input(count: usize, mount: &Mount) -> bool
     ensures { IsTrue result ↔ ShowsInput count mount.now }
 {
@@ -134,6 +148,8 @@ fn shows_input(count: usize, mount: &Mount) -> bool
     }
     true
 }
+
+// Returns whether the outputs are numbered from 0, each once, and those of bind mounts.
 
 fn are_mount_outputs(alloc: Global, mounts: &[Mount]) -> Result<bool, AllocError>
     ensures { IfOk result (λ stand. IsTrue stand ↔ AreMountOutputs mounts.now) }
@@ -162,6 +178,8 @@ fn all_silent(mount_type: MountType, mounts: &[Mount]) -> bool
     true
 }
 
+// Returns the output of each mount.
+
 fn outputs_of(alloc: Global, mounts: &[Mount]) -> Result<Vec<i64>, AllocError>
     ensures { IfOk result (λ outputs. outputs.items ≡ mount_outputs mounts.now) }
 {
@@ -171,6 +189,8 @@ fn outputs_of(alloc: Global, mounts: &[Mount]) -> Result<Vec<i64>, AllocError>
     }
     Ok(outputs)
 }
+
+// Returns the first broken rule on cache mounts.
 
 fn broken_cache(alloc: Global, inputs: &[Input], exec: &ExecOp) -> Result<Option<Rule>, Memory>
     ensures { IfOk result (IsFirstBroken inputs.now (Some (kind.Exec exec.now)) cache_rules) }
@@ -188,6 +208,8 @@ fn broken_cache(alloc: Global, inputs: &[Input], exec: &ExecOp) -> Result<Option
     Ok(None)
 }
 
+// Returns whether each cache mount has its options.
+
 fn all_have_options(mounts: &[Mount]) -> bool
     ensures { IsTrue result ↔ All HasOptions mounts.now }
 {
@@ -201,6 +223,8 @@ fn all_have_options(mounts: &[Mount]) -> bool
     true
 }
 
+// Returns whether each cache mount is shared in a known way.
+
 fn all_shared(mounts: &[Mount]) -> bool
     ensures { IsTrue result ↔ All IsShared mounts.now }
 {
@@ -213,6 +237,8 @@ fn all_shared(mounts: &[Mount]) -> bool
     }
     true
 }
+
+// Returns whether the options, if there are some, name a known way of sharing.
 
 fn is_known(options: &Option<CacheOpt>) -> bool
     ensures { IsTrue result ↔ IsKnownSharing options.now }

@@ -31,6 +31,8 @@ pub(crate) fn first_feature(op: &Op) -> Option<Feature>
     }
 }
 
+// Returns the first feature of a source that is not supported.
+
 fn source_feature(source: &SourceOp) -> Option<Feature>
     ensures { result ≡ find (has (Some (kind.Source source.now))) features }
 {
@@ -39,6 +41,8 @@ fn source_feature(source: &SourceOp) -> Option<Feature>
     }
     None
 }
+
+// Returns the first feature of an exec that is not supported.
 
 fn exec_feature(exec: &ExecOp) -> Option<Feature>
     ensures { result ≡ find (has (Some (kind.Exec exec.now))) features }
@@ -56,6 +60,8 @@ fn exec_feature(exec: &ExecOp) -> Option<Feature>
     None
 }
 
+// Returns whether a mount has the type.
+
 fn any_of_type(mounts: &[Mount], mount_type: MountType) -> bool
     ensures { result ≡ list_any (has_type (number_of mount_type)) mounts.now }
 {
@@ -66,6 +72,8 @@ fn any_of_type(mounts: &[Mount], mount_type: MountType) -> bool
     }
     false
 }
+
+// Returns the first feature of a file op that is not supported.
 
 fn file_feature(file: &FileOp) -> Option<Feature>
     ensures { result ≡ find (has (Some (kind.File file.now))) features }
@@ -89,6 +97,8 @@ fn file_feature(file: &FileOp) -> Option<Feature>
     None
 }
 
+// Returns whether an action has no named member.
+
 fn any_nameless(actions: &[Action]) -> bool
     ensures { result ≡ list_any (λ a. is_nameless a.kind) actions.now }
 {
@@ -99,6 +109,8 @@ fn any_nameless(actions: &[Action]) -> bool
     }
     false
 }
+
+// Returns whether a copy unpacks archives.
 
 fn any_unpacks(actions: &[Action]) -> bool
     ensures { result ≡ list_any (λ a. copies_with unpacks a.kind) actions.now }
@@ -113,6 +125,8 @@ fn any_unpacks(actions: &[Action]) -> bool
     false
 }
 
+// Returns whether a copy has patterns.
+
 fn any_has_pattern(actions: &[Action]) -> bool
     ensures { result ≡ list_any (λ a. copies_with has_pattern a.kind) actions.now }
 {
@@ -126,11 +140,15 @@ fn any_has_pattern(actions: &[Action]) -> bool
     false
 }
 
+// Returns whether the copy has patterns of what to leave in or out.
+
 fn has_pattern(copy: &CopyFile) -> bool
     ensures { result ≡ has_pattern copy.now }
 {
     !copy.include_patterns.is_empty() || !copy.exclude_patterns.is_empty()
 }
+
+// Returns whether a copy has a field that it does not name.
 
 fn any_has_field(actions: &[Action]) -> bool
     ensures { result ≡ list_any (λ a. copies_with has_field a.kind) actions.now }
@@ -145,6 +163,8 @@ fn any_has_field(actions: &[Action]) -> bool
     false
 }
 
+// Returns whether an action gives an owner by name.
+
 fn any_owner_by_name(actions: &[Action]) -> bool
     ensures { result ≡ list_any (λ a. owner_by_name (owner_of a.kind)) actions.now }
 {
@@ -155,6 +175,8 @@ fn any_owner_by_name(actions: &[Action]) -> bool
     }
     false
 }
+
+// Returns whether the action gives an owner by name.
 
 fn action_by_name(action: &Action) -> bool
     ensures { result ≡ owner_by_name (owner_of action.now.kind) }
@@ -167,6 +189,8 @@ fn action_by_name(action: &Action) -> bool
     }
 }
 
+// Returns whether the owner is given by name.
+
 fn by_name(owner: &Option<Boxed<ChownOpt>>) -> bool
     ensures { result ≡ owner_by_name owner.now }
 {
@@ -175,6 +199,8 @@ fn by_name(owner: &Option<Boxed<ChownOpt>>) -> bool
         None => false,
     }
 }
+
+// Returns whether the user is given by name.
 
 fn is_name(user: &Option<UserOpt>) -> bool
     ensures { result ≡ user_by_name user.now }

@@ -47,6 +47,8 @@ fn take_inputs(count: usize, actions: &[Action]) -> bool
     true
 }
 
+// Returns whether the input is -1, one of `count` inputs, or the result of an action before this place.
+
 fn input_stands(count: usize, place: usize, input: i64) -> bool
     ensures { IsTrue result ↔ IsInput (count + place) input }
 {
@@ -57,6 +59,8 @@ fn input_stands(count: usize, place: usize, input: i64) -> bool
     input < place || input - place < count
 }
 
+// Returns whether the second input of a copy is there; other actions have none.
+
 fn second_stands(count: usize, place: usize, action: &Action) -> bool
     ensures { IsTrue result ↔ TakesSecond (count + place) action.now.kind action.now.secondary_input }
 {
@@ -65,6 +69,8 @@ fn second_stands(count: usize, place: usize, action: &Action) -> bool
         _ => true,
     }
 }
+
+// Returns the output of each action.
 
 fn outputs_of(alloc: Global, actions: &[Action]) -> Result<Vec<i64>, AllocError>
     ensures { IfOk result (λ outputs. outputs.items ≡ outputs_of actions.now) }

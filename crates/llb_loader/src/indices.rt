@@ -35,6 +35,8 @@ pub(crate) fn are_outputs(alloc: Global, outputs: &[i64]) -> Result<bool, AllocE
     Ok(true)
 }
 
+// Returns the number of outputs other than -1.
+
 fn count_among(outputs: &[i64]) -> usize
     ensures { result ≡ count_outputs outputs.now }
 {
@@ -46,6 +48,8 @@ fn count_among(outputs: &[i64]) -> usize
     }
     count
 }
+
+// Returns whether the number is other than -1.
 
 fn is_output(number: &i64) -> bool
     ensures { result ≡ is_output number.now }

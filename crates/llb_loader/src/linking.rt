@@ -1,13 +1,12 @@
 //! Rows are linked: each refusal in its order, then the graph. Nothing here recurses on the graph's depth.
 
-ghost use Rattle.std.specs.Prelude.{◌≡◌, ◌<◌, ◌≤◌, ◌↔◌, ℕ, true, false, length, slice_index_or, IfOk, IfErr};
+ghost use Rattle.std.specs.Prelude.{◌≡◌, ◌≤◌, true, false, length, IfOk, IfErr};
 ghost use Rattle.std.specs.List.{All};
 ghost use Rattle.llb_ops.specs.Within.{IsWithinLimits};
 ghost use Rattle.llb_loader.specs.Faults.{is_memory};
-ghost use Rattle.llb_loader.specs.Rows.{lists};
-ghost use Rattle.llb_loader.specs.RowLookup.{IsIndex, IsTerminal, terminal_in};
-ghost use Rattle.llb_loader.specs.Linking.{IsApart, IsNamed, IsWhole, ReachedRow, links_in, plan, IsPlanOf, Refused, GraphOf};
+ghost use Rattle.llb_loader.specs.Linking.{IsWhole, Refused, GraphOf};
 ghost use Rattle.llb_loader.specs.Link.{IsGraphOf, IsRefusalOf};
+ghost use Rattle.llb_loader.specs.Stages.{IsLinked, IsLinkedFrom, plan_in};
 
 use crate::build::{first_edge, vertices_of};
 use crate::checks::{check_features, check_indexes, check_names, check_rules, counts_of};
@@ -18,18 +17,34 @@ use crate::ranks::ranks_of;
 use crate::reach::reached;
 use crate::reading::ops_of;
 use crate::row::Row;
-use crate::row_lookup::{all_same, index_of, links_of, row_of, terminal_of};
+use crate::row_lookup::{all_same, index_of, links_of, start_of, terminal_of};
 use llb_ops::Op;
 use std::alloc::Global;
-use std::collections::BTreeMap;
 
-// The rows, which of them is the terminal and which the result's, and the rows that each of them names.
-#[derive(Clone, Copy)]
+// Rows that are read as ops, whose names are resolved: each input of a reached row names a row.
 struct Linked<'a> {
     rows: &'a [Row],
+    ops: Vec<Op>,
     terminal: usize,
+    // The row that the terminal's first input names.
     start: usize,
-    links: &'a [Vec<usize>],
+    // For each row, the rows that its inputs name, and whether `start` reaches it.
+    links: Vec<Vec<usize>>,
+    seen: Vec<bool>,
+}
+
+// Written out, so that what owns one drops it by this one function.
+impl Drop for Linked<'_> {
+    fn drop(self) {
+        let Linked {
+            rows: _,
+            ops: _,
+            terminal: _,
+            start: _,
+            links: _,
+            seen: _,
+        } = self;
+    }
 }
 
 /// Returns the graph of the rows. The last row given is the terminal; its first input is the result.
@@ -43,106 +58,80 @@ pub fn link(alloc: Global, rows: &[Row]) -> Result<Graph, LoadFault>
     ensures refused { IfErr result (λ e. is_memory e ≡ false → IsRefusalOf rows.now e) }
 {
     let ops = ops_of(alloc, rows)?;
-    if all_same(rows) {
-        return Err(LoadFault::TooFew);
+    let linked = Linked::of(alloc, rows, ops)?;
+    let order = linked.order(alloc)?;
+    linked.into_graph(alloc, &order)
+}
+
+impl<'a> Linked<'a> {
+    // Resolves the names in the rows, given their ops. Fails with 83 `TooFew`, 84 `Collision`, 85 `NoResult` or 86
+    // `UnknownDigest`, or with 91 `Memory`.
+    fn of(alloc: Global, rows: &'a [Row], ops: Vec<Op>) -> Result<Linked<'a>, LoadFault>
+        requires few { length rows.now ≤ 65_536 }
+        requires len { length ops.items ≡ length rows.now }
+        requires within { All IsWithinLimits ops.items }
+        ensures linked { IfOk result (λ linked. IsLinkedFrom rows.now ops.items linked) }
+        ensures refused { IfErr result (λ e. is_memory e ≡ false → Refused rows.now ops.items e) }
+    {
+        if all_same(rows) {
+            return Err(LoadFault::TooFew);
+        }
+        let index = index_of(alloc, rows)?;
+        let terminal = terminal_of(rows, &index);
+        let start = start_of(rows, &index, terminal, &ops[terminal])?;
+        let links = links_of(alloc, rows, &index, terminal, &ops)?;
+        let seen = reached(alloc, &links, start)?;
+        check_names(rows, &index, terminal, &ops, &seen)?;
+        Ok(Linked {
+            rows,
+            ops,
+            terminal,
+            start,
+            links,
+            seen,
+        })
     }
-    let index = index_of(alloc, rows)?;
-    let terminal = terminal_of(rows, &index);
-    link_read(alloc, rows, index, terminal, ops)
-}
 
-// Links rows of which at least two are distinct and none collide, given their ops.
-fn link_read(
-    alloc: Global,
-    rows: &[Row],
-    index: BTreeMap<&str, usize>,
-    terminal: usize,
-    ops: Vec<Op>,
-) -> Result<Graph, LoadFault>
-    requires few { length rows.now ≤ 65_536 }
-    requires ops { length ops.items ≡ length rows.now }
-    requires within { All IsWithinLimits ops.items }
-    requires index { IsIndex rows.now index }
-    requires apart { IsApart rows.now }
-    requires terminal { IsTerminal rows.now terminal }
-    requires found { terminal ≡ terminal_in rows.now }
-    ensures graph { IfOk result (λ g. GraphOf rows.now ops.items g) }
-    ensures refused { IfErr result (λ e. is_memory e ≡ false → Refused rows.now ops.items e) }
-{
-    let last = &ops[terminal];
-    if last.inputs.is_empty() {
-        return Err(LoadFault::NoResult);
+    // Numbers the reached rows and checks them. Fails with 87 `Cycle`, 88 `Unsupported`, 89 `Invalid` or 90 `BadIndex`,
+    // or with 91 `Memory`.
+    fn order(&self, alloc: Global) -> Result<Vec<usize>, LoadFault>
+        requires { IsLinked self.now }
+        ensures whole { IfOk result (λ order. IsWhole (plan_in self.now) order.items) }
+        ensures few { IfOk result (λ order. length order.items ≤ length self.now.rows.now) }
+        ensures refused { IfErr result (λ e. is_memory e ≡ false → Refused self.now.rows.now self.now.ops.items e) }
+    {
+        let ops = self.ops.as_slice();
+        let links = self.links.as_slice();
+        let seen = self.seen.as_slice();
+        let Some(order) = number(alloc, links, self.start, seen)? else {
+            return Err(LoadFault::Cycle);
+        };
+        check_features(ops, seen)?;
+        check_rules(alloc, ops, seen)?;
+        let counts = counts_of(alloc, ops)?;
+        check_indexes(ops, links, &counts, seen, self.terminal)?;
+        Ok(order)
     }
-    let result = &last.inputs.as_slice()[0];
-    let Some(start) = row_of(rows, &index, terminal, &result.digest) else {
-        return Err(LoadFault::UnknownDigest(terminal as u32, 0));
-    };
-    let links = links_of(alloc, rows, &index, terminal, &ops)?;
-    let seen = reached(alloc, &links, start)?;
-    check_names(rows, &index, terminal, &ops, &seen)?;
-    drop(index);
-    let linked = Linked {
-        rows,
-        terminal,
-        start,
-        links: &links,
-    };
-    link_named(alloc, linked, ops, &seen)
-}
 
-// Links rows, given that the inputs of the reached ones name rows.
-fn link_named(
-    alloc: Global,
-    linked: Linked<'_>,
-    ops: Vec<Op>,
-    seen: &[bool],
-) -> Result<Graph, LoadFault>
-    requires few { length linked.rows.now ≤ 65_536 }
-    requires ops { length ops.items ≡ length linked.rows.now }
-    requires within { All IsWithinLimits ops.items }
-    requires links { lists linked.links.now ≡ links_in (plan linked.rows.now ops.items linked.terminal linked.start) }
-    requires planned { IsPlanOf linked.rows.now ops.items (plan linked.rows.now ops.items linked.terminal linked.start) }
-    requires named { IsNamed (plan linked.rows.now ops.items linked.terminal linked.start) }
-    requires seen { length seen.now ≡ length linked.rows.now }
-    requires exact { (k : ℕ) → (slice_index_or seen.now k false ≡ true) ↔ ReachedRow (plan linked.rows.now ops.items linked.terminal linked.start) k }
-    ensures graph { IfOk result (λ g. GraphOf linked.entry.rows.now ops.items g) }
-    ensures refused { IfErr result (λ e. is_memory e ≡ false → Refused linked.entry.rows.now ops.items e) }
-{
-    let Some(order) = number(alloc, linked.links, linked.start, seen)? else {
-        return Err(LoadFault::Cycle);
-    };
-    check_features(&ops, seen)?;
-    check_rules(alloc, &ops, seen)?;
-    let counts = counts_of(alloc, &ops)?;
-    check_indexes(&ops, linked.links, &counts, seen, linked.terminal)?;
-    link_whole(alloc, linked, ops, &order)
-}
-
-// Makes the graph, which only want of memory can refuse by now.
-fn link_whole(
-    alloc: Global,
-    linked: Linked<'_>,
-    ops: Vec<Op>,
-    order: &[usize],
-) -> Result<Graph, LoadFault>
-    requires few { length linked.rows.now ≤ 65_536 }
-    requires ops { length ops.items ≡ length linked.rows.now }
-    requires within { All IsWithinLimits ops.items }
-    requires links { lists linked.links.now ≡ links_in (plan linked.rows.now ops.items linked.terminal linked.start) }
-    requires planned { IsPlanOf linked.rows.now ops.items (plan linked.rows.now ops.items linked.terminal linked.start) }
-    requires whole { IsWhole (plan linked.rows.now ops.items linked.terminal linked.start) order.now }
-    requires short { length order.now ≤ length linked.rows.now }
-    ensures graph { IfOk result (λ g. GraphOf linked.entry.rows.now ops.items g) }
-    ensures refused { IfErr result (λ e. is_memory e ≡ true) }
-{
-    let Linked {
-        rows,
-        terminal,
-        start,
-        links,
-    } = linked;
-    let ranks = ranks_of(alloc, links, start, order)?;
-    let result = first_edge(ranks[start], &ops[terminal]);
-    let vertices = vertices_of(alloc, rows, ops, links, order, &ranks)?;
-    Ok(Graph::of_parts(alloc, vertices, result)?)
+    // Makes the graph. Fails with 91 `Memory` alone.
+    fn into_graph(self, alloc: Global, order: &[usize]) -> Result<Graph, LoadFault>
+        requires linked { IsLinked self }
+        requires whole { IsWhole (plan_in self) order.now }
+        requires short { length order.now ≤ length self.rows.now }
+        ensures graph { IfOk result (λ g. GraphOf self.entry.rows.now self.entry.ops.items g) }
+        ensures refused { IfErr result (λ e. is_memory e ≡ true) }
+    {
+        let Linked {
+            rows,
+            ops,
+            terminal,
+            start,
+            links,
+            seen: _,
+        } = self;
+        let ranks = ranks_of(alloc, &links, start, order)?;
+        let result = first_edge(ranks[start], &ops[terminal]);
+        let vertices = vertices_of(alloc, rows, ops, &links, order, &ranks)?;
+        Ok(Graph::of_parts(alloc, vertices, result)?)
+    }
 }

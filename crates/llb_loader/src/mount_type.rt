@@ -1,12 +1,10 @@
-//! The mounts of an op, their types, and the options of the cache that a mount shows.
+//! The types of mounts, by their numbers.
 
 ghost use Rattle.std.specs.Prelude.{◌≡◌};
-ghost use Rattle.std.specs.Option.{option_copied};
-ghost use Rattle.llb_loader.specs.Mounts.{cache_in, has_type};
+ghost use Rattle.llb_loader.specs.Mounts.{has_type};
 ghost use Rattle.llb_loader.specs.MountTypes.{number_of};
-ghost use Rattle.llb_loader.specs.Rules.{kind_mounts};
 
-use llb_ops::{CacheOpt, Kind, Mount};
+use llb_ops::Mount;
 
 /// What a mount shows.
 #[derive(Clone, Copy, Debug, PartialEq, Eq)]
@@ -43,24 +41,4 @@ impl MountType {
     {
         mount.mount_type == self.number()
     }
-}
-
-/// Returns the mounts of a kind: those of an exec, and none for other kinds. Does not allocate.
-pub fn mounts_of(kind: &Option<Kind>) -> &[Mount]
-    ensures { result.now ≡ kind_mounts kind.now }
-{
-    match kind {
-        Some(Kind::Exec(exec)) => exec.get().mounts.as_slice(),
-        _ => &[],
-    }
-}
-
-/// Returns the options of the cache that a mount shows, if it shows one. Does not allocate.
-pub fn cache_in(mount: &Mount) -> Option<&CacheOpt>
-    ensures { option_copied result ≡ cache_in mount.now }
-{
-    if !MountType::Cache.is_of(mount) {
-        return None;
-    }
-    mount.cache_opt.as_ref()
 }

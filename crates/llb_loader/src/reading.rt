@@ -29,6 +29,8 @@ pub(crate) fn ops_of(alloc: Global, rows: &[Row]) -> Result<Vec<Op>, LoadFault>
     Ok(ops)
 }
 
+// Returns the fault of a row that spells no op.
+
 fn at_row(k: u32, fault: OpFault) -> LoadFault
     ensures { result ≡ row_fault k fault }
 {

@@ -1,11 +1,13 @@
 //! Which rows are distinct, and which row a digest text names. Look-ups by digest go through an index in the order of the texts, so
 //! that no choice of entries makes them slow; the terminal's own digest names nothing.
 
-ghost use Rattle.std.specs.Prelude.{◌≡◌, ◌<◌, ◌≤◌, ◌↔◌, ℕ, false, length, map, IfOk, IfErr, IsTrue};
+ghost use Rattle.std.specs.Prelude.{◌≡◌, ◌<◌, ◌≤◌, ◌↔◌, ℕ, false, length, map, IfOk, IfErr, OnOk, IsTrue, Some};
 ghost use Rattle.std.specs.List.{filter_map};
 ghost use Rattle.llb_loader.specs.Faults.{is_memory};
 ghost use Rattle.llb_loader.specs.RowLookup.{AllSame, Collides, IsIndex, IsTerminal, terminal_in, row_named, rows_named, graph_of, RefusesCollision};
 ghost use Rattle.llb_loader.specs.Rows.{lists};
+ghost use Rattle.llb_loader.specs.Linking.{input_at};
+ghost use Rattle.llb_loader.specs.Checks.{RefusesStart};
 
 use crate::fault::LoadFault;
 use crate::row::Row;
@@ -26,6 +28,7 @@ pub(crate) fn all_same(rows: &[Row]) -> bool
     true
 }
 
+// Returns whether two rows have the same digest and the same bytes.
 fn same(row: &Row, other: &Row) -> bool
     ensures { IsTrue result ↔ (row.now ≡ other.now) }
 {
@@ -84,6 +87,30 @@ pub(crate) fn row_of(
 {
     let row = *index.get(digest.as_str())?;
     if row == terminal { None } else { Some(row) }
+}
+
+// Returns the row that the terminal's first input names. Fails with 85 `NoResult` if it has no input, and with 86
+// `UnknownDigest` if that one names no row.
+pub(crate) fn start_of(
+    rows: &[Row],
+    index: &BTreeMap<&str, usize>,
+    terminal: usize,
+    op: &Op,
+) -> Result<usize, LoadFault>
+    requires index { IsIndex rows.now index.now }
+    requires few { terminal < 65_536 }
+    ensures some { OnOk result (0 < length op.now.inputs) }
+    ensures start { IfOk result (λ start. row_named rows.now terminal (input_at op.now 0).digest ≡ Some start) }
+    ensures refused { IfErr result (RefusesStart rows.now terminal op.now) }
+{
+    if op.inputs.is_empty() {
+        return Err(LoadFault::NoResult);
+    }
+    let first = &op.inputs.as_slice()[0];
+    match row_of(rows, index, terminal, &first.digest) {
+        Some(start) => Ok(start),
+        None => Err(LoadFault::UnknownDigest(terminal as u32, 0)),
+    }
 }
 
 /// Returns the rows that the op's inputs name.
