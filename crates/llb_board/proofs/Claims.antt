@@ -28,9 +28,9 @@ use Rattle.llb_board.specs.WorkerRules.{Begun, begun, begun_at}
 use Rattle.llb_board.specs.Vertices.{VerticesValue, with_status}
 use Rattle.llb_board.specs.Views.{at_of, leased_by, execution_of}
 use Rattle.llb_board.specs.Workers.{WorkersValue, BegunValue, IsBegunAt, IsBegunOn, Fits, state_in, claim_in, reply_of, rule_of}
-use Rattle.llb_board.specs.declared.workers.desk.Desk.{Desk}
-use Rattle.llb_board.specs.declared.workers.desk.Desk.TheVariants as desk
-use Rattle.llb_board.specs.declared.workers.desk.Execution as own
+use Rattle.llb_board.specs.declared.workers.seat.Seat.{Seat}
+use Rattle.llb_board.specs.declared.workers.seat.Seat.TheVariants as seat
+use Rattle.llb_board.specs.declared.workers.seat.Execution as own
 use Rattle.llb_board.proofs.Grants.{CanClaim, Leased, Granted, granted_of, leased_as_held, held_is_fault, open_is, places_alike, begun_is, needs_asked}
 use Rattle.llb_board.proofs.Crews.{Crew, crew_set}
 use Rattle.llb_board.proofs.Supplied.{leased_claimed, made_for, supplies_claimed}
@@ -197,7 +197,7 @@ idle_of S v (Some Idle) x start is = refl
 runs_inside : {x y : Execution} → ◌≡◌ {A = Option WorkerStatus} (Some (Runs x)) (Some (Runs y)) → x ≡ y
 runs_inside e = cc
 
-module _ (vs : VerticesValue) (ds : List Desk) (c : CachesValue) (w v : ℕ) (g : BegunValue) (on : IsBegunAt vs (seen_of ds c.rows) w v g)
+module _ (vs : VerticesValue) (ds : List Seat) (c : CachesValue) (w v : ℕ) (g : BegunValue) (on : IsBegunAt vs (seen_of ds c.rows) w v g)
     (crew : Crew ds c.out) (apart : AreApart c.out) (there : AreThere c.rows c.out) (graph : IsGraph vs.build.graph) where
   idle : slice_get (map at_of ds) w ≡ Some Idle
   idle = idle_of vs.statuses v (slice_get (map at_of ds) w) on.vertex (start_with on.vertex on.inputs) on.starts
@@ -245,12 +245,12 @@ module _ (vs : VerticesValue) (ds : List Desk) (c : CachesValue) (w v : ℕ) (g 
     store : store_of new.rows ≡ put_all (store_of c.rows) g.execution.places g.job.work.trees
     store = made ∙ ap (λ (a : State × Reply). a.0.store) on.grants
 
-    workers : map at_of (slice_set ds w (desk.Runs l own)) ≡ slice_set (map at_of ds) w (Runs g.execution)
-    workers = map_set at_of ds w (desk.Runs l own) ∙ ap (λ e. slice_set (map at_of ds) w (Runs e)) same
+    workers : map at_of (slice_set ds w (seat.Runs l own)) ≡ slice_set (map at_of ds) w (Runs g.execution)
+    workers = map_set at_of ds w (seat.Runs l own) ∙ ap (λ e. slice_set (map at_of ds) w (Runs e)) same
 
     -- the table grants the claim, and this is the state after it
     pub start_grants : claim_grant vs.build (state_in vs (seen_of ds c.rows)) w v
-        ≡ Ok (state_in (with_status v (Running w) vs) (seen_of (slice_set ds w (desk.Runs l own)) new.rows), Claimed g.job)
+        ≡ Ok (state_in (with_status v (Running w) vs) (seen_of (slice_set ds w (seat.Runs l own)) new.rows), Claimed g.job)
     start_grants =
         ap (λ o. claimed vs.build (state_in vs (seen_of ds c.rows)) w v (claim_start vs.statuses v (slice_get (map at_of ds) w) o)) on.there
         ∙ ap (claimed vs.build (state_in vs (seen_of ds c.rows)) w v) on.starts
@@ -263,7 +263,7 @@ module _ (vs : VerticesValue) (ds : List Desk) (c : CachesValue) (w v : ℕ) (g 
 
     -- the instances of the worker are the ones that are written or made
     pub start_rows : new.rows
-        ≡ rows_after c.rows (state_in (with_status v (Running w) vs) (seen_of (slice_set ds w (desk.Runs l own)) new.rows)) w
+        ≡ rows_after c.rows (state_in (with_status v (Running w) vs) (seen_of (slice_set ds w (seat.Runs l own)) new.rows)) w
     start_rows =
         lease.rows
         ∙ sym (written_made c.rows c.out (map at_of ds) on.inputs (needs_of on.vertex) holds apart there distinct)
@@ -271,15 +271,15 @@ module _ (vs : VerticesValue) (ds : List Desk) (c : CachesValue) (w v : ℕ) (g 
         ∙ ap (written (store_of new.rows) c.rows) (places
         ∙ sym (ap (λ ws. places_at (slice_get ws w)) workers ∙ ap places_at (get_set_same (map at_of ds) w (Runs g.execution) Idle idle)))
 
-    pub start_crew : Crew (slice_set ds w (desk.Runs l own)) new.out
+    pub start_crew : Crew (slice_set ds w (seat.Runs l own)) new.out
     start_crew =
         let taken = places_alike c (map at_of ds) on.inputs (needs_of on.vertex) (record { same = holds; apart = apart; there = there }) in
-        crew_set ds w (desk.Runs l own) c.out new.out crew
+        crew_set ds w (seat.Runs l own) c.out new.out crew
         (leased_claimed c.out ds w l own
         (places_taken c.out (needs_of on.vertex)) new.out crew.leased idle
         (ap (λ (e : Execution). e.places) same ∙ sym places ∙ sym taken) lease.leased)
 
-    pub start_fits : Fits vs.build (seen_of ds c.rows) → Fits vs.build (seen_of (slice_set ds w (desk.Runs l own)) new.rows)
+    pub start_fits : Fits vs.build (seen_of ds c.rows) → Fits vs.build (seen_of (slice_set ds w (seat.Runs l own)) new.rows)
     start_fits fits =
         let vertex : own.vertex ≡ v = ap (λ (e : Execution). e.vertex) (same ∙ sym begun_first) in
         supplies_claimed vs.build ds w l own fits (supplies ∙ on.supplied ∙ made_for vs.build on.vertex v own.vertex on.there vertex)

@@ -23,8 +23,8 @@ use Rattle.llb_loader.specs.contracts.locals.Locals as locals
 use Rattle.llb_events.proofs.fault.VertexFault.TheSendSync as fault_crosses
 use Rattle.llb_board.specs.contracts.vertices.build.Build as build
 use Rattle.llb_board.specs.contracts.vertices.build.Build.TheInside as build_inside
-use Rattle.llb_board.specs.contracts.workers.desk.Desk as desk
-use Rattle.llb_board.specs.contracts.workers.desk.Execution as execution
+use Rattle.llb_board.specs.contracts.workers.seat.Seat as seat
+use Rattle.llb_board.specs.contracts.workers.seat.Execution as execution
 use Rattle.llb_board.specs.contracts.vertices.stage.Stage as stage
 use Rattle.llb_board.specs.contracts.vertices.Vertices as vertices
 use Rattle.llb_board.specs.contracts.vertices.Vertices.TheInside as vertices_inside
@@ -63,8 +63,8 @@ execution_send = declared_send execution.the_type (
   ),
 )
 
-desk_send : IsSend desk.the_row
-desk_send = variants_send desk.enum (tt, ((search (lease_crosses.the_send, crosses, sendable) depth 20, (execution_send, tt)), tt))
+seat_send : IsSend seat.the_row
+seat_send = variants_send seat.enum (tt, ((search (lease_crosses.the_send, crosses, sendable) depth 20, (execution_send, tt)), tt))
 
 graph_send : IsSend graph.the_row
 graph_send = graph_crosses.the_send
@@ -78,8 +78,8 @@ build_inside_send = declared_send build_inside.the_type (as_row_send graph.the_f
 build_send : IsSend build.the_row
 build_send = view_send build_inside.the_row _ _ _ _ build_inside_send
 
-desks_send : IsSend (as_row (vec.the_field desk.the_row heap.the_row ghosts))
-desks_send = as_row_send (vec.the_field desk.the_row heap.the_row ghosts) (Vec-send desk.the_row desk_send)
+seats_send : IsSend (as_row (vec.the_field seat.the_row heap.the_row ghosts))
+seats_send = as_row_send (vec.the_field seat.the_row heap.the_row ghosts) (Vec-send seat.the_row seat_send)
 
 stage_send : IsSend stage.the_row
 stage_send = variants_send stage.enum (
@@ -112,7 +112,7 @@ pub caches_send : IsSend caches.the_row
 caches_send = search (tree_send, place_crosses.the_send, crosses, sendable) depth 60 fits 20000
 
 workers_inside_send : IsSend workers_inside.the_row
-workers_inside_send = declared_send workers_inside.the_type (desks_send, (as_row_send caches.the_field caches_send, tt))
+workers_inside_send = declared_send workers_inside.the_type (seats_send, (as_row_send caches.the_field caches_send, tt))
 
 pub workers_send : IsSend workers.the_row
 workers_send = view_send workers_inside.the_row _ _ _ _ workers_inside_send

@@ -24,7 +24,7 @@ use Rattle.llb_board.specs.Caches.{some_lease, lease_if}
 use Rattle.llb_board.specs.Needs.{first_held_key, unless_held, places_taken}
 use Rattle.llb_board.specs.WorkerRules.{Begun, begun_at, begun, Written}
 use Rattle.llb_board.specs.Views.{at_of}
-use Rattle.llb_board.specs.declared.workers.desk.Desk.{Desk}
+use Rattle.llb_board.specs.declared.workers.seat.Seat.{Seat}
 use Rattle.llb_events.specs.declared.refusal.ClaimFault.{ClaimFault}
 use Rattle.llb_events.specs.declared.refusal.ClaimFault.TheVariants as claim
 use Rattle.llb_events.specs.declared.refusal.StepFault.{StepFault}
@@ -171,7 +171,7 @@ needs_asked b c w v x trees o begun_so there is = ap (λ (g : Begun). g.needs) (
 -- ---- a micro-step
 
 -- a micro-step over the lists of instances
-abbrev pub granted_by : List Desk → ℕ → Result Written StepFault → Result Answer StepFault
+abbrev pub granted_by : List Seat → ℕ → Result Written StepFault → Result Answer StepFault
 granted_by ds w (Ok p) = Ok (record { statuses = []; workers = slice_set (map at_of ds) w (Runs p.0); store = store_of p.1 }, p.2)
 granted_by ds w (Err e) = Err e
 

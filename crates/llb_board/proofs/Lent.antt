@@ -14,9 +14,9 @@ use Rattle.llb_model.proofs.Kept.{shows_instances}
 use Rattle.llb_model.proofs.Leasing.{end_gives_back, end_without}
 use Rattle.llb_board.specs.Caches.{tree_of, IsOutIf, given_back}
 use Rattle.llb_board.specs.Views.{at_of, leased_by}
-use Rattle.llb_board.specs.declared.workers.desk.Desk.{Desk}
-use Rattle.llb_board.specs.declared.workers.desk.Desk.TheVariants as desk
-use Rattle.llb_board.specs.declared.workers.desk.Execution as own
+use Rattle.llb_board.specs.declared.workers.seat.Seat.{Seat}
+use Rattle.llb_board.specs.declared.workers.seat.Seat.TheVariants as seat
+use Rattle.llb_board.specs.declared.workers.seat.Execution as own
 use Rattle.llb_board.proofs.Lists.{map_set, get_map}
 use Rattle.llb_board.proofs.Returned.{none_out}
 
@@ -44,12 +44,12 @@ put_none rows (p ∷ ps) = refl
 -- ---- a worker that leaves
 
 -- a worker that leaves releases its lease, if it had one, and the others keep theirs
-pub leased_settled : (c : CachesValue) (ds : List Desk) (w : ℕ) (l : Option ℕ) → AreLeased c.out (map at_of ds) (map leased_by ds)
+pub leased_settled : (c : CachesValue) (ds : List Seat) (w : ℕ) (l : Option ℕ) → AreLeased c.out (map at_of ds) (map leased_by ds)
     → slice_get (map leased_by ds) w ≡ Some l
-    → AreLeased (given_back c l).out (map at_of (slice_set ds w desk.Idle)) (map leased_by (slice_set ds w desk.Idle))
+    → AreLeased (given_back c l).out (map at_of (slice_set ds w seat.Idle)) (map leased_by (slice_set ds w seat.Idle))
 leased_settled c ds w l leased at =
-    subst (λ (ws : List WorkerStatus). AreLeased (given_back c l).out ws (map leased_by (slice_set ds w desk.Idle))) (sym (map_set at_of ds w desk.Idle))
-    (subst (AreLeased (given_back c l).out (slice_set (map at_of ds) w Idle)) (sym (map_set leased_by ds w desk.Idle)) (by_lease l at))
+    subst (λ (ws : List WorkerStatus). AreLeased (given_back c l).out ws (map leased_by (slice_set ds w seat.Idle))) (sym (map_set at_of ds w seat.Idle))
+    (subst (AreLeased (given_back c l).out (slice_set (map at_of ds) w Idle)) (sym (map_set leased_by ds w seat.Idle)) (by_lease l at))
   where
     by_lease : (l : Option ℕ) → slice_get (map leased_by ds) w ≡ Some l
         → AreLeased (given_back c l).out (slice_set (map at_of ds) w Idle) (slice_set (map leased_by ds) w None)
@@ -76,52 +76,52 @@ lease_out out workers ls w (Some l) leased at =
 -- ---- workers that were sent away one after another
 
 -- the first n are idle
-abbrev pub idled : ℕ → List Desk → List Desk
+abbrev pub idled : ℕ → List Seat → List Seat
 idled zero ds = ds
 idled (suc n) [] = []
-idled (suc n) (d ∷ ds) = desk.Idle ∷ idled n ds
+idled (suc n) (d ∷ ds) = seat.Idle ∷ idled n ds
 
-pub idled_next : (n : ℕ) (ds : List Desk) (d : Desk) → slice_get ds n ≡ Some d → slice_set (idled n ds) n desk.Idle ≡ idled (suc n) ds
+pub idled_next : (n : ℕ) (ds : List Seat) (d : Seat) → slice_get ds n ≡ Some d → slice_set (idled n ds) n seat.Idle ≡ idled (suc n) ds
 idled_next n [] d at = absurd cc
 idled_next zero (e ∷ ds) d at = refl
-idled_next (suc n) (e ∷ ds) d at = ap (λ l. desk.Idle ∷ l) (idled_next n ds d at)
+idled_next (suc n) (e ∷ ds) d at = ap (λ l. seat.Idle ∷ l) (idled_next n ds d at)
 
-pub idled_at : (n : ℕ) (ds : List Desk) → slice_get (idled n ds) n ≡ slice_get ds n
+pub idled_at : (n : ℕ) (ds : List Seat) → slice_get (idled n ds) n ≡ slice_get ds n
 idled_at zero ds = refl
 idled_at (suc n) [] = refl
 idled_at (suc n) (d ∷ ds) = idled_at n ds
 
-pub idled_same : (n : ℕ) (ds : List Desk) → slice_get ds n ≡ Some desk.Idle → idled (suc n) ds ≡ idled n ds
+pub idled_same : (n : ℕ) (ds : List Seat) → slice_get ds n ≡ Some seat.Idle → idled (suc n) ds ≡ idled n ds
 idled_same n [] at = absurd cc
-idled_same zero (d ∷ ds) at = let same : desk.Idle ≡ d = cc in ap (λ e. e ∷ ds) same
-idled_same (suc n) (d ∷ ds) at = ap (λ l. desk.Idle ∷ l) (idled_same n ds at)
+idled_same zero (d ∷ ds) at = let same : seat.Idle ≡ d = cc in ap (λ e. e ∷ ds) same
+idled_same (suc n) (d ∷ ds) at = ap (λ l. seat.Idle ∷ l) (idled_same n ds at)
 
 -- the leases of those that are not sent away yet
-abbrev pub LeasedFrom : Leases → ℕ → List Desk → Type 0
+abbrev pub LeasedFrom : Leases → ℕ → List Seat → Type 0
 LeasedFrom out n ds = AreLeased out (map at_of (idled n ds)) (map leased_by (idled n ds))
 
 -- the next worker runs: it is sent away, and its lease is given back
-pub leased_next : (c : CachesValue) (n : ℕ) (l : Option ℕ) (x : own.Execution) (ds : List Desk) → LeasedFrom c.out n ds → slice_get ds n ≡ Some (desk.Runs l x)
+pub leased_next : (c : CachesValue) (n : ℕ) (l : Option ℕ) (x : own.Execution) (ds : List Seat) → LeasedFrom c.out n ds → slice_get ds n ≡ Some (seat.Runs l x)
     → LeasedFrom (given_back c l).out (n + 1) ds
 leased_next c n l x ds leased at =
-    let there = get_map leased_by (idled n ds) n (desk.Runs l x) (idled_at n ds ∙ at) in
-    let same : slice_set (idled n ds) n desk.Idle ≡ idled (n + 1) ds = idled_next n ds (desk.Runs l x) at ∙ ap (λ k. idled k ds) (sym (add-one n)) in
-    subst (λ (es : List Desk). AreLeased (given_back c l).out (map at_of es) (map leased_by es)) same
+    let there = get_map leased_by (idled n ds) n (seat.Runs l x) (idled_at n ds ∙ at) in
+    let same : slice_set (idled n ds) n seat.Idle ≡ idled (n + 1) ds = idled_next n ds (seat.Runs l x) at ∙ ap (λ k. idled k ds) (sym (add-one n)) in
+    subst (λ (es : List Seat). AreLeased (given_back c l).out (map at_of es) (map leased_by es)) same
     (leased_settled c (idled n ds) n l leased there)
 
 -- the next worker is idle: there is nothing to give back
-pub leased_idle : (out : Leases) (n : ℕ) (ds : List Desk) → LeasedFrom out n ds → slice_get ds n ≡ Some desk.Idle → LeasedFrom out (n + 1) ds
+pub leased_idle : (out : Leases) (n : ℕ) (ds : List Seat) → LeasedFrom out n ds → slice_get ds n ≡ Some seat.Idle → LeasedFrom out (n + 1) ds
 leased_idle out n ds leased at =
-    subst (λ (es : List Desk). AreLeased out (map at_of es) (map leased_by es)) (sym (ap (λ k. idled k ds) (add-one n) ∙ idled_same n ds at)) leased
+    subst (λ (es : List Seat). AreLeased out (map at_of es) (map leased_by es)) (sym (ap (λ k. idled k ds) (add-one n) ∙ idled_same n ds at)) leased
 
 -- the lease of the next is out
-pub out_next : (out : Leases) (n : ℕ) (l : Option ℕ) (x : own.Execution) (ds : List Desk) → LeasedFrom out n ds
-    → slice_get ds n ≡ Some (desk.Runs l x) → IsOutIf out l
+pub out_next : (out : Leases) (n : ℕ) (l : Option ℕ) (x : own.Execution) (ds : List Seat) → LeasedFrom out n ds
+    → slice_get ds n ≡ Some (seat.Runs l x) → IsOutIf out l
 out_next out n l x ds leased at =
-    lease_out out (map at_of (idled n ds)) (map leased_by (idled n ds)) n l leased (get_map leased_by (idled n ds) n (desk.Runs l x) (idled_at n ds ∙ at))
+    lease_out out (map at_of (idled n ds)) (map leased_by (idled n ds)) n l leased (get_map leased_by (idled n ds) n (seat.Runs l x) (idled_at n ds ∙ at))
 
 -- all are idle then
-all_idle : (n : ℕ) (ds : List Desk) → length ds ≤ n → (w l : ℕ) → slice_get (map leased_by (idled n ds)) w ≡ Some (Some l) → ⊥
+all_idle : (n : ℕ) (ds : List Seat) → length ds ≤ n → (w l : ℕ) → slice_get (map leased_by (idled n ds)) w ≡ Some (Some l) → ⊥
 all_idle n [] le w l at = go n at
   where
     go : (n : ℕ) → slice_get (map leased_by (idled n [])) w ≡ Some (Some l) → ⊥
@@ -132,5 +132,5 @@ all_idle (suc n) (d ∷ ds) le zero l at = cc
 all_idle (suc n) (d ∷ ds) le (suc w) l at = all_idle n ds (omega (arith, le)) w l at
 
 -- where every worker was sent away, no lease is out
-pub none_left : (out : Leases) (n : ℕ) (ds : List Desk) → LeasedFrom out n ds → length ds ≤ n → leases out ≡ 0
+pub none_left : (out : Leases) (n : ℕ) (ds : List Seat) → LeasedFrom out n ds → length ds ≤ n → leases out ≡ 0
 none_left out n ds leased past = none_out out (map at_of (idled n ds)) (map leased_by (idled n ds)) leased (all_idle n ds past)

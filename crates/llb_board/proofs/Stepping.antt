@@ -25,9 +25,9 @@ use Rattle.llb_board.specs.WorkerRules.{Written, worked_by, written_by, worked_i
 use Rattle.llb_board.specs.Views.{at_of, leased_by, execution_of}
 use Rattle.llb_events.specs.declared.event.Stepped.{Stepped}
 use Rattle.llb_events.specs.declared.refusal.StepFault.{StepFault}
-use Rattle.llb_board.specs.declared.workers.desk.Desk.{Desk}
-use Rattle.llb_board.specs.declared.workers.desk.Desk.TheVariants as desk
-use Rattle.llb_board.specs.declared.workers.desk.Execution as own
+use Rattle.llb_board.specs.declared.workers.seat.Seat.{Seat}
+use Rattle.llb_board.specs.declared.workers.seat.Seat.TheVariants as seat
+use Rattle.llb_board.specs.declared.workers.seat.Execution as own
 use Rattle.llb_board.proofs.Lists.{length_map, get_map, map_set, set_same}
 use Rattle.llb_board.proofs.Grants.{granted_by}
 use Rattle.llb_board.proofs.Written.{written_each}
@@ -134,7 +134,7 @@ held_keys out l ps apart has = elim has [
 ]
 
 -- the lease of a running worker, and what holds of its instances
-pub record Holding (rows : List Row) (out : Leases) (ds : List Desk) (w : ℕ) (l : Option ℕ) (x : own.Execution) : Type 0 where
+pub record Holding (rows : List Row) (out : Leases) (ds : List Seat) (w : ℕ) (l : Option ℕ) (x : own.Execution) : Type 0 where
   pub has : HasLease out (Some l) x.places.items
   pub distinct : Distinct x.places.items
   pub within : (p : Instance) → Has x.places.items p → p.number < length (trees_of rows p.key)
@@ -154,13 +154,13 @@ held_within rows out l ps there has = elim has [
 ]
 
 -- a running worker has its lease, and the instances of it differ and are there
-pub holding : (rows : List Row) (out : Leases) (ds : List Desk) (w : ℕ) (l : Option ℕ) (x : own.Execution) → AreApart out
+pub holding : (rows : List Row) (out : Leases) (ds : List Seat) (w : ℕ) (l : Option ℕ) (x : own.Execution) → AreApart out
     → AreThere rows out → AreLeased out (map at_of ds) (map leased_by ds)
-    → slice_get ds w ≡ Some (desk.Runs l x) → Holding rows out ds w l x
+    → slice_get ds w ≡ Some (seat.Runs l x) → Holding rows out ds w l x
 holding rows out ds w l x apart there leased at =
-    let h = leased.has w (execution_of x) (get_map at_of ds w (desk.Runs l x) at) in
+    let h = leased.has w (execution_of x) (get_map at_of ds w (seat.Runs l x) at) in
     let has : HasLease out (Some l) x.places.items = subst (λ (o : Option (Option ℕ)). HasLease out o x.places.items)
-    (get_map leased_by ds w (desk.Runs l x) at) h in
+    (get_map leased_by ds w (seat.Runs l x) at) h in
     record {
       has = has;
       distinct = held_distinct out (Some l) x.places.items apart has;
@@ -169,7 +169,7 @@ holding rows out ds w l x apart there leased at =
 
 -- ---- from the execution to the worker
 
-granted_ok : (ds : List Desk) (w : ℕ) (rule : Result Written StepFault) → is_ok (granted_by ds w rule) ≡ is_ok rule
+granted_ok : (ds : List Seat) (w : ℕ) (rule : Result Written StepFault) → is_ok (granted_by ds w rule) ≡ is_ok rule
 granted_ok ds w (Ok p) = refl
 granted_ok ds w (Err e) = refl
 
@@ -201,22 +201,22 @@ pub ok_through : {A : Type 0} (P Q : Type 0) (r : Result A StepFault) → (P →
 ok_through P Q (Ok x) f h = f h
 ok_through P Q (Err e) f h = tt
 
--- the instances of a worker whose desk is set
-pub places_set : (ds : List Desk) (w : ℕ) (old : Desk) (l : Option ℕ) (x : own.Execution) → slice_get ds w ≡ Some old
-    → places_at (slice_get (map at_of (slice_set ds w (desk.Runs l x))) w) ≡ x.places.items
+-- the instances of a worker whose seat is set
+pub places_set : (ds : List Seat) (w : ℕ) (old : Seat) (l : Option ℕ) (x : own.Execution) → slice_get ds w ≡ Some old
+    → places_at (slice_get (map at_of (slice_set ds w (seat.Runs l x))) w) ≡ x.places.items
 places_set ds w old l x at =
-    ap (λ ws. places_at (slice_get ws w)) (map_set at_of ds w (desk.Runs l x))
+    ap (λ ws. places_at (slice_get ws w)) (map_set at_of ds w (seat.Runs l x))
     ∙ ap places_at (get_set_same (map at_of ds) w (Runs (execution_of x)) (at_of old) (get_map at_of ds w old at))
 
 -- the lease stays
-pub leased_stepped : (out out' : Leases) (ds : List Desk) (w : ℕ) (l : Option ℕ) (x y : own.Execution)
-    → AreLeased out (map at_of ds) (map leased_by ds) → slice_get ds w ≡ Some (desk.Runs l x)
-    → out' ≡ out → y.places ≡ x.places → AreLeased out' (map at_of (slice_set ds w (desk.Runs l y))) (map leased_by (slice_set ds w (desk.Runs l y)))
+pub leased_stepped : (out out' : Leases) (ds : List Seat) (w : ℕ) (l : Option ℕ) (x y : own.Execution)
+    → AreLeased out (map at_of ds) (map leased_by ds) → slice_get ds w ≡ Some (seat.Runs l x)
+    → out' ≡ out → y.places ≡ x.places → AreLeased out' (map at_of (slice_set ds w (seat.Runs l y))) (map leased_by (slice_set ds w (seat.Runs l y)))
 leased_stepped out out' ds w l x y leased at same places =
     let kept = step_keeps_lease out (map at_of ds) (map leased_by ds) w (execution_of x) (execution_of y) leased
-    (get_map at_of ds w (desk.Runs l x) at) (λ i. (places i).items) in
-    let ls : map leased_by (slice_set ds w (desk.Runs l y)) ≡ map leased_by ds
-    = map_set leased_by ds w (desk.Runs l y) ∙ set_same (map leased_by ds) w l (get_map leased_by ds w (desk.Runs l x) at) in
-    subst (λ (o : Leases). AreLeased o (map at_of (slice_set ds w (desk.Runs l y))) (map leased_by (slice_set ds w (desk.Runs l y)))) (sym same)
-    (subst (λ (ws : List WorkerStatus). AreLeased out ws (map leased_by (slice_set ds w (desk.Runs l y)))) (sym (map_set at_of ds w (desk.Runs l y)))
+    (get_map at_of ds w (seat.Runs l x) at) (λ i. (places i).items) in
+    let ls : map leased_by (slice_set ds w (seat.Runs l y)) ≡ map leased_by ds
+    = map_set leased_by ds w (seat.Runs l y) ∙ set_same (map leased_by ds) w l (get_map leased_by ds w (seat.Runs l x) at) in
+    subst (λ (o : Leases). AreLeased o (map at_of (slice_set ds w (seat.Runs l y))) (map leased_by (slice_set ds w (seat.Runs l y)))) (sym same)
+    (subst (λ (ws : List WorkerStatus). AreLeased out ws (map leased_by (slice_set ds w (seat.Runs l y)))) (sym (map_set at_of ds w (seat.Runs l y)))
     (subst (AreLeased out (slice_set (map at_of ds) w (Runs (execution_of y)))) (sym ls) kept))

@@ -21,9 +21,9 @@ use Rattle.llb_board.specs.WorkerRules.{Written, worked_by, written_by, worked_i
 use Rattle.llb_board.specs.Vertices.{VerticesValue}
 use Rattle.llb_board.specs.Views.{at_of, execution_of}
 use Rattle.llb_board.specs.Workers.{WorkersValue, Fits, state_in, step_in}
-use Rattle.llb_board.specs.declared.workers.desk.Desk.{Desk}
-use Rattle.llb_board.specs.declared.workers.desk.Desk.TheVariants as desk
-use Rattle.llb_board.specs.declared.workers.desk.Execution as own
+use Rattle.llb_board.specs.declared.workers.seat.Seat.{Seat}
+use Rattle.llb_board.specs.declared.workers.seat.Seat.TheVariants as seat
+use Rattle.llb_board.specs.declared.workers.seat.Execution as own
 use Rattle.llb_board.proofs.Crews.{Crew, crew_set}
 use Rattle.llb_board.proofs.Supplied.{made_enough, supplies_claimed}
 use Rattle.llb_board.proofs.Lists.{get_map, map_set}
@@ -33,7 +33,7 @@ inside_ok : {A E : Type 0} {x y : A} → ◌≡◌ {A = Result A E} (Ok x) (Ok y
 inside_ok e = cc
 
 -- what contracts see of seats and caches
-abbrev pub seen_of : List Desk → List Row → WorkersValue
+abbrev pub seen_of : List Seat → List Row → WorkersValue
 seen_of ds rows = record { workers = map at_of ds; rows = rows; supplies = map ready_made ds }
 
 -- a micro-step over the lists of instances, as the table's step
@@ -81,10 +81,10 @@ last_by S ws w (Ok s) rule whole is last = tt
 last_by S ws w (Err e) rule whole is last = λ memory. ap is_ok is ∙ granted_ok S ws w rule ∙ last memory
 
 -- a worker that runs, with its lease: what it does on its instances is the table's step
-module _ (vs : VerticesValue) (ds : List Desk) (rows : List Row) (out : Leases) (w : ℕ) (l : Option ℕ) (x : own.Execution)
-    (crew : Crew ds out) (apart : AreApart out) (there : AreThere rows out) (at : slice_get ds w ≡ Some (desk.Runs l x)) where
+module _ (vs : VerticesValue) (ds : List Seat) (rows : List Row) (out : Leases) (w : ℕ) (l : Option ℕ) (x : own.Execution)
+    (crew : Crew ds out) (apart : AreApart out) (there : AreThere rows out) (at : slice_get ds w ≡ Some (seat.Runs l x)) where
   runs : slice_get (map at_of ds) w ≡ Some (Runs (execution_of x))
-  runs = get_map at_of ds w (desk.Runs l x) at
+  runs = get_map at_of ds w (seat.Runs l x) at
 
   within : (p : Instance) → Has x.places.items p → p.number < length (trees_of rows p.key)
   within = (holding rows out ds w l x apart there crew.leased at).within
@@ -95,11 +95,11 @@ module _ (vs : VerticesValue) (ds : List Desk) (rows : List Row) (out : Leases) 
   -- after it the worker's seat is set, and the rows are these
   pub step_gives : (r : Result Stepped StepFault) (y : own.Execution) (after : List Row)
       → GivesStep (λ s. (execution_of y, after, HasStepped s)) r (worked_in vs.build rows (execution_of x))
-      → GivesStep (λ s. (state_in vs (seen_of (slice_set ds w (desk.Runs l y)) after), HasStepped s)) r (step_in vs (seen_of ds rows) w)
+      → GivesStep (λ s. (state_in vs (seen_of (slice_set ds w (seat.Runs l y)) after), HasStepped s)) r (step_in vs (seen_of ds rows) w)
   step_gives r y after gives =
       subst (λ (ws : List WorkerStatus). GivesStep (λ s. (record { statuses = vs.statuses; workers = ws; store = store_of after }, HasStepped s)) r
       (step_in vs (seen_of ds rows) w))
-      (sym (map_set at_of ds w (desk.Runs l y)))
+      (sym (map_set at_of ds w (seat.Runs l y)))
       (gives_by vs.statuses (map at_of ds) w r (λ s. (execution_of y, after, HasStepped s)) (worked_in vs.build rows (execution_of x))
       (step_in vs (seen_of ds rows) w) whole gives)
 
@@ -110,16 +110,16 @@ module _ (vs : VerticesValue) (ds : List Desk) (rows : List Row) (out : Leases) 
 
   pub step_rows : (r : Result Stepped StepFault) (y : own.Execution) (after : List Row)
       → GivesStep (λ s. (execution_of y, after, HasStepped s)) r (worked_in vs.build rows (execution_of x))
-      → OnOk r (after ≡ rows_after rows (state_in vs (seen_of (slice_set ds w (desk.Runs l y)) after)) w)
+      → OnOk r (after ≡ rows_after rows (state_in vs (seen_of (slice_set ds w (seat.Runs l y)) after)) w)
   step_rows r y after gives =
       ok_through _ _ r
       (λ (is : after ≡ written (store_of after) rows y.places.items). is
-      ∙ ap (written (store_of after) rows) (sym (places_set ds w (desk.Runs l x) l y at)))
+      ∙ ap (written (store_of after) rows) (sym (places_set ds w (seat.Runs l x) l y at)))
       (rows_through vs.build rows after (execution_of x) (execution_of y) r HasStepped
       (holding rows out ds w l x apart there crew.leased at).distinct within gives)
 
-  pub step_crew : (y : own.Execution) (new : Leases) → new ≡ out → y.places ≡ x.places → Crew (slice_set ds w (desk.Runs l y)) new
-  step_crew y new same places = crew_set ds w (desk.Runs l y) out new crew (leased_stepped out new ds w l x y crew.leased at same places)
+  pub step_crew : (y : own.Execution) (new : Leases) → new ≡ out → y.places ≡ x.places → Crew (slice_set ds w (seat.Runs l y)) new
+  step_crew y new same places = crew_set ds w (seat.Runs l y) out new crew (leased_stepped out new ds w l x y crew.leased at same places)
 
   -- the worker goes on with its vertex
   vertex_stays : (y : own.Execution) (after : List Row) (q : Reply) (o : Option MicroStep)
@@ -135,7 +135,7 @@ module _ (vs : VerticesValue) (ds : List Desk) (rows : List Row) (out : Leases) 
 
   pub step_fits : (r : Result Stepped StepFault) (y : own.Execution) (after : List Row) → supplies_of y ≡ supplies_of x
       → GivesStep (λ s. (execution_of y, after, HasStepped s)) r (worked_in vs.build rows (execution_of x))
-      → Fits vs.build (seen_of ds rows) → OnOk r (Fits vs.build (seen_of (slice_set ds w (desk.Runs l y)) after))
+      → Fits vs.build (seen_of ds rows) → OnOk r (Fits vs.build (seen_of (slice_set ds w (seat.Runs l y)) after))
   step_fits (Ok s) y after same gives fits =
       supplies_claimed vs.build ds w l y fits
       (same ∙ made_enough vs.build ds w l x fits at

@@ -1,4 +1,4 @@
--- What a worker has left to do, as a job, and its desk after the job's micro-steps.
+-- What a worker has left to do, as a job, and its seat after the job's micro-steps.
 use Rattle.std.specs.Prelude.{◌≡◌, ℕ, ◌+◌, Bool, true, false, map, Option, Some, None}
 use Rattle.std.specs.List.{list_any}
 use Rattle.llb_cache.specs.declared.key.Mode.{Mode}
@@ -9,8 +9,8 @@ use Rattle.llb_model.specs.Program.{Build, Workspace}
 use Rattle.llb_model.specs.State.{Execution, program_in}
 use Rattle.llb_model.specs.Table.{Job}
 use Rattle.llb_execution.specs.Parts.{work_with}
-use Rattle.llb_board.specs.declared.workers.desk.Desk.{Desk}
-use Rattle.llb_board.specs.declared.workers.desk.Desk.TheVariants as desk
+use Rattle.llb_board.specs.declared.workers.seat.Seat.{Seat}
+use Rattle.llb_board.specs.declared.workers.seat.Seat.TheVariants as seat
 
 -- whether several leases can have one instance at once
 abbrev pub is_shared : Mode → Bool
@@ -45,8 +45,8 @@ pub record IsRunOf (b : Build) (store : Store) (w : ℕ) (x : Execution) (job : 
   pub clean : x.fault ≡ None
   pub same : job ≡ job_now b store w x
 
--- the desk of a worker that has done n more micro-steps, which left this
-abbrev pub desk_left : ℕ → Option VertexFault → Workspace → Option Desk → Desk
-desk_left n fault view (Some (desk.Runs l x)) = desk.Runs l (record x { done = x.done + n; fault = fault; view = view })
-desk_left n fault view (Some desk.Idle) = desk.Idle
-desk_left n fault view None = desk.Idle
+-- the seat of a worker that has done n more micro-steps, which left this
+abbrev pub seat_left : ℕ → Option VertexFault → Workspace → Option Seat → Seat
+seat_left n fault view (Some (seat.Runs l x)) = seat.Runs l (record x { done = x.done + n; fault = fault; view = view })
+seat_left n fault view (Some seat.Idle) = seat.Idle
+seat_left n fault view None = seat.Idle

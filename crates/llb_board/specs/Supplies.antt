@@ -10,9 +10,9 @@ use Rattle.llb_model.specs.Caches.{Instance}
 use Rattle.llb_model.specs.Program.{Build, Need, key_of, mount_of, needs_of, program_at, setting_of}
 use Rattle.llb_model.specs.State.{WorkerStatus, Idle, Runs}
 use Rattle.llb_execution.specs.Parts.{kind_setting, mounts_in, shown_in}
-use Rattle.llb_board.specs.declared.workers.desk.Desk.{Desk}
-use Rattle.llb_board.specs.declared.workers.desk.Execution as own
-use Rattle.llb_board.specs.declared.workers.desk.Desk.TheVariants as desk
+use Rattle.llb_board.specs.declared.workers.seat.Seat.{Seat}
+use Rattle.llb_board.specs.declared.workers.seat.Execution as own
+use Rattle.llb_board.specs.declared.workers.seat.Seat.TheVariants as seat
 
 -- what a worker has from its claim on: an empty tree for each output of its vertex, where its commands run, how many mounts they see, which
 -- of these show caches, and the keys of those
@@ -59,9 +59,9 @@ supplies_for o = record {
 }
 
 -- what a worker has ready, and what it needs
-abbrev pub ready_made : Desk → Supplies
-ready_made desk.Idle = supplies_for None
-ready_made (desk.Runs l x) = supplies_of x
+abbrev pub ready_made : Seat → Supplies
+ready_made seat.Idle = supplies_for None
+ready_made (seat.Runs l x) = supplies_of x
 
 -- the supplies that a worker has to have for what it does
 abbrev pub needed : Build → WorkerStatus → Supplies

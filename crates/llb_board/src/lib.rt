@@ -22,6 +22,7 @@ mod history;
 pub mod laws;
 mod links;
 mod status;
+mod trees;
 mod vertices;
 mod workers;
 

@@ -12,7 +12,6 @@ ghost use Rattle.llb_board.specs.Statuses.{look_of};
 mod claiming;
 mod comparing;
 mod copying;
-mod desk;
 mod ending;
 mod instances;
 mod landing;
@@ -20,17 +19,18 @@ mod leaving;
 mod looking;
 mod needs;
 mod outfit;
+mod seat;
 mod stepping;
 mod undoing;
 
 use crate::fault::Memory;
 use crate::status::WorkerStatus;
 use crate::vertices::Vertices;
-use copying::copied_desks;
-use desk::{Desk, desk_at, idle, is_finished, same_desks};
+use copying::copied_seats;
 use instances::give_all_back;
 use llb_cache::{Caches, Instance};
 use llb_execution::Workspace;
+use seat::{Seat, idle, is_finished, same_seats, seat_at};
 use std::alloc::Global;
 use std::marker::Model;
 pub use undoing::Undo;
@@ -38,7 +38,7 @@ pub use undoing::Undo;
 /// The workers of a board, and the caches whose instances they hold. Contracts see what each worker does, the lists of instances, and what
 /// each worker is supplied with.
 pub(crate) struct Workers {
-    seats: Vec<Desk>,
+    seats: Vec<Seat>,
     caches: Caches,
 }
 
@@ -113,9 +113,9 @@ impl Workers {
         ensures some { 0 < length self.now.workers }
         ensures few { length self.now.workers ≤ 64 }
     {
-        match desk_at(&self.seats, w)? {
-            Desk::Idle => Some(WorkerStatus::Idle),
-            Desk::Runs(_, execution) => {
+        match seat_at(&self.seats, w)? {
+            Seat::Idle => Some(WorkerStatus::Idle),
+            Seat::Runs(_, execution) => {
                 let finished = is_finished(execution, vertices.steps(execution.vertex));
                 Some(WorkerStatus::Runs(execution.vertex, execution.done, finished))
             }
@@ -126,8 +126,8 @@ impl Workers {
     pub(crate) fn places(&self, w: u32) -> &[Instance]
         ensures { result.now ≡ places_at (slice_get self.now.workers w) }
     {
-        match desk_at(&self.seats, w) {
-            Some(Desk::Runs(_, execution)) => &execution.places,
+        match seat_at(&self.seats, w) {
+            Some(Seat::Runs(_, execution)) => &execution.places,
             _ => &[],
         }
     }
@@ -136,8 +136,8 @@ impl Workers {
     pub(crate) fn workspace(&self, w: u32) -> Option<&Workspace>
         ensures { option_map (λ v. v.now) result ≡ option_map (λ (x : Execution). x.own) (runs (slice_get self.now.workers w)) }
     {
-        match desk_at(&self.seats, w) {
-            Some(Desk::Runs(_, execution)) => Some(&execution.view),
+        match seat_at(&self.seats, w) {
+            Some(Seat::Runs(_, execution)) => Some(&execution.view),
             _ => None,
         }
     }
@@ -147,7 +147,7 @@ impl Workers {
         ensures { IfOk result (λ s. s ≡ self.now) }
     {
         Ok(Workers {
-            seats: copied_desks(alloc, &self.seats)?,
+            seats: copied_seats(alloc, &self.seats)?,
             caches: self.caches.copy()?,
         })
     }
@@ -156,6 +156,6 @@ impl Workers {
     pub(crate) fn same(&self, other: &Workers) -> bool
         ensures { IsTrue result ↔ ((self.now.workers ≡ other.now.workers) × (self.now.rows ≡ other.now.rows)) }
     {
-        same_desks(&self.seats, &other.seats) && self.caches.has_same_trees(&other.caches)
+        same_seats(&self.seats, &other.seats) && self.caches.has_same_trees(&other.caches)
     }
 }

@@ -8,7 +8,8 @@ ghost use Rattle.llb_model.specs.Caches as model;
 ghost use Rattle.llb_model.specs.State.{Execution, runs};
 ghost use Rattle.llb_board.specs.Jobs.{is_shared};
 ghost use Rattle.llb_board.specs.Begun.{IsKnown};
-ghost use Rattle.llb_board.specs.Landing.{CanLand, StandsInWay, IsRefused, land_fault, places_had, runs_shared, IsThrough, Lands};
+ghost use Rattle.llb_board.specs.Caches.{places_at};
+ghost use Rattle.llb_board.specs.Landing.{CanLand, StandsInWay, IsRefused, land_fault, runs_shared, IsThrough, Lands};
 
 use crate::board::Board;
 use crate::fault::LandFault;
@@ -40,9 +41,8 @@ impl Board {
         if let Err(cause) = self.can_land(w, outcome.job()) {
             return Err(refused(cause, outcome));
         }
-        let vertex = outcome.job().vertex();
         self.go_through(w, outcome);
-        Ok(self.settle(w).unwrap_or(Settled::Done(vertex)))
+        Ok(self.settle(w).unwrap())
     }
 
     /// Lands an outcome, as `land` does, whose job is known to be what the worker runs: with no cache mount at or before its vertex and no
@@ -52,9 +52,8 @@ impl Board {
         ensures gives { Lands self.old w outcome self.new (HasSettled result) }
     {
         begun_are_plain(self);
-        let vertex = outcome.job().vertex();
         self.go_through(w, outcome);
-        self.settle(w).unwrap_or(Settled::Done(vertex))
+        self.settle(w).unwrap()
     }
 
     /// Returns whether what a worker runs has an instance of a shared cache, so that no outcome of it lands. False where the worker runs nothing
@@ -67,7 +66,7 @@ impl Board {
 
     /// Returns the instances of caches that a worker has; none where it runs nothing, or there is no such worker. Does not allocate.
     pub fn places(&self, w: u32) -> &[Instance]
-        ensures { result.now ≡ places_had (slice_get self.now.state.workers w) }
+        ensures { result.now ≡ places_at (slice_get self.now.state.workers w) }
     {
         self.workers.places(w)
     }

@@ -5,6 +5,7 @@ ghost use Rattle.llb_model.specs.State.{ending_of, is_done, is_failed};
 ghost use Rattle.llb_board.specs.Vertices.{status_of};
 
 use crate::fault::Memory;
+use crate::trees::copied_trees;
 use llb_events::VertexFault;
 use llb_tree::Tree;
 use llb_wire::{Many, Same};
@@ -70,14 +71,4 @@ impl Same for Stage {
             _ => false,
         }
     }
-}
-
-fn copied_trees(alloc: Global, trees: &[Tree]) -> Result<Vec<Tree>, Memory>
-    ensures { IfOk result (λ t. t.items ≡ trees.now) }
-{
-    let mut copies = Vec::new(alloc);
-    for tree in trees {
-        copies.push(tree.copy()?)?;
-    }
-    Ok(copies)
 }

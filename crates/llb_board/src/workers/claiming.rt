@@ -21,10 +21,10 @@ ghost use Rattle.llb_board.specs.Workers.{IsBegunOn, Fits, claim_in, reply_of, s
 
 use crate::vertices::Vertices;
 use crate::workers::Workers;
-use crate::workers::desk::{Desk, Execution, desk_at};
 use crate::workers::instances::lease_for;
 use crate::workers::needs::{Wanted, mount_numbers, taking_for, wanted_by};
 use crate::workers::outfit::outfit_for;
+use crate::workers::seat::{Execution, Seat, seat_at};
 use llb_cache::Need;
 use llb_events::ClaimFault;
 use llb_execution::{Job, Workspace};
@@ -106,10 +106,10 @@ impl Workers {
         ensures begun { IfOk result (λ b. IsBegunOn vertices.now self.now b) }
         ensures at { IfOk result (λ b. (b.job.worker ≡ w) × (b.job.vertex ≡ v)) }
     {
-        match desk_at(&self.seats, w) {
+        match seat_at(&self.seats, w) {
             None => return Err(ClaimFault::NoWorker),
-            Some(Desk::Runs(_, _)) => return Err(ClaimFault::Busy),
-            Some(Desk::Idle) => {}
+            Some(Seat::Runs(_, _)) => return Err(ClaimFault::Busy),
+            Some(Seat::Idle) => {}
         }
         let vertex = vertices.ready(v)?;
         self.caches.is_exclusive();
@@ -136,7 +136,7 @@ impl Workers {
         self.caches.is_exclusive();
         match lease_for(&mut self.caches, needs, &rows) {
             Ok(lease) => {
-                self.seats[w as usize] = Desk::Runs(lease, execution);
+                self.seats[w as usize] = Seat::Runs(lease, execution);
                 Ok(job)
             }
             Err(_) => Err(ClaimFault::Memory),

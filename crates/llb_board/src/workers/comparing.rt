@@ -3,17 +3,17 @@
 ghost use Rattle.std.specs.Prelude.{◌≡◌, ◌↔◌, ◌<◌, ◌+◌, ◌^◌, ℕ, Option, length, map, true, Some, slice_get, slice_set, IsTrue};
 ghost use Rattle.llb_model.specs.Caches as model;
 ghost use Rattle.llb_model.specs.Caches.{trees_at, Has};
-ghost use Rattle.llb_board.specs.declared.workers.desk.Desk.TheVariants as desk;
-ghost use Rattle.llb_board.specs.declared.workers.desk.Execution as own;
+ghost use Rattle.llb_board.specs.declared.workers.seat.Seat.TheVariants as seat;
+ghost use Rattle.llb_board.specs.declared.workers.seat.Execution as own;
 ghost use Rattle.llb_model.specs.Kept.{store_of};
 ghost use Rattle.llb_cache.specs.Caches.{trees_of};
 ghost use Rattle.llb_board.specs.Caches.{tree_of};
 ghost use Rattle.llb_board.specs.Needs.{number_of};
-ghost use Rattle.llb_board.specs.Jobs.{IsBegun, desk_left};
+ghost use Rattle.llb_board.specs.Jobs.{IsBegun, seat_left};
 ghost use Rattle.llb_board.specs.Views.{leased_by, execution_of};
 
 use crate::workers::copying::lease_of;
-use crate::workers::desk::{Desk, Execution};
+use crate::workers::seat::{Execution, Seat};
 use llb_cache::{Caches, Instance, Lease};
 use llb_events::VertexFault;
 use llb_execution::{Job, Workspace};
@@ -75,20 +75,20 @@ pub(crate) fn has_numbers(places: &[Instance], numbers: &[u32]) -> bool
 /// Adds to a running worker's execution the micro-steps that are done, with the fault and the view that they left, and returns its
 /// lease. Does not allocate.
 pub(crate) fn put_left(
-    desks: &mut Vec<Desk>,
+    seats: &mut Vec<Seat>,
     w: u32,
     done: (u32, Option<VertexFault>),
     view: Workspace,
 ) -> Option<Lease>
-    requires low { w < length desks.old.items }
-    requires few { (l : Option ℕ) (x : own.Execution) → slice_get desks.old.items w ≡ Some (desk.Runs l x) → x.done + done.0 < 2 ^ 32 }
-    ensures left { desks.new.items ≡ slice_set desks.old.items w (desk_left done.0 done.1 view (slice_get desks.old.items w)) }
-    ensures leased { slice_get (map leased_by desks.old.items) w ≡ Some result }
+    requires low { w < length seats.old.items }
+    requires few { (l : Option ℕ) (x : own.Execution) → slice_get seats.old.items w ≡ Some (seat.Runs l x) → x.done + done.0 < 2 ^ 32 }
+    ensures left { seats.new.items ≡ slice_set seats.old.items w (seat_left done.0 done.1 view (slice_get seats.old.items w)) }
+    ensures leased { slice_get (map leased_by seats.old.items) w ≡ Some result }
 {
-    let lease = lease_of(&desks[w as usize]);
-    match &mut desks[w as usize] {
-        Desk::Idle => {}
-        Desk::Runs(_, execution) => {
+    let lease = lease_of(&seats[w as usize]);
+    match &mut seats[w as usize] {
+        Seat::Idle => {}
+        Seat::Runs(_, execution) => {
             execution.done += done.0;
             execution.fault = done.1;
             execution.view = view;

@@ -6,43 +6,32 @@ ghost use Rattle.llb_board.specs.Undoing.{left_in};
 ghost use Rattle.llb_board.specs.Views.{at_of, leased_by};
 
 use crate::fault::Memory;
-use crate::workers::desk::{Desk, Execution};
+use crate::trees::copied_trees;
+use crate::workers::seat::{Execution, Seat};
 use llb_cache::{Instance, Lease};
-use llb_tree::Tree;
 use std::alloc::Global;
 
-/// Copies trees, which stay shared. Fails with 141 `Memory` alone.
-pub(crate) fn copied_trees(alloc: Global, trees: &[Tree]) -> Result<Vec<Tree>, Memory>
-    ensures { IfOk result (λ t. t.items ≡ trees.now) }
-{
-    let mut copies = Vec::new(alloc);
-    for tree in trees {
-        copies.push(tree.copy()?)?;
-    }
-    Ok(copies)
-}
-
 /// Copies workers, with the same leases. Fails with 141 `Memory` alone.
-pub(crate) fn copied_desks(alloc: Global, desks: &[Desk]) -> Result<Vec<Desk>, Memory>
-    ensures workers { IfOk result (λ d. map at_of d.items ≡ map at_of desks.now) }
-    ensures leases { IfOk result (λ d. map leased_by d.items ≡ map leased_by desks.now) }
-    ensures made { IfOk result (λ d. map ready_made d.items ≡ map ready_made desks.now) }
+pub(crate) fn copied_seats(alloc: Global, seats: &[Seat]) -> Result<Vec<Seat>, Memory>
+    ensures workers { IfOk result (λ d. map at_of d.items ≡ map at_of seats.now) }
+    ensures leases { IfOk result (λ d. map leased_by d.items ≡ map leased_by seats.now) }
+    ensures made { IfOk result (λ d. map ready_made d.items ≡ map ready_made seats.now) }
 {
     let mut copies = Vec::new(alloc);
-    for desk in desks {
-        copies.push(copied_desk(alloc, desk)?)?;
+    for seat in seats {
+        copies.push(copied_seat(alloc, seat)?)?;
     }
     Ok(copies)
 }
 
-fn copied_desk(alloc: Global, desk: &Desk) -> Result<Desk, Memory>
-    ensures worker { IfOk result (λ d. at_of d ≡ at_of desk.now) }
-    ensures lease { IfOk result (λ d. leased_by d ≡ leased_by desk.now) }
-    ensures made { IfOk result (λ d. ready_made d ≡ ready_made desk.now) }
+fn copied_seat(alloc: Global, seat: &Seat) -> Result<Seat, Memory>
+    ensures worker { IfOk result (λ d. at_of d ≡ at_of seat.now) }
+    ensures lease { IfOk result (λ d. leased_by d ≡ leased_by seat.now) }
+    ensures made { IfOk result (λ d. ready_made d ≡ ready_made seat.now) }
 {
-    match desk {
-        Desk::Idle => Ok(Desk::Idle),
-        Desk::Runs(lease, execution) => Ok(Desk::Runs(*lease, copied(alloc, execution)?)),
+    match seat {
+        Seat::Idle => Ok(Seat::Idle),
+        Seat::Runs(lease, execution) => Ok(Seat::Runs(*lease, copied(alloc, execution)?)),
     }
 }
 
@@ -74,11 +63,11 @@ fn copied_places(alloc: Global, places: &[Instance]) -> Result<Vec<Instance>, Me
 }
 
 /// Returns the lease of a worker, if it has one.
-pub(crate) fn lease_of(desk: &Desk) -> Option<Lease>
-    ensures { result ≡ leased_by desk.now }
+pub(crate) fn lease_of(seat: &Seat) -> Option<Lease>
+    ensures { result ≡ leased_by seat.now }
 {
-    match desk {
-        Desk::Idle => None,
-        Desk::Runs(lease, _) => *lease,
+    match seat {
+        Seat::Idle => None,
+        Seat::Runs(lease, _) => *lease,
     }
 }

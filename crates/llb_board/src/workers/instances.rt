@@ -14,7 +14,7 @@ ghost use Rattle.llb_board.specs.Views.{at_of, leased_by};
 ghost use Rattle.llb_events.specs.Faults.{step_memory};
 
 use crate::fault::Memory;
-use crate::workers::desk::Desk;
+use crate::workers::seat::Seat;
 use llb_cache::{Caches, Growth, Instance, Lease, LeaseFault, Lent, Need};
 use llb_events::StepFault;
 use llb_tree::Tree;
@@ -139,13 +139,13 @@ fn write_all(caches: &mut Caches, lease: Lease, trees: Vec<Tree>)
 }
 
 /// Gives back the leases of all workers.
-pub(crate) fn give_all_back(caches: &mut Caches, desks: &[Desk])
-    requires { AreLeased caches.old.out (map at_of desks.now) (map leased_by desks.now) }
+pub(crate) fn give_all_back(caches: &mut Caches, seats: &[Seat])
+    requires { AreLeased caches.old.out (map at_of seats.now) (map leased_by seats.now) }
     ensures rows { caches.new.rows ≡ caches.old.rows }
     ensures none { leases caches.new.out ≡ 0 }
 {
-    for desk in desks {
-        if let Desk::Runs(lease, _) = desk {
+    for seat in seats {
+        if let Seat::Runs(lease, _) = seat {
             give_back(caches, *lease);
         }
     }

@@ -19,8 +19,8 @@ ghost use Rattle.llb_board.specs.Workers.{Fits, RunsJob, steps_left};
 use crate::vertices::Vertices;
 use crate::workers::Workers;
 use crate::workers::comparing::{has_numbers, has_trees, is_begun, put_left};
-use crate::workers::desk::{Desk, Execution, desk_at};
 use crate::workers::instances::write_back;
+use crate::workers::seat::{Execution, Seat, seat_at};
 use llb_cache::Caches;
 use llb_execution::{Job, Outcome, Program};
 use llb_wire::Same;
@@ -34,8 +34,8 @@ impl Workers {
         ensures no { OnFalse result (RunsJob vertices.now self.now w job.now → ⊥) }
     {
         self.caches.is_exclusive();
-        match desk_at(&self.seats, w) {
-            Some(Desk::Runs(_, execution)) => { is_left(vertices, &self.caches, w, execution, job) }
+        match seat_at(&self.seats, w) {
+            Some(Seat::Runs(_, execution)) => { is_left(vertices, &self.caches, w, execution, job) }
             _ => false,
         }
     }

@@ -12,13 +12,12 @@ ghost use Rattle.llb_board.specs.Workers.{Fits};
 
 use crate::vertices::{Stage, Vertices};
 use crate::workers::Workers;
-use crate::workers::desk::{Desk, Execution, is_finished};
 use crate::workers::ending::outputs;
 use crate::workers::instances::give_back;
+use crate::workers::seat::{Execution, Seat, is_finished, vacate};
 use llb_events::{CancelFault, Cancelled, SettleFault};
 use llb_loader::Vertex;
 use llb_wire::Many;
-use std::mem;
 
 impl Workers {
     /// Makes a worker leave what it runs, which is finished; its instances are free again. Returns the vertex with its status then. Fails with
@@ -36,21 +35,17 @@ impl Workers {
             return Err(SettleFault::NoWorker);
         }
         match &self.seats[w as usize] {
-            Desk::Idle => return Err(SettleFault::NotRunning),
-            Desk::Runs(_, execution) => {
+            Seat::Idle => return Err(SettleFault::NotRunning),
+            Seat::Runs(_, execution) => {
                 if !is_finished(execution, vertices.steps(execution.vertex)) {
                     return Err(SettleFault::NotFinished);
                 }
             }
         }
-        match mem::replace(&mut self.seats[w as usize], Desk::Idle) {
-            Desk::Idle => Err(SettleFault::NotRunning),
-            Desk::Runs(lease, execution) => {
-                give_back(&mut self.caches, lease);
-                let v = execution.vertex;
-                Ok((v, end(execution, vertices.vertex(v))))
-            }
-        }
+        let (lease, execution) = vacate(&mut self.seats, w);
+        give_back(&mut self.caches, lease);
+        let v = execution.vertex;
+        Ok((v, end(execution, vertices.vertex(v))))
     }
 
     /// Makes a worker give up what it runs, finished or not; its instances are free again. Returns the vertex with its count of micro-steps
@@ -65,16 +60,16 @@ impl Workers {
         if w as usize >= self.seats.len() {
             return Err(CancelFault::NoWorker);
         }
-        match mem::replace(&mut self.seats[w as usize], Desk::Idle) {
-            Desk::Idle => Err(CancelFault::NotRunning),
-            Desk::Runs(lease, execution) => {
-                give_back(&mut self.caches, lease);
-                Ok(Cancelled {
-                    vertex: execution.vertex,
-                    done: execution.done,
-                })
-            }
+        match &self.seats[w as usize] {
+            Seat::Idle => return Err(CancelFault::NotRunning),
+            Seat::Runs(_, _) => {}
         }
+        let (lease, execution) = vacate(&mut self.seats, w);
+        give_back(&mut self.caches, lease);
+        Ok(Cancelled {
+            vertex: execution.vertex,
+            done: execution.done,
+        })
     }
 }
 

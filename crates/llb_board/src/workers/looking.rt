@@ -10,7 +10,7 @@ ghost use Rattle.llb_board.specs.Looks.{worked_by};
 ghost use Rattle.llb_board.specs.Views.{execution_of};
 
 use crate::workers::Workers;
-use crate::workers::desk::{Desk, Execution, desk_at};
+use crate::workers::seat::{Execution, Seat, seat_at};
 use llb_cache::{Caches, Instance};
 use llb_execution::Look;
 use llb_tree::Tree;
@@ -22,8 +22,8 @@ impl Workers {
         ensures { option_map (λ t. t.now) result ≡ slice_get (worked_by (store_of self.now.rows) (runs (slice_get self.now.workers w))) i }
     {
         self.caches.is_exclusive();
-        match desk_at(&self.seats, w) {
-            Some(Desk::Runs(_, execution)) => tree_in(&self.caches, execution, i),
+        match seat_at(&self.seats, w) {
+            Some(Seat::Runs(_, execution)) => tree_in(&self.caches, execution, i),
             _ => None,
         }
     }

@@ -18,8 +18,8 @@ ghost use Rattle.llb_wire.specs.Answer.{MemoryLast};
 
 use crate::vertices::Vertices;
 use crate::workers::Workers;
-use crate::workers::desk::{Desk, Execution};
 use crate::workers::instances::{contents, write_back};
+use crate::workers::seat::{Execution, Seat};
 use llb_cache::{Caches, Lease};
 use llb_events::{StepFault, Stepped, VertexFault};
 use llb_execution::{MicroStep, step_of};
@@ -47,8 +47,8 @@ impl Workers {
         }
         self.caches.is_exclusive();
         match &mut self.seats[w as usize] {
-            Desk::Idle => Err(StepFault::NotRunning),
-            Desk::Runs(lease, execution) => {
+            Seat::Idle => Err(StepFault::NotRunning),
+            Seat::Runs(lease, execution) => {
                 micro_step(alloc, vertices, execution, &mut self.caches, *lease)
             }
         }

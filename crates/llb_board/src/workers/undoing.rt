@@ -15,9 +15,9 @@ use crate::fault::{Memory, WalkFault};
 use crate::vertices::{Stage, Vertices};
 use crate::workers::Workers;
 use crate::workers::copying::copied;
-use crate::workers::desk::{Desk, Execution, make_idle, step_back};
 use crate::workers::instances::{contents, lend_again, lent_for, take_back, write_back};
 use crate::workers::needs::growths_of;
+use crate::workers::seat::{Execution, Seat, make_idle, seat_at, step_back};
 use llb_cache::{Caches, Growth, Lent};
 use llb_events::{CancelFault, Event, SettleFault, StepFault};
 use llb_execution::Mark;
@@ -128,10 +128,10 @@ impl Workers {
         ensures marks { IfOk result (λ u. MarksStep vertices.now self.now w u) }
         ensures refused { IfErr result (λ e. walk_memory e ≡ false → walk_in vertices.now self.now (Step w) ≡ Err e) }
     {
-        match seat_of(&self.seats, w) {
+        match seat_at(&self.seats, w) {
             None => Err(WalkFault::Step(StepFault::NoWorker)),
-            Some(Desk::Idle) => Err(WalkFault::Step(StepFault::NotRunning)),
-            Some(Desk::Runs(_, execution)) => {
+            Some(Seat::Idle) => Err(WalkFault::Step(StepFault::NotRunning)),
+            Some(Seat::Runs(_, execution)) => {
                 let mark = execution.view.mark()?;
                 let trees = contents(alloc, &self.caches, &execution.places)?;
                 Ok(Undo {
@@ -152,10 +152,10 @@ impl Workers {
         ensures marks { IfOk result (λ u. MarksEnd vertices.now self.now end w u) }
         ensures refused { IfErr result (λ e. walk_memory e ≡ false → walk_in vertices.now self.now (end_of end w) ≡ Err e) }
     {
-        match seat_of(&self.seats, w) {
+        match seat_at(&self.seats, w) {
             None => Err(no_worker(end)),
-            Some(Desk::Idle) => Err(not_running(end)),
-            Some(Desk::Runs(_, execution)) => {
+            Some(Seat::Idle) => Err(not_running(end)),
+            Some(Seat::Runs(_, execution)) => {
                 let left = copied(alloc, execution)?;
                 let lent = lent_for(alloc, &execution.places, self.seats.len() + 1)?;
                 Ok(Undo {
@@ -179,7 +179,7 @@ impl Workers {
 }
 
 // Puts back what an event displaced.
-fn displace(seats: &mut Vec<Desk>, caches: &mut Caches, back: Back) -> Option<Change>
+fn displace(seats: &mut Vec<Seat>, caches: &mut Caches, back: Back) -> Option<Change>
     requires can { CanPutBack (record { back = back_in back })
         (record { workers = map at_of seats.old.items; rows = caches.old.rows; supplies = map ready_made seats.old.items }) }
     requires crew { IsCrew (map at_of seats.old.items) caches.old.out (map leased_by seats.old.items) }
@@ -204,7 +204,7 @@ fn displace(seats: &mut Vec<Desk>, caches: &mut Caches, back: Back) -> Option<Ch
         Back::Resume(_, w, execution, lent) => {
             let vertex = execution.vertex;
             let lease = lend_again(caches, lent);
-            seats[w as usize] = Desk::Runs(lease, execution);
+            seats[w as usize] = Seat::Runs(lease, execution);
             let stage = Stage::Running(w);
             Some(Change { vertex, stage })
         }
@@ -229,13 +229,6 @@ fn not_running(end: End) -> WalkFault
         End::Settle => WalkFault::Settle(SettleFault::NotRunning),
         End::Cancel => WalkFault::Cancel(CancelFault::NotRunning),
     }
-}
-
-// Returns the state of a worker; `None` past the last worker.
-fn seat_of(seats: &[Desk], w: u32) -> Option<&Desk>
-    ensures { option_map (λ d. d.now) result ≡ slice_get seats.now w }
-{
-    seats.get(w as usize)
 }
 
 // Returns what a claim of the vertex of a number would add to the caches; nothing past the last vertex.

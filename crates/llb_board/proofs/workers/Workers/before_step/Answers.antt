@@ -4,7 +4,7 @@ use Rattle.llb_model.specs.Caches.{Instance, trees_at}
 use Rattle.llb_model.specs.Kept.{store_of}
 use Rattle.llb_board.specs.Displaced.{Unstep, MarksStep}
 use Rattle.llb_board.specs.Workers.{WorkersValue, Fits}
-use Rattle.llb_board.specs.declared.workers.desk.Desk.TheVariants as desk
+use Rattle.llb_board.specs.declared.workers.seat.Seat.TheVariants as seat
 use Rattle.llb_board.proofs.Befores.{marks_step}
 use Rattle.llb_board.proofs.workers.Workers.before_step.Goals as goal
 
@@ -16,7 +16,7 @@ returns-in_ok-trees-in-Some-Runs-clause-marks c =
     let x = c.in-Some-Runs.execution in
     let mark = c.in_ok-mark-in-Some-Runs.mark in
     let trees = c.in_ok-trees-in-Some-Runs.trees.items in
-    let there : slice_get b.seats.items c.args.w ≡ Some (desk.Runs l x) = search rules in
+    let there : slice_get b.seats.items c.args.w ≡ Some (seat.Runs l x) = search rules in
     subst (λ (s : WorkersValue). MarksStep vs s c.args.w (record { back = Unstep c.args.w mark trees })) c.self.view_is
     (marks_step vs b.seats.items b.caches.rows c.args.w l x (subst (Fits vs.build) (sym c.self.view_is) c.requires) there mark trees
     c.in_ok-mark-in-Some-Runs.ensures.is

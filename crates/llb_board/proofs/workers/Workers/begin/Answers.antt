@@ -11,7 +11,7 @@ use Rattle.llb_board.specs.Views.{at_of, leased_by}
 use Rattle.llb_board.specs.Workers.{WorkersValue, IsBegunOn, state_in, claim_in, reply_of}
 use Rattle.llb_board.specs.Needs.{IsFound}
 use Rattle.llb_board.specs.declared.workers.needs.Wanted.{Wanted}
-use Rattle.llb_board.specs.declared.workers.desk.Desk.{Desk}
+use Rattle.llb_board.specs.declared.workers.seat.Seat.{Seat}
 use Rattle.llb_board.proofs.Grants.{CanClaim, Leased, can_claim}
 use Rattle.llb_board.proofs.Claims.{refused_start, refused_held, wants_as, begin_gives, begin_last, begin_on, begin_at_them}
 use Rattle.llb_board.proofs.Wanting.{graph_edges}
@@ -25,7 +25,7 @@ seen c = seen_of c.self.inside.seats.items c.self.inside.caches.rows
 
 idle : (c : In_ok-vertex) → slice_get (map at_of c.self.inside.seats.items) c.args.w ≡ Some Idle
 idle c =
-    ap (λ (ds : List Desk). slice_get (map at_of ds) c.args.w) (sym c.deref.ensures.value) ∙ sym c.in-Some-Idle.ensures
+    ap (λ (ds : List Seat). slice_get (map at_of ds) c.args.w) (sym c.deref.ensures.value) ∙ sym c.in-Some-Idle.ensures.does
     ∙ ap (λ d. Some (at_of d)) c.in-Some-Idle.field-0-is
 
 can : (c : In_ok-vertex) → CanClaim c.args.vertices.now.build (state_in c.args.vertices.now (seen c)) c.args.w c.args.v c.in_ok-vertex.vertex.now
@@ -55,7 +55,7 @@ returns-in-None-clause-gives c =
     ∙ ap (λ (o : Option WorkerStatus). reply_of (
     (claimed vs.build (state_in vs (seen_of c.self.inside.seats.items c.self.inside.caches.rows))
     c.args.w c.args.v (claim_start vs.statuses c.args.v o (slice_get vs.build.graph.vertices c.args.v)))))
-    (ap (λ (ds : List Desk). slice_get (map at_of ds) c.args.w) (sym c.deref.ensures.value) ∙ sym c.in-None.ensures)
+    (ap (λ (ds : List Seat). slice_get (map at_of ds) c.args.w) (sym c.deref.ensures.value) ∙ sym c.in-None.ensures.does)
 
 pub returns-in-Some-Runs-clause-gives : goal.returns-in-Some-Runs-clause-gives
 returns-in-Some-Runs-clause-gives c =
@@ -64,7 +64,7 @@ returns-in-Some-Runs-clause-gives c =
     ∙ ap (λ (o : Option WorkerStatus). reply_of (
     (claimed vs.build (state_in vs (seen_of c.self.inside.seats.items c.self.inside.caches.rows))
     c.args.w c.args.v (claim_start vs.statuses c.args.v o (slice_get vs.build.graph.vertices c.args.v)))))
-    (ap (λ (ds : List Desk). slice_get (map at_of ds) c.args.w) (sym c.deref.ensures.value) ∙ sym c.in-Some-Runs.ensures
+    (ap (λ (ds : List Seat). slice_get (map at_of ds) c.args.w) (sym c.deref.ensures.value) ∙ sym c.in-Some-Runs.ensures.does
     ∙ ap (λ d. Some (at_of d)) c.in-Some-Runs.field-0-is)
 
 pub returns-in_err-vertex-clause-gives : goal.returns-in_err-vertex-clause-gives
@@ -72,7 +72,7 @@ returns-in_err-vertex-clause-gives c =
     let vs = c.args.vertices.now in
     let e = c.in_err-vertex.field-0.0 in
     let at : slice_get (map at_of c.self.inside.seats.items) c.args.w ≡ Some Idle
-    = ap (λ (ds : List Desk). slice_get (map at_of ds) c.args.w) (sym c.deref.ensures.value) ∙ sym c.in-Some-Idle.ensures
+    = ap (λ (ds : List Seat). slice_get (map at_of ds) c.args.w) (sym c.deref.ensures.value) ∙ sym c.in-Some-Idle.ensures.does
     ∙ ap (λ d. Some (at_of d)) c.in-Some-Idle.field-0-is in
     let refused : claim_memory e ≡ false → reply_of (claim_in vs c.args.self.now c.args.w c.args.v) ≡ Err e
     = λ known. ap (λ (s : WorkersValue). reply_of (claim_in vs s c.args.w c.args.v)) (sym c.self.view_is)

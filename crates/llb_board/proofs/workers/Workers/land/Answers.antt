@@ -65,9 +65,9 @@ invariant_of-self c =
     let p = (goal.at.invariant_of-self c).After-into_left-count in
     let s = c.self.inside in
     let seat = has_seat c.args.vertices.now s.seats.items s.caches.rows c.args.self.now c.args.w c.args.outcome.job c.self.view_is c.requires.runs in
-    subst (Crew c.put_left-lease.new.desks.items) (sym c.write_back.ensures.out)
+    subst (Crew c.put_left-lease.new.seats.items) (sym c.write_back.ensures.out)
     (land_crew c.args.vertices.now.build s.seats.items s.caches.rows s.caches.out c.args.w (outcome p) seat (whole p) c.self.invariant
-    c.put_left-lease.new.desks.items c.put_left-lease.ensures.left)
+    c.put_left-lease.new.seats.items c.put_left-lease.ensures.left)
 
 pub returns-clause-workers : goal.returns-clause-workers
 unfolding outcome
@@ -76,7 +76,7 @@ returns-clause-workers c =
     let s = c.self.inside in
     let seat = has_seat c.args.vertices.now s.seats.items s.caches.rows c.args.self.now c.args.w c.args.outcome.job c.self.view_is c.requires.runs in
     land_workers c.args.vertices.now.build s.seats.items s.caches.rows s.caches.out c.args.w (outcome p) seat (whole p) c.self.invariant
-    c.put_left-lease.new.desks.items c.put_left-lease.ensures.left
+    c.put_left-lease.new.seats.items c.put_left-lease.ensures.left
     ∙ (λ i. slice_set (c.self.view_is i).workers c.args.w (steps_left (outcome_is p i) (slice_get (c.self.view_is i).workers c.args.w)))
 
 pub returns-clause-rows : goal.returns-clause-rows
@@ -96,5 +96,5 @@ returns-clause-fits c =
     let s = c.self.inside in
     let seat = has_seat c.args.vertices.now s.seats.items s.caches.rows c.args.self.now c.args.w c.args.outcome.job c.self.view_is c.requires.runs in
     land_fits c.args.vertices.now.build s.seats.items s.caches.rows s.caches.out c.args.w (outcome p) seat (whole p) c.self.invariant
-    c.put_left-lease.new.desks.items c.write_back.new.caches.rows c.put_left-lease.ensures.left
+    c.put_left-lease.new.seats.items c.write_back.new.caches.rows c.put_left-lease.ensures.left
     (subst (Fits c.args.vertices.now.build) (sym c.self.view_is) c.requires.fits)

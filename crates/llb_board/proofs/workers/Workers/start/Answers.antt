@@ -7,7 +7,7 @@ use Rattle.llb_model.specs.Table.{Job, claim_grant}
 use Rattle.llb_board.specs.Caches.{lease_if, rows_after}
 use Rattle.llb_board.specs.Vertices.{with_status}
 use Rattle.llb_board.specs.Workers.{WorkersValue, IsBegunAt, Fits, state_in}
-use Rattle.llb_board.specs.declared.workers.desk.Desk.TheVariants as desk
+use Rattle.llb_board.specs.declared.workers.seat.Seat.TheVariants as seat
 use Rattle.llb_board.proofs.Claims.{differ, few, start_grants, start_rows, start_crew, start_fits}
 use Rattle.llb_board.proofs.Worked.{seen_of}
 use Rattle.llb_board.proofs.workers.Workers.start.Goals as goal
@@ -52,7 +52,7 @@ leased c = ap (lease_if c.self.inside.caches) (sym c.into_parts-job.ensures.need
 
 -- the workers after it
 abbrev after : In-Ok → WorkersValue
-after c = seen_of (slice_set c.self.inside.seats.items c.worker-w.result (desk.Runs c.in-Ok.lease c.into_parts-job.result.1)) c.lease_for.new.caches.rows
+after c = seen_of (slice_set c.self.inside.seats.items c.worker-w.result (seat.Runs c.in-Ok.lease c.into_parts-job.result.1)) c.lease_for.new.caches.rows
 
 pub invariant_of-self : goal.invariant_of-self
 invariant_of-self c =

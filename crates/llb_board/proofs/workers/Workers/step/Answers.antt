@@ -9,7 +9,7 @@ use Rattle.llb_board.specs.Caches.{rows_after}
 use Rattle.llb_events.specs.Faults.{step_memory, GivesStep}
 use Rattle.llb_board.specs.Views.{at_of}
 use Rattle.llb_board.specs.Workers.{WorkersValue, Fits, state_in, step_in}
-use Rattle.llb_board.specs.declared.workers.desk.Desk.TheVariants as desk
+use Rattle.llb_board.specs.declared.workers.seat.Seat.TheVariants as seat
 use Rattle.llb_board.proofs.Supplied.{made_enough}
 use Rattle.llb_board.proofs.Lists.{get_map}
 use Rattle.llb_board.proofs.Stepping.{holding}
@@ -20,7 +20,7 @@ pub micro_step-requires-clause-supplies : goal.micro_step-requires-clause-suppli
 micro_step-requires-clause-supplies c =
     let ds = c.self.inside.seats.items in
     let low : c.args.w < length ds = search rules in
-    let at : slice_get ds c.args.w ≡ Some (desk.Runs c.in-Runs.lease c.in-Runs.execution)
+    let at : slice_get ds c.args.w ≡ Some (seat.Runs c.in-Runs.lease c.in-Runs.execution)
     = slice_get-get_or ds c.args.w c.index_mut.result.now low ∙ ap (λ d. Some d) (sym c.index_mut.ensures.value ∙ c.in-Runs.is) in
     made_enough c.args.vertices.now.build ds c.args.w c.in-Runs.lease c.in-Runs.execution
     (subst (Fits c.args.vertices.now.build) (sym c.self.view_is) c.requires) at
@@ -30,7 +30,7 @@ micro_step-requires-clause-leased c =
     let s = c.self.inside in
     let ds = s.seats.items in
     let low : c.args.w < length ds = search rules in
-    let at : slice_get ds c.args.w ≡ Some (desk.Runs c.in-Runs.lease c.in-Runs.execution)
+    let at : slice_get ds c.args.w ≡ Some (seat.Runs c.in-Runs.lease c.in-Runs.execution)
     = slice_get-get_or ds c.args.w c.index_mut.result.now low ∙ ap (λ d. Some d) (sym c.index_mut.ensures.value ∙ c.in-Runs.is) in
     (holding s.caches.rows s.caches.out ds c.args.w c.in-Runs.lease c.in-Runs.execution c.is_exclusive.ensures.apart c.is_exclusive.ensures.there
     c.self.invariant.leased at).has
@@ -40,7 +40,7 @@ invariant_of-self-in-Runs c =
     let s = c.self.inside in
     let ds = s.seats.items in
     let low : c.args.w < length ds = search rules in
-    let at : slice_get ds c.args.w ≡ Some (desk.Runs c.in-Runs.lease c.in-Runs.execution)
+    let at : slice_get ds c.args.w ≡ Some (seat.Runs c.in-Runs.lease c.in-Runs.execution)
     = slice_get-get_or ds c.args.w c.index_mut.result.now low ∙ ap (λ d. Some d) (sym c.index_mut.ensures.value ∙ c.in-Runs.is) in
     step_crew c.args.vertices.now ds s.caches.rows s.caches.out c.args.w c.in-Runs.lease c.in-Runs.execution c.self.invariant
     c.is_exclusive.ensures.apart c.is_exclusive.ensures.there at c.micro_step.new.execution c.micro_step.new.caches.out c.micro_step.ensures.out
@@ -52,11 +52,11 @@ returns-in-Idle-clause-gives c =
     let ds = s.seats.items in
     let vs = c.args.vertices.now in
     let low : c.args.w < length ds = search rules in
-    let at : slice_get ds c.args.w ≡ Some desk.Idle
+    let at : slice_get ds c.args.w ≡ Some seat.Idle
     = slice_get-get_or ds c.args.w c.index_mut.result.now low ∙ ap (λ d. Some d) (sym c.index_mut.ensures.value ∙ c.in-Idle.is) in
     λ known. ap (λ (v : WorkersValue). step_in vs v c.args.w) (sym c.self.view_is)
     ∙ ap (λ (o : Option WorkerStatus). (stepped vs.build (state_in vs (seen_of ds s.caches.rows)) c.args.w o))
-    (get_map at_of ds c.args.w desk.Idle at)
+    (get_map at_of ds c.args.w seat.Idle at)
 
 pub returns-in-Runs-clause-gives : goal.returns-in-Runs-clause-gives
 returns-in-Runs-clause-gives c =
@@ -67,9 +67,9 @@ returns-in-Runs-clause-gives c =
     let y = c.micro_step.new.execution in
     let after = c.micro_step.new.caches.rows in
     let low : c.args.w < length ds = search rules in
-    let at : slice_get ds c.args.w ≡ Some (desk.Runs l c.in-Runs.execution)
+    let at : slice_get ds c.args.w ≡ Some (seat.Runs l c.in-Runs.execution)
     = slice_get-get_or ds c.args.w c.index_mut.result.now low ∙ ap (λ d. Some d) (sym c.index_mut.ensures.value ∙ c.in-Runs.is) in
-    subst (λ (v : WorkersValue). GivesStep (λ r. (state_in vs (seen_of (slice_set ds c.args.w (desk.Runs l y)) after), HasStepped r)) c.micro_step.result
+    subst (λ (v : WorkersValue). GivesStep (λ r. (state_in vs (seen_of (slice_set ds c.args.w (seat.Runs l y)) after), HasStepped r)) c.micro_step.result
     (step_in vs v c.args.w)) c.self.view_is
     (step_gives vs ds s.caches.rows s.caches.out c.args.w l c.in-Runs.execution c.self.invariant c.is_exclusive.ensures.apart
     c.is_exclusive.ensures.there at c.micro_step.result y after c.micro_step.ensures.gives)
@@ -80,7 +80,7 @@ returns-in-Runs-clause-last c =
     let ds = s.seats.items in
     let vs = c.args.vertices.now in
     let low : c.args.w < length ds = search rules in
-    let at : slice_get ds c.args.w ≡ Some (desk.Runs c.in-Runs.lease c.in-Runs.execution)
+    let at : slice_get ds c.args.w ≡ Some (seat.Runs c.in-Runs.lease c.in-Runs.execution)
     = slice_get-get_or ds c.args.w c.index_mut.result.now low ∙ ap (λ d. Some d) (sym c.index_mut.ensures.value ∙ c.in-Runs.is) in
     subst (λ (v : WorkersValue). MemoryLast step_memory c.micro_step.result (step_in vs v c.args.w)) c.self.view_is
     (step_last vs ds s.caches.rows s.caches.out c.args.w c.in-Runs.lease c.in-Runs.execution c.self.invariant c.is_exclusive.ensures.apart
@@ -95,9 +95,9 @@ returns-in-Runs-clause-rows c =
     let y = c.micro_step.new.execution in
     let after = c.micro_step.new.caches.rows in
     let low : c.args.w < length ds = search rules in
-    let at : slice_get ds c.args.w ≡ Some (desk.Runs l c.in-Runs.execution)
+    let at : slice_get ds c.args.w ≡ Some (seat.Runs l c.in-Runs.execution)
     = slice_get-get_or ds c.args.w c.index_mut.result.now low ∙ ap (λ d. Some d) (sym c.index_mut.ensures.value ∙ c.in-Runs.is) in
-    let seen = seen_of (slice_set ds c.args.w (desk.Runs l y)) after in
+    let seen = seen_of (slice_set ds c.args.w (seat.Runs l y)) after in
     subst (λ (v : WorkersValue). OnOk c.micro_step.result (after ≡ rows_after v.rows (state_in vs seen) c.args.w)) c.self.view_is
     (step_rows vs ds s.caches.rows s.caches.out c.args.w l c.in-Runs.execution c.self.invariant c.is_exclusive.ensures.apart
     c.is_exclusive.ensures.there at c.micro_step.result y after c.micro_step.ensures.gives)
@@ -108,7 +108,7 @@ returns-in-Runs-clause-fits c =
     let ds = s.seats.items in
     let vs = c.args.vertices.now in
     let low : c.args.w < length ds = search rules in
-    let at : slice_get ds c.args.w ≡ Some (desk.Runs c.in-Runs.lease c.in-Runs.execution)
+    let at : slice_get ds c.args.w ≡ Some (seat.Runs c.in-Runs.lease c.in-Runs.execution)
     = slice_get-get_or ds c.args.w c.index_mut.result.now low ∙ ap (λ d. Some d) (sym c.index_mut.ensures.value ∙ c.in-Runs.is) in
     step_fits vs ds s.caches.rows s.caches.out c.args.w c.in-Runs.lease c.in-Runs.execution c.self.invariant c.is_exclusive.ensures.apart
     c.is_exclusive.ensures.there at c.micro_step.result c.micro_step.new.execution c.micro_step.new.caches.rows c.micro_step.ensures.supplies

@@ -9,7 +9,7 @@ use Rattle.llb_board.specs.Supplies.{ready_made}
 use Rattle.llb_board.specs.Displaced.{Unclaim, Unstep, Resume, back_in, workers_before, supplies_before, rows_before}
 use Rattle.llb_board.specs.Undoing.{left_in}
 use Rattle.llb_board.specs.Views.{at_of}
-use Rattle.llb_board.specs.declared.workers.desk.Desk.TheVariants as desk
+use Rattle.llb_board.specs.declared.workers.seat.Seat.TheVariants as seat
 use Rattle.llb_board.specs.declared.workers.undoing.Back as undo
 use Rattle.llb_board.proofs.Lists.{length_map}
 use Rattle.llb_board.proofs.Undoings.{PutsBack, can_by, is_out, still_there, unclaims, as_many, unsteps, lends, resumes}
@@ -39,13 +39,13 @@ take_back-requires-clause-there c =
 
 unclaimed : (c : After-take_back)
     → PutsBack c.args.seats.now.items c.args.caches.now (Unclaim c.in-Unclaim.w c.in-Unclaim.vertex c.in-Unclaim.growths.items)
-    c.make_idle-lease.new.desks.items c.take_back.new.caches
+    c.make_idle-lease.new.seats.items c.take_back.new.caches
 unclaimed c =
     let v = c.args.caches.now in
     let l = c.make_idle-lease.result in
     unclaims c.args.seats.now.items v c.requires.crew c.in-Unclaim.w c.in-Unclaim.vertex c.in-Unclaim.growths.items
     (can_by c.args.seats.now.items c.args.caches.now c.args.back _ c.in-Unclaim.is c.requires.can) l
-    c.make_idle-lease.ensures.leased c.make_idle-lease.new.desks.items c.take_back.new.caches c.make_idle-lease.ensures.idle
+    c.make_idle-lease.ensures.leased c.make_idle-lease.new.seats.items c.take_back.new.caches c.make_idle-lease.ensures.idle
     (c.take_back.ensures ∙ ap (λ (gs : List Growth). taken_back v l gs) c.deref.ensures.value)
 
 pub returns-in-Unclaim-clause-workers : goal.returns-in-Unclaim-clause-workers
@@ -86,11 +86,11 @@ write_back-requires-clause-few c = (can_by c.args.seats.now.items c.args.caches.
 
 unstepped : (c : After-write_back)
     → PutsBack c.args.seats.now.items c.args.caches.now (Unstep c.in-Unstep.w c.in-Unstep.mark c.in-Unstep.trees.items)
-    c.step_back-lease.new.desks.items c.write_back.new.caches
+    c.step_back-lease.new.seats.items c.write_back.new.caches
 unstepped c =
     unsteps c.args.seats.now.items c.args.caches.now c.requires.crew c.in-Unstep.w c.in-Unstep.mark c.in-Unstep.trees.items
     (can_by c.args.seats.now.items c.args.caches.now c.args.back _ c.in-Unstep.is c.requires.can)
-    c.step_back-lease.result c.step_back-lease.ensures.leased c.step_back-lease.new.desks.items c.write_back.new.caches c.step_back-lease.ensures.before
+    c.step_back-lease.result c.step_back-lease.ensures.leased c.step_back-lease.new.seats.items c.write_back.new.caches c.step_back-lease.ensures.before
     c.write_back.ensures.rows c.write_back.ensures.out
 
 pub returns-in-Unstep-clause-workers : goal.returns-in-Unstep-clause-workers
@@ -129,7 +129,7 @@ index_mut-requires c =
 resumed : (c : After-lend_again-lease)
     → PutsBack c.args.seats.now.items c.args.caches.now
     (Resume c.in-Resume.field-0 c.in-Resume.w (left_in c.in-Resume.execution) c.in-Resume.lent)
-    (slice_set c.args.seats.now.items c.in-Resume.w (desk.Runs c.lend_again-lease.result c.in-Resume.execution)) c.lend_again-lease.new.caches
+    (slice_set c.args.seats.now.items c.in-Resume.w (seat.Runs c.lend_again-lease.result c.in-Resume.execution)) c.lend_again-lease.new.caches
 resumed c =
     resumes c.args.seats.now.items c.args.caches.now c.requires.crew c.in-Resume.field-0 c.in-Resume.w c.in-Resume.execution c.in-Resume.lent
     (can_by c.args.seats.now.items c.args.caches.now c.args.back _ c.in-Resume.is c.requires.can)

@@ -1,9 +1,9 @@
 //! What each worker runs, with what that needs until its end.
 
 ghost use Rattle.std.specs.Prelude.{◌≡◌, ◌↔◌, ◌<◌, IsTrue, IfOk, Some, length, map, replicate, option_map, slice_get, slice_set, is_some, nat_le, ◌||◌};
-ghost use Rattle.llb_board.specs.declared.workers.desk.Desk.TheVariants as desk;
-ghost use Rattle.llb_board.specs.Undoing.{desk_before};
-ghost use Rattle.llb_board.specs.Views.{execution_of, at_of, leased_by};
+ghost use Rattle.llb_board.specs.declared.workers.seat.Seat.TheVariants as seat;
+ghost use Rattle.llb_board.specs.Undoing.{seat_before};
+ghost use Rattle.llb_board.specs.Views.{IsRunning, execution_of, at_of, leased_by};
 
 use crate::workers::copying::lease_of;
 use llb_applet::Setting;
@@ -13,10 +13,11 @@ use llb_execution::{Mark, Workspace};
 use llb_tree::Tree;
 use llb_wire::{Same, all_same};
 use std::alloc::{AllocError, Global};
+use std::mem;
 
 /// The state of a worker.
 #[derive(Drop)]
-pub(crate) enum Desk {
+pub(crate) enum Seat {
     /// It runs no vertex.
     Idle,
     /// The lease of its cache instances, if any, and everything else it holds.
@@ -38,21 +39,22 @@ pub(crate) struct Execution {
 }
 
 /// Returns this many workers, all idle. Fails for want of memory alone.
-pub(crate) fn idle(alloc: Global, count: u32) -> Result<Vec<Desk>, AllocError>
-    ensures { IfOk result (λ v. v.items ≡ replicate count desk.Idle) }
+pub(crate) fn idle(alloc: Global, count: u32) -> Result<Vec<Seat>, AllocError>
+    ensures { IfOk result (λ v. v.items ≡ replicate count seat.Idle) }
 {
-    let mut desks = Vec::with_capacity(alloc, count as usize)?;
+    let mut seats = Vec::with_capacity(alloc, count as usize)?;
     for _i in 0..count {
-        desks.push_reserved(Desk::Idle);
+        seats.push_reserved(Seat::Idle);
     }
-    Ok(desks)
+    Ok(seats)
 }
 
 /// Returns the state of the worker of a number; `None` if there is no such worker.
-pub(crate) fn desk_at(desks: &[Desk], w: u32) -> Option<&Desk>
-    ensures { option_map (λ d. at_of d.now) result ≡ slice_get (map at_of desks.now) w }
+pub(crate) fn seat_at(seats: &[Seat], w: u32) -> Option<&Seat>
+    ensures seat { option_map (λ s. s.now) result ≡ slice_get seats.now w }
+    ensures does { option_map (λ s. at_of s.now) result ≡ slice_get (map at_of seats.now) w }
 {
-    desks.get(w as usize)
+    seats.get(w as usize)
 }
 
 /// Returns whether all micro-steps are done, or one has faulted.
@@ -63,26 +65,39 @@ pub(crate) fn is_finished(execution: &Execution, steps: u32) -> bool
 }
 
 /// Makes a worker idle, and returns the lease that it had, if any.
-pub(crate) fn make_idle(desks: &mut Vec<Desk>, w: u32) -> Option<Lease>
-    requires { w < length desks.old.items }
-    ensures idle { desks.new.items ≡ slice_set desks.old.items w desk.Idle }
-    ensures leased { slice_get (map leased_by desks.old.items) w ≡ Some result }
+pub(crate) fn make_idle(seats: &mut Vec<Seat>, w: u32) -> Option<Lease>
+    requires { w < length seats.old.items }
+    ensures idle { seats.new.items ≡ slice_set seats.old.items w seat.Idle }
+    ensures leased { slice_get (map leased_by seats.old.items) w ≡ Some result }
 {
-    let lease = lease_of(&desks[w as usize]);
-    desks[w as usize] = Desk::Idle;
+    let lease = lease_of(&seats[w as usize]);
+    seats[w as usize] = Seat::Idle;
     lease
 }
 
-/// Takes one micro-step back from what a worker runs: the count, the fault and the view are as they were. Returns its lease, if any.
-pub(crate) fn step_back(desks: &mut Vec<Desk>, w: u32, mark: Mark) -> Option<Lease>
-    requires { w < length desks.old.items }
-    ensures before { desks.new.items ≡ slice_set desks.old.items w (desk_before mark (slice_get desks.old.items w)) }
-    ensures leased { slice_get (map leased_by desks.old.items) w ≡ Some result }
+/// Makes a worker that runs a vertex idle, and returns the lease that it had, if any, and what it ran.
+pub(crate) fn vacate(seats: &mut Vec<Seat>, w: u32) -> (Option<Lease>, Execution)
+    requires low { w < length seats.old.items }
+    requires runs { IsRunning (slice_get seats.old.items w) }
+    ensures idle { seats.new.items ≡ slice_set seats.old.items w seat.Idle }
+    ensures ran { slice_get seats.old.items w ≡ Some (seat.Runs result.0 result.1) }
 {
-    let lease = lease_of(&desks[w as usize]);
-    match &mut desks[w as usize] {
-        Desk::Idle => {}
-        Desk::Runs(_, execution) => {
+    match mem::replace(&mut seats[w as usize], Seat::Idle) {
+        Seat::Idle => unreachable!(),
+        Seat::Runs(lease, execution) => (lease, execution),
+    }
+}
+
+/// Takes one micro-step back from what a worker runs: the count, the fault and the view are as they were. Returns its lease, if any.
+pub(crate) fn step_back(seats: &mut Vec<Seat>, w: u32, mark: Mark) -> Option<Lease>
+    requires { w < length seats.old.items }
+    ensures before { seats.new.items ≡ slice_set seats.old.items w (seat_before mark (slice_get seats.old.items w)) }
+    ensures leased { slice_get (map leased_by seats.old.items) w ≡ Some result }
+{
+    let lease = lease_of(&seats[w as usize]);
+    match &mut seats[w as usize] {
+        Seat::Idle => {}
+        Seat::Runs(_, execution) => {
             execution.done = execution.done.saturating_sub(1);
             execution.fault = None;
             execution.view.put_back(mark);
@@ -92,26 +107,26 @@ pub(crate) fn step_back(desks: &mut Vec<Desk>, w: u32, mark: Mark) -> Option<Lea
 }
 
 /// Returns whether each worker runs the same, by value; the numbers of leases are not compared. Does not allocate.
-pub(crate) fn same_desks(desks: &[Desk], others: &[Desk]) -> bool
-    ensures { IsTrue result ↔ (map at_of desks.now ≡ map at_of others.now) }
+pub(crate) fn same_seats(seats: &[Seat], others: &[Seat]) -> bool
+    ensures { IsTrue result ↔ (map at_of seats.now ≡ map at_of others.now) }
 {
-    if desks.len() != others.len() {
+    if seats.len() != others.len() {
         return false;
     }
-    for i in 0..desks.len() {
-        if !same_desk(&desks[i], &others[i]) {
+    for i in 0..seats.len() {
+        if !same_seat(&seats[i], &others[i]) {
             return false;
         }
     }
     true
 }
 
-fn same_desk(desk: &Desk, other: &Desk) -> bool
-    ensures { IsTrue result ↔ (at_of desk.now ≡ at_of other.now) }
+fn same_seat(seat: &Seat, other: &Seat) -> bool
+    ensures { IsTrue result ↔ (at_of seat.now ≡ at_of other.now) }
 {
-    match (desk, other) {
-        (Desk::Idle, Desk::Idle) => true,
-        (Desk::Runs(_, execution), Desk::Runs(_, other)) => same_execution(execution, other),
+    match (seat, other) {
+        (Seat::Idle, Seat::Idle) => true,
+        (Seat::Runs(_, execution), Seat::Runs(_, other)) => same_execution(execution, other),
         _ => false,
     }
 }
