@@ -1,22 +1,18 @@
-//! Compares a job with what a worker runs now, by value, and replaces what the worker had by what the job's micro-steps left.
+//! Compares a job with what a worker runs now, by value.
 
-ghost use Rattle.std.specs.Prelude.{◌≡◌, ◌↔◌, ◌<◌, ◌+◌, ◌^◌, ℕ, Option, length, map, true, Some, slice_get, slice_set, IsTrue};
+ghost use Rattle.std.specs.Prelude.{◌≡◌, ◌↔◌, ◌<◌, length, map, IsTrue};
 ghost use Rattle.llb_model.specs.Caches as model;
 ghost use Rattle.llb_model.specs.Caches.{trees_at, Has};
-ghost use Rattle.llb_board.specs.declared.workers.seat.Seat.TheVariants as seat;
-ghost use Rattle.llb_board.specs.declared.workers.seat.Execution as own;
 ghost use Rattle.llb_model.specs.Kept.{store_of};
 ghost use Rattle.llb_cache.specs.Caches.{trees_of};
 ghost use Rattle.llb_board.specs.Caches.{tree_of};
 ghost use Rattle.llb_board.specs.Needs.{number_of};
-ghost use Rattle.llb_board.specs.Jobs.{IsBegun, seat_left};
-ghost use Rattle.llb_board.specs.Views.{leased_by, execution_of};
+ghost use Rattle.llb_board.specs.Jobs.{IsBegun};
+ghost use Rattle.llb_board.specs.Views.{execution_of};
 
-use crate::workers::copying::lease_of;
-use crate::workers::seat::{Execution, Seat};
-use llb_cache::{Caches, Instance, Lease};
-use llb_events::VertexFault;
-use llb_execution::{Job, Workspace};
+use crate::workers::seat::Execution;
+use llb_cache::{Caches, Instance};
+use llb_execution::Job;
 use llb_tree::Tree;
 use llb_wire::Same;
 
@@ -70,29 +66,4 @@ pub(crate) fn has_numbers(places: &[Instance], numbers: &[u32]) -> bool
         }
     }
     true
-}
-
-/// Adds to a running worker's execution the micro-steps that are done, with the fault and the view that they left, and returns its
-/// lease. Does not allocate.
-pub(crate) fn put_left(
-    seats: &mut Vec<Seat>,
-    w: u32,
-    done: (u32, Option<VertexFault>),
-    view: Workspace,
-) -> Option<Lease>
-    requires low { w < length seats.old.items }
-    requires few { (l : Option ℕ) (x : own.Execution) → slice_get seats.old.items w ≡ Some (seat.Runs l x) → x.done + done.0 < 2 ^ 32 }
-    ensures left { seats.new.items ≡ slice_set seats.old.items w (seat_left done.0 done.1 view (slice_get seats.old.items w)) }
-    ensures leased { slice_get (map leased_by seats.old.items) w ≡ Some result }
-{
-    let lease = lease_of(&seats[w as usize]);
-    match &mut seats[w as usize] {
-        Seat::Idle => {}
-        Seat::Runs(_, execution) => {
-            execution.done += done.0;
-            execution.fault = done.1;
-            execution.view = view;
-        }
-    }
-    lease
 }

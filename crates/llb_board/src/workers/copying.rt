@@ -8,7 +8,7 @@ ghost use Rattle.llb_board.specs.Views.{at_of, leased_by};
 use crate::fault::Memory;
 use crate::trees::copied_trees;
 use crate::workers::seat::{Execution, Seat};
-use llb_cache::{Instance, Lease};
+use llb_cache::Instance;
 use std::alloc::Global;
 
 /// Copies workers, with the same leases. Fails with 141 `Memory` alone.
@@ -60,14 +60,4 @@ fn copied_places(alloc: Global, places: &[Instance]) -> Result<Vec<Instance>, Me
         copies.push(Instance { key, number })?;
     }
     Ok(copies)
-}
-
-/// Returns the lease of a worker, if it has one.
-pub(crate) fn lease_of(seat: &Seat) -> Option<Lease>
-    ensures { result ≡ leased_by seat.now }
-{
-    match seat {
-        Seat::Idle => None,
-        Seat::Runs(lease, _) => *lease,
-    }
 }

@@ -18,9 +18,9 @@ ghost use Rattle.llb_board.specs.Workers.{Fits, RunsJob, steps_left};
 
 use crate::vertices::Vertices;
 use crate::workers::Workers;
-use crate::workers::comparing::{has_numbers, has_trees, is_begun, put_left};
+use crate::workers::comparing::{has_numbers, has_trees, is_begun};
 use crate::workers::instances::write_back;
-use crate::workers::seat::{Execution, Seat, seat_at};
+use crate::workers::seat::{Execution, Seat, put_left, seat_at};
 use llb_cache::Caches;
 use llb_execution::{Job, Outcome, Program};
 use llb_wire::Same;

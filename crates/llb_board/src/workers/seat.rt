@@ -1,11 +1,13 @@
 //! What each worker runs, with what that needs until its end.
 
-ghost use Rattle.std.specs.Prelude.{◌≡◌, ◌↔◌, ◌<◌, IsTrue, IfOk, Some, length, map, replicate, option_map, slice_get, slice_set, is_some, nat_le, ◌||◌};
+ghost use Rattle.std.specs.Prelude.{◌≡◌, ◌↔◌, ◌<◌, ◌+◌, ◌^◌, ◌||◌, ℕ, IsTrue, IfOk, Option, Some, is_some, length, map, nat_le, option_map};
+ghost use Rattle.std.specs.Prelude.{replicate, slice_get, slice_set};
+ghost use Rattle.llb_board.specs.declared.workers.seat.Execution as own;
 ghost use Rattle.llb_board.specs.declared.workers.seat.Seat.TheVariants as seat;
+ghost use Rattle.llb_board.specs.Jobs.{seat_left};
 ghost use Rattle.llb_board.specs.Undoing.{seat_before};
 ghost use Rattle.llb_board.specs.Views.{IsRunning, execution_of, at_of, leased_by};
 
-use crate::workers::copying::lease_of;
 use llb_applet::Setting;
 use llb_cache::{Instance, Lease};
 use llb_events::VertexFault;
@@ -106,6 +108,31 @@ pub(crate) fn step_back(seats: &mut Vec<Seat>, w: u32, mark: Mark) -> Option<Lea
     lease
 }
 
+/// Adds to a running worker's execution the micro-steps that are done, with the fault and the view that they left, and returns its
+/// lease. Does not allocate.
+pub(crate) fn put_left(
+    seats: &mut Vec<Seat>,
+    w: u32,
+    done: (u32, Option<VertexFault>),
+    view: Workspace,
+) -> Option<Lease>
+    requires low { w < length seats.old.items }
+    requires few { (l : Option ℕ) (x : own.Execution) → slice_get seats.old.items w ≡ Some (seat.Runs l x) → x.done + done.0 < 2 ^ 32 }
+    ensures left { seats.new.items ≡ slice_set seats.old.items w (seat_left done.0 done.1 view (slice_get seats.old.items w)) }
+    ensures leased { slice_get (map leased_by seats.old.items) w ≡ Some result }
+{
+    let lease = lease_of(&seats[w as usize]);
+    match &mut seats[w as usize] {
+        Seat::Idle => {}
+        Seat::Runs(_, execution) => {
+            execution.done += done.0;
+            execution.fault = done.1;
+            execution.view = view;
+        }
+    }
+    lease
+}
+
 /// Returns whether each worker runs the same, by value; the numbers of leases are not compared. Does not allocate.
 pub(crate) fn same_seats(seats: &[Seat], others: &[Seat]) -> bool
     ensures { IsTrue result ↔ (map at_of seats.now ≡ map at_of others.now) }
@@ -140,4 +167,14 @@ fn same_execution(execution: &Execution, other: &Execution) -> bool
         && execution.fault.same(&other.fault)
         && execution.view.same(&other.view)
         && all_same(execution.places.as_slice(), other.places.as_slice())
+}
+
+// Returns the lease of a worker, if it has one.
+fn lease_of(seat: &Seat) -> Option<Lease>
+    ensures { result ≡ leased_by seat.now }
+{
+    match seat {
+        Seat::Idle => None,
+        Seat::Runs(lease, _) => *lease,
+    }
 }
