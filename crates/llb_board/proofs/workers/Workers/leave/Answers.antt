@@ -17,7 +17,7 @@ use Rattle.llb_board.proofs.Supplied.{all_empty, leaves, supplies_settled}
 use Rattle.llb_board.proofs.Lists.{map_set}
 use Rattle.llb_board.proofs.workers.Workers.leave.Goals as goal
 
-pub vacate-lease-requires-clause-runs : goal.vacate-requires-clause-runs
+pub vacate-lease-requires-clause-runs : goal.vacate-lease-requires-clause-runs
 vacate-lease-requires-clause-runs c =
     let ds = c.self.inside.seats.items in
     let low : c.args.w < length ds = search rules in
