@@ -4,7 +4,6 @@ use Rattle.std.proofs.Common.{length-append}
 use Rattle.std.specs.Prelude.{Bool, true, false, Some, option_map, Result, Ok, Err, is_ok, is_some, slice_get, slice_set, fold}
 use Rattle.std.specs.Prelude.{if◌then◌else◌}
 use Rattle.std.specs.Bool.{OnFalse}
-use Rattle.std.specs.Result.{result_unwrap_or}
 use Rattle.std.proofs.lemmas.List.{length-replicate, append_assoc}
 use Rattle.std.proofs.lemmas.List.Sums.{fold-append}
 use Rattle.std.proofs.lemmas.Option.{slice_get_within}
@@ -41,12 +40,12 @@ use Rattle.llb_events.specs.Faults.{GivesSettle}
 use Rattle.llb_events.specs.declared.event.Settled.{Settled}
 use Rattle.llb_events.specs.declared.refusal.SettleFault.{SettleFault}
 use Rattle.llb_execution.specs.Jobs.{OutcomeValue, IsOutcome, begun_on}
-use Rattle.llb_state.specs.Caches.{written, places_at, rows_after}
-use Rattle.llb_state.specs.Jobs.{job_now, IsRunOf}
-use Rattle.llb_state.specs.Vertices.{VerticesValue}
-use Rattle.llb_state.specs.Workers.{WorkersValue, Fits, state_in, RunsJob, steps_left}
-use Rattle.llb_state.proofs.Rewritten.{AreKeysApart, AreWithin, each_within, each_again, each_there}
-use Rattle.llb_state.proofs.Written.{written_each}
+use Rattle.llb_board.specs.Caches.{written, places_at, rows_after}
+use Rattle.llb_board.specs.Jobs.{job_now, IsRunOf}
+use Rattle.llb_board.specs.Vertices.{VerticesValue}
+use Rattle.llb_board.specs.Workers.{WorkersValue, Fits, state_in, RunsJob, steps_left}
+use Rattle.llb_board.proofs.Rewritten.{AreKeysApart, AreWithin, each_within, each_again, each_there}
+use Rattle.llb_board.proofs.Written.{written_each}
 use Rattle.llb_board.specs.Seen.{BoardValue, Replays, seen, opening_with, kept_next, kept_along, after_event, recorded}
 use Rattle.llb_board.specs.Kept.{IsBoard}
 use Rattle.llb_board.specs.History.{Space}
@@ -359,11 +358,18 @@ not_refused b n w count e through is = by_grant (settle_grant n.build n.state w)
     by_grant (Ok a) ok is = cc
     by_grant (Err cause) ok is = cc
 
+-- so it is granted
+pub is_settled : (b n m : BoardValue) (w count : ℕ) (r : Result Settled SettleFault) → IsThrough b w count n
+    → GivesSettle (λ s. (m, HasSettled s)) r (settle_of n w) → is_ok r ≡ true
+is_settled b n m w count (Ok s) through gives = refl
+is_settled b n m w count (Err e) through gives = absurd (not_refused b n w count e through (gives refl))
+
 -- the steps and what the settle returns are the landing of the outcome
-pub lands : (b n m : BoardValue) (w : ℕ) (o : OutcomeValue) (r : Result Settled SettleFault) (other : Settled) → CanLand b w o.job → IsThrough b w o.count n
-    → GivesSettle (λ s. (m, HasSettled s)) r (settle_of n w) → Lands b w o m (HasSettled (result_unwrap_or r other))
-lands b n m w o (Ok s) other can through gives = settles b n m w o (HasSettled s) can through gives
-lands b n m w o (Err e) other can through gives = absurd (not_refused b n w o.count e through (gives refl))
+pub lands : (b n m : BoardValue) (w : ℕ) (o : OutcomeValue) (r : Result Settled SettleFault) (s : Settled) → r ≡ Ok s → CanLand b w o.job
+    → IsThrough b w o.count n → GivesSettle (λ s. (m, HasSettled s)) r (settle_of n w) → Lands b w o m (HasSettled s)
+lands b n m w o r s is can through gives =
+    settles b n m w o (HasSettled s) can through
+    (subst (λ (q : Result Settled SettleFault). GivesSettle (λ s. (m, HasSettled s)) q (settle_of n w)) is gives)
 
 -- a fact that holds if a test fails, for a test that has failed
 pub on_false : (b : Bool) (P : Type 0) → OnFalse b P → b ≡ false → P

@@ -1,18 +1,16 @@
 -- What a landing returns: the block of the worker's remaining micro-steps and its settle, or the first cause of its refusal.
 use Rattle.std.specs.Prelude.{◌≡◌, ℕ, Bool, true, false, List, [], ◌∷◌, ◌++◌, Option, Some, None, slice_get, is_ok}
-use Rattle.llb_model.specs.Caches.{Instance}
 use Rattle.llb_model.specs.State.{Execution, WorkerStatus, Idle, Runs}
 use Rattle.llb_model.specs.Table.{Job, Reply, settle_grant}
 use Rattle.llb_model.specs.Run.{run}
 use Rattle.llb_model.specs.Landing.{steps_by, landing}
 use Rattle.llb_board.specs.Seen.{BoardValue, kept_along}
 use Rattle.llb_execution.specs.Jobs.{OutcomeValue}
-use Rattle.llb_state.specs.Caches.{places_at}
-use Rattle.llb_state.specs.Jobs.{has_shared, IsRunOf}
+use Rattle.llb_board.specs.Jobs.{has_shared, IsRunOf}
 use Rattle.llb_board.specs.declared.fault.LandFault.{LandFault}
 use Rattle.llb_board.specs.declared.fault.LandFault.TheVariants as fault
-use Rattle.llb_board.specs.declared.landing.LandCause.{LandCause}
-use Rattle.llb_board.specs.declared.landing.LandCause.TheVariants as cause
+use Rattle.llb_board.specs.declared.board.landing.LandCause.{LandCause}
+use Rattle.llb_board.specs.declared.board.landing.LandCause.TheVariants as cause
 
 -- ---- which outcomes land
 
@@ -21,10 +19,6 @@ abbrev pub runs_shared : Option WorkerStatus → Bool
 runs_shared (Some (Runs x)) = has_shared x
 runs_shared (Some Idle) = false
 runs_shared None = false
-
--- the instances of caches that a worker has
-abbrev pub places_had : Option WorkerStatus → List Instance
-places_had = places_at
 
 -- job is what worker w has left to do, on no instance that is shared
 pub record CanLand (b : BoardValue) (w : ℕ) (job : Job) : Type 0 where

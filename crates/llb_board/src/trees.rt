@@ -1,0 +1,18 @@
+//! Copies of lists of trees, which stay shared.
+
+ghost use Rattle.std.specs.Prelude.{◌≡◌, IfOk};
+
+use crate::fault::Memory;
+use llb_tree::Tree;
+use std::alloc::Global;
+
+/// Copies trees, which stay shared. Fails with 141 `Memory` alone.
+pub(crate) fn copied_trees(alloc: Global, trees: &[Tree]) -> Result<Vec<Tree>, Memory>
+    ensures { IfOk result (λ t. t.items ≡ trees.now) }
+{
+    let mut copies = Vec::new(alloc);
+    for tree in trees {
+        copies.push(tree.copy()?)?;
+    }
+    Ok(copies)
+}

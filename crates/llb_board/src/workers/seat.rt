@@ -1,0 +1,180 @@
+//! What each worker runs, with what that needs until its end.
+
+ghost use Rattle.std.specs.Prelude.{◌≡◌, ◌↔◌, ◌<◌, ◌+◌, ◌^◌, ◌||◌, ℕ, IsTrue, IfOk, Option, Some, is_some, length, map, nat_le, option_map};
+ghost use Rattle.std.specs.Prelude.{replicate, slice_get, slice_set};
+ghost use Rattle.llb_board.specs.declared.workers.seat.Execution as own;
+ghost use Rattle.llb_board.specs.declared.workers.seat.Seat.TheVariants as seat;
+ghost use Rattle.llb_board.specs.Jobs.{seat_left};
+ghost use Rattle.llb_board.specs.Undoing.{seat_before};
+ghost use Rattle.llb_board.specs.Views.{IsRunning, execution_of, at_of, leased_by};
+
+use llb_applet::Setting;
+use llb_cache::{Instance, Lease};
+use llb_events::VertexFault;
+use llb_execution::{Mark, Workspace};
+use llb_tree::Tree;
+use llb_wire::{Same, all_same};
+use std::alloc::{AllocError, Global};
+use std::mem;
+
+/// The state of a worker.
+#[derive(Drop)]
+pub(crate) enum Seat {
+    /// It runs no vertex.
+    Idle,
+    /// The lease of its cache instances, if any, and everything else it holds.
+    Runs(Option<Lease>, Execution),
+}
+
+/// What a running worker holds: in `places` the cache instances that it has leased, in `outputs` an empty tree for each
+/// output of its vertex; its commands run in `setting`.
+#[derive(Drop)]
+pub(crate) struct Execution {
+    pub vertex: u32,
+    /// How many micro-steps are done; one that faults is counted.
+    pub done: u32,
+    pub fault: Option<VertexFault>,
+    pub view: Workspace,
+    pub places: Vec<Instance>,
+    pub outputs: Vec<Tree>,
+    pub setting: Setting,
+}
+
+/// Returns this many workers, all idle. Fails for want of memory alone.
+pub(crate) fn idle(alloc: Global, count: u32) -> Result<Vec<Seat>, AllocError>
+    ensures { IfOk result (λ v. v.items ≡ replicate count seat.Idle) }
+{
+    let mut seats = Vec::with_capacity(alloc, count as usize)?;
+    for _i in 0..count {
+        seats.push_reserved(Seat::Idle);
+    }
+    Ok(seats)
+}
+
+/// Returns the state of the worker of a number; `None` if there is no such worker.
+pub(crate) fn seat_at(seats: &[Seat], w: u32) -> Option<&Seat>
+    ensures seat { option_map (λ s. s.now) result ≡ slice_get seats.now w }
+    ensures does { option_map (λ s. at_of s.now) result ≡ slice_get (map at_of seats.now) w }
+{
+    seats.get(w as usize)
+}
+
+/// Returns whether all micro-steps are done, or one has faulted.
+pub(crate) fn is_finished(execution: &Execution, steps: u32) -> bool
+    ensures { result ≡ (is_some execution.now.fault || nat_le steps execution.now.done) }
+{
+    execution.fault.is_some() || steps <= execution.done
+}
+
+/// Makes a worker idle, and returns the lease that it had, if any.
+pub(crate) fn make_idle(seats: &mut Vec<Seat>, w: u32) -> Option<Lease>
+    requires { w < length seats.old.items }
+    ensures idle { seats.new.items ≡ slice_set seats.old.items w seat.Idle }
+    ensures leased { slice_get (map leased_by seats.old.items) w ≡ Some result }
+{
+    let lease = lease_of(&seats[w as usize]);
+    seats[w as usize] = Seat::Idle;
+    lease
+}
+
+/// Makes a worker that runs a vertex idle, and returns the lease that it had, if any, and what it ran.
+pub(crate) fn vacate(seats: &mut Vec<Seat>, w: u32) -> (Option<Lease>, Execution)
+    requires low { w < length seats.old.items }
+    requires runs { IsRunning (slice_get seats.old.items w) }
+    ensures idle { seats.new.items ≡ slice_set seats.old.items w seat.Idle }
+    ensures ran { slice_get seats.old.items w ≡ Some (seat.Runs result.0 result.1) }
+{
+    match mem::replace(&mut seats[w as usize], Seat::Idle) {
+        Seat::Idle => unreachable!(),
+        Seat::Runs(lease, execution) => (lease, execution),
+    }
+}
+
+/// Takes one micro-step back from what a worker runs: the count, the fault and the view are as they were. Returns its lease, if any.
+pub(crate) fn step_back(seats: &mut Vec<Seat>, w: u32, mark: Mark) -> Option<Lease>
+    requires { w < length seats.old.items }
+    ensures before { seats.new.items ≡ slice_set seats.old.items w (seat_before mark (slice_get seats.old.items w)) }
+    ensures leased { slice_get (map leased_by seats.old.items) w ≡ Some result }
+{
+    let lease = lease_of(&seats[w as usize]);
+    match &mut seats[w as usize] {
+        Seat::Idle => {}
+        Seat::Runs(_, execution) => {
+            execution.done = execution.done.saturating_sub(1);
+            execution.fault = None;
+            execution.view.put_back(mark);
+        }
+    }
+    lease
+}
+
+/// Adds to a running worker's execution the micro-steps that are done, with the fault and the view that they left, and returns its
+/// lease. Does not allocate.
+pub(crate) fn put_left(
+    seats: &mut Vec<Seat>,
+    w: u32,
+    done: (u32, Option<VertexFault>),
+    view: Workspace,
+) -> Option<Lease>
+    requires low { w < length seats.old.items }
+    requires few { (l : Option ℕ) (x : own.Execution) → slice_get seats.old.items w ≡ Some (seat.Runs l x) → x.done + done.0 < 2 ^ 32 }
+    ensures left { seats.new.items ≡ slice_set seats.old.items w (seat_left done.0 done.1 view (slice_get seats.old.items w)) }
+    ensures leased { slice_get (map leased_by seats.old.items) w ≡ Some result }
+{
+    let lease = lease_of(&seats[w as usize]);
+    match &mut seats[w as usize] {
+        Seat::Idle => {}
+        Seat::Runs(_, execution) => {
+            execution.done += done.0;
+            execution.fault = done.1;
+            execution.view = view;
+        }
+    }
+    lease
+}
+
+/// Returns whether each worker runs the same, by value; the numbers of leases are not compared. Does not allocate.
+pub(crate) fn same_seats(seats: &[Seat], others: &[Seat]) -> bool
+    ensures { IsTrue result ↔ (map at_of seats.now ≡ map at_of others.now) }
+{
+    if seats.len() != others.len() {
+        return false;
+    }
+    for i in 0..seats.len() {
+        if !same_seat(&seats[i], &others[i]) {
+            return false;
+        }
+    }
+    true
+}
+
+fn same_seat(seat: &Seat, other: &Seat) -> bool
+    ensures { IsTrue result ↔ (at_of seat.now ≡ at_of other.now) }
+{
+    match (seat, other) {
+        (Seat::Idle, Seat::Idle) => true,
+        (Seat::Runs(_, execution), Seat::Runs(_, other)) => same_execution(execution, other),
+        _ => false,
+    }
+}
+
+// Returns whether both run the same vertex with the same view and instances, the same count of micro-steps done and the same fault.
+fn same_execution(execution: &Execution, other: &Execution) -> bool
+    ensures { IsTrue result ↔ (execution_of execution.now ≡ execution_of other.now) }
+{
+    execution.vertex == other.vertex
+        && execution.done == other.done
+        && execution.fault.same(&other.fault)
+        && execution.view.same(&other.view)
+        && all_same(execution.places.as_slice(), other.places.as_slice())
+}
+
+// Returns the lease of a worker, if it has one.
+fn lease_of(seat: &Seat) -> Option<Lease>
+    ensures { result ≡ leased_by seat.now }
+{
+    match seat {
+        Seat::Idle => None,
+        Seat::Runs(lease, _) => *lease,
+    }
+}
