@@ -126,7 +126,7 @@ impl ProgramFault {
     }
 }
 
-/// Writes the fault's line, and returns its status; 3 where the line can't be written.
+/// Writes the fault's line, and returns its status; 3 if the line can't be written.
 pub fn refusal<E: Write>(fault: &ProgramFault, err: &mut E) -> u8
     ensures { Tells (E.contents err.old) (E.contents err.new) fault.now result }
 {
