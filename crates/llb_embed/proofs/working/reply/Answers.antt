@@ -1,7 +1,7 @@
-use Rattle.std.proofs.Common.{◌∙◌, ◌+◌, [], Some, refl, sym, ap, subst, inl, inr}
+use Rattle.std.proofs.Common.{◌∙◌, ◌+◌, [], Some, Ok, refl, sym, ap, subst, inl, inr}
 use Rattle.llb_commands.specs.declared.fault.ProgramFault.TheVariants as fault
 use Rattle.llb_commands.specs.Faults.{Tells}
-use Rattle.llb_session.specs.Answers.{RespondsAs}
+use Rattle.llb_session.specs.Answers.{Responds, RespondsAs}
 use Rattle.llb_session.specs.Request.{request_in}
 use Rattle.llb_embed.specs.declared.held.Held.{Held}
 use Rattle.llb_embed.proofs.Telling.{replies}
@@ -14,9 +14,10 @@ returns-in-Ok-Some c =
     let text = c.in-Ok-Some.text in
     let new : Held = record { locals = held.locals; session = Some t; lines = held.lines + 1; output = text; messages = held.messages } in
     let next = ap (λ h. h.lines + 1) rest in
-    let responds = subst (λ n. RespondsAs (request_in c.args.line.now) s n text.items t) next c.in-Ok-Some.ensures.1 in
+    let (goes_on, said) = subst (λ o. Responds s (held.lines + 1) c.args.line.now t (Ok o)) c.in-Ok-Some.field-0-is c.in-Ok-Some.ensures in
+    let responds = subst (λ n. RespondsAs (request_in c.args.line.now) s n text.items t) next said in
     replies c.args.line.now c.args.held.now new s 0 (sym (ap (λ h. h.session) rest) ∙ c.in-Some.is) (ap (λ h. h.locals) rest)
-    (inl (refl, c.clear.ensures.messages, (t, refl, next, c.in-Ok-Some.ensures.0, responds)))
+    (inl (refl, c.clear.ensures.messages, (t, refl, next, goes_on, responds)))
 
 pub returns-in-Err : goal.returns-in-Err
 returns-in-Err c =

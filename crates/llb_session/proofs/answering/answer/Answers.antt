@@ -1,5 +1,6 @@
 use Rattle.std.proofs.Common.{codes, subst, sym}
-use Rattle.llb_session.specs.Answers.{Answers}
+use Rattle.std.specs.Prelude.{Ok}
+use Rattle.llb_session.specs.Answers.{Answers, Responds}
 use Rattle.llb_session.proofs.Granting.{wants, says, is_answer, may_not_quit}
 use Rattle.llb_session.proofs.answering.answer.Goals as goal
 
@@ -7,7 +8,8 @@ pub returns-in-Ok-Some : goal.returns-in-Ok-Some
 returns-in-Ok-Some g c =
     let s = c.args.stepper.now in
     let t = c.respond.new.stepper in
-    let answers = is_answer s t c.args.number c.args.line.now c.in-Ok-Some.text.items c.in-Ok-Some.ensures.0 c.in-Ok-Some.ensures.1 in
+    let (goes_on, responds) = subst (λ o. Responds s c.args.number c.args.line.now t (Ok o)) c.in-Ok-Some.field-0-is c.in-Ok-Some.ensures in
+    let answers = is_answer s t c.args.number c.args.line.now c.in-Ok-Some.text.items goes_on responds in
     says s t c.args.number c.args.line.now c.as_slice.result.now (g.W.Write.contents c.args.out.now) (g.W.Write.contents c.write_reply.new.out)
     c.write_reply.result (subst (λ x. Answers s c.args.number c.args.line.now x t) (sym c.as_slice.ensures.value) answers) c.write_reply.ensures
 
