@@ -135,8 +135,8 @@ pub(crate) fn locals_of<F: Sources>(
 }
 
 impl SourceFault {
-    /// Returns the status with which the program ends, once the fault's line is written: 2 if the text is refused, else 3.
-    pub fn status(&self) -> u8
+    // Returns the status with which the program ends, once the fault's line is written: 2 if the text is refused, else 3.
+    fn status(&self) -> u8
         ensures { result ≡ source_status self.now }
     {
         match self {
