@@ -3,7 +3,7 @@ use Rattle.std.specs.Prelude.{◌≡◌, ◌+◌, ◌⊎◌, ℕ, List, [], Opti
 use Rattle.llb_tree.specs.Tree.{TreeMap}
 use Rattle.llb_loader.specs.Graph.{Numbered}
 use Rattle.llb_loader.specs.Load.{IsGraphIn}
-use Rattle.llb_loader.specs.Locals.{Local, with_local}
+use Rattle.llb_loader.specs.Locals.{with_local}
 use Rattle.llb_stepper.specs.Stepping.{Stepping}
 use Rattle.llb_session.specs.Answers.{MayFail, Quits, RespondsAs}
 use Rattle.llb_session.specs.Request.{request_in}

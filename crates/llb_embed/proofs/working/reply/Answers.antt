@@ -1,4 +1,4 @@
-use Rattle.std.proofs.Common.{◌∙◌, ◌+◌, [], Some, Ok, refl, sym, ap, subst, inl, inr}
+use Rattle.std.proofs.Common.{◌∙◌, ◌+◌, Some, Ok, refl, sym, ap, subst, inl, inr}
 use Rattle.llb_commands.specs.declared.fault.ProgramFault.TheVariants as fault
 use Rattle.llb_commands.specs.Faults.{Tells}
 use Rattle.llb_session.specs.Answers.{Responds, RespondsAs}
