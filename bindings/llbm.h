@@ -12,9 +12,8 @@
  * session. 2: what was handed in is refused. 3: memory was refused. 4: of llb_line, no session is open. At 2 and 3 the messages have a line
  * `fault` with its number (docs/FAULTS.md), but at 3 only where there was memory for it.
  *
- * Where a call returns 2 or 3, the local trees and the session are as they were; llb_line alone may return 3 after the line was done, where
- * memory for the copy of a reply was refused. What the call before wrote, its output and its messages, is removed by each call but
- * llb_output and llb_messages. */
+ * If a call returns 2 or 3, the local trees and the session are as they were: a line, too, is either done, with its whole reply as the
+ * output, or not done. What the call before wrote, its output and its messages, is removed by each call but llb_output and llb_messages. */
 #ifndef LLBM_H
 #define LLBM_H
 

@@ -153,9 +153,9 @@ static uint8_t call_dis(llb *it) { return llb_dis(it, definition, definition_len
 static uint8_t call_next(llb *it) { return line(it, "next"); }
 static uint8_t call_status(llb *it) { return line(it, "status"); }
 
-/* Whether a session is as it was before a call: or, of a line with this reply, after it, where the reply or the status says that it was done. */
-static bool is_as_it_was(llb *it, const char *reply, uint8_t status) {
-    bool is_done = reply && (status == 3 || is(it, llb_output, reply));
+/* Whether a session is as it was before a call: or, of a line with this reply, after it, if the output says that it was done. */
+static bool is_as_it_was(llb *it, const char *reply) {
+    bool is_done = reply && is(it, llb_output, reply);
     return line(it, "status") == 0 && (is_done || is(it, llb_output, STEPPED));
 }
 
@@ -172,7 +172,7 @@ static void refuse(const char *name, uint8_t (*call)(llb *), const char *reply) 
             refused++;
             threes += status == 3;
             check(status == 3 || reply, name);
-            check(is_as_it_was(&it, reply, status), "the session is as it was");
+            check(is_as_it_was(&it, reply), "the session is as it was");
         }
         check(!was_refused || call(&it) == 0, "the same call with memory");
         check(llb_run(&it, definition, definition_length) == 0, "the local trees are as they were");

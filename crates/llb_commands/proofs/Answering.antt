@@ -17,6 +17,7 @@ use Rattle.llb_board.specs.Seen.{BoardValue, opened}
 use Rattle.llb_commands.specs.declared.fault.ProgramFault.{ProgramFault}
 use Rattle.llb_commands.specs.declared.fault.ProgramFault.TheVariants.{Refused, Loading}
 use Rattle.llb_commands.specs.declared.fault.ProgramFault.TheVariants as fault
+use Rattle.llb_work.specs.declared.end.RunFault.{RunFault}
 use Rattle.llb_model.specs.Program.{Build}
 use Rattle.llb_model.specs.State.{State}
 use Rattle.llb_treetext.specs.TreeText.{tree_text}
@@ -26,7 +27,7 @@ use Rattle.llb_commands.specs.Answer.{Runs}
 use Rattle.llb_commands.specs.Faults.{Tells, TellsWhy, status_of}
 use Rattle.llb_commands.specs.Io.{Stream, IsKept, IsPartWritten, IsWritten}
 use Rattle.llb_commands.proofs.Ending.{result_fails, tree_fails_none, plain_tree}
-use Rattle.llb_commands.specs.Running.{passed_on, unread_as, IsRefusal, TellsRefusal, IsFinished, Finishes, Opens, Shows, YieldsNoneOn, Answers, Ends}
+use Rattle.llb_commands.specs.Running.{passed_on, unread_as, IsRefusal, TellsRefusal, IsFinished, IsWhole, Finishes, Opens, Shows, YieldsNoneOn, Answers, Ends}
 use Rattle.llb_commands.specs.declared.run.Ended.{Ended}
 use Rattle.llb_commands.specs.declared.run.Ended.TheVariants as ended
 use Rattle.llb_commands.specs.Assembly.{IsUnread}
@@ -161,6 +162,13 @@ all_read left left' r bytes is reads =
     let h : ReadsAll 67108864 134217728 left left' (Ok bytes) = subst (ReadsAll 67108864 134217728 left left') is reads in h.1
 
 -- ---- a whole run
+
+-- a run that is whole has ended
+pub finishes_whole : (workers : ℕ) (ls : List Local) (left : Option (List ℕ)) (g : Numbered) (b : BoardValue) (fault : Option RunFault)
+    (r : Result BoardValue ProgramFault) → IfSome left (λ bytes. IsGraphIn bytes g) → (fault ≡ None → IsFinished workers ls g b) → IsWhole b fault r
+    → Finishes workers ls left r
+finishes_whole workers ls left g b fault (Ok x) loads ends (same, none) = (g, loads, subst (IsFinished workers ls g) (sym same) (ends none))
+finishes_whole workers ls left g b fault (Err e) loads ends is = λ refusal. absurd (is refusal)
 
 -- a fault is a refusal, with the status 2, or its status is 3
 refusal_or_three : (e : ProgramFault) → (IsRefusal e × (status_of e ≡ 2)) ⊎ (status_of e ≡ 3)

@@ -7,6 +7,7 @@ use Rattle.llb_loader.specs.Locals.{Local}
 use Rattle.llb_board.specs.Seen.{BoardValue, opened}
 use Rattle.llb_model.specs.Consistent.{IsConsistent}
 use Rattle.llb_treetext.specs.TreeText.{tree_text}
+use Rattle.llb_work.specs.declared.end.RunFault.{RunFault}
 use Rattle.llb_commands.specs.Answer.{build_of, IsEnd, YieldsNone, YieldsAll, YieldsPart, IsRefused, IsNotRun, DrawsAll, DrawsPart}
 use Rattle.llb_commands.specs.Answer.{failed_lines}
 use Rattle.llb_commands.specs.Faults.{Tells}
@@ -67,6 +68,11 @@ pub record IsFinished (workers : ℕ) (locals : List Local) (g : Numbered) (b : 
 abbrev pub Finishes : ℕ → List Local → Option (List ℕ) → Result BoardValue ProgramFault → Type 0
 Finishes workers locals input (Ok b) = (g : Numbered) × IfSome input (λ bytes. IsGraphIn bytes g) × IsFinished workers locals g b
 Finishes workers locals input (Err e) = TellsRefusal (IsNotRun workers locals) input e
+
+-- a run is whole if no fault cut it short; a fault that did refuses no input
+abbrev pub IsWhole : BoardValue → Option RunFault → Result BoardValue ProgramFault → Type 0
+IsWhole board fault (Ok b) = (b ≡ board) × (fault ≡ None)
+IsWhole board fault (Err e) = ¬ IsRefusal e
 
 -- a tree is written if there is one; if there is none, the board is handed back
 abbrev pub Shows : BoardValue → Stream → Option TreeMap → Result Ended ProgramFault → Type 0

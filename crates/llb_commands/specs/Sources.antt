@@ -38,6 +38,11 @@ told (Err e) = Err (Text e)
 abbrev pub Reads : Option (List ℕ) → Result TreeMap SourceFault → Type 0
 Reads known r = IfSome known (λ bytes. ReadsTree bytes r)
 
+-- the text is read as a tree, which is added under the name; or it is not, and nothing is added
+abbrev pub Adds : List ℕ → Option (List ℕ) → List given.Local → List given.Local → Result (Unit {0}) SourceFault → Type 0
+Adds name known old new (Ok u) = (t : TreeMap) × Reads known (Ok t) × (new ≡ with_local old name t)
+Adds name known old new (Err e) = Reads known (Err e) × (new ≡ old)
+
 -- the trees that files hold for local sources, one after another, each over the trees of those before it: the first fault, or all their trees
 abbrev pub Gathers : (List ℕ → Option (List ℕ)) → List Local → List given.Local → Result (List given.Local) SourceFault → Type 0
 Gathers files [] trees r = r ≡ Ok trees

@@ -13,7 +13,7 @@ use llb_wire::{Bytes, Over, write_all};
 use std::alloc::Global;
 use std::io::{Read, Write};
 
-// A refusal of a line is one of the program; the want of memory is not.
+// Returns the program's fault for one of the assembler: a refusal for one of a line.
 fn assembling_fault(fault: AsmFault) -> ProgramFault
     ensures { result ≡ assembling_fault fault }
 {
@@ -23,7 +23,7 @@ fn assembling_fault(fault: AsmFault) -> ProgramFault
     }
 }
 
-// Why no text was read: one that is too long is refused.
+// Returns why no text was read: one that is too long is refused.
 fn text_unread(fault: ReadFault) -> ProgramFault
     ensures { result ≡ text_unread_as fault }
 {
@@ -34,7 +34,7 @@ fn text_unread(fault: ReadFault) -> ProgramFault
     }
 }
 
-// The definition of the entries that a text is read as.
+// Returns the definition of the entries that a text is read as.
 fn definition_of(alloc: Global, text: &[u8]) -> Result<Bytes, ProgramFault>
     ensures { IsDefinitionOf text.now result }
 {
@@ -47,7 +47,7 @@ fn definition_of(alloc: Global, text: &[u8]) -> Result<Bytes, ProgramFault>
     }
 }
 
-// The same of a text that is read.
+// Does the same for a text that is read to its end.
 fn definition_from<R: Read>(alloc: Global, input: &mut R) -> Result<Bytes, ProgramFault>
     ensures { IsDefinitionIn (R.remaining input.old) result }
 {
@@ -68,7 +68,7 @@ fn bytes_over<W: Write>(bytes: &[u8], out: &mut W) -> Result<(), OutputFault>
     }
 }
 
-// The whole way.
+// Reads a text, and writes the definition of its entries.
 fn assembled<R: Read, W: Write>(
     alloc: Global,
     input: &mut R,

@@ -28,7 +28,7 @@ pub enum ReadFault {
     Memory,
 }
 
-/// Reads all that is left, where it is no more than `limit` bytes and its end is met in `reads` reads. An interrupted read
+/// Reads all that is left, if it is no more than `limit` bytes and its end is met in `reads` reads. An interrupted read
 /// is done again, and counts.
 pub fn read_bounded<R: Read>(
     alloc: Global,

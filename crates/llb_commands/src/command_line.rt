@@ -36,7 +36,7 @@ use llb_wire::Many;
 use std::alloc::{AllocError, Global};
 use std::convert::AsStr;
 
-// The words for local sources.
+// Returns the rule of the words for local sources.
 fn local_arg<'a>(alloc: Global) -> Arg<'a>
     ensures rule { rule_of result ≡ local_rule }
     ensures plain { result.global ≡ false }
@@ -47,7 +47,7 @@ fn local_arg<'a>(alloc: Global) -> Arg<'a>
         .action(ArgAction::Append)
 }
 
-// The file of the definition, which has to be there.
+// Returns the rule of the word for the file of the definition, which has to be there.
 fn file_arg<'a>(alloc: Global) -> Arg<'a>
     ensures rule { rule_of result ≡ file_rule }
     ensures plain { result.global ≡ false }
@@ -59,7 +59,7 @@ fn file_arg<'a>(alloc: Global) -> Arg<'a>
         .action(ArgAction::Set)
 }
 
-// The number of workers, after `--workers`.
+// Returns the rule of the option for the number of workers.
 fn workers_arg<'a>(alloc: Global, help: &'a str) -> Arg<'a>
     ensures rule { rule_of result ≡ workers_rule }
     ensures plain { result.global ≡ false }
@@ -72,6 +72,7 @@ fn workers_arg<'a>(alloc: Global, help: &'a str) -> Arg<'a>
         .value_parser(value_parser!(u32))
 }
 
+// Returns the command `run`.
 fn run_command<'a>(alloc: Global) -> Result<clap::Command<'a>, AllocError>
     ensures app { IfOk result (λ c. app_of c ≡ run_app) }
     ensures plain { IfOk result (λ c. (fields_of c).has_globals ≡ false) }
@@ -82,6 +83,7 @@ fn run_command<'a>(alloc: Global) -> Result<clap::Command<'a>, AllocError>
         .arg(local_arg(alloc))
 }
 
+// Returns the command `step`.
 fn step_command<'a>(alloc: Global) -> Result<clap::Command<'a>, AllocError>
     ensures app { IfOk result (λ c. app_of c ≡ step_app) }
     ensures plain { IfOk result (λ c. (fields_of c).has_globals ≡ false) }
@@ -93,7 +95,7 @@ fn step_command<'a>(alloc: Global) -> Result<clap::Command<'a>, AllocError>
         .arg(local_arg(alloc))
 }
 
-// A command that takes no word.
+// Returns a command that takes no word.
 fn plain_command<'a>(alloc: Global, name: &'a str, about: &'a str) -> clap::Command<'a>
     ensures app { app_of result ≡ new_app name.now }
     ensures plain { (fields_of result).has_globals ≡ false }
@@ -101,7 +103,7 @@ fn plain_command<'a>(alloc: Global, name: &'a str, about: &'a str) -> clap::Comm
     clap::Command::new(alloc, name).about(about)
 }
 
-// The program before its commands.
+// Returns the program before its commands.
 fn base_command<'a>(alloc: Global) -> Result<clap::Command<'a>, AllocError>
     ensures app { IfOk result (λ c. app_of c ≡ base_app) }
     ensures plain { IfOk result (λ c. (fields_of c).has_globals ≡ false) }
@@ -115,7 +117,7 @@ fn base_command<'a>(alloc: Global) -> Result<clap::Command<'a>, AllocError>
         .bin_name("llbm")
 }
 
-// The commands on graphs.
+// Returns the program with its commands on graphs.
 fn graph_commands<'a>(alloc: Global) -> Result<clap::Command<'a>, AllocError>
     ensures { IfOk result (λ c. app_of c ≡ graph_app) }
 {
@@ -147,7 +149,7 @@ pub fn llbm_command<'a>(alloc: Global) -> Result<clap::Command<'a>, AllocError>
     graph_commands(alloc)?.subcommand(asm)?.subcommand(dis)
 }
 
-// The command of that name; that there is none is unreachable.
+// Returns the command of that name; there is one.
 fn command_named(name: &str) -> Command
     requires { IsName name.now }
     ensures { name_of result ≡ name.now }
@@ -170,7 +172,7 @@ fn split_words<'a>(alloc: Global, words: &[&'a str]) -> Result<Many<Local<'a>>, 
     Ok(Many::new(locals))
 }
 
-// The local sources in the matches of a command.
+// Returns the local sources in the matches of a command.
 fn locals_in<'a>(alloc: Global, matches: &ArgMatches<'a>) -> Result<Many<Local<'a>>, WordsFault<'a>>
     ensures split { IfOk result (AreSplit (local_words (rows_of (found_of matches.now)))) }
     ensures refuses { IfErr result (RefusesWord (local_words (rows_of (found_of matches.now)))) }
@@ -181,7 +183,7 @@ fn locals_in<'a>(alloc: Global, matches: &ArgMatches<'a>) -> Result<Many<Local<'
     }
 }
 
-// How many workers the matches of a command name.
+// Returns how many workers the matches of a command name.
 fn workers_in(command: Command, matches: &ArgMatches<'_>) -> u32
     ensures { IsWorkers command (rows_of (found_of matches.now)) result }
 {
@@ -192,7 +194,7 @@ fn workers_in(command: Command, matches: &ArgMatches<'_>) -> u32
     }
 }
 
-// The file that the matches of a command name.
+// Returns the file that the matches of a command name.
 fn file_in<'a>(command: Command, matches: &ArgMatches<'a>) -> Option<&'a str>
     ensures { IsFile command (rows_of (found_of matches.now)) result }
 {
@@ -202,7 +204,7 @@ fn file_in<'a>(command: Command, matches: &ArgMatches<'a>) -> Option<&'a str>
     }
 }
 
-// A command with its matches.
+// Returns the line of a command with its matches.
 fn line_of<'a>(
     alloc: Global,
     command: Command,
@@ -220,7 +222,7 @@ fn line_of<'a>(
     })
 }
 
-// The command `run` on no local sources.
+// Returns the line of `run` on no local sources.
 fn bare_run<'a>(alloc: Global) -> Line<'a>
     ensures { Says None result }
 {
@@ -232,7 +234,7 @@ fn bare_run<'a>(alloc: Global) -> Line<'a>
     }
 }
 
-// The fault for a refusal by `clap`.
+// Returns the fault for a refusal by `clap`.
 fn refused_by<'a>(error: Error) -> WordsFault<'a>
     ensures { IsFaultOfKind (kind_of error) result }
 {
@@ -268,7 +270,7 @@ pub(crate) fn line_or_page<'a, S: AsStr>(
     }
 }
 
-/// Returns what the words after the program's name say: no words are `run`. Fails with 183 without a word where `clap` refuses them, a
+/// Returns what the words after the program's name say: no words are `run`. Fails with 183 without a word if `clap` refuses them, a
 /// request for help among them; with 183 and the first word for a local source that has no `=`; with 184.
 pub fn command_of<'a, S: AsStr>(alloc: Global, words: &'a [S]) -> Result<Line<'a>, WordsFault<'a>>
     ensures says { IfOk result (Says (subcommand_of llbm_app (map S.text words.entry.now))) }

@@ -15,7 +15,7 @@ use llb_wire::Over;
 use std::alloc::Global;
 use std::io::{Read, Write};
 
-// A definition that does not read is refused; the want of memory is no refusal.
+// Returns the program's fault for one of reading a definition: a refusal, but for the want of memory.
 fn entries_fault(fault: OpFault) -> ProgramFault
     ensures { result ≡ entries_fault fault }
 {
@@ -25,7 +25,7 @@ fn entries_fault(fault: OpFault) -> ProgramFault
     }
 }
 
-// The entries of a definition that is read.
+// Returns the entries of a definition that is read to its end.
 fn entries_from<R: Read>(alloc: Global, input: &mut R) -> Result<Entries, ProgramFault>
     ensures { AreEntriesIn (R.remaining input.old) result }
 {
@@ -46,7 +46,7 @@ fn text_over<W: Write>(alloc: Global, entries: &Entries, out: &mut W) -> Result<
     disassemble(alloc, entries, &mut sink)
 }
 
-// The whole way.
+// Reads a definition, and writes the text of its entries.
 fn disassembled<R: Read, W: Write>(
     alloc: Global,
     input: &mut R,
@@ -65,8 +65,8 @@ fn disassembled<R: Read, W: Write>(
 }
 
 /// Reads a definition from `input` and writes its entries to `out` as their one text; a refusal goes to `err`, as a line. Returns the
-/// exit status: 0 where the whole text is written; 2 where the definition does not read (`fault 1` to `4`, `11` to `13`, and `fault 81 13` past
-/// 67,108,864 bytes), and nothing is written to `out`; 3 where a read (181), a write (164) or memory (14, 163, 184) failed, and
+/// exit status: 0 if the whole text is written; 2 if the definition does not read (`fault 1` to `4`, `11` to `13`, and `fault 81 13` past
+/// 67,108,864 bytes), and nothing is written to `out`; 3 if a read (181), a write (164) or memory (14, 163, 184) failed, and
 /// nothing, or a prefix of the text, is written.
 pub fn dis_over<R: Read, W: Write, E: Write>(
     alloc: Global,

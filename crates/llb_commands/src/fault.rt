@@ -110,8 +110,8 @@ impl fmt::Display for ProgramFault {
 impl error::Error for ProgramFault {}
 
 impl ProgramFault {
-    /// Returns the status with which the program ends, once the fault's line is written: 2 for a refusal of the input, else 3.
-    pub fn status(&self) -> u8
+    // Returns the status with which the program ends, once the fault's line is written: 2 for a refusal of the input, else 3.
+    fn status(&self) -> u8
         ensures { result ≡ status_of self.now }
     {
         match self {
@@ -126,7 +126,7 @@ impl ProgramFault {
     }
 }
 
-/// Writes the fault's line, and returns its status; 3 where the line can't be written.
+/// Writes the fault's line, and returns its status; 3 if the line can't be written.
 pub fn refusal<E: Write>(fault: &ProgramFault, err: &mut E) -> u8
     ensures { Tells (E.contents err.old) (E.contents err.new) fault.now result }
 {

@@ -10,7 +10,7 @@ use llb_ops::kind_name;
 use llb_wire::{Sink, write_all};
 use std::alloc::Global;
 
-// A space, the vertex and the index of an input.
+// Appends a space, the vertex and the index of an input.
 fn push_input(line: &mut String, input: Edge) -> Result<(), OutputFault>
     ensures { Gives (λ _. string_bytes line.new) result (Ok (string_bytes line.old ++ input_text input)) }
 {
@@ -19,7 +19,7 @@ fn push_input(line: &mut String, input: Edge) -> Result<(), OutputFault>
     Ok(())
 }
 
-// The inputs in their order, and a dash for none.
+// Appends the inputs in their order, and a dash for none.
 fn push_inputs(line: &mut String, inputs: &[Edge]) -> Result<(), OutputFault>
     ensures { Gives (λ _. string_bytes line.new) result (Ok (string_bytes line.old ++ inputs_text inputs.now)) }
 {
@@ -33,7 +33,7 @@ fn push_inputs(line: &mut String, inputs: &[Edge]) -> Result<(), OutputFault>
     Ok(())
 }
 
-// The line of the vertex of that number.
+// Returns the line of the vertex of that number.
 fn vertex_line(alloc: Global, number: usize, vertex: &Vertex) -> Result<String, OutputFault>
     ensures { Gives (λ s. string_bytes s) result (Ok (vertex_line number vertex.now)) }
 {
@@ -45,7 +45,7 @@ fn vertex_line(alloc: Global, number: usize, vertex: &Vertex) -> Result<String, 
     Ok(line)
 }
 
-// The line of the result.
+// Returns the line of the result.
 fn result_line(alloc: Global, edge: Edge) -> Result<String, OutputFault>
     ensures { Gives (λ s. string_bytes s) result (Ok (result_line edge)) }
 {
@@ -100,9 +100,13 @@ fn print_vertices<W: Sink>(
 }
 
 /// Writes the text of a graph to a sink: a line for each vertex by number, `V KIND steps S outputs O inputs LIST`, and the
-/// line `result V.I`. LIST is the inputs as `V.I`, a dash for none. Fails with 182 only where the writer failed, and with 184;
+/// line `result V.I`. LIST is the inputs as `V.I`, a dash for none. Fails with 182 only if the writer failed, and with 184;
 /// a prefix of the text is written then.
-pub fn print_graph<W: Sink>(alloc: Global, graph: &Graph, out: &mut W) -> Result<(), OutputFault>
+pub(crate) fn print_graph<W: Sink>(
+    alloc: Global,
+    graph: &Graph,
+    out: &mut W,
+) -> Result<(), OutputFault>
     ensures writes { Writes (W.taken out.old) (W.taken out.new) (W.failed out.new) (graph_text graph.now) result }
     ensures same { W.lender out.new ≡ W.lender out.old }
 {

@@ -10,7 +10,7 @@ use llb_ops::OpFault;
 use std::alloc::Global;
 use std::io::Read;
 
-// A refusal by the loader is one of the program; the want of memory is not.
+// Returns the program's fault for one of the loader: a refusal, but for the want of memory.
 fn passed_on(fault: LoadFault) -> ProgramFault
     ensures { result ≡ passed_on fault }
 {
@@ -20,8 +20,8 @@ fn passed_on(fault: LoadFault) -> ProgramFault
     }
 }
 
-/// Returns why the program ends where no definition was read: one that is too long is refused (81 13), else 181 or 184.
-pub fn unread(fault: ReadFault) -> ProgramFault
+/// Returns why the program ends if no definition was read: one that is too long is refused (81 13), else 181 or 184.
+pub(crate) fn unread(fault: ReadFault) -> ProgramFault
     ensures { result ≡ unread_as fault }
 {
     match fault {
@@ -31,7 +31,7 @@ pub fn unread(fault: ReadFault) -> ProgramFault
     }
 }
 
-// Reads the definition and loads it.
+/// Reads the definition and loads it.
 pub(crate) fn loaded<R: Read>(alloc: Global, input: &mut R) -> Result<Graph, ProgramFault>
     ensures { Loads (R.remaining input.old) result }
 {

@@ -18,8 +18,8 @@ use llb_stepper::{
 use llb_wire::Bytes;
 use std::alloc::Global;
 
-/// A law: for a text that is read as some entries, the definition that it is assembled to, and any bytes that have these entries, run on the
-/// same local trees to the text of one and the same result.
+/// Proves that for a text that is read as some entries, the definition that it is assembled to, and any bytes that have these entries, run on
+/// the same local trees to the text of one and the same result.
 pub fn assembled_runs_alike(text: &[u8], entries: &Entries, bytes: &Bytes)
     ensures { RunsAlike text.now entries.now bytes.now }
 {
@@ -29,7 +29,7 @@ pub fn assembled_runs_alike(text: &[u8], entries: &Entries, bytes: &Bytes)
     bytes.is_bytes();
 }
 
-/// The aim of the machine. For every definition that is loaded as a graph, and a board and a stepper over it, on all local trees and by any
+/// Proves the aim of the machine. For every definition that is loaded as a graph, and a board and a stepper over it, on all local trees and by any
 /// number of workers: after every interleaving of events the board's state and replies are the written table's on its record; no two
 /// executions hold one locked cache at once; every settled vertex with no cache mount at or before it has the graph's plain outcome; and a
 /// text that is read as the definition's entries is assembled to bytes that load as this graph, over which the stepper's state
@@ -67,7 +67,7 @@ pub struct BoardOptions {
     pub workers: u32,
 }
 
-/// A caller of `aim`: the results of the calls that load a definition, open boards over its graph and make a stepper meet its premises.
+/// Calls `aim`: the results of the calls that load a definition, open boards over its graph and make a stepper meet its premises.
 pub fn aim_is_met(
     alloc: Global,
     text: &[u8],

@@ -31,8 +31,10 @@ pub(crate) fn opened(
     }
 }
 
-/// Opens a board on the graph of the definition that is read, or fails with why there is none.
-pub(crate) fn opened_on<R: Read>(
+/// Reads a definition from `input`, and opens a board with this number of workers and no caches on its graph and the local trees. Fails if
+/// the definition is refused (81 to 90; 81 13 past 67,108,864 bytes), a local source has no tree (121), or the number of workers is not 1 to
+/// 64 (122); and with 91, 123, 181 and 184.
+pub fn open_over<R: Read>(
     alloc: Global,
     input: &mut R,
     locals: Locals,

@@ -109,7 +109,7 @@ pub(crate) fn named_first<S: AsStr>(words: &[S]) -> Option<Command>
     }
 }
 
-// The page of help on a command, or on the program.
+// Returns the page of help on a command, or on the program.
 fn help_page(command: Option<Command>) -> &'static str
     ensures { result.now ≡ help_page command }
 {
@@ -123,7 +123,7 @@ fn help_page(command: Option<Command>) -> &'static str
     }
 }
 
-/// Returns the page that words ask for which `clap` refuses so, by the command that the first names; it is empty where they ask for none.
+/// Returns the page that words ask for which `clap` refuses so, by the command that the first names; it is empty if they ask for none.
 pub(crate) fn page_for(kind: ErrorKind, command: Option<Command>) -> &'static str
     ensures { result.now ≡ page_for kind command }
 {

@@ -8,7 +8,7 @@ use crate::assembling::asm_over;
 use crate::command_line::line_or_page;
 use crate::disassembling::dis_over;
 use crate::fault::ProgramFault;
-use crate::opening::opened_on;
+use crate::opening::open_over;
 use crate::run::run_many_over;
 use crate::show::show_over;
 use crate::sources::{Sources, locals_of, source_refusal};
@@ -22,7 +22,7 @@ use std::io::{Read, Write};
 use std::sync::Wait;
 use std::thread::Threads;
 
-/// What the program reads, what it writes, and where it writes the lines of faults and failures.
+/// What the program reads, what it writes, and what it writes the lines of faults and failures to.
 #[derive(Drop)]
 pub struct Streams<R, W, E> {
     pub input: R,
@@ -30,7 +30,7 @@ pub struct Streams<R, W, E> {
     pub err: E,
 }
 
-// The board of the definition in a file, which is read to its end and closed; or 181 where it is not opened.
+// Opens the board of the definition in a file, which is read to its end and closed. Fails with 181 if the file is not opened.
 fn board_of<S: Sources>(
     alloc: Global,
     sources: &S,
@@ -41,15 +41,15 @@ fn board_of<S: Sources>(
     ensures { Opens workers locals (S.bytes sources.now file.now) result }
 {
     match sources.open(file) {
-        Ok(mut definition) => opened_on(alloc, &mut definition, locals, workers),
+        Ok(mut definition) => open_over(alloc, &mut definition, locals, workers),
         Err(_) => Err(ProgramFault::Read),
     }
 }
 
-/// Does what the line says on the local trees, which are those of its local sources, and returns the exit status: that of the
-/// command's own call. A session's definition is read from the line's file, to its end, before the first of its commands: where none is
-/// named, `fault 183` and 2, and where it is not opened, `fault 181` and 3. It may wait where the command is `run` with more than one worker.
-pub fn perform<T: Threads + Wait + Sync, S: Sources, R: Read, W: Write, E: Write>(
+// Does what the line says on the local trees, which are those of its local sources, and returns the exit status: that of the
+// command's own call. A session's definition is read from the line's file, to its end, before the first of its commands: if none is
+// named, `fault 183` and 2, and if it is not opened, `fault 181` and 3. It may wait if the command is `run` with more than one worker.
+fn perform<T: Threads + Wait + Sync, S: Sources, R: Read, W: Write, E: Write>(
     rt: &T,
     alloc: Global,
     line: &Line<'_>,
@@ -80,8 +80,8 @@ pub fn perform<T: Threads + Wait + Sync, S: Sources, R: Read, W: Write, E: Write
 }
 
 /// Runs the program: does what the words after its name say, and returns the exit status. Words that say nothing end it with a line (183, 184),
-/// and below it the page that they ask for, where they ask for help or for the version; so does the first local source that has no tree
-/// (31 to 34, 92, 181, 184, 185); else the command is done on their trees, and the status is its own. It may wait where the command is `run`
+/// and below it the page that they ask for, if they ask for help or for the version; so does the first local source that has no tree
+/// (31 to 34, 92, 181, 184, 185); else the command is done on their trees, and the status is its own. It may wait if the command is `run`
 /// with more than one worker.
 pub fn program<T: Threads + Wait + Sync, A: AsStr, S: Sources, R: Read, W: Write, E: Write>(
     rt: &T,

@@ -8,17 +8,18 @@ ghost use Rattle.llb_model.specs.State.{ending_at};
 ghost use Rattle.llb_treetext.specs.TreeText.{tree_text};
 ghost use Rattle.llb_commands.specs.Answer.{Runs, failed_line, failed_lines};
 ghost use Rattle.llb_commands.specs.Output.{PrintsOut};
-ghost use Rattle.llb_commands.specs.Running.{Answers, Ends, Finishes, Shows};
+ghost use Rattle.llb_commands.specs.Io.{Stream};
+ghost use Rattle.llb_commands.specs.Running.{Answers, Ends, Finishes, IsWhole, Opens, Shows};
 
 use crate::fault::{ProgramFault, refusal};
-use crate::opening::opened_on;
+use crate::opening::open_over;
 use llb_board::laws::{complete_is_plain, is_consistent};
 use llb_board::{Board, Gate, Status, Stopped};
 use llb_loader::{Edge, Locals};
 use llb_tree::Tree;
 use llb_treetext::{PrintFault, print_tree};
 use llb_wire::Over;
-use llb_work::{RunEnd, run_alone, run_workers};
+use llb_work::{RunEnd, RunFault, run_alone, run_workers};
 use std::alloc::Global;
 use std::io;
 use std::io::{Read, Write};
@@ -47,41 +48,44 @@ enum Ended {
     Failed(Board),
 }
 
-// Runs the definition that is read to its end with one worker.
-fn finished<R: Read>(alloc: Global, input: &mut R, locals: Locals) -> Result<Board, ProgramFault>
-    ensures { Finishes 1 locals (R.remaining input.old) result }
+// Returns the board of a run, if no fault cut it short.
+fn whole(board: Board, fault: Option<RunFault>) -> Result<Board, ProgramFault>
+    ensures { IsWhole board fault result }
 {
-    let board = opened_on(alloc, input, locals, 1)?;
-    board.is_graph();
-    let RunEnd { board, fault, .. } = run_alone(board);
-    is_consistent(&board);
     match fault {
         None => Ok(board),
         Some(fault) => Err(ProgramFault::Run(fault)),
     }
 }
 
-// The same with this number of workers, where they are several each in a thread of its own.
-fn finished_by<T: Threads + Wait + Sync, R: Read>(
+// Runs a board that was opened to its end with one worker, or passes on why there is none.
+fn finished(opened: Result<Board, ProgramFault>) -> Result<Board, ProgramFault>
+    ensures { (locals : List Local) (input : Option (List ℕ)) → Opens 1 locals input opened → Finishes 1 locals input result }
+{
+    let board = opened?;
+    board.is_graph();
+    let RunEnd { board, fault, .. } = run_alone(board);
+    is_consistent(&board);
+    whole(board, fault)
+}
+
+// Does the same with this number of workers, several of them each in a thread of its own.
+fn finished_by<T: Threads + Wait + Sync>(
     rt: &T,
     alloc: Global,
-    input: &mut R,
-    locals: Locals,
+    opened: Result<Board, ProgramFault>,
     workers: u32,
 ) -> Result<Board, ProgramFault>
-    ensures { Finishes workers locals (R.remaining input.old) result }
+    ensures { (locals : List Local) (input : Option (List ℕ)) → Opens workers locals input opened → Finishes workers locals input result }
 {
     if workers == 1 {
-        return finished(alloc, input, locals);
+        return finished(opened);
     }
-    let board = opened_on(alloc, input, locals, workers)?;
+    let board = opened?;
     let RunEnd { board, fault, .. } = run_workers(rt, alloc, board, &Open);
     is_consistent(&board);
     complete_is_plain(&board);
-    match fault {
-        None => Ok(board),
-        Some(fault) => Err(ProgramFault::Run(fault)),
-    }
+    whole(board, fault)
 }
 
 // Writes the text of a tree to a writer.
@@ -92,7 +96,7 @@ fn print_over<W: Write>(alloc: Global, tree: &Tree, out: &mut W) -> Result<(), P
     print_tree(alloc, tree, &mut sink)
 }
 
-// Writes the text of an output, where it is a tree; where it is none, the board comes back.
+// Writes the text of an output if it is a tree; if it is none, returns the board.
 fn print_output<W: Write>(
     alloc: Global,
     board: Board,
@@ -126,7 +130,7 @@ fn print_result<W: Write>(
     print_output(alloc, board, edge, out)
 }
 
-// The line of a vertex, where it has failed.
+// Writes the line of a vertex if it has failed.
 fn print_failure<E: Write>(v: u32, status: Option<Status>, err: &mut E) -> io::Result<()>
     ensures { OnOk result (Appends (E.contents err.old) (E.contents err.new) (failed_line v status)) }
 {
@@ -136,7 +140,7 @@ fn print_failure<E: Write>(v: u32, status: Option<Status>, err: &mut E) -> io::R
     }
 }
 
-// A line for each vertex that failed, by number.
+// Writes a line for each vertex that failed, by number.
 fn print_failures<E: Write>(board: &Board, err: &mut E) -> io::Result<()>
     ensures { OnOk result (Appends (E.contents err.old) (E.contents err.new)
         (failed_lines board.now.build board.now.state (length board.now.build.graph.vertices))) }
@@ -148,7 +152,7 @@ fn print_failures<E: Write>(board: &Board, err: &mut E) -> io::Result<()>
     Ok(())
 }
 
-// The exit status for how a run ended, once its lines are written.
+// Writes the lines of how a run ended, and returns its exit status.
 fn exit_status<W: Write, E: Write>(
     ended: Result<Ended, ProgramFault>,
     out: &mut W,
@@ -172,10 +176,27 @@ fn exit_status<W: Write, E: Write>(
     }
 }
 
+// Writes what a run on a board prints, or why there is none, and returns the exit status.
+fn print_end<W: Write, E: Write>(
+    alloc: Global,
+    board: Result<Board, ProgramFault>,
+    out: &mut W,
+    err: &mut E,
+) -> u8
+    ensures { (workers : ℕ) (locals : List Local) (input : Stream) → Finishes workers locals input.before board → Runs workers locals (record {
+      input = input;
+      output = record { before = W.contents out.old; after = W.contents out.new };
+      errors = record { before = E.contents err.old; after = E.contents err.new };
+    }) result }
+{
+    let ended = print_result(alloc, board, out);
+    exit_status(ended, out, err)
+}
+
 /// Reads a definition from `input`, runs it on the local trees with one worker and caches that are empty at first, and writes
-/// the text of its result to `out`; refusals and failures go to `err`, a line each. Returns the exit status: 0 where the whole
-/// text is written; 1 where a vertex failed; 2 where the definition is refused, or a local source has no tree (`fault 121` and its
-/// name); 3 where a read, a write or memory failed. But for 0, nothing is written to `out`, or, for 3, a prefix of the text.
+/// the text of its result to `out`; refusals and failures go to `err`, a line each. Returns the exit status: 0 if the whole
+/// text is written; 1 if a vertex failed; 2 if the definition is refused, or a local source has no tree (`fault 121` and its
+/// name); 3 if a read, a write or memory failed. But for 0, nothing is written to `out`, or, for 3, a prefix of the text.
 /// Reading ends past 67,108,864 bytes (`fault 81 13`) or after 2^27 reads (`fault 181`).
 pub fn run_over<R: Read, W: Write, E: Write>(
     alloc: Global,
@@ -190,14 +211,13 @@ pub fn run_over<R: Read, W: Write, E: Write>(
       errors = record { before = E.contents err.old; after = E.contents err.new };
     }) result }
 {
-    let board = finished(alloc, input, locals);
-    let ended = print_result(alloc, board, out);
-    exit_status(ended, out, err)
+    let opened = open_over(alloc, input, locals, 1);
+    print_end(alloc, finished(opened), out, err)
 }
 
-/// Does the same with this number of workers, where they are several each in a thread of its own, which it waits for. Where no cache is mounted,
-/// the text is that of the plain outcomes, for any number of workers. The status is 2 also where the number is 0, or more than 64 (`fault 122`),
-/// and 3 also where a thread could not be started (`fault 153`).
+/// Does the same with this number of workers, several of them each in a thread of its own, which it waits for. If no cache is mounted,
+/// the text is that of the plain outcomes, for any number of workers. The status is 2 also if the number is 0, or more than 64 (`fault 122`),
+/// and 3 also if a thread could not be started (`fault 153`).
 pub fn run_many_over<T: Threads + Wait + Sync, R: Read, W: Write, E: Write>(
     rt: &T,
     alloc: Global,
@@ -213,7 +233,6 @@ pub fn run_many_over<T: Threads + Wait + Sync, R: Read, W: Write, E: Write>(
       errors = record { before = E.contents err.old; after = E.contents err.new };
     }) result }
 {
-    let board = finished_by(rt, alloc, input, locals, workers);
-    let ended = print_result(alloc, board, out);
-    exit_status(ended, out, err)
+    let opened = open_over(alloc, input, locals, workers);
+    print_end(alloc, finished_by(rt, alloc, opened, workers), out, err)
 }

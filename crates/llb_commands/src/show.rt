@@ -22,7 +22,7 @@ fn graph_over<W: Write>(alloc: Global, graph: &Graph, out: &mut W) -> Result<(),
     print_graph(alloc, graph, &mut sink)
 }
 
-// The whole way.
+// Reads a definition, and writes the text of its graph.
 fn shown<R: Read, W: Write>(alloc: Global, input: &mut R, out: &mut W) -> Result<(), ProgramFault>
     ensures { ShowsIn (R.remaining input.old) (record { before = W.contents out.old; after = W.contents out.new }) result }
 {
@@ -37,8 +37,8 @@ fn shown<R: Read, W: Write>(alloc: Global, input: &mut R, out: &mut W) -> Result
 }
 
 /// Reads a definition from `input` and writes the text of its graph to `out`; a refusal goes to `err`, as a line. Returns
-/// the exit status: 0 where the whole text is written; 2 where the definition is refused, and nothing is written to `out`; 3
-/// where a read, a write or memory failed, and nothing, or a prefix of the text, is written.
+/// the exit status: 0 if the whole text is written; 2 if the definition is refused, and nothing is written to `out`; 3
+/// if a read, a write or memory failed, and nothing, or a prefix of the text, is written.
 pub fn show_over<R: Read, W: Write, E: Write>(
     alloc: Global,
     input: &mut R,

@@ -1,11 +1,9 @@
 //! The trees of local sources, read from the texts of their files. A trait says which files there are, so that
 //! the program's are the only ones whose bytes are not known here.
 
-ghost use Rattle.std.specs.Prelude.{◌≡◌, ℕ, List, [], Option, Some, IfOk, IfErr, OnOk, IfSome};
-ghost use Rattle.llb_loader.specs.Locals.{with_local};
+ghost use Rattle.std.specs.Prelude.{◌≡◌, ℕ, List, [], Option, Some, IfOk, IfSome};
 ghost use Rattle.llb_commands.specs.Faults.{source_text};
-ghost use Rattle.llb_commands.specs.Sources.{Gathers, Reads, TellsSource, source_status, told};
-ghost use Rattle.llb_commands.specs.declared.sources.SourceFault.TheVariants.{Adding};
+ghost use Rattle.llb_commands.specs.Sources.{Adds, Gathers, Reads, TellsSource, source_status, told};
 
 use crate::bounded::{LIMIT, READS, ReadFault, read_bounded};
 use crate::words::Local;
@@ -52,7 +50,7 @@ impl error::Error for SourceFault {}
 pub trait Sources {
     type Input: Read + Drop;
 
-    /// The bytes of a file, where they are known.
+    /// The bytes of a file, if they are known.
     ghost bytes: { Self → List ℕ → Option (List ℕ) };
 
     /// Opens a file at its start.
@@ -60,9 +58,8 @@ pub trait Sources {
         ensures { IfOk result (λ input. IfSome (bytes self.now file.now) (λ xs. Self.Input.remaining input ≡ Some xs)) };
 }
 
-/// Reads a text to its end as a tree. Fails with 181 where a read fails, or the end is not met in 2^27 reads; with 185 past
-/// 67,108,864 bytes; with 31 to 34; with 184.
-pub fn local_from<R: Read>(alloc: Global, input: &mut R) -> Result<Tree, SourceFault>
+// Reads a text to its end as a tree.
+fn local_from<R: Read>(alloc: Global, input: &mut R) -> Result<Tree, SourceFault>
     ensures { Reads (R.remaining input.old) result }
 {
     match read_bounded(alloc, input, LIMIT, READS) {
@@ -73,7 +70,7 @@ pub fn local_from<R: Read>(alloc: Global, input: &mut R) -> Result<Tree, SourceF
     }
 }
 
-// The fault of the reading of a text, as one of a local source.
+// Returns the result of reading a text as that of a local source.
 fn told(read: Result<Tree, TextFault>) -> Result<Tree, SourceFault>
     ensures { result ≡ told read }
 {
@@ -83,33 +80,47 @@ fn told(read: Result<Tree, TextFault>) -> Result<Tree, SourceFault>
     }
 }
 
-// Reads a file as a tree.
-fn tree_of<F: Sources>(alloc: Global, files: &F, file: &str) -> Result<Tree, SourceFault>
-    ensures { Reads (F.bytes files.now file.now) result }
+/// Reads a text to its end as a tree, and adds it as the local tree of this name; of two under one name, the later holds. Fails with 181 if a
+/// read fails, or the end is not met in 2^27 reads; with 185 past 67,108,864 bytes; with 31 to 34, 92 and 184. No tree is added then.
+pub fn add_local<R: Read>(
+    alloc: Global,
+    name: &str,
+    input: &mut R,
+    locals: &mut Locals,
+) -> Result<(), SourceFault>
+    ensures { Adds name.now (R.remaining input.old) locals.old locals.new result }
 {
-    let Ok(mut input) = files.open(file) else {
-        return Err(SourceFault::Read);
+    let tree = match local_from(alloc, input) {
+        Ok(tree) => tree,
+        Err(fault) => return Err(fault),
     };
-    local_from(alloc, &mut input)
-}
-
-// Keeps a tree under a name.
-fn keep(alloc: Global, name: &str, tree: Tree, locals: &mut Locals) -> Result<(), SourceFault>
-    ensures ok { OnOk result (locals.new ≡ with_local locals.old name.now tree) }
-    ensures err { IfErr result (λ e. e ≡ Adding) }
-{
-    let Ok(name) = String::from_str(alloc, name) else {
+    let Ok(name) = Text::from_str(alloc, name) else {
         return Err(SourceFault::Adding);
     };
-    match locals.add(Text::new(name), tree) {
+    match locals.add(name, tree) {
         Ok(()) => Ok(()),
         Err(_) => Err(SourceFault::Adding),
     }
 }
 
+// Adds the tree of a local source, whose text is in its file.
+fn add_file<F: Sources>(
+    alloc: Global,
+    files: &F,
+    local: &Local<'_>,
+    locals: &mut Locals,
+) -> Result<(), SourceFault>
+    ensures { Adds local.now.name.now (F.bytes files.now local.now.file.now) locals.old locals.new result }
+{
+    let Ok(mut input) = files.open(local.file) else {
+        return Err(SourceFault::Read);
+    };
+    add_local(alloc, local.name, &mut input, locals)
+}
+
 /// Reads the trees of local sources, in their order; of two under one name, the later holds. The first fault ends it:
 /// 31 to 34, 92, 181, 184 and 185.
-pub fn locals_of<F: Sources>(
+pub(crate) fn locals_of<F: Sources>(
     alloc: Global,
     files: &F,
     locals: &[Local<'_>],
@@ -118,15 +129,14 @@ pub fn locals_of<F: Sources>(
 {
     let mut trees = Locals::new(alloc);
     for local in locals {
-        let tree = tree_of(alloc, files, local.file)?;
-        keep(alloc, local.name, tree, &mut trees)?;
+        add_file(alloc, files, local, &mut trees)?;
     }
     Ok(trees)
 }
 
 impl SourceFault {
-    /// Returns the status with which the program ends, once the fault's line is written: 2 where the text is refused, else 3.
-    pub fn status(&self) -> u8
+    // Returns the status with which the program ends, once the fault's line is written: 2 if the text is refused, else 3.
+    fn status(&self) -> u8
         ensures { result ≡ source_status self.now }
     {
         match self {
@@ -138,7 +148,7 @@ impl SourceFault {
     }
 }
 
-/// Writes the line of a local source that has no tree, and returns its fault's status; 3 where the line can't be written.
+/// Writes the line of a local source that has no tree, and returns its fault's status; 3 if the line can't be written.
 pub fn source_refusal<E: Write>(fault: &SourceFault, err: &mut E) -> u8
     ensures { TellsSource (E.contents err.old) (E.contents err.new) fault.now result }
 {

@@ -7,7 +7,7 @@ ghost use Rattle.llb_commands.specs.Stepping.{Steps, StepsIn, session_fault};
 
 use crate::bounded::{LIMIT, READS};
 use crate::fault::{OutputFault, ProgramFault, refusal};
-use crate::opening::opened_on;
+use crate::opening::open_over;
 use llb_board::Board;
 use llb_loader::Locals;
 use llb_session::{SessionFault, converse};
@@ -15,7 +15,7 @@ use llb_stepper::Stepper;
 use std::alloc::Global;
 use std::io::{Read, Write};
 
-// The program's fault for a fault of a session.
+// Returns the program's fault for a fault of a session.
 fn session_fault(fault: SessionFault) -> ProgramFault
     ensures { result ≡ session_fault fault }
 {
@@ -27,7 +27,7 @@ fn session_fault(fault: SessionFault) -> ProgramFault
     }
 }
 
-// The whole session on a board, whatever its definition was read from.
+// Holds the whole session on a board, whatever its definition was read from.
 fn stepped<C: Read, W: Write>(
     alloc: Global,
     board: Result<Board, ProgramFault>,
@@ -68,9 +68,9 @@ pub(crate) fn session_over<C: Read, W: Write, E: Write>(
 
 /// Reads a definition from `file`, and replies to the lines of `commands` on a board with this number of workers and caches that are empty at first:
 /// what they print goes to `out`, line by line, refusals of commands too. A refusal of the definition goes to `err`, as a line. Returns the
-/// exit status: 0 where the session ended, by a line `quit` or with the commands; 2 where the definition is refused (81 to 90), a local
-/// source has no tree (121), or the number of workers is 0 or more than 64 (122), and nothing is written to `out`, or where the commands
-/// have more than 67,108,864 bytes (185), and the lines within them get their replies; 3 where a read (181), a write (182) or memory (91, 123, 184)
+/// exit status: 0 if the session ended, by a line `quit` or with the commands; 2 if the definition is refused (81 to 90), a local
+/// source has no tree (121), or the number of workers is 0 or more than 64 (122), and nothing is written to `out`, or if the commands
+/// have more than 67,108,864 bytes (185), and the lines within them get their replies; 3 if a read (181), a write (182) or memory (91, 123, 184)
 /// failed, and nothing, or a prefix of the replies, is written.
 pub fn step_over<R: Read, C: Read, W: Write, E: Write>(
     alloc: Global,
@@ -87,6 +87,6 @@ pub fn step_over<R: Read, C: Read, W: Write, E: Write>(
       errors = record { before = E.contents err.old; after = E.contents err.new };
     }) result }
 {
-    let board = opened_on(alloc, file, locals, workers);
+    let board = open_over(alloc, file, locals, workers);
     session_over(alloc, board, commands, out, err)
 }

@@ -35,9 +35,9 @@ pub struct Local<'a> {
 #[derive(Debug, Drop)]
 pub struct Line<'a> {
     pub command: Command,
-    /// Where none is given, 2 for a session, and 1 for every other command.
+    /// The number of workers; if none is given, 2 for a session, and 1 for every other command.
     pub workers: u32,
-    /// The file of the definition, where the command takes one.
+    /// The file of the definition, if the command takes one.
     pub file: Option<&'a str>,
     /// The local sources, in the order of the words.
     pub locals: Many<Local<'a>>,
@@ -87,8 +87,8 @@ impl<T: Drop> From<AllocFailed<T>> for WordsFault<'_> {
 }
 
 impl WordsFault<'_> {
-    /// Returns the status with which the program ends, once the fault's line is written: 2 for the words, 3 where it is out of memory.
-    pub fn status(&self) -> u8
+    // Returns the status with which the program ends, once the fault's line is written: 2 for the words, 3 for want of memory.
+    fn status(&self) -> u8
         ensures { result ≡ words_status self.now }
     {
         match self {
@@ -98,7 +98,7 @@ impl WordsFault<'_> {
     }
 }
 
-/// Writes the line of words that say nothing, and returns their fault's status; 3 where the line can't be written.
+/// Writes the line of words that say nothing, and returns their fault's status; 3 if the line can't be written.
 pub fn words_refusal<E: Write>(fault: &WordsFault<'_>, err: &mut E) -> u8
     ensures { TellsWords (E.contents err.old) (E.contents err.new) fault.now result }
 {
@@ -108,7 +108,7 @@ pub fn words_refusal<E: Write>(fault: &WordsFault<'_>, err: &mut E) -> u8
     fault.status()
 }
 
-/// Words that say nothing: why, and the page that they ask for, an empty one where they ask for none.
+/// Words that say nothing: why, and the page that they ask for, an empty one if they ask for none.
 #[derive(Clone, Copy, Debug)]
 pub(crate) struct Refusal<'a> {
     pub(crate) fault: WordsFault<'a>,

@@ -21,11 +21,6 @@ tells_opening workers locals definition messages e status tells told =
       | inr h ↦ inr h.0
     ]
 
--- the status of a line for want of memory is 3, whether the line is written or not
-pub three_either : {A : Type 0} (status : ℕ) → ((status ≡ 3) × A) ⊎ (status ≡ 3) → status ≡ 3
-three_either status (inl h) = h.0
-three_either status (inr h) = h
-
 -- a line that is sent to the session that is held
 pub replies : (line : List ℕ) (old new : Held) (s : Stepping) (status : ℕ) → old.session ≡ Some s → new.locals ≡ old.locals
     → RepliesOn line s old new status → Replied line old new status

@@ -1,12 +1,12 @@
 -- What each call does to what is held, by the definition of the program's own command: from what the call starts with to what it leaves, and its status.
-use Rattle.std.specs.Prelude.{◌≡◌, ◌+◌, ◌⊎◌, ℕ, Bool, true, List, [], Option, Some, None, Result, Ok, Err, MatchOption, IsUtf8}
-use Rattle.llb_wire.specs.declared.sink.Failed.{Failed}
+use Rattle.std.specs.Prelude.{◌≡◌, ◌+◌, ◌⊎◌, ℕ, List, [], Option, Some, None, Ok, Err, MatchOption, IsUtf8}
 use Rattle.llb_tree.specs.Tree.{TreeMap}
 use Rattle.llb_loader.specs.Graph.{Numbered}
 use Rattle.llb_loader.specs.Load.{IsGraphIn}
-use Rattle.llb_loader.specs.Locals.{Local, with_local}
+use Rattle.llb_loader.specs.Locals.{with_local}
 use Rattle.llb_stepper.specs.Stepping.{Stepping}
-use Rattle.llb_session.specs.Answers.{Says, Quits}
+use Rattle.llb_session.specs.Answers.{MayFail, Quits, RespondsAs}
+use Rattle.llb_session.specs.Request.{request_in}
 use Rattle.llb_commands.specs.declared.fault.ProgramFault.TheVariants as fault
 use Rattle.llb_commands.specs.declared.sources.SourceFault.{SourceFault}
 use Rattle.llb_commands.specs.declared.words.WordsFault.TheVariants.{Words}
@@ -59,11 +59,6 @@ Disassembled = EndsBy Disassembles
 
 -- ---- local trees
 
--- a text is read as a tree, which is added under the name; or it is not, and nothing is added
-abbrev pub IsAdded : List ℕ → List ℕ → List Local → List Local → Result (Unit {0}) SourceFault → Type 0
-IsAdded name text old new (Ok u) = (t : TreeMap) × ReadsTree text (Ok t) × (new ≡ with_local old name t)
-IsAdded name text old new (Err e) = ReadsTree text (Err e) × (new ≡ old)
-
 -- why nothing is added, with its line and its status: a name that is not UTF-8, or a text that is read as no tree
 abbrev pub TellsWhyNot : List ℕ → List ℕ → Held → ℕ → Type 0
 TellsWhyNot name text new status =
@@ -89,19 +84,19 @@ Opened definition workers old new status = (new.locals ≡ old.locals) × (new.o
     ⊎ ((new.session ≡ old.session) × (new.lines ≡ old.lines)
     × (((status ≡ 2) × TellsWhy (IsNotRun workers old.locals) (Some definition) (written new.messages.items)) ⊎ (status ≡ 3))))
 
--- the next line of session s leads to a session and a result, and its reply, or a prefix of it, is the output
-abbrev pub Leads : List ℕ → Stepping → Held → Held → Result Bool Failed → Type 0
-Leads line s old new result = (t : Stepping) × (new.session ≡ Some t) × (new.lines ≡ old.lines + 1)
-    × Says s (old.lines + 1) line t (written new.output.items) result
+-- line n of session s leads to a session, and the output is its whole reply
+abbrev pub GoesOn : List ℕ → Stepping → ℕ → Held → Type 0
+GoesOn line s n new = (t : Stepping) × (new.session ≡ Some t) × (new.lines ≡ n) × (¬ Quits line) × RespondsAs (request_in line) s n new.output.items t
 
--- A line is sent to session s. 0: its reply is the output. 1: it ends the session, and none is open. 3: memory for the copy of its reply was refused; what it
--- asks for is done, and the output is a prefix of its reply. A session has no more than 2^64 - 1 lines: a further one is refused, and changes nothing.
+-- A line is sent to session s. 0: its reply is the output. 1: it ends the session, and none is open. Else nothing is changed, and the messages have a line that
+-- says why: memory was refused for the line of a refusal; or the line would be one more than the 2^64 - 1 lines that a session has.
 abbrev pub RepliesOn : List ℕ → Stepping → Held → Held → ℕ → Type 0
 RepliesOn line s old new status =
-    ((status ≡ 0) × (new.messages.items ≡ []) × Leads line s old new (Ok true))
-    ⊎ (((status ≡ 1) × (new.messages.items ≡ []) × (new.output.items ≡ []) × (new.session ≡ None) × Quits line)
-    ⊎ (((status ≡ 3) × Leads line s old new (Err (record {})))
-    ⊎ ((old.lines ≡ 18446744073709551615) × KeepsRest old new × (new.output.items ≡ []) × Tells (Some []) (Some new.messages.items) fault.TooLong status)))
+    ((status ≡ 0) × (new.messages.items ≡ []) × GoesOn line s (old.lines + 1) new)
+    ⊎ (((status ≡ 1) × (new.messages.items ≡ []) × (new.output.items ≡ []) × (new.session ≡ None) × (new.lines ≡ old.lines) × Quits line)
+    ⊎ (KeepsRest old new × (new.output.items ≡ [])
+    × ((MayFail (request_in line) × Tells (Some []) (Some new.messages.items) fault.Memory status)
+    ⊎ ((old.lines ≡ 18446744073709551615) × Tells (Some []) (Some new.messages.items) fault.TooLong status))))
 
 -- a line is sent to the session; 4: none is open, and nothing is changed
 abbrev pub Replied : List ℕ → Held → Held → ℕ → Type 0

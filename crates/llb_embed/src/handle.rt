@@ -40,7 +40,7 @@ pub(crate) fn put(it: &mut Llb, held: Box<Held>)
     it.is_set = true;
 }
 
-/// Takes out what is held, or makes a new box where nothing is held; returns `None` where memory for the box is refused.
+/// Takes out what is held, or makes a new box if nothing is held; returns `None` if memory for the box is refused.
 pub(crate) fn start(it: &mut Llb, alloc: Global) -> Option<Box<Held>>
     requires { IsSound it.old }
     ensures sound { IsSound it.new }

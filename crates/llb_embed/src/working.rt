@@ -2,18 +2,15 @@
 
 ghost use Rattle.std.specs.Prelude.{◌≡◌, length, []};
 ghost use Rattle.llb_embed.specs.Copied.{copied};
-ghost use Rattle.llb_embed.specs.Working.{Added, IsAdded, Opened, Replied, Ran, Shown, Assembled, Disassembled};
+ghost use Rattle.llb_embed.specs.Working.{Added, Opened, Replied, Ran, Shown, Assembled, Disassembled};
 
 use crate::held::Held;
-use crate::opening::opened_on;
 use llb_commands::{
-    ProgramFault, SourceFault, WordsFault, asm_over, dis_over, local_from, refusal, run_over,
-    show_over, source_refusal, words_refusal,
+    ProgramFault, SourceFault, WordsFault, add_local, asm_over, dis_over, open_over, refusal,
+    run_over, show_over, source_refusal, words_refusal,
 };
-use llb_loader::Locals;
-use llb_session::answer;
+use llb_session::respond;
 use llb_stepper::Stepper;
-use llb_wire::Text;
 use std::alloc::Global;
 use std::str::from_utf8;
 
@@ -23,7 +20,7 @@ const ENDED: u8 = 1;
 
 const NO_SESSION: u8 = 4;
 
-/// Copies what fits to the front of a buffer. Returns how many bytes there are.
+/// Copies what fits to the front of a buffer, and returns how many bytes there are.
 pub(crate) fn copy_out(bytes: &[u8], out: &mut [u8]) -> usize
     ensures copied { out.new ≡ copied bytes.now out.old }
     ensures all { result ≡ length bytes.now }
@@ -36,7 +33,7 @@ pub(crate) fn copy_out(bytes: &[u8], out: &mut [u8]) -> usize
     whole
 }
 
-// What the last call wrote is removed.
+// Removes what the last call wrote.
 fn clear(held: &mut Held)
     ensures rest { held.new ≡ record held.old { output = held.new.output; messages = held.new.messages } }
     ensures output { held.new.output.items ≡ [] }
@@ -44,24 +41,6 @@ fn clear(held: &mut Held)
 {
     held.output.clear();
     held.messages.clear();
-}
-
-// Adds the tree of a text under a name.
-fn add(alloc: Global, locals: &mut Locals, name: &str, text: &[u8]) -> Result<(), SourceFault>
-    ensures { IsAdded name.now text.now locals.old locals.new result }
-{
-    let mut input = text;
-    let tree = match local_from(alloc, &mut input) {
-        Ok(tree) => tree,
-        Err(fault) => return Err(fault),
-    };
-    let Ok(name) = Text::from_str(alloc, name) else {
-        return Err(SourceFault::Adding);
-    };
-    match locals.add(name, tree) {
-        Ok(()) => Ok(()),
-        Err(_) => Err(SourceFault::Adding),
-    }
 }
 
 /// Adds a local tree, or writes why it is not added to the messages.
@@ -72,7 +51,8 @@ pub(crate) fn local(alloc: Global, held: &mut Held, name: &[u8], text: &[u8]) ->
     let Ok(name) = from_utf8(name) else {
         return words_refusal(&WordsFault::Words(None), &mut held.messages);
     };
-    match add(alloc, &mut held.locals, name, text) {
+    let mut input = text;
+    match add_local(alloc, name, &mut input, &mut held.locals) {
         Ok(()) => DONE,
         Err(fault) => source_refusal(&fault, &mut held.messages),
     }
@@ -86,7 +66,8 @@ pub(crate) fn open(alloc: Global, held: &mut Held, definition: &[u8], workers: u
     let Ok(locals) = held.locals.copy() else {
         return source_refusal(&SourceFault::Adding, &mut held.messages);
     };
-    match opened_on(alloc, definition, locals, workers) {
+    let mut input = definition;
+    match open_over(alloc, &mut input, locals, workers) {
         Ok(board) => {
             held.session = Some(Stepper::new(alloc, board));
             held.lines = 0;
@@ -96,7 +77,7 @@ pub(crate) fn open(alloc: Global, held: &mut Held, definition: &[u8], workers: u
     }
 }
 
-/// Replies to a line of the session.
+/// Replies to a line of the session that is open, if any; or writes why it is not done to the messages.
 pub(crate) fn reply(alloc: Global, held: &mut Held, line: &[u8]) -> u8
     ensures { Replied line.now held.old held.new result }
 {
@@ -107,10 +88,13 @@ pub(crate) fn reply(alloc: Global, held: &mut Held, line: &[u8]) -> u8
     if held.lines == u64::MAX {
         return refusal(&ProgramFault::TooLong, &mut held.messages);
     }
-    held.lines += 1;
-    match answer(alloc, stepper, held.lines, line, &mut held.output) {
-        Ok(true) => DONE,
-        Ok(false) => {
+    match respond(alloc, stepper, held.lines + 1, line) {
+        Ok(Some(text)) => {
+            held.lines += 1;
+            held.output = text;
+            DONE
+        }
+        Ok(None) => {
             held.session = None;
             ENDED
         }

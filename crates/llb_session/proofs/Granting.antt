@@ -1,5 +1,5 @@
 -- The chosen event is refused only for want of memory; and how this is printed.
-use Rattle.std.proofs.Common.{◌≡◌, Bool, true, false, Option, Some, None, List, ℕ, codes, inr, refl, subst, sym}
+use Rattle.std.proofs.Common.{◌≡◌, Bool, true, false, Option, Some, None, List, ℕ, codes, inl, inr, refl, subst, sym}
 use Rattle.std.specs.Prelude.{Result, Ok, Err, Vec}
 use Rattle.std.specs.Global.{Global}
 use Rattle.llb_wire.specs.declared.sink.Failed.{Failed}
@@ -13,7 +13,7 @@ use Rattle.llb_session.specs.declared.request.Request.{Request}
 use Rattle.llb_session.specs.declared.request.Request.TheVariants as ask
 use Rattle.llb_session.specs.Request.{request_in}
 use Rattle.llb_session.proofs.Streams.{between}
-use Rattle.llb_session.specs.Answers.{IsPerformed, GrantsNext, AnswersAs, Answers, MayFail, Quits, IsReplyWritten, Says}
+use Rattle.llb_session.specs.Answers.{IsPerformed, GrantsNext, AnswersAs, Answers, MayFail, RespondsAs, Quits, IsReplyWritten, Says}
 
 -- `next` prints what the chosen event prints, which is refused only for want of memory
 pub chosen_comes : (s t : Stepping) (e : own.Event) (r : Result (Vec ℕ Global) StepperFault) → ChosenIsDone s
@@ -24,6 +24,20 @@ chosen_comes s t e (Err fault) law is (same, fails) = (same, (fails.0, λ not. a
   where
     differ : stepper_memory fault ≡ true → stepper_memory fault ≡ false → ⊥
     differ a b = cc
+
+-- ---- the reply to a line
+
+answers_as : (s t : Stepping) (n : ℕ) (o : Option Request) (text : List ℕ) → RespondsAs o s n text t → AnswersAs o s n text t
+answers_as s t n None text (printed, same) = record { printed = inl printed; same = same }
+answers_as s t n (Some r) text responds = responds
+
+-- a whole reply is what is to be printed
+pub is_answer : (s t : Stepping) (n : ℕ) (line text : List ℕ) → ¬ Quits line → RespondsAs (request_in line) s n text t → Answers s n line text t
+is_answer s t n line text goes_on responds = record { goes_on = goes_on; answers = answers_as s t n (request_in line) text responds }
+
+-- a line that may fail does not end the session
+pub may_not_quit : (line : List ℕ) → MayFail (request_in line) → ¬ Quits line
+may_not_quit line may quits = subst MayFail quits may
 
 -- ---- no memory for the line of a refusal
 

@@ -2,6 +2,7 @@
 use Rattle.std.specs.Prelude.{◌≡◌, ◌⊎◌, ◌-◌, ◌++◌, ◌∷◌, ℕ, Bool, true, false, if◌then◌else◌, List, [], length, codes, Option, Some, None, Result, Ok, Err, Vec}
 use Rattle.std.specs.Prelude.{option_map, slice_get, ⊤}
 use Rattle.std.specs.Global.{Global}
+use Rattle.std.specs.declared.alloc.AllocError.{AllocError}
 use Rattle.llb_wire.specs.declared.sink.Failed.{Failed}
 use Rattle.llb_model.specs.State.{Execution, ending_at, runs}
 use Rattle.llb_model.specs.Outcome.{output_in}
@@ -125,9 +126,21 @@ abbrev pub MayFail : Option Request → Type 0
 MayFail None = ⊤
 MayFail (Some r) = Wants r Memory
 
+-- the whole reply to line n, by what it asks for, if anything: a line that asks for nothing prints its number, and changes nothing
+abbrev pub RespondsAs : Option Request → Stepping → ℕ → List ℕ → Stepping → Type 0
+RespondsAs None s n text t = (text ≡ fault_line (BadCommand n)) × (t ≡ s)
+RespondsAs (Some r) s n text t = Grants r s text t ⊎ PrintsRefusal r s text t
+
 -- the line ends the session
 abbrev pub Quits : List ℕ → Type 0
 Quits line = request_in line ≡ Some ask.Quit
+
+-- The result of line n of a session: its whole reply, and where it leads; no reply where it ends the session. Or memory was refused for the line of a refusal,
+-- and nothing is changed: a line that may fail.
+abbrev pub Responds : Stepping → ℕ → List ℕ → Stepping → Result (Option (Vec ℕ Global)) AllocError → Type 0
+Responds s n line t (Ok (Some text)) = (¬ Quits line) × RespondsAs (request_in line) s n text.items t
+Responds s n line t (Ok None) = Quits line × (t ≡ s)
+Responds s n line t (Err e) = MayFail (request_in line) × (t ≡ s)
 
 -- line n of a session, from 1, where it does not end the session: what it prints, and where it leads
 pub record Answers (s : Stepping) (n : ℕ) (line text : List ℕ) (t : Stepping) : Type 0 where

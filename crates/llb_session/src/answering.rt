@@ -2,7 +2,7 @@
 
 ghost use Rattle.std.specs.Prelude.{◌≡◌, ◌++◌, ◌-◌, length, IfOk, IfErr, OnErr, string_bytes};
 ghost use Rattle.llb_session.specs.declared.request.Request.TheVariants as ask;
-ghost use Rattle.llb_session.specs.Answers.{IsPerformed, Wants, AnswersAs, MayFail, IsReplyWritten, Says, stop_line};
+ghost use Rattle.llb_session.specs.Answers.{IsPerformed, Wants, MayFail, RespondsAs, Responds, IsReplyWritten, Says, stop_line};
 ghost use Rattle.llb_session.specs.Texts.{record_lines};
 ghost use Rattle.llb_stepper.specs.declared.fault.StepperFault.TheVariants as refusal;
 
@@ -24,7 +24,7 @@ fn break_at(alloc: Global, stepper: &mut Stepper, stop: Break) -> Result<Vec<u8>
     Ok(Vec::new(alloc))
 }
 
-// One event, and its line; where memory for the line is refused, the event is taken back.
+// Does one event, and returns its line; if memory for the line is refused, takes the event back.
 fn do_event(alloc: Global, stepper: &mut Stepper, event: Event) -> Result<Vec<u8>, StepperFault>
     ensures { IsPerformed (ask.Event event) stepper.old stepper.new result }
 {
@@ -39,7 +39,7 @@ fn do_event(alloc: Global, stepper: &mut Stepper, event: Event) -> Result<Vec<u8
     }
 }
 
-// The chosen event, where there is one.
+// Does the chosen event, if there is one, and returns its line.
 fn do_next(alloc: Global, stepper: &mut Stepper) -> Result<Vec<u8>, StepperFault>
     ensures { IsPerformed ask.Next stepper.old stepper.new result }
 {
@@ -50,6 +50,7 @@ fn do_next(alloc: Global, stepper: &mut Stepper) -> Result<Vec<u8>, StepperFault
     do_event(alloc, stepper, event)
 }
 
+// Returns the bytes of a text.
 fn bytes_of(alloc: Global, text: &str) -> Result<Vec<u8>, AllocError>
     ensures { IfOk result (λ v. v.items ≡ text.now) }
 {
@@ -58,7 +59,7 @@ fn bytes_of(alloc: Global, text: &str) -> Result<Vec<u8>, AllocError>
     Ok(bytes)
 }
 
-// The lines of a `go`, and how it ended.
+// Returns the lines of a `go`, and how it ended.
 fn go_text(
     alloc: Global,
     stepper: &Stepper,
@@ -74,7 +75,7 @@ fn go_text(
     Ok(text)
 }
 
-// The chosen events up to a stop, with their lines; where memory for the lines is refused, they are taken back.
+// Does the chosen events up to a stop, and returns their lines; if memory for the lines is refused, takes them back.
 fn go(alloc: Global, stepper: &mut Stepper) -> Result<Vec<u8>, StepperFault>
     ensures { IsPerformed ask.Go stepper.old stepper.new result }
 {
@@ -89,7 +90,7 @@ fn go(alloc: Global, stepper: &mut Stepper) -> Result<Vec<u8>, StepperFault>
     }
 }
 
-// The last event is taken back. Its line is made first, since an event that was taken back is not done again.
+// Takes the last event back, and returns its line. The line is made first, since an event that was taken back is not done again.
 fn back(alloc: Global, stepper: &mut Stepper) -> Result<Vec<u8>, StepperFault>
     ensures { IsPerformed ask.Back stepper.old stepper.new result }
 {
@@ -99,49 +100,49 @@ fn back(alloc: Global, stepper: &mut Stepper) -> Result<Vec<u8>, StepperFault>
     Ok(text.into_bytes())
 }
 
-// How the vertices look.
+// Returns how the vertices look.
 fn status(alloc: Global, stepper: &mut Stepper) -> Result<Vec<u8>, StepperFault>
     ensures { IsPerformed ask.Status stepper.old stepper.new result }
 {
     Ok(status_text(alloc, stepper.board())?.into_bytes())
 }
 
-// An output as text.
+// Returns an output as text.
 fn tree(alloc: Global, stepper: &mut Stepper, v: u32, i: u32) -> Result<Vec<u8>, StepperFault>
     ensures { IsPerformed (ask.Tree v i) stepper.old stepper.new result }
 {
     tree_text(alloc, stepper.board().output(v, i))
 }
 
-// What the trees are that a worker works on.
+// Returns what the trees are that a worker works on.
 fn work(alloc: Global, stepper: &mut Stepper, w: u32) -> Result<Vec<u8>, StepperFault>
     ensures { IsPerformed (ask.Work w) stepper.old stepper.new result }
 {
     Ok(work_text(alloc, stepper.board().workspace(w))?.into_bytes())
 }
 
-// A tree that a worker works on as text.
+// Returns a tree that a worker works on as text.
 fn work_tree(alloc: Global, stepper: &mut Stepper, w: u32, i: u32) -> Result<Vec<u8>, StepperFault>
     ensures { IsPerformed (ask.WorkTree w i) stepper.old stepper.new result }
 {
     tree_text(alloc, stepper.board().worked_on(w, i))
 }
 
-// The keys of the caches.
+// Returns the keys of the caches.
 fn caches(alloc: Global, stepper: &mut Stepper) -> Result<Vec<u8>, StepperFault>
     ensures { IsPerformed ask.Caches stepper.old stepper.new result }
 {
     Ok(caches_text(alloc, stepper.board())?.into_bytes())
 }
 
-// The tree of an instance as text.
+// Returns the tree of an instance as text.
 fn cache(alloc: Global, stepper: &mut Stepper, k: u32, i: u32) -> Result<Vec<u8>, StepperFault>
     ensures { IsPerformed (ask.Cache k i) stepper.old stepper.new result }
 {
     tree_text(alloc, stepper.board().cached(k, i))
 }
 
-// What is asked for, and what it prints; to remove the breakpoints and to end the session never fails.
+// Does what is asked for, and returns what it prints; to remove the breakpoints and to end the session never fails.
 fn perform(alloc: Global, stepper: &mut Stepper, request: Request) -> Result<Vec<u8>, StepperFault>
     ensures performed { IsPerformed request stepper.old stepper.new result }
     ensures fails { IfErr result (λ _. Wants request refusal.Memory) }
@@ -166,15 +167,15 @@ fn perform(alloc: Global, stepper: &mut Stepper, request: Request) -> Result<Vec
     }
 }
 
-// What a line prints: 173 and its number where it asks for nothing. Where memory for the line of a refusal is refused, nothing is changed; neither
-// `clear` nor `quit` is refused.
-fn respond(
+// Does what a line asks for and returns what it prints: 173 and its number if it asks for nothing. If memory for the line of a refusal is
+// refused, nothing is changed; neither `clear` nor `quit` is refused.
+fn respond_to(
     alloc: Global,
     stepper: &mut Stepper,
     number: u64,
     request: Option<Request>,
 ) -> Result<Vec<u8>, AllocError>
-    ensures ok { IfOk result (λ text. AnswersAs request stepper.old number text.items stepper.new) }
+    ensures ok { IfOk result (λ text. RespondsAs request stepper.old number text.items stepper.new) }
     ensures fails { IfErr result (λ _. MayFail request) }
     ensures err { OnErr result (stepper.new ≡ stepper.old) }
 {
@@ -188,7 +189,29 @@ fn respond(
     Ok(fault_line(alloc, &fault)?.into_bytes())
 }
 
-// Writes a reply, and the session goes on.
+/// Replies to line `number` of a session, counted from 1, on the stepper, and returns the whole reply: no text if the line is granted and
+/// prints nothing; `fault 173` and its number if it asks for nothing; `fault` and 171, 172 or 174 if what it asks for is refused, and then
+/// nothing is changed. Returns `None` if the line ends the session. Fails if memory is refused for the line of a refusal, and then nothing
+/// is changed either; neither `clear` nor a line that ends the session fails.
+pub fn respond(
+    alloc: Global,
+    stepper: &mut Stepper,
+    number: u64,
+    line: &[u8],
+) -> Result<Option<Vec<u8>>, AllocError>
+    ensures { Responds stepper.old number line.now stepper.new result }
+{
+    let request = request_in(line);
+    if request == Some(Request::Quit) {
+        return Ok(None);
+    }
+    match respond_to(alloc, stepper, number, request) {
+        Ok(text) => Ok(Some(text)),
+        Err(fault) => Err(fault),
+    }
+}
+
+// Writes a reply, and returns true: the session goes on.
 fn write_reply<W: Write>(bytes: &[u8], out: &mut W) -> Result<bool, Failed>
     ensures { IsReplyWritten bytes.now (record { before = W.contents out.old; after = W.contents out.new }) result }
 {
@@ -196,10 +219,8 @@ fn write_reply<W: Write>(bytes: &[u8], out: &mut W) -> Result<bool, Failed>
     Ok(true)
 }
 
-/// Replies to line `number` of a session, counted from 1, on the stepper, and writes the reply to `out`: no line where it is granted and
-/// prints nothing; `fault 173` and its number where it asks for nothing; `fault` and 171, 172 or 174 where what it asks for is refused,
-/// and then nothing is changed. Where memory is refused for the line of a refusal itself it is `fault 174`. False where the line ends
-/// the session; nothing is written then. Fails with `Failed` where the writer failed, and a prefix of the reply is written.
+/// Does the same, and writes the reply to `out`; if memory is refused for the line of a refusal, the reply is `fault 174`. Returns false if
+/// the line ends the session; nothing is written then. Fails with `Failed` if the writer failed, and a prefix of the reply is written.
 pub fn answer<W: Write>(
     alloc: Global,
     stepper: &mut Stepper,
@@ -209,12 +230,9 @@ pub fn answer<W: Write>(
 ) -> Result<bool, Failed>
     ensures { Says stepper.old number line.now stepper.new (record { before = W.contents out.old; after = W.contents out.new }) result }
 {
-    let request = request_in(line);
-    if request == Some(Request::Quit) {
-        return Ok(false);
-    }
-    match respond(alloc, stepper, number, request) {
-        Ok(text) => write_reply(text.as_slice(), out),
+    match respond(alloc, stepper, number, line) {
+        Ok(Some(text)) => write_reply(text.as_slice(), out),
+        Ok(None) => Ok(false),
         Err(_) => write_reply(b"fault 174\n", out),
     }
 }

@@ -21,7 +21,7 @@ struct Pending {
     line: Vec<u8>,
 }
 
-// Replies to the line that was heard, under its number, and flushes the reply. False where it ends the session.
+// Replies to the line that was heard, under its number, and flushes the reply. Returns false if it ends the session.
 fn say<W: Write>(
     alloc: Global,
     session: &mut Stepper,
@@ -42,7 +42,7 @@ fn say<W: Write>(
     }
 }
 
-// Hears a byte. False where the line that it ends ends the session.
+// Hears a byte. Returns false if the line that it ends ends the session.
 fn hear<W: Write>(
     alloc: Global,
     session: &mut Stepper,
@@ -67,7 +67,7 @@ fn hear<W: Write>(
     Ok(goes_on)
 }
 
-// Hears bytes one by one, up to one that ends the session.
+// Hears bytes one by one, up to one that ends the session; returns false then.
 fn hear_all<W: Write>(
     alloc: Global,
     session: &mut Stepper,
@@ -88,7 +88,7 @@ fn hear_all<W: Write>(
     Ok(true)
 }
 
-// At the end of the input: a last line without its end counts.
+// Replies, at the end of the input, to a last line without its end.
 fn conclude<W: Write>(
     alloc: Global,
     session: &mut Stepper,

@@ -4,7 +4,7 @@ ghost use Rattle.llb_session.specs.Told.{GoPrintsTheRun};
 
 use llb_stepper::Stepper;
 
-/// A law: the lines that a session's `go` prints are those of the run of the whole record, event for event and reply for reply.
+/// Proves that the lines that a session's `go` prints are those of the run of the whole record, event for event and reply for reply.
 pub fn go_prints_the_run(stepper: &Stepper)
     ensures { GoPrintsTheRun stepper.now }
 {

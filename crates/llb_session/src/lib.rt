@@ -2,9 +2,9 @@
 //! `llb_treetext`.
 //!
 //! Types: `Request` (what a line asks for), `SessionFault` (181, 182, 184, 185).
-//! Promise: `request_in` returns the request that a line spells, or none. `answer` does it and writes its reply; where it is refused, nothing
-//! is changed and the refusal is written; only an event, `next` and `go` fail with 171 141, and `clear` and `quit` never fail. `converse`
-//! replies to the lines of a reader in their order, up to one that ends the session or a device's fault.
+//! Promise: `request_in` returns the request that a line spells, or none. `respond` does it and returns its whole reply, `answer` writes it; if
+//! it is refused, nothing is changed and the reply is the refusal; only an event, `next` and `go` fail with 171 141, and `clear` and `quit`
+//! never fail. `converse` replies to the lines of a reader in their order, up to one that ends the session or a device's fault.
 //!
 //! A caller:
 //!
@@ -21,7 +21,7 @@ pub mod laws;
 mod request;
 mod text;
 
-pub use answering::answer;
+pub use answering::{answer, respond};
 pub use conversation::converse;
 pub use fault::SessionFault;
 pub use request::{Request, request_in};

@@ -39,7 +39,7 @@ pub enum Request {
     Quit,
 }
 
-// A number of 32 bits, by its decimal digits.
+// Returns a number of 32 bits, by its decimal digits.
 fn number(text: &str) -> Option<u32>
     ensures { result ≡ number_in text.now }
 {
@@ -51,7 +51,7 @@ fn number(text: &str) -> Option<u32>
     }
 }
 
-// Two numbers, with a space between them.
+// Returns two numbers that have a space between them.
 fn pair(text: &str) -> Option<(u32, u32)>
     ensures { result ≡ pair_in text.now }
 {
@@ -60,7 +60,7 @@ fn pair(text: &str) -> Option<(u32, u32)>
     Some((first, second))
 }
 
-// A line of one word.
+// Returns what a line of one word asks for.
 fn alone(word: &str) -> Option<Request>
     ensures { result ≡ alone word.now }
 {
@@ -83,7 +83,7 @@ fn alone(word: &str) -> Option<Request>
     }
 }
 
-// A breakpoint at a vertex.
+// Returns a breakpoint at a vertex.
 fn break_at(word: &str, rest: &str) -> Option<Request>
     ensures { result ≡ break_at word.now rest.now }
 {
@@ -98,7 +98,7 @@ fn break_at(word: &str, rest: &str) -> Option<Request>
     }
 }
 
-// The text after `break`.
+// Returns what a line asks for by the text after `break`.
 fn break_in(rest: &str) -> Option<Request>
     ensures { result ≡ break_in rest.now }
 {
@@ -109,7 +109,7 @@ fn break_in(rest: &str) -> Option<Request>
     break_at(word, number)
 }
 
-// The text after `work`: a worker, or a worker and a tree.
+// Returns what a line asks for by the text after `work`: a worker, or a worker and a tree.
 fn work_in(rest: &str) -> Option<Request>
     ensures { result ≡ work_in rest.now }
 {
@@ -120,7 +120,7 @@ fn work_in(rest: &str) -> Option<Request>
     Some(Request::WorkTree(w, i))
 }
 
-// A line of a word and the rest after it.
+// Returns what a line asks for by its first word and the rest after it.
 fn word_with_rest(word: &str, rest: &str) -> Option<Request>
     ensures { result ≡ word_with_rest word.now rest.now }
 {
@@ -151,7 +151,7 @@ fn word_with_rest(word: &str, rest: &str) -> Option<Request>
     }
 }
 
-// The words of a line.
+// Returns what a line asks for by its words.
 fn by_words(line: &str) -> Option<Request>
     ensures { result ≡ by_words line.now (parted line.now) }
 {

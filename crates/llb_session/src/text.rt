@@ -15,7 +15,7 @@ use llb_treetext::{print_tree, push_path};
 use llb_wire::Over;
 use std::alloc::{AllocError, Global};
 
-// The line of a vertex.
+// Appends the line of a vertex.
 fn push_status(text: &mut String, v: u32, status: Status) -> Result<(), StepperFault>
     ensures line { IfOk result (λ _. string_bytes text.new ≡ string_bytes text.old ++ status_line v status) }
     ensures memory { IfErr result (λ e. e ≡ refusal.Memory) }
@@ -47,7 +47,7 @@ pub(crate) fn status_text(alloc: Global, board: &Board) -> Result<String, Steppe
     Ok(text)
 }
 
-// The line of an event of the record, where it has one.
+// Appends the line of an event of the record, if it has one.
 fn push_record(text: &mut String, stepper: &Stepper, number: u64) -> Result<(), StepperFault>
     ensures line { IfOk result (λ _. string_bytes text.new ≡ string_bytes text.old ++ record_line stepper.now number) }
     ensures memory { IfErr result (λ e. e ≡ refusal.Memory) }
@@ -107,7 +107,7 @@ pub(crate) fn tree_text(alloc: Global, tree: Option<&Tree>) -> Result<Vec<u8>, S
     Ok(text)
 }
 
-// The line of tree i of a worker.
+// Appends the line of tree i of a worker.
 fn push_part(text: &mut String, i: usize, part: Part<'_>) -> Result<(), StepperFault>
     ensures line { IfOk result (λ _. string_bytes text.new ≡ string_bytes text.old ++ role_line i (role_in part.entry)) }
     ensures memory { IfErr result (λ e. e ≡ refusal.Memory) }
@@ -168,6 +168,7 @@ pub(crate) fn work_text(
     }
 }
 
+// Returns the word of a mode.
 fn mode_word(mode: Mode) -> &'static str
     ensures { result.now ≡ mode_word mode }
 {
@@ -178,7 +179,7 @@ fn mode_word(mode: Mode) -> &'static str
     }
 }
 
-// The text of a seed.
+// Appends the text of a seed.
 fn push_seed(text: &mut String, seed: &Option<Seed>) -> Result<(), StepperFault>
     ensures line { IfOk result (λ _. string_bytes text.new ≡ string_bytes text.old ++ seed_text seed.now) }
     ensures memory { IfErr result (λ e. e ≡ refusal.Memory) }
@@ -194,7 +195,7 @@ fn push_seed(text: &mut String, seed: &Option<Seed>) -> Result<(), StepperFault>
     Ok(())
 }
 
-// The line of key k, which has n instances.
+// Appends the line of key k, which has n instances.
 fn push_key(text: &mut String, k: usize, key: &Key, n: u32) -> Result<(), StepperFault>
     ensures line { IfOk result (λ _. string_bytes text.new ≡ string_bytes text.old ++ key_line k key.now n) }
     ensures memory { IfErr result (λ e. e ≡ refusal.Memory) }

@@ -1,48 +1,43 @@
-//! Reading within small bounds, and what is printed of it.
+//! Reading within small bounds.
 
-use super::devices::{Ran, Slow};
-use llb_commands::{ReadFault, read_bounded, refusal, unread};
+use super::devices::Slow;
+use llb_commands::{ReadFault, read_bounded};
 use std::alloc::Global;
 use std::io;
 use std::io::{ErrorKind, Read};
 use std::test::Fail;
 
-// What is read of `hello`, or what is printed instead.
-fn hello(alloc: Global, limit: usize, reads: u64, room: usize) -> Ran {
+// What comes of reading `hello`.
+fn hello(alloc: Global, limit: usize, reads: u64, room: usize) -> &'static str {
     let mut input = Slow {
         bytes: b"hello",
         room,
     };
-    let mut err = Vec::new(alloc);
     match read_bounded(alloc, &mut input, limit, reads) {
-        Ok(out) => Ran {
-            status: 0,
-            out,
-            err,
-        },
-        Err(fault) => Ran {
-            status: refusal(&unread(fault), &mut err),
-            out: Vec::new(alloc),
-            err,
-        },
+        Ok(bytes) if bytes.as_slice() == b"hello".as_slice() => "hello",
+        Ok(_) => "other bytes",
+        Err(ReadFault::TooLong) => "too long",
+        Err(ReadFault::Failed(_)) => "failed",
+        Err(ReadFault::Unending(_)) => "unending",
+        Err(ReadFault::Memory) => "memory",
     }
 }
 
 #[test]
 fn an_input_past_a_bound_is_not_read(rt: HostRuntime) {
     let rows = [
-        (5, 6, 9, 0, "hello", ""),
-        (4, 6, 9, 2, "", "fault 81 13\n"),
-        (5, 5, 9, 3, "", "fault 181\n"),
-        (5, 3, 9, 3, "", "fault 181\n"),
-        (5, 0, 9, 3, "", "fault 181\n"),
-        (5, 6, 2, 3, "", "fault 181\n"),
+        (5, 6, 9, "hello"),
+        (4, 6, 9, "too long"),
+        (5, 5, 9, "unending"),
+        (5, 3, 9, "unending"),
+        (5, 0, 9, "unending"),
+        (5, 6, 2, "failed"),
     ];
-    for (limit, reads, room, status, out, err) in rows {
-        let ran = hello(rt.alloc(), limit, reads, room);
+    for (limit, reads, room, wanted) in rows {
+        let came = hello(rt.alloc(), limit, reads, room);
         assert!(rt;
-            ran.is(status, out, err),
-            "{limit} bytes in {reads} reads of {room}"
+            came == wanted,
+            "{limit} bytes in {reads} reads of {room}: {came}"
         );
     }
 }

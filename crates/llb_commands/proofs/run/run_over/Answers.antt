@@ -1,10 +1,8 @@
-use Rattle.llb_commands.proofs.Answering.{run_told, stream}
+use Rattle.llb_commands.proofs.Answering.{stream}
 use Rattle.llb_commands.proofs.run.run_over.Goals as goal
 
 pub returns : goal.returns
 returns g c =
     let left = g.R.Read.remaining c.args.input.now in
-    run_told 1 c.args.locals left (g.R.Read.remaining c.finished-board.new.input)
-    (g.W.Write.contents c.args.out.now) (g.W.Write.contents c.print_result-ended.new.out) (g.W.Write.contents c.exit_status.new.out)
-    (stream (g.E.Write.contents c.args.err.now) (g.E.Write.contents c.exit_status.new.err))
-    c.print_result-ended.result c.exit_status.result (c.print_result-ended.ensures 1 c.args.locals left c.finished-board.ensures) c.exit_status.ensures
+    c.print_end.ensures 1 c.args.locals (stream left (g.R.Read.remaining c.open_over-opened.new.input))
+    (c.finished.ensures c.args.locals left c.open_over-opened.ensures)
