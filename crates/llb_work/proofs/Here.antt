@@ -40,7 +40,7 @@ is_of_both b w v worker vertex =
     (lt-ltb v (length b.build.graph.vertices) vertex)
 
 -- a run does not change the number of workers
-workers_same : (b : Build) (s t : State) (es : List Event) (rs : List Reply) → run b s es ≡ Some (t, rs) → length t.workers ≡ length s.workers
+pub workers_same : (b : Build) (s t : State) (es : List Event) (rs : List Reply) → run b s es ≡ Some (t, rs) → length t.workers ≡ length s.workers
 workers_same b s t es rs leads =
     run_keeps b (λ (x : State). length x.workers ≡ length s.workers) (λ x e a same given. workers_stay b x e a given ∙ same) s t es rs
     (λ i. length s.workers) leads

@@ -5,7 +5,7 @@ ghost use Rattle.std.specs.Prelude.{◌≡◌, ◌≤◌, ℕ, vec_len, vec_capa
 ghost use Rattle.llb_work.specs.Passes.{IsUncut};
 ghost use Rattle.llb_work.specs.Supplies.{IsSupplyFor};
 
-use crate::held::Held;
+use crate::key_waiters::KeyWaiters;
 use crate::plain::plain_marks;
 use crate::worker_thread::WorkerThread;
 use llb_board::{Board, Status};
@@ -23,7 +23,7 @@ pub(crate) struct Supply<S: Ledger> {
     pub pass: ReadyPass,
     pub lists: Vec<Vec<u32>>,
     pub threads: Vec<WorkerThread<S>>,
-    pub held: Held,
+    pub waiters: KeyWaiters,
     pub plain: Vec<bool>,
 }
 
@@ -35,14 +35,14 @@ pub(crate) fn make_supply<S: Ledger>(alloc: Global, board: &Board, n: u32) -> Op
     let (queue, pass) = ReadyQueue::new(alloc, room).ok()?;
     let lists = make_lists(alloc, n, room).ok()?;
     let threads = Vec::with_capacity(alloc, n as usize).ok()?;
-    let held = Held::new(alloc, room).ok()?;
+    let waiters = KeyWaiters::new(alloc, room).ok()?;
     let plain = plain_marks(alloc, board)?;
     Some(Supply {
         queue,
         pass,
         lists,
         threads,
-        held,
+        waiters,
         plain,
     })
 }
