@@ -10,8 +10,8 @@ use Rattle.llb_model.specs.Run.{run}
 use Rattle.llb_model.proofs.Lists.{inside}
 use Rattle.llb_model.proofs.Runs.{run_one, run_on}
 use Rattle.llb_board.specs.Seen.{BoardValue}
-use Rattle.llb_work.specs.Crew.{IsAfter, state_in}
-use Rattle.llb_work.specs.Records.{Takes, GoesOn}
+use Rattle.llb_work.specs.Crew.{GoesOn, IsAfter, state_in}
+use Rattle.llb_work.specs.Alone.{Takes}
 
 -- ---- lists
 
@@ -31,7 +31,7 @@ both (suc n) (x ∷ xs) = ap (λ l. x ∷ l) (both n xs)
 -- ---- going on
 
 -- a board goes on from itself by no event
-unfoldable pub goes_nowhere : (b : BoardValue) → GoesOn b b
+pub goes_nowhere : (b : BoardValue) → GoesOn b b
 unfolding run
 goes_nowhere b = record { build = refl; opening = refl; first = refl; more = []; replies = []; leads = refl; events = sym (append-nil b.events) }
 
@@ -40,7 +40,7 @@ pub stays : (b c : BoardValue) → c ≡ b → GoesOn b c
 stays b c same = subst (λ x. GoesOn b x) (sym same) (goes_nowhere b)
 
 -- an event that is taken is one by which the board goes on
-unfoldable pub takes_one : (b c : BoardValue) (e : Event) → Takes b e c → GoesOn b c
+pub takes_one : (b c : BoardValue) (e : Event) → Takes b e c → GoesOn b c
 takes_one b c e takes = record {
   build = takes.build;
   opening = takes.opening;
@@ -92,7 +92,7 @@ pub after_itself : (s b : BoardValue) → s ≡ b → IsAfter s b
 after_itself s b same = is_after s b (stays s b (sym same))
 
 -- what goes on from a board that goes on from a first one goes on from the first one
-unfoldable pub goes_further : (a b c : BoardValue) → GoesOn a b → GoesOn b c → GoesOn a c
+pub goes_further : (a b c : BoardValue) → GoesOn a b → GoesOn b c → GoesOn a c
 goes_further a b c one two = record {
   build = two.build ∙ one.build;
   opening = two.opening ∙ one.opening;

@@ -11,7 +11,8 @@ use Rattle.llb_model.proofs.Alone.{chosen_goes_on}
 use Rattle.llb_events.specs.declared.event.Event.{Event}
 use Rattle.llb_events.specs.declared.event.Event.TheVariants.{Claim, Step, Settle, Cancel}
 use Rattle.llb_board.specs.Seen.{BoardValue}
-use Rattle.llb_work.specs.Records.{Takes, is_cancel, CancelsNothing}
+use Rattle.llb_work.specs.Crew.{is_cancel, CancelsNothing}
+use Rattle.llb_work.specs.Alone.{Takes}
 
 -- events that are no cancels leave the number of cancels as it is
 pub as_before : (es more : List Event) → count_by is_cancel more ≡ 0 → count_by is_cancel (es ++ more) ≡ count_by is_cancel es

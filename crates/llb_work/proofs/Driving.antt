@@ -1,6 +1,7 @@
 -- What a driver's events do to a board.
 use Rattle.std.proofs.Common.{◌≡◌, ℕ, ◌+◌, ◌<◌, Bool, true, false, List, [], ◌∷◌, ◌++◌, length, Some, None, is_some, Result, Ok, Err, refl, sym, ap, subst}
-use Rattle.std.proofs.Common.{◌∙◌, arith}
+use Rattle.std.proofs.Common.{◌∙◌, append_assoc, arith}
+use Rattle.std.proofs.lemmas.List.{append-nil}
 use Rattle.std.specs.Prelude.{is_ok}
 use Rattle.std.specs.Bool.{OnTrue, OnFalse}
 use Rattle.std.specs.Result.{result_ok}
@@ -15,7 +16,7 @@ use Rattle.llb_model.specs.Table.{Reply, claim_grant, step_grant, settle_grant, 
 use Rattle.llb_model.specs.Run.{run, chosen}
 use Rattle.llb_model.specs.Laws.{AreChosen}
 use Rattle.llb_model.proofs.Lists.{inside as some_inside}
-use Rattle.llb_model.proofs.Runs.{run_none, run_first}
+use Rattle.llb_model.proofs.Runs.{run_none, run_first, run_more}
 use Rattle.llb_model.specs.Room.{still_to_come}
 use Rattle.llb_model.proofs.Alone.{Ascends, alone_step, chosen_comes_nearer}
 use Rattle.llb_board.specs.Seen.{BoardValue, after_event, recorded}
@@ -30,9 +31,8 @@ use Rattle.llb_events.specs.declared.refusal.StepFault.{StepFault}
 use Rattle.llb_events.specs.declared.refusal.SettleFault.{SettleFault}
 use Rattle.llb_events.specs.declared.event.Cancelled.{Cancelled}
 use Rattle.llb_events.specs.declared.refusal.CancelFault.{CancelFault}
-use Rattle.llb_work.specs.Alone.{IsLeft, TakesMemory}
-use Rattle.llb_work.specs.Records.{Takes, GoesAsChosen}
-use Rattle.llb_work.proofs.Afters.{goes_nowhere, takes_one, goes_further}
+use Rattle.llb_work.specs.Crew.{GoesOn}
+use Rattle.llb_work.specs.Alone.{Takes, Goes, IsLeft, TakesMemory}
 
 abbrev ok_of : {A F : Type 0} → A → Result A F
 ok_of x = Ok x
@@ -49,9 +49,22 @@ takes_of {F} b e (Ok (s, q)) n r is given =
     subst (Takes b e) same (record { build = refl; opening = refl; first = refl; reply = q; given = is; events = refl })
 
 -- a driver that has done nothing has gone on by no event
-pub chosen_nowhere : (b : BoardValue) → GoesAsChosen b b
-unfolding goes_nowhere
-chosen_nowhere b = record { goes = goes_nowhere b; chosen = tt }
+pub chosen_nowhere : (b : BoardValue) → Goes b b
+unfolding run
+chosen_nowhere b =
+    record { build = refl; opening = refl; first = refl; more = []; replies = []; leads = refl; chosen = tt; events = sym (append-nil b.events) }
+
+-- the chosen events of a driver are events that are granted
+pub all_granted : (a b : BoardValue) → Goes a b → GoesOn a b
+all_granted a b goes = record {
+  build = goes.build;
+  opening = goes.opening;
+  first = goes.first;
+  more = goes.more;
+  replies = goes.replies;
+  leads = goes.leads;
+  events = goes.events;
+}
 
 -- after chosen events, one more chosen event leaves all of them chosen
 chosen_more : (b : Build) (s t : State) (es : List Event) (rs : List Reply) (e : Event) → run b s es ≡ Some (t, rs) → AreChosen b s es
@@ -66,13 +79,20 @@ chosen_more b s t (x ∷ es) rs e leads all next =
     )
 
 -- a driver that has gone on goes further by a chosen event that is granted
-pub chosen_further : (a b c : BoardValue) (e : Event) → GoesAsChosen a b → chosen b.build b.state ≡ Some e → Takes b e c → GoesAsChosen a c
-unfolding goes_further takes_one
-chosen_further a b c e far next takes = record {
-  goes = goes_further a b c far.goes (takes_one b c e takes);
-  chosen =
-      chosen_more a.build a.state b.state far.goes.more far.goes.replies e far.goes.leads far.chosen (ap (λ x. chosen x b.state) (sym far.goes.build) ∙ next);
+pub chosen_further : (a b c : BoardValue) (e : Event) → Goes a b → chosen b.build b.state ≡ Some e → Takes b e c → Goes a c
+chosen_further a b c e goes next takes = record {
+  build = takes.build ∙ goes.build;
+  opening = takes.opening ∙ goes.opening;
+  first = takes.first ∙ goes.first;
+  more = goes.more ++ e ∷ [];
+  replies = goes.replies ++ takes.reply ∷ [];
+  leads = run_more a.build a.state b.state c.state goes.more goes.replies e takes.reply goes.leads given;
+  chosen = chosen_more a.build a.state b.state goes.more goes.replies e goes.leads goes.chosen (ap (λ x. chosen x b.state) (sym goes.build) ∙ next);
+  events = takes.events ∙ ap (λ es. es ++ e ∷ []) goes.events ∙ append_assoc a.events goes.more (e ∷ []);
 }
+  where
+    given : table a.build b.state e ≡ Some (c.state, takes.reply)
+    given = ap (λ x. table x b.state e) (sym goes.build) ∙ takes.given
 
 -- if the claims so far ascend, they still ascend after a chosen event
 pub ascends_on : (b c : BoardValue) (e : Event) → IsGraph b.build.graph → IsConsistent b.build b.state → chosen b.build b.state ≡ Some e

@@ -17,9 +17,8 @@ use Rattle.llb_model.proofs.Complete.{complete_rests}
 use Rattle.llb_model.proofs.Lists.{inside, get_past, length_set}
 use Rattle.llb_board.specs.Seen.{BoardValue}
 use Rattle.llb_board.specs.Rules.{cancel_of}
-use Rattle.llb_work.specs.Alone.{IsLeft}
+use Rattle.llb_work.specs.Alone.{Takes, IsLeft}
 use Rattle.llb_work.specs.Crew.{AreIdle}
-use Rattle.llb_work.specs.Records.{Takes}
 use Rattle.llb_work.proofs.Driving.{cancel_takes, cancel_left}
 
 -- ---- a worker that is made idle

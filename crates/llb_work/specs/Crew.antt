@@ -1,22 +1,49 @@
 -- What workers that share one lock do to a board.
-use Rattle.std.specs.Prelude.{◌≡◌, ℕ, List, [], length, take, drop, slice_get, Some, None, option_map}
+use Rattle.std.specs.Prelude.{◌≡◌, ℕ, ◌+◌, ◌++◌, Bool, true, false, List, [], length, take, drop, sum, count_by, slice_get, Some, None, option_map}
 use Rattle.llb_model.specs.Program.{Build}
 use Rattle.llb_model.specs.State.{State, runs}
+use Rattle.llb_events.specs.declared.event.Event.{Event}
+use Rattle.llb_events.specs.declared.event.Event.TheVariants.{Claim, Step, Settle, Cancel}
 use Rattle.llb_model.specs.Table.{Reply}
 use Rattle.llb_model.specs.Run.{run}
 use Rattle.llb_board.specs.Seen.{BoardValue, opened}
+
+-- events that are granted one after another are added at the end of the record
+pub record GoesOn (old new : BoardValue) : Type 0 where
+  pub build : new.build ≡ old.build
+  pub opening : new.opening ≡ old.opening
+  pub first : new.first ≡ old.first
+  pub more : List Event
+  pub replies : List Reply
+  pub leads : run old.build old.state more ≡ Some (new.state, replies)
+  pub events : new.events ≡ old.events ++ more
 
 -- the state of an answer
 abbrev pub state_in : State × List Reply → State
 state_in a = a.0
 
--- a board goes on from another, stated by equations only: the older record is a prefix of the record, and what is after it leads to the state
+-- the same, stated by equations only: the older record is a prefix of the record, and what is after it leads to the state
 pub record IsAfter (start found : BoardValue) : Type 0 where
   pub build : found.build ≡ start.build
   pub opening : found.opening ≡ start.opening
   pub first : found.first ≡ start.first
   pub front : take (length start.events) found.events ≡ start.events
   pub leads : option_map state_in (run start.build start.state (drop (length start.events) found.events)) ≡ Some found.state
+
+-- the sum of the workers' counts is the number of events that were added
+abbrev pub Counts : List ℕ → BoardValue → BoardValue → Type 0
+Counts made old new = sum made + length old.events ≡ length new.events
+
+-- whether an event gives a vertex up
+abbrev pub is_cancel : Event → Bool
+is_cancel (Claim w v) = false
+is_cancel (Step w) = false
+is_cancel (Settle w) = false
+is_cancel (Cancel w) = true
+
+-- the record has as many cancels as it had
+abbrev pub CancelsNothing : BoardValue → BoardValue → Type 0
+CancelsNothing old new = count_by is_cancel new.events ≡ count_by is_cancel old.events
 
 -- no worker runs anything, so no worker has an instance of a cache
 abbrev pub AreIdle : State → Type 0

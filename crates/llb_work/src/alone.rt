@@ -4,8 +4,7 @@ ghost use Rattle.std.specs.Prelude.{◌≡◌, ◌<◌, ◌↔◌, ◌⊎◌, �
 ghost use Rattle.llb_model.specs.Outcome.{outcome};
 ghost use Rattle.llb_model.specs.Run.{chosen, is_complete, claims_of, AreAscending, StandsPlainly};
 ghost use Rattle.llb_model.specs.Laws.{HasNoCaches};
-ghost use Rattle.llb_work.specs.Alone.{EndsInClaimOrder, TakesMemory};
-ghost use Rattle.llb_work.specs.Records.{GoesAsChosen, MadeBy};
+ghost use Rattle.llb_work.specs.Alone.{Goes, MadeBy, EndsInClaimOrder, TakesMemory};
 
 use crate::driver::go_to_end;
 use crate::end::{RunEnd, RunFault};
@@ -19,7 +18,7 @@ use llb_board::laws::{
 /// was just opened ends, when it is complete, as if each claimed vertex had been run whole at its claim, one after the other, shared caches
 /// included. If the graph has no caches, every vertex of a complete board has its plain outcome.
 pub fn run_alone(board: Board) -> RunEnd
-    ensures goes { GoesAsChosen board result.board }
+    ensures goes { Goes board result.board }
     ensures fault { result.fault ≡ None ⊎ (result.fault ≡ Some RunFault.Memory) }
     ensures ends { (result.fault ≡ None) ↔ (is_complete result.board.build result.board.state ≡ true) }
     ensures stops { IfSome result.fault (λ _. TakesMemory (chosen result.board.build result.board.state)) }

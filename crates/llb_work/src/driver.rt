@@ -3,9 +3,8 @@
 ghost use Rattle.std.specs.Prelude.{◌≡◌, None, [], OnErr};
 ghost use Rattle.std.specs.Bool.{OnTrue, OnFalse};
 ghost use Rattle.llb_model.specs.Run.{chosen, claims_of, AreAscending};
-ghost use Rattle.llb_work.specs.Alone.{IsLeft, TakesMemory};
-ghost use Rattle.llb_work.specs.Crew.{AreIdle};
-ghost use Rattle.llb_work.specs.Records.{Takes, GoesOn, GoesAsChosen, CancelsNothing};
+ghost use Rattle.llb_work.specs.Alone.{Takes, Goes, IsLeft, TakesMemory};
+ghost use Rattle.llb_work.specs.Crew.{GoesOn, CancelsNothing, AreIdle};
 
 use llb_board::laws::{chosen_is_granted, is_consistent};
 use llb_board::{Board, Event};
@@ -26,7 +25,7 @@ fn do_event(board: &mut Board, event: Event) -> bool
 
 /// Does the chosen events until none is left or one is refused. Returns whether none is left; otherwise memory was refused.
 pub(crate) fn go_to_end(board: &mut Board) -> bool
-    ensures goes { GoesAsChosen board.old board.new }
+    ensures goes { Goes board.old board.new }
     ensures ends { OnTrue result (chosen board.new.build board.new.state ≡ None) }
     ensures stops { OnFalse result (TakesMemory (chosen board.new.build board.new.state)) }
     ensures claims { board.old.events ≡ [] → AreAscending (claims_of board.new.events) }

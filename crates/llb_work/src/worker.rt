@@ -64,7 +64,7 @@ impl<'x, S: Gated, G: Gate, R: Wait> Crew<'x, S, G, R> {
         match turn {
             Turn::End => None,
             Turn::Again => Some(Brought::Nothing),
-            Turn::Next => self.taken(w, kit).map(Brought::Number),
+            Turn::Next => Some(Brought::Number(self.taken(w, kit)?)),
             Turn::Pass(v) => Some(self.passed(w, v)),
             Turn::Work(job) => Some(self.worked(w, job)),
         }

@@ -1,9 +1,9 @@
-use Rattle.std.proofs.Common.{◌≡◌, length, drop, None, true, arith, ap, ◌∙◌}
+use Rattle.std.proofs.Common.{◌≡◌, ◌+◌, length, drop, None, true, arith, ap, ◌∙◌}
 use Rattle.std.specs.Prelude.{slice_index, replicate}
 use Rattle.llb_model.specs.Run.{events_by, chosen, is_complete}
 use Rattle.llb_model.proofs.Complete.{complete_rests}
 use Rattle.llb_work.proofs.Afters.{no_shorter}
-use Rattle.llb_work.proofs.Driving.{when_true}
+use Rattle.llb_work.proofs.Driving.{all_granted, when_true}
 use Rattle.llb_work.proofs.Ending.{ends_in_order}
 use Rattle.llb_work.proofs.Gathers.{zeros, sum_zeros}
 use Rattle.llb_work.proofs.alone.run_alone.Goals.{then-whole, else-whole}
@@ -12,7 +12,8 @@ use Rattle.llb_work.proofs.alone.run_alone.Goals as goal
 pub count_record-requires-clause-within : goal.count_record-requires-clause-within
 count_record-requires-clause-within c =
     let same = c.len-before.ensures ∙ ap length c.events.ensures.all in
-    omega (arith, same, no_shorter c.args.board c.go_to_end-whole.new.board c.go_to_end-whole.ensures.goes.goes)
+    let b = c.go_to_end-whole.new.board in
+    omega (arith, same, no_shorter c.args.board b (all_granted c.args.board b c.go_to_end-whole.ensures.goes))
 
 pub returns-clause-made : goal.returns-clause-made
 returns-clause-made c =

@@ -2,12 +2,13 @@
 use Rattle.std.proofs.Common.{◌≡◌, []}
 use Rattle.llb_model.specs.Room.{still_to_come}
 use Rattle.llb_model.proofs.Alone.{Ascends}
-use Rattle.llb_work.specs.Records.{GoesAsChosen, CancelsNothing}
+use Rattle.llb_work.specs.Crew.{CancelsNothing}
+use Rattle.llb_work.specs.Alone.{Goes}
 use Rattle.llb_work.proofs.driver.go_to_end.Given as goal
 
 abbrev pub invariant-loop-event : goal.invariant-loop-event
 invariant-loop-event l = record {
-  goes : GoesAsChosen l.initial.board l.board;
+  goes : Goes l.initial.board l.board;
   claims : l.initial.board.events ≡ [] → Ascends l.board.build l.board.state l.board.events;
   uncancelled : CancelsNothing l.initial.board l.board;
 }
