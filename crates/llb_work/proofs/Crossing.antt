@@ -19,7 +19,6 @@ use Rattle.std.specs.contracts.sync.Mutex as mutex
 use Rattle.llb_board.proofs.Crossing.{board_crosses}
 use Rattle.llb_ready.proofs.queue.ReadyPass.TheSendSync as pass_crosses
 use Rattle.llb_ready.proofs.queue.ReadyQueue.TheSendSync as queue_crosses
-use Rattle.llb_ready.specs.contracts.queue.ReadyPass as pass
 use Rattle.llb_ready.specs.contracts.queue.ReadyQueue as queue
 use Rattle.llb_board.specs.contracts.board.Board as board
 use Rattle.llb_work.specs.declared.noted.Gated as gated

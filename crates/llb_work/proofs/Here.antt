@@ -1,7 +1,7 @@
 -- Workers and vertices of a board, and of the boards that go on from it.
 use Rattle.std.proofs.Common.{◌≡◌, ℕ, ◌<◌, ◌&&◌, Bool, true, false, List, length, Some, sym, ap, subst, ◌∙◌}
 use Rattle.std.proofs.lemmas.Bool.{lt-ltb, ltb-true}
-use Rattle.std.specs.Prelude.{nat_lt, IsTrue, IfOk, Result, Ok, Err}
+use Rattle.std.specs.Prelude.{nat_lt, IfOk, Result, Ok, Err}
 use Rattle.llb_model.specs.Program.{Build}
 use Rattle.llb_model.specs.Outcome.{is_plain}
 use Rattle.llb_model.specs.State.{State}

@@ -1,6 +1,6 @@
 //! What one driver does to a board, on the caller's own thread: the chosen events one after another, or a cancel of whatever runs.
 
-ghost use Rattle.std.specs.Prelude.{◌≡◌, None, [], OnErr};
+ghost use Rattle.std.specs.Prelude.{◌≡◌, None, []};
 ghost use Rattle.std.specs.Bool.{OnTrue, OnFalse};
 ghost use Rattle.llb_model.specs.Run.{chosen, claims_of, AreAscending};
 ghost use Rattle.llb_work.specs.Alone.{Takes, Goes, IsLeft, TakesMemory};

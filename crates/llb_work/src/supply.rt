@@ -1,7 +1,7 @@
 //! What the workers are supplied with before any thread starts: the queue with every ready vertex in it, a list for each worker, room for
 //! their threads and for the numbers that wait for a key, and which vertices have no cache mount at or before them.
 
-ghost use Rattle.std.specs.Prelude.{◌≡◌, ◌≤◌, ℕ, vec_len, vec_capacity, IfOk, IfSome};
+ghost use Rattle.std.specs.Prelude.{◌≡◌, ◌≤◌, vec_len, IfOk, IfSome};
 ghost use Rattle.llb_work.specs.Passes.{IsUncut};
 ghost use Rattle.llb_work.specs.Supplies.{IsSupplyFor};
 

@@ -1,11 +1,10 @@
-use Rattle.std.proofs.Common.{◌≡◌, ◌+◌, length, drop, None, true, arith, ap, ◌∙◌}
-use Rattle.std.specs.Prelude.{slice_index, replicate}
+use Rattle.std.proofs.Common.{◌≡◌, length, drop, None, true, arith, ap, ◌∙◌}
 use Rattle.llb_model.specs.Run.{events_by, chosen, is_complete}
 use Rattle.llb_model.proofs.Complete.{complete_rests}
 use Rattle.llb_work.proofs.Afters.{no_shorter}
 use Rattle.llb_work.proofs.Driving.{all_granted, when_true}
 use Rattle.llb_work.proofs.Ending.{ends_in_order}
-use Rattle.llb_work.proofs.Gathers.{zeros, sum_zeros}
+use Rattle.llb_work.proofs.Gathers.{zeros}
 use Rattle.llb_work.proofs.alone.run_alone.Goals.{then-whole, else-whole}
 use Rattle.llb_work.proofs.alone.run_alone.Goals as goal
 
@@ -19,8 +18,9 @@ pub returns-clause-made : goal.returns-clause-made
 returns-clause-made c =
     let b = c.go_to_end-whole.new.board in
     let same : c.len-before.result ≡ length c.args.board.events = c.len-before.ensures ∙ ap length c.events.ensures.all in
-    λ w lt. c.count_record.ensures.each w lt ∙ ap (λ n. n + events_by w (drop c.len-before.result b.events)) (zeros 64 w)
-    ∙ ap (λ n. events_by w (drop n b.events)) same
+    λ w lt.
+    let added = ap (λ n. events_by w (drop n b.events)) same in
+    omega (arith, c.count_record.ensures.each w lt, zeros 64 w, added)
 
 pub returns-clause-order : goal.returns-clause-order
 returns-clause-order c =

@@ -9,7 +9,7 @@ invariant_of-self g c =
     let old = c.args.self.now in
     let b = old.board in
     let n = c.land_known.new.self in
-    let works = landed_works b n c.args.w c.args.outcome (HasSettled c.land_known.result) c.land_known.ensures in
+    let works = landed_works b n c.args.w c.args.outcome (HasSettled c.land_known.result) c.land_known.ensures.gives in
     record {
       kept = old.kept;
       after = after_more g.S.Gated.start b n old.after works.goes;
