@@ -10,8 +10,8 @@ use Rattle.llb_model.specs.Run.{run}
 use Rattle.llb_model.proofs.Lists.{inside}
 use Rattle.llb_model.proofs.Runs.{run_one, run_on}
 use Rattle.llb_board.specs.Seen.{BoardValue}
-use Rattle.llb_work.specs.Alone.{Takes}
 use Rattle.llb_work.specs.Crew.{GoesOn, IsAfter, state_in}
+use Rattle.llb_work.specs.Alone.{Takes}
 
 -- ---- lists
 

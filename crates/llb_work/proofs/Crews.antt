@@ -3,7 +3,7 @@ use Rattle.std.proofs.Common.{◌≡◌, ℕ, ◌+◌, ◌≤◌, Bool, false, L
 use Rattle.std.proofs.lemmas.Bool.{true≢false}
 use Rattle.std.specs.Prelude.{sum, replicate, IsTrue, ◌↔◌}
 use Rattle.llb_board.specs.Seen.{BoardValue}
-use Rattle.llb_work.specs.Crew.{GoesOn, IsAfter, Counts}
+use Rattle.llb_work.specs.Crew.{GoesOn, Counts, IsAfter}
 use Rattle.llb_work.specs.RunEnds.{Leads}
 use Rattle.llb_work.proofs.Afters.{goes_from, goes_further, goes_nowhere}
 use Rattle.llb_work.proofs.Gathers.{sum_zeros}

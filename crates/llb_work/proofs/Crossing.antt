@@ -19,15 +19,14 @@ use Rattle.std.specs.contracts.sync.Mutex as mutex
 use Rattle.llb_board.proofs.Crossing.{board_crosses}
 use Rattle.llb_ready.proofs.queue.ReadyPass.TheSendSync as pass_crosses
 use Rattle.llb_ready.proofs.queue.ReadyQueue.TheSendSync as queue_crosses
-use Rattle.llb_ready.specs.contracts.queue.ReadyPass as pass
 use Rattle.llb_ready.specs.contracts.queue.ReadyQueue as queue
 use Rattle.llb_board.specs.contracts.board.Board as board
 use Rattle.llb_work.specs.declared.noted.Gated as gated
-use Rattle.llb_work.specs.contracts.noted.Tally as tally
+use Rattle.llb_work.specs.contracts.tally.Tally as tally
 use Rattle.llb_work.specs.contracts.shared_board.SharedBoard as shared
-use Rattle.llb_work.specs.contracts.held.Held as held
+use Rattle.llb_work.specs.contracts.key_waiters.KeyWaiters as waiters
 use Rattle.llb_work.specs.contracts.idle.Idle as idle
-use Rattle.llb_work.proofs.held.Held.TheSendSync as held_crosses
+use Rattle.llb_work.proofs.key_waiters.KeyWaiters.TheSendSync as waiters_cross
 use Rattle.llb_work.proofs.idle.Idle.TheSendSync as idle_crosses
 use Rattle.llb_work.specs.contracts.crew.Crew as crew
 use Rattle.llb_work.specs.contracts.worker.WorkerKit as kit
@@ -44,8 +43,8 @@ number = search sendable
 pub idle_shared : IsSync idle.the_row
 idle_shared = idle_crosses.the_sync
 
-held_send : IsSend held.the_row
-held_send = held_crosses.the_send
+waiters_send : IsSend waiters.the_row
+waiters_send = waiters_cross.the_send
 
 board_send : IsSend (as_row board.the_field)
 board_send = as_row_send board.the_field board_crosses
@@ -70,10 +69,10 @@ module _ (T : RattleType) (g : gated.Ghosts T.Denot) (g' : ledger.Ghosts T.Denot
       (
         search (crosses, sendable) depth 20,
         (
-          held_send,
+          waiters_send,
           (
             as_row_send (book.the_field T g') (book_crosses.the_send T g'),
-            (search (crosses, sendable) depth 20, tt),
+            (search sendable, (search (crosses, sendable) depth 20, tt)),
           ),
         ),
       ),

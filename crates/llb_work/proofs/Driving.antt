@@ -1,14 +1,9 @@
 -- What a driver's events do to a board.
-use Rattle.std.proofs.Common.{◌≡◌, ◌≢◌, ℕ, zero, suc, ◌+◌, ◌<◌, ◌≤◌, ◌==◌, Bool, true, false, cond, List, [], ◌∷◌, ◌++◌, length, map, take}
-use Rattle.std.proofs.Common.{get_or, get_or-set_same, get_or-set_other, Some, None, is_some, Result, Ok, Err, inl, inr, refl, sym, ap}
-use Rattle.std.proofs.Common.{subst, ◌∙◌, append_assoc, arith}
-use Rattle.std.proofs.Math.ListN.{set}
-use Rattle.std.proofs.lemmas.Bool.{cases_eq, eq-eqb, ne_eqb}
-use Rattle.std.proofs.lemmas.List.{append-nil, length-append, length-set}
-use Rattle.std.proofs.lemmas.List.Sums.{count_by_more_yes, count_by_more_no, sum_by-cons}
-use Rattle.std.specs.Prelude.{slice_index, replicate, is_ok}
+use Rattle.std.proofs.Common.{◌≡◌, ℕ, ◌+◌, ◌<◌, Bool, true, false, List, [], ◌∷◌, ◌++◌, Some, None, is_some, Result, Ok, Err, refl, sym, ap, subst}
+use Rattle.std.proofs.Common.{◌∙◌, append_assoc, arith}
+use Rattle.std.proofs.lemmas.List.{append-nil}
+use Rattle.std.specs.Prelude.{is_ok}
 use Rattle.std.specs.Bool.{OnTrue, OnFalse}
-use Rattle.std.specs.List.{count_by}
 use Rattle.std.specs.Result.{result_ok}
 use Rattle.llb_loader.specs.Graph.{IsGraph}
 use Rattle.llb_model.specs.Table.{HasStepped, HasSettled, HasCancelled}
@@ -17,8 +12,8 @@ use Rattle.llb_model.specs.Program.{Build}
 use Rattle.llb_model.specs.State.{State}
 use Rattle.llb_events.specs.declared.event.Event.{Event}
 use Rattle.llb_events.specs.declared.event.Event.TheVariants.{Claim, Step, Settle, Cancel}
-use Rattle.llb_model.specs.Table.{Reply, worker_of, claim_grant, step_grant, settle_grant, cancel_grant, table}
-use Rattle.llb_model.specs.Run.{run, events_by, chosen}
+use Rattle.llb_model.specs.Table.{Reply, claim_grant, step_grant, settle_grant, cancel_grant, table}
+use Rattle.llb_model.specs.Run.{run, chosen}
 use Rattle.llb_model.specs.Laws.{AreChosen}
 use Rattle.llb_model.proofs.Lists.{inside as some_inside}
 use Rattle.llb_model.proofs.Runs.{run_none, run_first, run_more}
@@ -29,7 +24,6 @@ use Rattle.llb_board.specs.Laws.{ChosenIsGranted}
 use Rattle.llb_board.specs.Rules.{claim_of, step_of, settle_of, cancel_of}
 use Rattle.llb_events.specs.Faults.{GivesStep, GivesSettle, GivesCancel}
 use Rattle.llb_events.specs.Faults.{GivesClaim}
-use Rattle.llb_events.specs.declared.event.Event as event
 use Rattle.llb_events.specs.declared.event.Stepped.{Stepped}
 use Rattle.llb_events.specs.declared.event.Settled.{Settled}
 use Rattle.llb_events.specs.declared.refusal.ClaimFault.{ClaimFault}
@@ -37,7 +31,8 @@ use Rattle.llb_events.specs.declared.refusal.StepFault.{StepFault}
 use Rattle.llb_events.specs.declared.refusal.SettleFault.{SettleFault}
 use Rattle.llb_events.specs.declared.event.Cancelled.{Cancelled}
 use Rattle.llb_events.specs.declared.refusal.CancelFault.{CancelFault}
-use Rattle.llb_work.specs.Alone.{Takes, IsLeft, Goes, TakesMemory}
+use Rattle.llb_work.specs.Crew.{GoesOn}
+use Rattle.llb_work.specs.Alone.{Takes, Goes, IsLeft, TakesMemory}
 
 abbrev ok_of : {A F : Type 0} → A → Result A F
 ok_of x = Ok x
@@ -54,9 +49,22 @@ takes_of {F} b e (Ok (s, q)) n r is given =
     subst (Takes b e) same (record { build = refl; opening = refl; first = refl; reply = q; given = is; events = refl })
 
 -- a driver that has done nothing has gone on by no event
-pub goes_nil : (b : BoardValue) → Goes b b
+pub chosen_nowhere : (b : BoardValue) → Goes b b
 unfolding run
-goes_nil b = record { build = refl; opening = refl; first = refl; more = []; replies = []; leads = refl; chosen = tt; events = sym (append-nil b.events) }
+chosen_nowhere b =
+    record { build = refl; opening = refl; first = refl; more = []; replies = []; leads = refl; chosen = tt; events = sym (append-nil b.events) }
+
+-- the chosen events of a driver are events that are granted
+pub all_granted : (a b : BoardValue) → Goes a b → GoesOn a b
+all_granted a b goes = record {
+  build = goes.build;
+  opening = goes.opening;
+  first = goes.first;
+  more = goes.more;
+  replies = goes.replies;
+  leads = goes.leads;
+  events = goes.events;
+}
 
 -- after chosen events, one more chosen event leaves all of them chosen
 chosen_more : (b : Build) (s t : State) (es : List Event) (rs : List Reply) (e : Event) → run b s es ≡ Some (t, rs) → AreChosen b s es
@@ -71,8 +79,8 @@ chosen_more b s t (x ∷ es) rs e leads all next =
     )
 
 -- a driver that has gone on goes further by a chosen event that is granted
-pub goes_on : (a b c : BoardValue) (e : Event) → Goes a b → chosen b.build b.state ≡ Some e → Takes b e c → Goes a c
-goes_on a b c e goes next takes = record {
+pub chosen_further : (a b c : BoardValue) (e : Event) → Goes a b → chosen b.build b.state ≡ Some e → Takes b e c → Goes a c
+chosen_further a b c e goes next takes = record {
   build = takes.build ∙ goes.build;
   opening = takes.opening ∙ goes.opening;
   first = takes.first ∙ goes.first;
@@ -100,10 +108,6 @@ nearer b c e takes is =
     let near = chosen_comes_nearer b.build b.state e (c.state, takes.reply) is takes.given in
     let same = ap (λ x. still_to_come x c.state) takes.build in
     omega (arith, near, same)
-
--- an event makes the record longer by one
-pub longer : (b c : BoardValue) (e : Event) → Takes b e c → length c.events ≡ length b.events + 1
-longer b c e takes = ap length takes.events ∙ length-append b.events (e ∷ [])
 
 -- ---- the four calls
 
@@ -182,56 +186,3 @@ on_false false P f = f refl
 pub when_true : (b : Bool) (P : Type 0) → OnTrue b P → b ≡ true → P
 when_true true P h is = h
 when_true false P h is = absurd cc
-
--- a record that goes on is no shorter
-pub goes_longer : (a b : BoardValue) → Goes a b → length a.events ≤ length b.events
-goes_longer a b goes = omega (arith, ap length goes.events, length-append a.events goes.more)
-
--- at first every worker's count is 0, and past the last worker 0 is read too
-pub zeros : (k w : ℕ) → slice_index (replicate k 0) w ≡ 0
-zeros zero w = refl
-zeros (suc k) zero = refl
-zeros (suc k) (suc w) = zeros k w
-
--- ---- each worker's events
-
-abbrev pub of_worker : ℕ → event.Event → Bool
-of_worker w e = worker_of e == w
-
--- a worker has as many events among the seen ones as among the events themselves
-pub count_seen : (w : ℕ) (es : List event.Event) → events_by w es ≡ count_by (of_worker w) es
-count_seen w [] = refl
-count_seen w (e ∷ es) =
-    sum_by-cons (λ x. cond (worker_of x == w) 1 0) e es
-    ∙ ap (λ n. cond (of_worker w e) 1 0 + n) (count_seen w es) ∙ sym (sum_by-cons (λ x. cond (of_worker w x) 1 0) e es)
-
--- the counts of the first i events
-abbrev pub Counts : List ℕ → List event.Event → ℕ → Type 0
-Counts made es i = (length made ≡ 64) × ((w : ℕ) → w < 64 → slice_index made w ≡ count_by (of_worker w) (take i es))
-
--- one more event adds one to the count of its worker, and nothing to the other counts
-module _ (made : List ℕ) (es : List event.Event) (i u : ℕ) (d : event.Event) (fits : i < length es)
-    (is : u ≡ worker_of (get_or es i d)) (so_far : Counts made es i) where
-  other : (w : ℕ) → w ≢ u → count_by (of_worker w) (take (i + 1) es) ≡ count_by (of_worker w) (take i es)
-  other w apart = count_by_more_no (of_worker w) es i d fits (ne_eqb _ _ (λ e. apart (sym e ∙ sym is)))
-
-  -- an event of a worker past the 64 leaves all counts right
-  pub not_counted : 64 ≤ u → Counts made es (i + 1)
-  not_counted past = (so_far.0, λ w lt. so_far.1 w lt ∙ sym (other w (λ e. omega (arith, e, past, lt))))
-
-  -- an event of a worker below 64 is counted by adding one to that worker's count
-  pub counted : u < 64 → Counts (set made u (slice_index made u + 1)) es (i + 1)
-  counted low = (length-set made u (slice_index made u + 1) ∙ so_far.0, each)
-    where
-      each : (w : ℕ) → w < 64 → slice_index (set made u (slice_index made u + 1)) w ≡ count_by (of_worker w) (take (i + 1) es)
-      each w lt = elim (cases_eq w u) [
-        | inl same ↦
-            let here : slice_index (set made u (slice_index made u + 1)) u ≡ slice_index made u + 1 =
-            get_or-set_same made u (slice_index made u + 1) 0 (omega (arith, so_far.0, low)) in
-            ap (slice_index (set made u (slice_index made u + 1))) same ∙ here ∙ ap (λ n. n + 1) (so_far.1 u low)
-            ∙ sym (count_by_more_yes (of_worker u) es i d fits (eq-eqb _ _ (sym is)))
-            ∙ ap (λ v. count_by (of_worker v) (take (i + 1) es)) (sym same)
-        | inr apart ↦
-            let there : slice_index (set made u (slice_index made u + 1)) w ≡ slice_index made w = get_or-set_other made u w (slice_index made u + 1) 0 apart in
-            there ∙ so_far.1 w lt ∙ sym (other w apart)
-      ]

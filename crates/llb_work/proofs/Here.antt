@@ -1,7 +1,7 @@
 -- Workers and vertices of a board, and of the boards that go on from it.
 use Rattle.std.proofs.Common.{◌≡◌, ℕ, ◌<◌, ◌&&◌, Bool, true, false, List, length, Some, sym, ap, subst, ◌∙◌}
 use Rattle.std.proofs.lemmas.Bool.{lt-ltb, ltb-true}
-use Rattle.std.specs.Prelude.{nat_lt, IsTrue, IfOk, Result, Ok, Err}
+use Rattle.std.specs.Prelude.{nat_lt, IfOk, Result, Ok, Err}
 use Rattle.llb_model.specs.Program.{Build}
 use Rattle.llb_model.specs.Outcome.{is_plain}
 use Rattle.llb_model.specs.State.{State}
@@ -40,7 +40,7 @@ is_of_both b w v worker vertex =
     (lt-ltb v (length b.build.graph.vertices) vertex)
 
 -- a run does not change the number of workers
-workers_same : (b : Build) (s t : State) (es : List Event) (rs : List Reply) → run b s es ≡ Some (t, rs) → length t.workers ≡ length s.workers
+pub workers_same : (b : Build) (s t : State) (es : List Event) (rs : List Reply) → run b s es ≡ Some (t, rs) → length t.workers ≡ length s.workers
 workers_same b s t es rs leads =
     run_keeps b (λ (x : State). length x.workers ≡ length s.workers) (λ x e a same given. workers_stay b x e a given ∙ same) s t es rs
     (λ i. length s.workers) leads

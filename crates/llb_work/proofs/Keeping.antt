@@ -1,5 +1,5 @@
 -- Lists of threads: what is known of each thread is known of the first and of the rest, and of one more at the end.
-use Rattle.std.proofs.Common.{◌≡◌, ℕ, zero, suc, ◌+◌, ◌<◌, ◌≤◌, List, [], ◌∷◌, ◌++◌, length, get_or, refl, sym, ap, ◌∙◌, subst, arith}
+use Rattle.std.proofs.Common.{◌≡◌, ℕ, zero, suc, ◌+◌, List, [], ◌∷◌, ◌++◌, length, get_or, sym, subst, arith}
 use Rattle.llb_ready.specs.declared.queue.ReadyQueue.{ReadyQueue}
 use Rattle.llb_work.specs.declared.worker_thread.WorkerThread.{WorkerThread}
 use Rattle.llb_work.specs.Threads.{ThreadKeeps, AllKeep}

@@ -1,5 +1,6 @@
 pub mod Crossing
 pub mod Driving
+pub mod Counting
 pub mod Ending
 pub mod Afters
 pub mod Here
@@ -7,7 +8,6 @@ pub mod Workers
 pub mod Gathers
 pub mod Fractions
 pub mod Keeping
-pub mod Ends
 pub mod Crews
 pub mod Known
 pub mod Resting

@@ -1,20 +1,25 @@
 -- Workers that run nothing: after a cancel of each, and on a complete board.
 use Rattle.std.proofs.Common.{◌≡◌, ℕ, zero, suc, ◌<◌, ◌≤◌, ◌+◌, true, List, [], ◌∷◌, length, Option, Some, None, inl, inr, refl, sym, ap, subst, ◌∙◌, arith}
 use Rattle.std.proofs.lemmas.Bool.{cases_lt}
-use Rattle.std.specs.Prelude.{slice_get, slice_set}
+use Rattle.std.specs.Prelude.{slice_get, slice_set, Result, Ok, Err, OnErr}
 use Rattle.std.specs.Result.{result_ok}
 use Rattle.llb_loader.specs.Graph.{IsGraph}
 use Rattle.llb_model.specs.Program.{Build}
 use Rattle.llb_model.specs.Consistent.{IsConsistent}
 use Rattle.llb_model.specs.State.{State, WorkerStatus, Idle, Runs, Execution, runs}
 use Rattle.llb_events.specs.declared.event.Event.TheVariants.{Cancel}
-use Rattle.llb_model.specs.Table.{Reply, cancelled, table}
+use Rattle.llb_events.specs.declared.event.Cancelled.{Cancelled}
+use Rattle.llb_events.specs.declared.refusal.CancelFault.{CancelFault}
+use Rattle.llb_events.specs.Faults.{GivesCancel}
+use Rattle.llb_model.specs.Table.{Reply, HasCancelled, cancelled, table}
 use Rattle.llb_model.specs.Run.{is_complete}
 use Rattle.llb_model.proofs.Complete.{complete_rests}
 use Rattle.llb_model.proofs.Lists.{inside, get_past, length_set}
 use Rattle.llb_board.specs.Seen.{BoardValue}
+use Rattle.llb_board.specs.Rules.{cancel_of}
 use Rattle.llb_work.specs.Alone.{Takes, IsLeft}
 use Rattle.llb_work.specs.Crew.{AreIdle}
+use Rattle.llb_work.proofs.Driving.{cancel_takes, cancel_left}
 
 -- ---- a worker that is made idle
 
@@ -44,17 +49,14 @@ made_idle : (b n : BoardValue) (w : ℕ) → Takes b (Cancel w) n → n.state.wo
 unfolding table
 made_idle b n w takes = workers_after b.state n.state w takes.reply (slice_get b.state.workers w) takes.given
 
--- after a cancel its worker runs nothing
-pub idle_after : (b n : BoardValue) (w : ℕ) → Takes b (Cancel w) n → runs (slice_get n.state.workers w) ≡ None
+idle_after : (b n : BoardValue) (w : ℕ) → Takes b (Cancel w) n → runs (slice_get n.state.workers w) ≡ None
 idle_after b n w takes = ap (λ (ws : List WorkerStatus). runs (slice_get ws w)) (made_idle b n w takes) ∙ idle_at b.state.workers w
 
--- a worker that runs nothing runs nothing after the cancel of another
-pub idle_still : (b n : BoardValue) (w : ℕ) → Takes b (Cancel w) n → (i : ℕ) → runs (slice_get b.state.workers i) ≡ None
+idle_still : (b n : BoardValue) (w : ℕ) → Takes b (Cancel w) n → (i : ℕ) → runs (slice_get b.state.workers i) ≡ None
     → runs (slice_get n.state.workers i) ≡ None
 idle_still b n w takes i is = ap (λ (ws : List WorkerStatus). runs (slice_get ws i)) (made_idle b n w takes) ∙ idle_beside b.state.workers w i is
 
--- a cancel leaves as many workers
-pub as_many : (b n : BoardValue) (w : ℕ) → Takes b (Cancel w) n → length n.state.workers ≡ length b.state.workers
+as_many : (b n : BoardValue) (w : ℕ) → Takes b (Cancel w) n → length n.state.workers ≡ length b.state.workers
 as_many b n w takes = ap length (made_idle b n w takes) ∙ length_set b.state.workers w Idle
 
 refused_idle : (s : State) (w : ℕ) (o : Option WorkerStatus) → result_ok (cancelled s w o) ≡ None → runs o ≡ None
@@ -62,10 +64,24 @@ refused_idle s w None left = refl
 refused_idle s w (Some Idle) left = refl
 refused_idle s w (Some (Runs x)) left = absurd cc
 
--- a worker whose cancel is not granted runs nothing
-pub idle_before : (b : BoardValue) (w : ℕ) → IsLeft b (Cancel w) → runs (slice_get b.state.workers w) ≡ None
+idle_before : (b : BoardValue) (w : ℕ) → IsLeft b (Cancel w) → runs (slice_get b.state.workers w) ≡ None
 unfolding table
 idle_before b w left = refused_idle b.state w (slice_get b.state.workers w) left
+
+-- what a cancel leaves: its worker runs nothing, nor does a worker that ran nothing before; and there are as many workers
+pub record IsMadeIdle (b n : BoardValue) (w : ℕ) : Type 0 where
+  pub own : runs (slice_get n.state.workers w) ≡ None
+  pub others : (i : ℕ) → runs (slice_get b.state.workers i) ≡ None → runs (slice_get n.state.workers i) ≡ None
+  pub count : length n.state.workers ≡ length b.state.workers
+
+-- after a cancel, whether it was granted or not
+pub cancel_rests : (b n : BoardValue) (w : ℕ) (r : Result Cancelled CancelFault) → GivesCancel (λ s. (n, HasCancelled s)) r (cancel_of b w) → OnErr r (n ≡ b)
+    → IsMadeIdle b n w
+cancel_rests b n w (Ok s) gives err =
+    let takes = cancel_takes b n w (Ok s) gives refl in
+    record { own = idle_after b n w takes; others = idle_still b n w takes; count = as_many b n w takes }
+cancel_rests b n w (Err e) gives err =
+    subst (λ x. IsMadeIdle b x w) (sym err) (record { own = idle_before b w (cancel_left b n w (Err e) gives refl); others = λ i is. is; count = refl })
 
 -- ---- all workers
 

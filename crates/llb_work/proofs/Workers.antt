@@ -1,43 +1,53 @@
 -- Each call of a worker is granted or changes nothing; either way the record goes on.
-use Rattle.std.proofs.Common.{◌≡◌, ℕ, [], ◌∷◌, ◌++◌, Result, Ok, Err, refl, ap}
+use Rattle.std.proofs.Common.{◌≡◌, ℕ, false, [], ◌∷◌, ◌++◌, Result, Ok, Err, refl, ap, ◌∙◌}
 use Rattle.std.specs.Prelude.{IfOk, OnErr, Some}
+use Rattle.std.specs.List.{count_by}
 use Rattle.std.specs.Result.{result_ok}
 use Rattle.std.proofs.lemmas.Option.{slice_get_within}
-use Rattle.llb_model.specs.Table.{HasStepped, HasSettled, HasCancelled}
 use Rattle.llb_model.specs.State.{State, Idle}
-use Rattle.llb_events.specs.declared.event.Event.{Event}
-use Rattle.llb_model.specs.Table.{Job, Claimed, claim_grant, table}
-use Rattle.llb_model.proofs.Events.{claim_is}
-use Rattle.llb_events.specs.declared.event.Event.TheVariants.{Claim, Step, Settle, Cancel}
-use Rattle.llb_model.specs.Table.{Reply}
+use Rattle.llb_model.specs.Table.{Job, Reply, Claimed, HasStepped, HasSettled, HasCancelled, claim_grant, table}
 use Rattle.llb_model.specs.Landing.{landing}
-use Rattle.llb_board.specs.Seen.{BoardValue, after_event, recorded}
-use Rattle.llb_execution.specs.Jobs.{OutcomeValue}
-use Rattle.llb_board.specs.Begun.{ClaimsArePlain}
-use Rattle.llb_board.specs.Landing.{Lands}
-use Rattle.llb_board.specs.Rules.{claim_of, step_of, settle_of, cancel_of}
-use Rattle.llb_events.specs.Faults.{GivesStep, GivesSettle, GivesCancel}
-use Rattle.llb_events.specs.Faults.{GivesClaim}
+use Rattle.llb_model.proofs.Events.{claim_is}
+use Rattle.llb_events.specs.declared.event.Event.{Event}
+use Rattle.llb_events.specs.declared.event.Event.TheVariants.{Claim, Step, Settle, Cancel}
 use Rattle.llb_events.specs.declared.event.Stepped.{Stepped}
 use Rattle.llb_events.specs.declared.event.Settled.{Settled}
+use Rattle.llb_events.specs.declared.event.Cancelled.{Cancelled}
 use Rattle.llb_events.specs.declared.refusal.ClaimFault.{ClaimFault}
 use Rattle.llb_events.specs.declared.refusal.StepFault.{StepFault}
 use Rattle.llb_events.specs.declared.refusal.SettleFault.{SettleFault}
-use Rattle.llb_events.specs.declared.event.Cancelled.{Cancelled}
 use Rattle.llb_events.specs.declared.refusal.CancelFault.{CancelFault}
+use Rattle.llb_events.specs.Faults.{GivesClaim, GivesStep, GivesSettle, GivesCancel}
+use Rattle.llb_execution.specs.Jobs.{OutcomeValue}
+use Rattle.llb_board.specs.Seen.{BoardValue, after_event, recorded}
+use Rattle.llb_board.specs.Begun.{ClaimsArePlain}
+use Rattle.llb_board.specs.Landing.{Lands}
+use Rattle.llb_board.specs.Rules.{claim_of, step_of, settle_of, cancel_of}
 use Rattle.llb_board.specs.declared.fault.LandFault.{LandFault}
-use Rattle.llb_work.specs.Crew.{GoesOn}
-use Rattle.llb_work.proofs.Driving.{claim_takes, step_takes, settle_takes, cancel_takes}
+use Rattle.llb_work.specs.Crew.{GoesOn, CancelsNothing, is_cancel}
+use Rattle.llb_work.specs.Alone.{Takes}
 use Rattle.llb_work.specs.Turns.{IsClaimed}
 use Rattle.llb_work.proofs.Afters.{stays, takes_one}
+use Rattle.llb_work.proofs.Cancels.{as_before, block, takes_no_cancel, leaves_cancels}
+use Rattle.llb_work.proofs.Driving.{claim_takes, step_takes, settle_takes, cancel_takes}
 use Rattle.llb_work.proofs.Here.{is_of_both}
 
--- a claim adds its event to the record or changes nothing, so the board goes on either way
-pub claim_goes : {J : Type 0} (reply : J → Reply) (b n : BoardValue) (w v : ℕ) (r : Result J ClaimFault) → GivesClaim (λ job. (n, reply job)) r (claim_of b w v)
-    → OnErr r (n ≡ b)
-    → GoesOn b n
-claim_goes reply b n w v (Ok job) gives err = takes_one b n (Claim w v) (claim_takes reply b n w v (Ok job) gives refl)
-claim_goes reply b n w v (Err e) gives err = stays b n err
+-- a board goes on from another, by events none of which is a cancel
+pub record Works (b n : BoardValue) : Type 0 where
+  pub goes : GoesOn b n
+  pub uncancelled : CancelsNothing b n
+
+works_by : (b n : BoardValue) (e : Event) → is_cancel e ≡ false → Takes b e n → Works b n
+works_by b n e is takes = record { goes = takes_one b n e takes; uncancelled = takes_no_cancel b n e is takes }
+
+rests : (b n : BoardValue) → n ≡ b → Works b n
+rests b n same = record { goes = stays b n same; uncancelled = leaves_cancels b n same }
+
+-- a claim adds its event to the record or changes nothing
+pub claim_works : (b n : BoardValue) (w v : ℕ) (r : Result Job ClaimFault) → GivesClaim (λ job. (n, Claimed job)) r (claim_of b w v) → OnErr r (n ≡ b)
+    → Works b n
+claim_works b n w v (Ok job) gives err = works_by b n (Claim w v) refl (claim_takes Claimed b n w v (Ok job) gives refl)
+claim_works b n w v (Err e) gives err = rests b n err
 
 -- if a recorded call returns a board and a reply, it was granted with the state of that board and that reply
 granted : {F : Type 0} (b n : BoardValue) (e : Event) (o : Result (State × Reply) F) (r : Reply) → recorded b e o ≡ Ok (n, r)
@@ -72,37 +82,40 @@ claim_here b n w v (Ok job) plain gives =
       plain = λ is. plain w v n.state job is given;
     }
 
--- a step adds its event to the record or changes nothing, so the board goes on either way
-pub step_goes : (b n : BoardValue) (w : ℕ) (r : Result Stepped StepFault) → GivesStep (λ s. (n, HasStepped s)) r (step_of b w) → OnErr r (n ≡ b) → GoesOn b n
-step_goes b n w (Ok s) gives err = takes_one b n (Step w) (step_takes b n w (Ok s) gives refl)
-step_goes b n w (Err e) gives err = stays b n err
+-- a step adds its event to the record or changes nothing
+pub step_works : (b n : BoardValue) (w : ℕ) (r : Result Stepped StepFault) → GivesStep (λ s. (n, HasStepped s)) r (step_of b w) → OnErr r (n ≡ b) → Works b n
+step_works b n w (Ok s) gives err = works_by b n (Step w) refl (step_takes b n w (Ok s) gives refl)
+step_works b n w (Err e) gives err = rests b n err
 
--- a settle adds its event to the record or changes nothing, so the board goes on either way
-pub settle_goes : (b n : BoardValue) (w : ℕ) (r : Result Settled SettleFault) → GivesSettle (λ s. (n, HasSettled s)) r (settle_of b w) → OnErr r (n ≡ b)
-    → GoesOn b n
-settle_goes b n w (Ok s) gives err = takes_one b n (Settle w) (settle_takes b n w (Ok s) gives refl)
-settle_goes b n w (Err e) gives err = stays b n err
+-- a settle adds its event to the record or changes nothing
+pub settle_works : (b n : BoardValue) (w : ℕ) (r : Result Settled SettleFault) → GivesSettle (λ s. (n, HasSettled s)) r (settle_of b w) → OnErr r (n ≡ b)
+    → Works b n
+settle_works b n w (Ok s) gives err = works_by b n (Settle w) refl (settle_takes b n w (Ok s) gives refl)
+settle_works b n w (Err e) gives err = rests b n err
 
--- a cancel adds its event to the record or changes nothing, so the board goes on either way
+-- a cancel adds its event to the record or changes nothing
 pub cancel_goes : (b n : BoardValue) (w : ℕ) (r : Result Cancelled CancelFault) → GivesCancel (λ s. (n, HasCancelled s)) r (cancel_of b w) → OnErr r (n ≡ b)
     → GoesOn b n
 cancel_goes b n w (Ok s) gives err = takes_one b n (Cancel w) (cancel_takes b n w (Ok s) gives refl)
 cancel_goes b n w (Err e) gives err = stays b n err
 
--- after a landing the board goes on
-land_leads : (b n : BoardValue) (w : ℕ) (o : OutcomeValue) (reply : Reply) → Lands b w o n reply → GoesOn b n
-land_leads b n w o reply lands = record {
-  build = ap (λ (x : BoardValue). x.build) lands.recorded;
-  opening = ap (λ (x : BoardValue). x.opening) lands.recorded;
-  first = ap (λ (x : BoardValue). x.first) lands.recorded;
-  more = landing w o.count;
-  replies = lands.replies ++ reply ∷ [];
-  leads = lands.runs;
-  events = ap (λ (x : BoardValue). x.events) lands.recorded;
+-- a landing adds its block of events to the record
+pub landed_works : (b n : BoardValue) (w : ℕ) (o : OutcomeValue) (reply : Reply) → Lands b w o n reply → Works b n
+landed_works b n w o reply lands = record {
+  goes = record {
+    build = ap (λ (x : BoardValue). x.build) lands.recorded;
+    opening = ap (λ (x : BoardValue). x.opening) lands.recorded;
+    first = ap (λ (x : BoardValue). x.first) lands.recorded;
+    more = landing w o.count;
+    replies = lands.replies ++ reply ∷ [];
+    leads = lands.runs;
+    events = ap (λ (x : BoardValue). x.events) lands.recorded;
+  };
+  uncancelled = ap (λ (x : BoardValue). count_by is_cancel x.events) lands.recorded ∙ as_before b.events (landing w o.count) (block w o.count);
 }
 
--- a landing adds its block of events to the record or changes nothing, so the board goes on either way
-pub land_goes : (b n : BoardValue) (w : ℕ) (o : OutcomeValue) (r : Result Settled LandFault) → IfOk r (λ s. Lands b w o n (HasSettled s)) → OnErr r (n ≡ b)
-    → GoesOn b n
-land_goes b n w o (Ok s) gives err = land_leads b n w o (HasSettled s) gives
-land_goes b n w o (Err e) gives err = stays b n err
+-- a landing adds its block of events to the record or changes nothing
+pub land_works : (b n : BoardValue) (w : ℕ) (o : OutcomeValue) (r : Result Settled LandFault) → IfOk r (λ s. Lands b w o n (HasSettled s)) → OnErr r (n ≡ b)
+    → Works b n
+land_works b n w o (Ok s) gives err = landed_works b n w o (HasSettled s) gives
+land_works b n w o (Err e) gives err = rests b n err

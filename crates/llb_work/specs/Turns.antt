@@ -1,14 +1,14 @@
 -- What a worker is to do next, and what it brings to the lock.
-use Rattle.std.specs.Prelude.{◌≡◌, ℕ, true, Some}
+use Rattle.std.specs.Prelude.{◌≡◌, ℕ, Bool, true, Some}
 use Rattle.llb_model.specs.Table.{Job}
 use Rattle.llb_model.specs.Outcome.{is_plain}
 use Rattle.llb_board.specs.Seen.{BoardValue}
 use Rattle.llb_board.specs.Begun.{plain_job}
-use Rattle.llb_work.specs.RunEnds.{is_of}
+use Rattle.llb_work.specs.RunEnds.{is_of, may_be}
 use Rattle.llb_work.specs.declared.shared_board.Turn.{Turn}
 use Rattle.llb_work.specs.declared.shared_board.Turn.TheVariants.{Work, Pass, Again, Next, End}
 use Rattle.llb_work.specs.declared.shared_board.Brought.{Brought}
-use Rattle.llb_work.specs.declared.shared_board.Brought.TheVariants.{Nothing, Number, Outcome}
+use Rattle.llb_work.specs.declared.shared_board.Brought.TheVariants.{Nothing, Number, Outcome, Fault}
 
 -- the job of a worker of the board on a vertex of the board; it is the plain job if no cache mount is at or before the vertex
 pub record IsClaimed (b : BoardValue) (w v : ℕ) (job : Job) : Type 0 where
@@ -25,8 +25,9 @@ IsHere b w Again = Unit {0}
 IsHere b w Next = Unit {0}
 IsHere b w End = Unit {0}
 
--- an outcome that a worker brings is that of a job that it has claimed
-abbrev pub IsBrought : BoardValue → ℕ → Brought → Type 0
-IsBrought b w Nothing = Unit {0}
-IsBrought b w (Number v) = Unit {0}
-IsBrought b w (Outcome o) = IsClaimed b w o.job.vertex o.job
+-- an outcome that a worker brings is that of a job that it has claimed, and a stop that it brings is one where the gate may stop
+abbrev pub IsBrought : (ℕ → ℕ → Bool) → BoardValue → ℕ → Brought → Type 0
+IsBrought may_stop b w Nothing = Unit {0}
+IsBrought may_stop b w (Number v) = Unit {0}
+IsBrought may_stop b w (Outcome o) = IsClaimed b w o.job.vertex o.job
+IsBrought may_stop b w (Fault noted) = may_be may_stop b (Some noted) ≡ true

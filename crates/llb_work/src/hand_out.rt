@@ -1,13 +1,15 @@
 //! Hands out passes, shares of the ledger and lists to any number of workers, at most 64, and takes them back.
 
-ghost use Rattle.std.specs.Prelude.{◌≡◌, ◌≤◌, ◌^◌, ℕ, vec_len, true, IsTrue};
+ghost use Rattle.std.specs.Prelude.{◌≡◌, ◌≤◌, ◌^◌, vec_len};
 ghost use Rattle.llb_ready.specs.Passes.{hand_of, IsReadyPassOf};
 ghost use Rattle.llb_work.specs.HandOuts.{IsHandedOut, IsGivenBack};
 ghost use Rattle.llb_work.specs.Passes.{IsPassFor};
+ghost use Rattle.llb_work.specs.RunEnds.{AllowsStops};
 ghost use Rattle.llb_work.specs.Threads.{ThreadKeeps, AllKeep};
 
 use crate::crew::Crew;
-use crate::noted::{Gated, Noted, Tally, make_tally};
+use crate::noted::{Gated, Noted};
+use crate::tally::{Tally, make_tally};
 use crate::worker::WorkerKit;
 use crate::worker_thread::{Owed, WorkerThread};
 use llb_board::Gate;
@@ -38,7 +40,7 @@ pub(crate) struct GivenBack<S: Ledger> {
 impl<'x, S: Gated + Send + Sync, G: Gate + Sync, R: Threads + Wait + Sync> Crew<'x, S, G, R> {
     /// Starts a thread for each worker, with a pass cut from the whole one, a share of the ledger and a list. Joins all threads.
     pub(crate) fn all_serve<E>(self, scope: &Scope<'x, E>, out: HandOut<S>) -> GivenBack<S>
-        requires stop { (w v : ℕ) → IsTrue (G.may_stop w v) → S.may_stop w v ≡ true }
+        requires stop { AllowsStops G.may_stop S.may_stop }
         requires out { IsHandedOut self.queue.now out }
         ensures back { IsGivenBack self.entry.queue.now out.workers result }
     {
@@ -66,7 +68,7 @@ impl<'x, S: Gated + Send + Sync, G: Gate + Sync, R: Threads + Wait + Sync> Crew<
 
     // Starts a thread for a worker. If that fails, notes it and does the worker's part on this thread.
     fn start<E>(self, scope: &Scope<'x, E>, w: u32, kit: WorkerKit<S>) -> WorkerThread<S>
-        requires stop { (w v : ℕ) → IsTrue (G.may_stop w v) → S.may_stop w v ≡ true }
+        requires stop { AllowsStops G.may_stop S.may_stop }
         requires pass { IsPassFor self.queue.now w kit.pass }
         ensures { ThreadKeeps self.entry.queue.now w result }
     {
@@ -75,7 +77,7 @@ impl<'x, S: Gated + Send + Sync, G: Gate + Sync, R: Threads + Wait + Sync> Crew<
             worker: w,
         };
         let part = move || -> WorkerKit<S>
-            requires stop { (w v : ℕ) → IsTrue (G.may_stop w v) → S.may_stop w v ≡ true }
+            requires stop { AllowsStops G.may_stop S.may_stop }
             requires pass { IsPassFor self.queue.now w kit.pass }
             ensures { IsPassFor self.entry.queue.now w result.pass }
         { self.serve(w, kit) };

@@ -17,18 +17,18 @@
 
 mod alone;
 mod crew;
+mod driver;
 mod end;
-mod granted;
 mod hand_out;
-mod held;
 mod idle;
+mod key_waiters;
 mod noted;
 mod owners;
 mod plain;
-mod rest;
 mod run;
 mod shared_board;
 mod supply;
+mod tally;
 mod worker;
 mod worker_thread;
 

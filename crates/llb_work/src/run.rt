@@ -1,16 +1,16 @@
 //! Runs a board in as many threads as it has workers.
 
-ghost use Rattle.std.specs.Prelude.{◌≡◌, ◌≤◌, ◌+◌, ◌⊎◌, ℕ, Bool, sum, length, true, false, Some, None};
+ghost use Rattle.std.specs.Prelude.{◌≡◌, ◌≤◌, ◌+◌, sum, length, true, false, Some, None};
 ghost use Rattle.llb_model.specs.Run.{is_complete};
-ghost use Rattle.llb_board.specs.Seen.{BoardValue};
-ghost use Rattle.llb_work.specs.Crew.{GoesOn, Counts, AreIdle, CancelsNothing};
-ghost use Rattle.llb_work.specs.RunEnds.{is_foreign, may_be, StopsSomewhere, Leads, EndsIdle, LeavesIdle};
+ghost use Rattle.llb_work.specs.Crew.{GoesOn, CancelsNothing, AreIdle};
+ghost use Rattle.llb_work.specs.RunEnds.{is_foreign, StopsSomewhere, StopsAsNoted, Leads, EndsIdle};
 
 use crate::crew::{CrewEnd, CrewStart, run_crew};
+use crate::driver::{cancel_all, go_to_end};
 use crate::end::{RunEnd, RunFault};
 use crate::noted::Noted;
-use crate::rest::{cancel_all, go_to_end};
-use llb_board::laws::is_consistent;
+use crate::tally::count_record;
+use llb_board::laws::{chosen_until_complete, is_consistent};
 use llb_board::{Board, Gate};
 use std::alloc::Global;
 use std::marker::Brand;
@@ -58,7 +58,10 @@ pub fn run_workers<G: Gate + Sync, R: Threads + Wait + Sync>(
         blank: Blank::new(u64::from(n)),
         workers: n,
     };
-    let left = run_crew::<Brand, G, R>(rt, alloc, begin, gate);
+    let left = match run_crew::<Brand, G, R>(rt, alloc, begin, gate) {
+        Ok(left) => left,
+        Err(board) => return refused(board),
+    };
     let CrewEnd {
         board,
         start,
@@ -73,7 +76,7 @@ pub fn run_workers<G: Gate + Sync, R: Threads + Wait + Sync>(
     ended(board, made, noted)
 }
 
-// How many workers there are.
+// Returns how many workers there are.
 fn workers(board: &Board) -> u32
     ensures few { result ≤ 64 }
     ensures all { result ≡ length board.now.state.workers }
@@ -100,58 +103,57 @@ fn refused(board: Board) -> RunEnd
     }
 }
 
-// Returns how a run ends whose threads have left a board and what is noted. If nothing is noted, does the rest of the run.
+// Returns how a run ends whose threads have left a board and what is noted.
 fn ended(board: Board, made: [u64; 64], noted: Option<Noted>) -> RunEnd
     requires { sum made ≤ length board.events }
     ensures goes { GoesOn board result.board }
     ensures made { sum result.made + length board.events ≡ sum made + length result.board.events }
     ensures own { is_foreign result.fault ≡ false }
     ensures complete { result.fault ≡ None → is_complete result.board.build result.board.state ≡ true }
-    ensures stopped { (may_stop : ℕ → ℕ → Bool) (given : BoardValue) → may_be may_stop given noted ≡ true → result.fault ≡ Some RunFault.Stopped
-        → StopsSomewhere may_stop given }
-    ensures idle { (given : BoardValue) → LeavesIdle given noted board → EndsIdle given result.fault result.board }
+    ensures stopped { StopsAsNoted noted result.fault }
+    ensures idle { AreIdle result.board.state }
     ensures uncancelled { result.fault ≡ None → (noted ≡ None) × CancelsNothing board result.board }
 {
-    let Some(noted) = noted else {
-        return rest(board, made);
-    };
-    let fault = Some(fault_of(noted));
+    let mut board = board;
+    let mut made = made;
+    let before = board.events().len();
+    let fault = finish(&mut board, noted);
+    count_record(&board, before, &mut made);
     RunEnd { board, made, fault }
+}
+
+// Finishes a run after its threads have ended, and returns its fault. If nothing is noted, does the chosen events until the board is complete;
+// if something is noted or memory is refused, cancels what workers still run.
+fn finish(board: &mut Board, noted: Option<Noted>) -> Option<RunFault>
+    ensures goes { GoesOn board.old board.new }
+    ensures own { is_foreign result ≡ false }
+    ensures complete { result ≡ None → is_complete board.new.build board.new.state ≡ true }
+    ensures stopped { StopsAsNoted noted result }
+    ensures idle { AreIdle board.new.state }
+    ensures uncancelled { result ≡ None → (noted ≡ None) × CancelsNothing board.old board.new }
+{
+    if let Some(noted) = noted {
+        cancel_all(board);
+        return Some(fault_of(noted));
+    }
+    if !go_to_end(board) {
+        cancel_all(board);
+        return Some(RunFault::Memory);
+    }
+    board.is_graph();
+    is_consistent(board);
+    chosen_until_complete(board);
+    None
 }
 
 // Returns what was noted, as a fault.
 fn fault_of(noted: Noted) -> RunFault
     ensures own { is_foreign (Some result) ≡ false }
-    ensures memory { noted ≡ Noted.Memory → result ≡ RunFault.Memory }
-    ensures stopped { (may_stop : ℕ → ℕ → Bool) (given : BoardValue) → may_be may_stop given (Some noted) ≡ true → result ≡ RunFault.Stopped
-        → StopsSomewhere may_stop given }
+    ensures stopped { StopsAsNoted (Some noted) (Some result) }
 {
     match noted {
         Noted::Memory => RunFault::Memory,
         Noted::Stopped(_, _) => RunFault::Stopped,
         Noted::Thread => RunFault::Thread,
     }
-}
-
-// Does the rest of a run in which nothing is noted, and returns how it ends. If memory is refused, cancels what a worker then runs.
-fn rest(board: Board, made: [u64; 64]) -> RunEnd
-    requires { sum made ≤ length board.events }
-    ensures goes { GoesOn board result.board }
-    ensures made { sum result.made + length board.events ≡ sum made + length result.board.events }
-    ensures complete { result.fault ≡ None → is_complete result.board.build result.board.state ≡ true }
-    ensures fault { result.fault ≡ None ⊎ (result.fault ≡ Some RunFault.Memory) }
-    ensures idle { AreIdle result.board.state }
-    ensures uncancelled { result.fault ≡ None → CancelsNothing board result.board }
-{
-    let mut board = board;
-    let mut made = made;
-    if !go_to_end(&mut board, &mut made) {
-        cancel_all(&mut board, &mut made);
-        let fault = Some(RunFault::Memory);
-        return RunEnd { board, made, fault };
-    }
-    board.is_graph();
-    is_consistent(&board);
-    let fault = None;
-    RunEnd { board, made, fault }
 }

@@ -1,24 +1,24 @@
-//! What is under the lock: the board, the board that the run began from, the book of the events that were made, and the fault that was
-//! noted first; which vertices have no cache mount at or before them; and the vertex numbers that wait for a key. An invariant of its type
-//! says that the record goes on from the given board by granted events, each of which is counted, and that none of them is a cancel unless
-//! something is noted.
+//! What is under the lock: the board, the board that the run began from, the book of the events that the workers have counted, and the fault
+//! that was noted first; which vertices have no cache mount at or before them; and the vertex numbers that wait for a key. An invariant of its
+//! type says that the record goes on from the given board by granted events, and that none of them is a cancel unless something is noted.
 
-ghost use Rattle.std.specs.Prelude.{◌≡◌, ◌+◌, ℕ, length, true, Some, None, IfOk, IsSome};
+ghost use Rattle.std.specs.Prelude.{◌≡◌, ◌≤◌, ◌+◌, ℕ, length, true, Some, None, IfOk, IsSome};
 ghost use Rattle.std.specs.Bool.{OnTrue};
 ghost use Rattle.std.specs.Coded.{codes};
 ghost use Rattle.llb_tree.specs.Coded.{coded_tree};
 ghost use Rattle.llb_board.specs.Begun.{IsKnown};
 ghost use Rattle.llb_board.specs.Store.{coded_store};
-ghost use Rattle.llb_work.specs.Crew.{IsAfter, CancelsNothing};
+ghost use Rattle.llb_work.specs.Crew.{CancelsNothing, IsAfter};
 ghost use Rattle.llb_work.specs.RunEnds.{may_be};
 ghost use Rattle.llb_work.specs.Supplies.{ArePlain};
 ghost use Rattle.llb_work.specs.Turns.{IsBrought, IsClaimed, IsHere};
 
-use crate::granted;
-use crate::held::Held;
-use crate::noted::{Gated, Noted, Tally, count};
+use crate::key_waiters::KeyWaiters;
+use crate::noted::{Gated, Noted};
 use crate::owners::Owners;
 use crate::plain::is_marked;
+use crate::tally::{Tally, count};
+use llb_board::laws::begun_are_plain;
 use llb_board::{
     Board, ClaimFault, Job, LandFault, Outcome, SettleFault, Settled, Status, StepFault, Stepped,
     WorkerStatus,
@@ -32,13 +32,16 @@ pub(crate) struct SharedBoard<S: Gated> {
     pub board: Board,
     pub start: Board,
     pub plain: Vec<bool>,
-    pub held: Held,
+    pub waiters: KeyWaiters,
     pub calls: Book<S>,
+    /// How many events the record had when a worker last counted what it had added.
+    pub counted: usize,
     pub noted: Option<Noted>,
     pub ghost kept: { start ≡ S.start } by { Prim.hlevel (codes, coded_tree, coded_store) },
     pub ghost after: { IsAfter S.start board } by { Prim.hlevel (codes, coded_tree, coded_store) },
     pub ghost marks: { ArePlain S.start.build plain.items },
-    pub ghost counted: { calls.total + length S.start.events ≡ length board.events },
+    pub ghost booked: { calls.total + length S.start.events ≡ counted },
+    pub ghost within: { counted ≤ length board.events },
     pub ghost stops: { may_be S.may_stop S.start noted ≡ true },
     pub ghost uncancelled: { noted ≡ None → CancelsNothing S.start board },
 }
@@ -51,6 +54,8 @@ pub(crate) enum Brought {
     Number(u32),
     /// The outcome of a job.
     Outcome(Outcome),
+    /// Why it has to give up what it runs.
+    Fault(Noted),
 }
 
 /// What a worker is to do next.
@@ -73,7 +78,7 @@ pub(crate) fn make_shared_board<S: Gated>(
     board: Board,
     start: Board,
     plain: Vec<bool>,
-    held: Held,
+    waiters: KeyWaiters,
     calls: Book<S>,
 ) -> SharedBoard<S>
     requires plain { ArePlain board.build plain.items }
@@ -81,12 +86,14 @@ pub(crate) fn make_shared_board<S: Gated>(
     requires start { board ≡ S.start }
     requires empty { calls.total ≡ 0 }
 {
+    let counted = board.events().len();
     SharedBoard {
         board,
         start,
         plain,
-        held,
+        waiters,
         calls,
+        counted,
         noted: None,
     }
 }
@@ -102,25 +109,24 @@ impl<S: Gated> SharedBoard<S> {
         }
     }
 
-    // Claims a vertex for a worker, and counts the event for the worker.
-    fn claim(&mut self, w: u32, v: u32, mine: &mut Tally<S>) -> Result<Job, ClaimFault>
+    // Claims a vertex for a worker. Fails with 131 to 135 or 141.
+    fn claim(&mut self, w: u32, v: u32) -> Result<Job, ClaimFault>
         ensures { IfOk result (IsClaimed S.start w v) }
     {
-        let before = self.board.events().len();
-        let claimed = granted::claim(&mut self.board, w, v);
-        count(&mut self.calls, mine, before, self.board.events().len());
-        claimed
+        begun_are_plain(&self.board);
+        self.board.claim(w, v)
     }
 
-    // Lands on the board what a worker has worked out, and counts the events for the worker.
-    fn land(&mut self, w: u32, outcome: Outcome, mine: &mut Tally<S>) -> Result<Settled, LandFault>
+    // Lands on the board what a worker has worked out. If the job is known to be what the worker runs, nothing is compared. Fails with 131,
+    // 136, 139 or 140.
+    fn land(&mut self, w: u32, outcome: Outcome) -> Result<Settled, LandFault>
         requires { IsClaimed S.start w outcome.job.vertex outcome.job }
     {
         let known = self.is_known(w, outcome.job());
-        let before = self.board.events().len();
-        let landed = granted::land(&mut self.board, w, outcome, known);
-        count(&mut self.calls, mine, before, self.board.events().len());
-        landed
+        if known {
+            return Ok(self.board.land_known(w, outcome));
+        }
+        self.board.land(w, outcome)
     }
 
     // Returns whether a job is known to be what its worker runs: no cache mount is at or before its vertex, and the worker has done no
@@ -135,43 +141,45 @@ impl<S: Gated> SharedBoard<S> {
         }
     }
 
-    // Does the next micro-step of what a worker runs, and counts the event for the worker.
-    fn step(&mut self, w: u32, mine: &mut Tally<S>) -> Result<Stepped, StepFault> {
-        let before = self.board.events().len();
-        let stepped = granted::step(&mut self.board, w);
-        count(&mut self.calls, mine, before, self.board.events().len());
-        stepped
+    // Does the next micro-step of what a worker runs. Fails with 131, 136, 137 or 141.
+    fn step(&mut self, w: u32) -> Result<Stepped, StepFault> {
+        self.board.step(w)
     }
 
-    // Settles what a worker runs, and counts the event for the worker.
-    fn settle(&mut self, w: u32, mine: &mut Tally<S>) -> Result<Settled, SettleFault> {
-        let before = self.board.events().len();
-        let settled = granted::settle(&mut self.board, w);
-        count(&mut self.calls, mine, before, self.board.events().len());
-        settled
+    // Settles what a worker runs. Fails with 131, 136 or 138.
+    fn settle(&mut self, w: u32) -> Result<Settled, SettleFault> {
+        self.board.settle(w)
     }
 
-    // Cancels what a worker runs, and counts the event for the worker.
-    fn cancel(&mut self, w: u32, mine: &mut Tally<S>)
+    // Cancels what a worker runs, if it runs anything.
+    fn cancel(&mut self, w: u32)
         requires { IsSome self.old.noted }
     {
-        let before = self.board.events().len();
-        let _ = granted::cancel(&mut self.board, w);
-        count(&mut self.calls, mine, before, self.board.events().len());
+        let _ = self.board.cancel(w);
     }
 
-    /// Notes why the run ends and cancels what a worker runs, both in one hold of the lock: another worker never sees a ready vertex that
-    /// is in no queue while nothing is noted.
-    pub(crate) fn give_up(&mut self, w: u32, noted: Noted, mine: &mut Tally<S>)
+    // Notes why the run ends and cancels what a worker runs, if it runs anything, both in one hold of the lock: another worker never sees a
+    // ready vertex that is in no queue while nothing is noted. Ends the worker.
+    fn give_up(&mut self, w: u32, noted: Noted) -> Turn
         requires { may_be S.may_stop S.start (Some noted) ≡ true }
+        ensures { IsHere S.start w result }
     {
         self.note(noted);
-        self.cancel(w, mine);
+        self.cancel(w);
+        Turn::End
     }
 
-    /// Does what a worker has to do in one hold of the lock, by what it brings. Returns what it is to do next, and second owners of the trees
-    /// that the hold has dropped. Adds to `news` the numbers that the worker then has to put into the queue: those of the vertices that
-    /// became ready when it left a vertex, the greatest first, and those of the vertices that waited for its keys.
+    // Counts for a worker the events that were added to the record since the last count.
+    fn count(&mut self, mine: &mut Tally<S>) {
+        let now = self.board.events().len();
+        count(&mut self.calls, mine, self.counted, now);
+        self.counted = now;
+    }
+
+    /// Does what a worker has to do in one hold of the lock, by what it brings, and counts the events for the worker. Returns what it is to do
+    /// next, and second owners of the trees that the hold has dropped. Adds to `news` the numbers that the worker then has to put into the
+    /// queue: those of the vertices that became ready when it left a vertex, the greatest first, and those of the vertices that waited for its
+    /// keys.
     pub(crate) fn turn(
         &mut self,
         w: u32,
@@ -179,37 +187,45 @@ impl<S: Gated> SharedBoard<S> {
         mine: &mut Tally<S>,
         news: &mut Vec<u32>,
     ) -> (Turn, Option<Owners>)
-        requires { IsBrought S.start w brought }
+        requires { IsBrought S.may_stop S.start w brought }
         ensures { IsHere S.start w result.0 }
     {
         let owners = Owners::of(*news.allocator(), &self.board, w, &brought);
+        let turn = self.act(w, brought, news);
+        self.count(mine);
+        (turn, owners)
+    }
+
+    // Does what a worker has to do, by what it brings.
+    fn act(&mut self, w: u32, brought: Brought, news: &mut Vec<u32>) -> Turn
+        requires { IsBrought S.may_stop S.start w brought }
+        ensures { IsHere S.start w result }
+    {
         match brought {
-            Brought::Nothing => (self.go_on(w, mine, news), owners),
-            Brought::Number(v) => (self.take(w, v, mine, news), owners),
+            Brought::Nothing => self.go_on(w, news),
+            Brought::Number(v) => self.take(w, v, news),
             Brought::Outcome(outcome) => {
                 self.release(w, news);
-                let landed = self.land(w, outcome, mine);
-                (self.left(landed.ok(), news), owners)
+                let landed = self.land(w, outcome);
+                self.left(landed.ok(), news)
             }
+            Brought::Fault(noted) => self.give_up(w, noted),
         }
     }
 
     // Does one event of what a worker runs. A worker that runs nothing ends if the run is over.
-    fn go_on(&mut self, w: u32, mine: &mut Tally<S>, news: &mut Vec<u32>) -> Turn
+    fn go_on(&mut self, w: u32, news: &mut Vec<u32>) -> Turn
         ensures { IsHere S.start w result }
     {
         match self.board.worker(w) {
             None => Turn::End,
             Some(WorkerStatus::Runs(_, _, true)) => {
                 self.release(w, news);
-                let settled = self.settle(w, mine);
+                let settled = self.settle(w);
                 self.left(settled.ok(), news)
             }
-            Some(WorkerStatus::Runs(_, _, false)) => match self.step(w, mine) {
-                Err(StepFault::Memory) => {
-                    self.give_up(w, Noted::Memory, mine);
-                    Turn::End
-                }
+            Some(WorkerStatus::Runs(_, _, false)) => match self.step(w) {
+                Err(StepFault::Memory) => self.give_up(w, Noted::Memory),
                 _ => Turn::Again,
             },
             Some(WorkerStatus::Idle) if self.is_over() => Turn::End,
@@ -218,20 +234,20 @@ impl<S: Gated> SharedBoard<S> {
     }
 
     // Claims a vertex, unless the run is over. If the vertex is not ready, its number is dropped: another worker has it.
-    fn take(&mut self, w: u32, v: u32, mine: &mut Tally<S>, news: &mut Vec<u32>) -> Turn
+    fn take(&mut self, w: u32, v: u32, news: &mut Vec<u32>) -> Turn
         ensures { IsHere S.start w result }
     {
         if self.is_over() {
             return Turn::End;
         }
-        match self.claim(w, v, mine) {
+        match self.claim(w, v) {
             Ok(job) => {
-                let _ = self.held.answered(v, None);
+                let _ = self.waiters.answered(v, None);
                 self.begun(w, job)
             }
             Err(ClaimFault::Held(key)) => self.wait_for(key, v, news),
             Err(ClaimFault::NotReady | ClaimFault::NoVertex) => Turn::Next,
-            Err(ClaimFault::Memory) => self.stop(),
+            Err(ClaimFault::Memory) => self.give_up(w, Noted::Memory),
             Err(_) => Turn::Again,
         }
     }
@@ -254,9 +270,9 @@ impl<S: Gated> SharedBoard<S> {
 
     // Adds to `news`, for each key of a worker that is about to leave what it runs, one of the numbers that wait for the key.
     fn release(&mut self, w: u32, news: &mut Vec<u32>) {
-        let SharedBoard { board, held, .. } = self;
+        let SharedBoard { board, waiters, .. } = self;
         for place in board.places(w) {
-            if let Some(v) = held.next_of(&place.key) {
+            if let Some(v) = waiters.next_of(&place.key) {
                 add(news, v);
             }
         }
@@ -266,8 +282,8 @@ impl<S: Gated> SharedBoard<S> {
     fn wait_for(&mut self, key: Key, v: u32, news: &mut Vec<u32>) -> Turn
         ensures { (w : ℕ) → IsHere S.start w result }
     {
-        let next = self.held.answered(v, Some(&key));
-        if !self.held.push(key, v) {
+        let next = self.waiters.answered(v, Some(&key));
+        if !self.waiters.push(key, v) {
             add(news, v);
         }
         if let Some(u) = next {
@@ -279,14 +295,6 @@ impl<S: Gated> SharedBoard<S> {
     // Returns whether no vertex is claimed any more.
     fn is_over(&self) -> bool {
         self.noted.is_some() || self.board.is_complete()
-    }
-
-    // Notes `Memory`, which was refused to a worker that runs nothing, and ends the worker.
-    fn stop(&mut self) -> Turn
-        ensures { (w : ℕ) → IsHere S.start w result }
-    {
-        self.note(Noted::Memory);
-        Turn::End
     }
 
     // Returns how a claimed vertex is worked on: under the lock if it shows a shared cache, otherwise away from it.

@@ -1,11 +1,11 @@
 //! What the workers are supplied with before any thread starts: the queue with every ready vertex in it, a list for each worker, room for
 //! their threads and for the numbers that wait for a key, and which vertices have no cache mount at or before them.
 
-ghost use Rattle.std.specs.Prelude.{◌≡◌, ◌≤◌, ℕ, vec_len, vec_capacity, IfOk, IfSome};
+ghost use Rattle.std.specs.Prelude.{◌≡◌, ◌≤◌, vec_len, IfOk, IfSome};
 ghost use Rattle.llb_work.specs.Passes.{IsUncut};
 ghost use Rattle.llb_work.specs.Supplies.{IsSupplyFor};
 
-use crate::held::Held;
+use crate::key_waiters::KeyWaiters;
 use crate::plain::plain_marks;
 use crate::worker_thread::WorkerThread;
 use llb_board::{Board, Status};
@@ -23,7 +23,7 @@ pub(crate) struct Supply<S: Ledger> {
     pub pass: ReadyPass,
     pub lists: Vec<Vec<u32>>,
     pub threads: Vec<WorkerThread<S>>,
-    pub held: Held,
+    pub waiters: KeyWaiters,
     pub plain: Vec<bool>,
 }
 
@@ -35,14 +35,14 @@ pub(crate) fn make_supply<S: Ledger>(alloc: Global, board: &Board, n: u32) -> Op
     let (queue, pass) = ReadyQueue::new(alloc, room).ok()?;
     let lists = make_lists(alloc, n, room).ok()?;
     let threads = Vec::with_capacity(alloc, n as usize).ok()?;
-    let held = Held::new(alloc, room).ok()?;
+    let waiters = KeyWaiters::new(alloc, room).ok()?;
     let plain = plain_marks(alloc, board)?;
     Some(Supply {
         queue,
         pass,
         lists,
         threads,
-        held,
+        waiters,
         plain,
     })
 }

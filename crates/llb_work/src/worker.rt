@@ -1,15 +1,15 @@
 //! What a worker does in each hold of the lock, and then away from the lock. It puts the numbers that it has noted into the queue, and
 //! takes numbers from the queue.
 
-ghost use Rattle.std.specs.Prelude.{◌≡◌, ℕ, true, IsTrue, IfSome};
-ghost use Rattle.llb_board.specs.Seen.{BoardValue};
+ghost use Rattle.std.specs.Prelude.{◌≡◌, true, IfSome};
 ghost use Rattle.llb_work.specs.Passes.{IsPassFor};
-ghost use Rattle.llb_work.specs.RunEnds.{is_of};
+ghost use Rattle.llb_work.specs.RunEnds.{is_of, AllowsStops};
 ghost use Rattle.llb_work.specs.Turns.{IsBrought, IsClaimed, IsHere};
 
 use crate::crew::Crew;
-use crate::noted::{Gated, Noted, Tally};
+use crate::noted::{Gated, Noted};
 use crate::shared_board::{Brought, Turn};
+use crate::tally::Tally;
 use crossbeam_utils::Backoff;
 use llb_board::{Gate, Job, WorkFault, work};
 use llb_ready::ReadyPass;
@@ -27,9 +27,9 @@ pub(crate) struct WorkerKit<S: Ledger> {
 
 impl<'x, S: Gated, G: Gate, R: Wait> Crew<'x, S, G, R> {
     /// Ends what its worker runs, then takes one number after another from the queue and works on the vertex, until the board is complete or
-    /// a fault is noted. A worker that meets a fault itself cancels what it runs, notes the fault and ends at once.
+    /// a fault is noted. A worker that meets a fault itself brings it to the lock, cancels there what it runs and ends at once.
     pub(crate) fn serve(self, w: u32, kit: WorkerKit<S>) -> WorkerKit<S>
-        requires stop { (w v : ℕ) → IsTrue (G.may_stop w v) → S.may_stop w v ≡ true }
+        requires stop { AllowsStops G.may_stop S.may_stop }
         requires pass { IsPassFor self.queue.now w kit.pass }
         ensures { IsPassFor self.entry.queue.now w result.pass }
     {
@@ -55,27 +55,26 @@ impl<'x, S: Gated, G: Gate, R: Wait> Crew<'x, S, G, R> {
 
     // Does what a worker has to do away from the lock. Returns what it brings back; `None` if it ends.
     fn away(self, w: u32, turn: Turn, kit: &mut WorkerKit<S>) -> Option<Brought>
-        requires stop { (w v : ℕ) → IsTrue (G.may_stop w v) → S.may_stop w v ≡ true }
+        requires stop { AllowsStops G.may_stop S.may_stop }
         requires here { IsHere S.start w turn }
         requires pass { IsPassFor self.queue.now w kit.old.pass }
         ensures pass { IsPassFor self.entry.queue.now w kit.new.pass }
-        ensures brought { IfSome result (IsBrought S.start w) }
+        ensures brought { IfSome result (IsBrought S.may_stop S.start w) }
     {
         match turn {
             Turn::End => None,
             Turn::Again => Some(Brought::Nothing),
-            Turn::Next => self.taken(w, kit),
-            Turn::Pass(v) => self.passed(w, v, &mut kit.tally),
-            Turn::Work(job) => self.worked(w, job, &mut kit.tally),
+            Turn::Next => Some(Brought::Number(self.taken(w, kit)?)),
+            Turn::Pass(v) => Some(self.passed(w, v)),
+            Turn::Work(job) => Some(self.worked(w, job)),
         }
     }
 
     // Takes a number as soon as there is one; returns `None` if the run is over. After each try, puts the numbers that have met a full queue
     // again.
-    fn taken(self, w: u32, kit: &mut WorkerKit<S>) -> Option<Brought>
+    fn taken(self, w: u32, kit: &mut WorkerKit<S>) -> Option<u32>
         requires { IsPassFor self.queue.now w kit.old.pass }
-        ensures pass { IsPassFor self.entry.queue.now w kit.new.pass }
-        ensures brought { (b : BoardValue) → IfSome result (IsBrought b w) }
+        ensures { IsPassFor self.entry.queue.now w kit.new.pass }
     {
         let backoff = Backoff::new();
         for _i in self.rt.forever() {
@@ -85,8 +84,8 @@ impl<'x, S: Gated, G: Gate, R: Wait> Crew<'x, S, G, R> {
             }
             let next = self.queue.take(self.rt, &mut kit.pass);
             self.idle.wake(self.put_all(w, kit));
-            if let Some(v) = next {
-                return Some(Brought::Number(v));
+            if next.is_some() {
+                return next;
             }
             self.idle.wait(self.rt, seen, &backoff);
         }
@@ -112,36 +111,29 @@ impl<'x, S: Gated, G: Gate, R: Wait> Crew<'x, S, G, R> {
         before.saturating_sub(kit.news.len())
     }
 
-    // Passes the gate. If the gate stops the worker there, gives the vertex up and notes the stop.
-    fn passed(self, w: u32, v: u32, tally: &mut Tally<S>) -> Option<Brought>
-        requires stop { (w v : ℕ) → IsTrue (G.may_stop w v) → S.may_stop w v ≡ true }
+    // Passes the gate. Brings the stop to the lock if the gate stops the worker there, and nothing otherwise.
+    fn passed(self, w: u32, v: u32) -> Brought
+        requires stop { AllowsStops G.may_stop S.may_stop }
         requires here { is_of S.start w v ≡ true }
-        ensures { IfSome result (IsBrought S.start w) }
+        ensures { IsBrought S.may_stop S.start w result }
     {
         match self.gate.pass(w, v) {
-            Ok(()) => Some(Brought::Nothing),
-            Err(_) => {
-                self.board
-                    .lock(self.rt)
-                    .give_up(w, Noted::Stopped(w, v), tally);
-                None
-            }
+            Ok(()) => Brought::Nothing,
+            Err(_) => Brought::Fault(Noted::Stopped(w, v)),
         }
     }
 
-    // Works on a job and returns its outcome. If that fails, gives its vertex up and notes why.
-    fn worked(self, w: u32, job: Job, tally: &mut Tally<S>) -> Option<Brought>
-        requires stop { (w v : ℕ) → IsTrue (G.may_stop w v) → S.may_stop w v ≡ true }
+    // Works on a job. Brings its outcome to the lock, or why there is none.
+    fn worked(self, w: u32, job: Job) -> Brought
+        requires stop { AllowsStops G.may_stop S.may_stop }
         requires here { IsClaimed S.start w job.vertex job }
-        ensures { IfSome result (IsBrought S.start w) }
+        ensures { IsBrought S.may_stop S.start w result }
     {
         let (worker, vertex) = (job.worker(), job.vertex());
-        let noted = match work(self.alloc, job, self.gate) {
-            Ok(outcome) => return Some(Brought::Outcome(outcome)),
-            Err(WorkFault::Stopped) => Noted::Stopped(worker, vertex),
-            Err(WorkFault::Memory) => Noted::Memory,
-        };
-        self.board.lock(self.rt).give_up(w, noted, tally);
-        None
+        match work(self.alloc, job, self.gate) {
+            Ok(outcome) => Brought::Outcome(outcome),
+            Err(WorkFault::Stopped) => Brought::Fault(Noted::Stopped(worker, vertex)),
+            Err(WorkFault::Memory) => Brought::Fault(Noted::Memory),
+        }
     }
 }

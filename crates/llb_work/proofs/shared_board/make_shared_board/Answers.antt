@@ -10,7 +10,9 @@ invariant_of-result g c = record {
   kept = c.requires.kept;
   after = after_itself g.S.Gated.start c.args.board (sym c.requires.start);
   marks = λ v. c.requires.plain v ∙ ap (λ (b : BoardValue). is_plain b.build v) c.requires.start;
-  counted = omega (arith, c.requires.empty, ap (λ (b : BoardValue). length b.events) c.requires.start);
+  booked =
+      omega (arith, c.requires.empty, c.len-counted.ensures ∙ ap length c.events.ensures.all, ap (λ (b : BoardValue). length b.events) c.requires.start);
+  within = omega (arith, c.len-counted.ensures ∙ ap length c.events.ensures.all);
   stops = refl;
   uncancelled = λ none. leaves_cancels g.S.Gated.start c.args.board c.requires.start;
 }

@@ -1,18 +1,21 @@
-use Rattle.std.proofs.Common.{arith, ap, length, ◌∙◌}
-use Rattle.llb_work.proofs.Afters.{after_more}
+use Rattle.std.proofs.Common.{arith}
+use Rattle.llb_work.proofs.Afters.{after_more, no_shorter}
 use Rattle.llb_work.proofs.Cancels.{some_noted}
+use Rattle.llb_work.proofs.Workers.{cancel_goes}
 use Rattle.llb_work.proofs.shared_board.SharedBoard.cancel.Goals as goal
 
 pub invariant_of-self : goal.invariant_of-self
 invariant_of-self g c =
     let old = c.args.self.now in
-    let before = c.len-before.ensures ∙ ap length c.events.ensures.all in
-    let now = c.len.ensures ∙ ap length c.events-2.ensures.all in
+    let b = old.board in
+    let n = c.cancel.new.self in
+    let goes = cancel_goes b n c.args.w c.cancel.result c.cancel.ensures.gives c.cancel.ensures.err in
     record {
       kept = old.kept;
-      after = after_more g.S.Gated.start old.board c.cancel.new.board old.after c.cancel.ensures.goes;
+      after = after_more g.S.Gated.start b n old.after goes;
       marks = old.marks;
-      counted = omega (arith, before, now, c.count.ensures, old.counted);
+      booked = old.booked;
+      within = omega (arith, no_shorter b n goes, old.within);
       stops = old.stops;
       uncancelled = λ none. absurd (some_noted old.noted c.requires none);
     }

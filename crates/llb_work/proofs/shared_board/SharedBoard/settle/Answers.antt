@@ -1,17 +1,20 @@
-use Rattle.std.proofs.Common.{arith, ap, length, ◌∙◌}
-use Rattle.llb_work.proofs.Afters.{after_more}
+use Rattle.std.proofs.Common.{arith, ◌∙◌}
+use Rattle.llb_work.proofs.Afters.{after_more, no_shorter}
+use Rattle.llb_work.proofs.Workers.{settle_works}
 use Rattle.llb_work.proofs.shared_board.SharedBoard.settle.Goals as goal
 
 pub invariant_of-self : goal.invariant_of-self
 invariant_of-self g c =
     let old = c.args.self.now in
-    let before = c.len-before.ensures ∙ ap length c.events.ensures.all in
-    let now = c.len.ensures ∙ ap length c.events-2.ensures.all in
+    let b = old.board in
+    let n = c.settle.new.self in
+    let works = settle_works b n c.args.w c.settle.result c.settle.ensures.gives c.settle.ensures.err in
     record {
       kept = old.kept;
-      after = after_more g.S.Gated.start old.board c.settle-settled.new.board old.after c.settle-settled.ensures.goes;
+      after = after_more g.S.Gated.start b n old.after works.goes;
       marks = old.marks;
-      counted = omega (arith, before, now, c.count.ensures, old.counted);
+      booked = old.booked;
+      within = omega (arith, no_shorter b n works.goes, old.within);
       stops = old.stops;
-      uncancelled = λ none. c.settle-settled.ensures.uncancelled ∙ old.uncancelled none;
+      uncancelled = λ none. works.uncancelled ∙ old.uncancelled none;
     }

@@ -1,17 +1,20 @@
-use Rattle.std.proofs.Common.{arith, ap, length, ◌∙◌}
-use Rattle.llb_work.proofs.Afters.{after_more}
+use Rattle.std.proofs.Common.{arith, ◌∙◌}
+use Rattle.llb_work.proofs.Afters.{after_more, no_shorter}
+use Rattle.llb_work.proofs.Workers.{step_works}
 use Rattle.llb_work.proofs.shared_board.SharedBoard.step.Goals as goal
 
 pub invariant_of-self : goal.invariant_of-self
 invariant_of-self g c =
     let old = c.args.self.now in
-    let before = c.len-before.ensures ∙ ap length c.events.ensures.all in
-    let now = c.len.ensures ∙ ap length c.events-2.ensures.all in
+    let b = old.board in
+    let n = c.step.new.self in
+    let works = step_works b n c.args.w c.step.result c.step.ensures.gives c.step.ensures.err in
     record {
       kept = old.kept;
-      after = after_more g.S.Gated.start old.board c.step-stepped.new.board old.after c.step-stepped.ensures.goes;
+      after = after_more g.S.Gated.start b n old.after works.goes;
       marks = old.marks;
-      counted = omega (arith, before, now, c.count.ensures, old.counted);
+      booked = old.booked;
+      within = omega (arith, no_shorter b n works.goes, old.within);
       stops = old.stops;
-      uncancelled = λ none. c.step-stepped.ensures.uncancelled ∙ old.uncancelled none;
+      uncancelled = λ none. works.uncancelled ∙ old.uncancelled none;
     }

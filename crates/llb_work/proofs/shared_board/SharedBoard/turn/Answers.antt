@@ -1,4 +1,0 @@
-use Rattle.llb_work.proofs.shared_board.SharedBoard.turn.Goals as goal
-
-pub returns-in-Outcome : goal.returns-in-Outcome
-returns-in-Outcome g c = c.left.ensures c.args.w

@@ -1,0 +1,136 @@
+//! The numbers of vertices whose claim was refused because another worker has a locked key, by that key. They are put into the queue again
+//! one by one: the first when the vertex with the key is left, and each next one when the vertex of the one before is left or its claim is
+//! refused for another key. So a number is not claimed again and again. The table is made with all the room that it needs, and later calls
+//! do not allocate. Nothing here knows about the board.
+
+use llb_cache::Key;
+use std::alloc::{AllocError, Global};
+
+// The numbers that wait for one key: the first and the last of them in the order in which they came, and the one that was put into the queue
+// again and has not been claimed since. What comes after a number is in the table.
+#[derive(Drop)]
+struct Row {
+    key: Key,
+    first: Option<u32>,
+    last: u32,
+    put: Option<u32>,
+}
+
+impl Row {
+    // Returns whether no number waits, and none was put into the queue again.
+    fn is_empty(&self) -> bool {
+        self.put.is_none() && self.first.is_none()
+    }
+}
+
+/// The numbers that wait, by key. There are few rows, because for each row a worker has the key, or a number was put into the queue again.
+#[derive(Drop)]
+pub(crate) struct KeyWaiters {
+    rows: Vec<Row>,
+    // For each number the one that waits after it for the same key.
+    after: Vec<Option<u32>>,
+}
+
+impl KeyWaiters {
+    /// Makes a table in which no number waits, for the numbers below `count`. Fails if memory is refused.
+    pub(crate) fn new(alloc: Global, count: u32) -> Result<KeyWaiters, AllocError> {
+        let rows = Vec::with_capacity(alloc, count as usize)?;
+        let mut after = Vec::with_capacity(alloc, count as usize)?;
+        for _v in 0..count {
+            after.push(None)?;
+        }
+        Ok(KeyWaiters { rows, after })
+    }
+
+    // Returns the place of a key's row.
+    fn place_of(&self, key: &Key) -> Option<usize> {
+        self.rows.iter().position(|row| row.key == *key)
+    }
+
+    // Sets which number waits after a number.
+    fn set_after(&mut self, v: u32, next: Option<u32>) {
+        if let Some(after) = self.after.get_mut(v as usize) {
+            *after = next;
+        }
+    }
+
+    /// Adds a number that waits for a key. Returns false if there is no room for the key, which does not occur: no number waits twice, so
+    /// there are at most as many keys as numbers.
+    pub(crate) fn push(&mut self, key: Key, v: u32) -> bool {
+        self.set_after(v, None);
+        match self.place_of(&key) {
+            Some(at) => self.push_at(at, v),
+            None => self.push_row(key, v),
+        }
+    }
+
+    // Adds a number to the row at a place.
+    fn push_at(&mut self, at: usize, v: u32) -> bool {
+        let Some(row) = self.rows.get_mut(at) else {
+            return false;
+        };
+        let last = row.last;
+        row.last = v;
+        if row.first.is_none() {
+            row.first = Some(v);
+        } else {
+            self.set_after(last, Some(v));
+        }
+        true
+    }
+
+    // Adds a row with one number.
+    fn push_row(&mut self, key: Key, v: u32) -> bool {
+        if self.rows.len() >= self.rows.capacity() {
+            return false;
+        }
+        let (first, last, put) = (Some(v), v, None);
+        self.rows.push_reserved(Row {
+            key,
+            first,
+            last,
+            put,
+        });
+        true
+    }
+
+    // Takes the next number of the row at a place that is to be put into the queue again; `None` if one was put again already, or none waits.
+    fn next_at(&mut self, at: usize) -> Option<u32> {
+        let KeyWaiters { rows, after } = self;
+        let row = rows.get_mut(at)?;
+        if row.put.is_some() {
+            return None;
+        }
+        let v = row.first?;
+        row.first = after.get(v as usize).copied().unwrap_or(None);
+        row.put = Some(v);
+        row.put
+    }
+
+    /// Takes a number that waits for a key which will be free soon; `None` if one was put into the queue again already, or none waits.
+    pub(crate) fn next_of(&mut self, key: &Key) -> Option<u32> {
+        let at = self.place_of(key)?;
+        self.next_at(at)
+    }
+
+    /// Notes that a number was claimed, or refused for a key. Returns the next number of the row that it came from if it was refused for
+    /// another key, because the key of that row may then be free.
+    pub(crate) fn answered(&mut self, v: u32, refused: Option<&Key>) -> Option<u32> {
+        let at = self.rows.iter().position(|row| row.put == Some(v))?;
+        let row = self.rows.get_mut(at)?;
+        row.put = None;
+        let next = match refused {
+            Some(key) if row.key != *key => self.next_at(at),
+            _ => None,
+        };
+        self.drop_empty(at);
+        next
+    }
+
+    // Removes the row at a place if it has no number.
+    fn drop_empty(&mut self, at: usize) {
+        if at < self.rows.len() && self.rows[at].is_empty() {
+            self.rows.swap_remove(at);
+        }
+    }
+}
