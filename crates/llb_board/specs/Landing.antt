@@ -1,13 +1,12 @@
 -- What a landing returns: the block of the worker's remaining micro-steps and its settle, or the first cause of its refusal.
 use Rattle.std.specs.Prelude.{◌≡◌, ℕ, Bool, true, false, List, [], ◌∷◌, ◌++◌, Option, Some, None, slice_get, is_ok}
 use Rattle.llb_model.specs.Caches.{Instance}
-use Rattle.llb_model.specs.State.{Execution, WorkerStatus, Idle, Runs}
+use Rattle.llb_model.specs.State.{Execution, WorkerStatus, Idle, Runs, places_at}
 use Rattle.llb_model.specs.Table.{Job, Reply, settle_grant}
 use Rattle.llb_model.specs.Run.{run}
 use Rattle.llb_model.specs.Landing.{steps_by, landing}
 use Rattle.llb_board.specs.Seen.{BoardValue, kept_along}
 use Rattle.llb_execution.specs.Jobs.{OutcomeValue}
-use Rattle.llb_board.specs.Caches.{places_at}
 use Rattle.llb_board.specs.Jobs.{has_shared, IsRunOf}
 use Rattle.llb_board.specs.declared.fault.LandFault.{LandFault}
 use Rattle.llb_board.specs.declared.fault.LandFault.TheVariants as fault

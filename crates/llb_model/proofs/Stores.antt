@@ -12,8 +12,7 @@ use Rattle.llb_cache.specs.KeyOrder.{key_cmp}
 use Rattle.llb_cache.specs.LawsOfKeyOrder.{key_cmp-IsTotalOrder, tie_is_same}
 use Rattle.llb_cache.specs.LawsOfKeys.{same_keys}
 use Rattle.llb_tree.specs.Tree.{TreeMap, empty_tree}
-use Rattle.llb_model.specs.Caches.{Instance, place_cmp, Store, content, put, put_all, trees_at}
-use Rattle.llb_model.specs.Caches.{Hold, Has, Distinct, is_in}
+use Rattle.llb_model.specs.Caches.{Instance, place_cmp, Store, content, put, put_all, trees_at, Hold, Has, Distinct, is_in}
 
 -- ---- places
 

@@ -2,12 +2,11 @@
 use Rattle.std.proofs.Common.{◌≡◌, ℕ, ◌+◌, ◌<◌, Bool, true, false, cond, List, [], ◌∷◌, length, Option, Some, None, refl, sym, ap, subst, ◌∙◌, arith}
 use Rattle.std.specs.Prelude.{option_map}
 use Rattle.llb_model.specs.Program.{Build}
-use Rattle.llb_model.specs.State.{State, WorkerStatus, Idle, Runs}
+use Rattle.llb_model.specs.State.{State, WorkerStatus, Idle, Runs, is_finished, program_in, is_ready}
 use Rattle.llb_events.specs.declared.event.Event.{Event}
 use Rattle.llb_events.specs.declared.event.Event.TheVariants.{Step, Settle, Claim}
 use Rattle.llb_model.specs.Table.{worker_of}
 use Rattle.llb_model.specs.Run.{next_of, next_claim, or_else, chosen, least}
-use Rattle.llb_model.specs.State.{is_finished, program_in, is_ready}
 use Rattle.llb_model.proofs.Lists.{inside}
 
 -- the next event of running workers is one of theirs

@@ -2,12 +2,11 @@
 
 ghost use Rattle.std.specs.Prelude.{◌≡◌, ◌↔◌, ◌<◌, ◌+◌, ◌^◌, ℕ, Option, length, map, true, Some, slice_get, slice_set, IsTrue};
 ghost use Rattle.llb_model.specs.Caches as model;
-ghost use Rattle.llb_model.specs.Caches.{trees_at, Has};
+ghost use Rattle.llb_model.specs.Caches.{trees_at, Has, tree_of};
 ghost use Rattle.llb_board.specs.declared.workers.desk.Desk.TheVariants as desk;
 ghost use Rattle.llb_board.specs.declared.workers.desk.Execution as own;
-ghost use Rattle.llb_model.specs.Kept.{store_of};
+ghost use Rattle.llb_model.specs.Bridge.{store_of};
 ghost use Rattle.llb_cache.specs.Caches.{trees_of};
-ghost use Rattle.llb_board.specs.Caches.{tree_of};
 ghost use Rattle.llb_board.specs.Needs.{number_of};
 ghost use Rattle.llb_board.specs.Jobs.{IsBegun, desk_left};
 ghost use Rattle.llb_board.specs.Views.{leased_by, execution_of};
