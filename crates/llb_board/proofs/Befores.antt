@@ -7,10 +7,9 @@ use Rattle.llb_cache.specs.Growth.{LentValue}
 use Rattle.llb_tree.specs.Tree.{TreeMap}
 use Rattle.llb_execution.specs.Marks.{Mark, mark_of}
 use Rattle.llb_model.specs.Caches.{trees_at}
-use Rattle.llb_model.specs.Kept.{store_of}
-use Rattle.llb_model.proofs.Leasing.{leased_holds_as}
-use Rattle.llb_board.specs.Caches.{lent_of}
-use Rattle.llb_board.specs.Needs.{growth_for}
+use Rattle.llb_model.specs.Bridge.{store_of, growth_for}
+use Rattle.llb_model.proofs.BridgeLeases.{leased_holds_as}
+use Rattle.llb_board.specs.OptionalLeases.{lent_of}
 use Rattle.llb_board.specs.Supplies.{Supplies, needs_at}
 use Rattle.llb_board.specs.Displaced.{Unclaim, Unstep, Resume, MarksClaim, MarksStep, MarksEnd}
 use Rattle.llb_board.specs.Undoing.{left_in}
@@ -24,7 +23,7 @@ use Rattle.llb_board.specs.declared.workers.undoing.End.{End}
 use Rattle.llb_board.proofs.Crews.{Crew}
 use Rattle.llb_board.proofs.Supplied.{made_enough}
 use Rattle.llb_board.proofs.Lists.{get_map, length_map}
-use Rattle.llb_board.proofs.Unmade.{growths_are}
+use Rattle.llb_model.proofs.BridgeUnmade.{growths_are}
 use Rattle.llb_board.proofs.Worked.{seen_of}
 
 -- before a claim, what its lease will add is all that it can displace of the caches

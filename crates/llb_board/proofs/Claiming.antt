@@ -13,7 +13,7 @@ use Rattle.llb_model.specs.Table.{Reply, claim_grant}
 use Rattle.llb_model.proofs.Events.{Answer, claim_is}
 use Rattle.llb_events.specs.Faults.{claim_may_want}
 use Rattle.llb_events.specs.declared.refusal.ClaimFault.{ClaimFault}
-use Rattle.llb_board.specs.Caches.{rows_after}
+use Rattle.llb_model.specs.Bridge.{rows_after}
 use Rattle.llb_board.specs.Vertices.{VerticesValue, with_status}
 use Rattle.llb_board.specs.Workers.{WorkersValue, Fits, state_in, reply_of}
 use Rattle.llb_board.specs.Seen.{BoardValue, seen, recorded}

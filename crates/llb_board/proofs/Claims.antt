@@ -8,21 +8,20 @@ use Rattle.llb_cache.specs.Caches.{CachesValue, Leases, leases, AreApart, AreThe
 use Rattle.llb_loader.specs.declared.graph.Vertex.{Vertex}
 use Rattle.llb_loader.specs.Graph.{IsGraph}
 use Rattle.llb_model.specs.Caches.{Distinct, put_all}
-use Rattle.llb_model.specs.Kept.{store_of}
-use Rattle.llb_model.specs.Leases.{HoldsAs}
+use Rattle.llb_model.specs.Bridge.{store_of, HoldsAs, places_taken, written, rows_after}
 use Rattle.llb_model.specs.Outcome.{inputs_from}
 use Rattle.llb_model.specs.Program.{Build, Need, Start, key_of, needs_of, start_with}
 use Rattle.llb_model.specs.State.{Status, WorkerStatus, Idle, Runs, State, Running, Execution, ending_at, begin_at, start_from, held, held_key, places_for}
-use Rattle.llb_model.specs.State.{first_trees}
+use Rattle.llb_model.specs.State.{first_trees, places_at}
 use Rattle.llb_model.specs.Table.{Job, Reply, Claimed, claim_start, claim_at, claim_unless, claimed, claim_grant, or_not_ready, execution_on, job_on}
-use Rattle.llb_model.proofs.Leases.{makes_alike}
-use Rattle.llb_model.proofs.Leasing.{leased_holds_as}
+use Rattle.llb_model.proofs.BridgeClaims.{makes_alike}
+use Rattle.llb_model.proofs.BridgeLeases.{leased_holds_as}
 use Rattle.llb_model.proofs.Lists.{get_set_same}
 use Rattle.llb_model.proofs.Needs.{graph_distinct}
 use Rattle.llb_events.specs.Faults.{GivesClaim, claim_memory, claim_may_want}
 use Rattle.llb_events.specs.declared.refusal.ClaimFault.{ClaimFault}
-use Rattle.llb_board.specs.Needs.{first_held_key, unless_held, places_taken}
-use Rattle.llb_board.specs.Caches.{lease_if, written, places_at, rows_after}
+use Rattle.llb_board.specs.Needs.{first_held_key, unless_held}
+use Rattle.llb_board.specs.OptionalLeases.{lease_if}
 use Rattle.llb_board.specs.Supplies.{supplies_of, supplies_for}
 use Rattle.llb_board.specs.WorkerRules.{Begun, begun, begun_at}
 use Rattle.llb_board.specs.Vertices.{VerticesValue, with_status}
@@ -37,7 +36,7 @@ use Rattle.llb_board.proofs.Supplied.{leased_claimed, made_for, supplies_claimed
 use Rattle.llb_board.proofs.Lists.{length_map, map_set}
 use Rattle.llb_board.proofs.Returned.{few_leases}
 use Rattle.llb_board.proofs.Wanting.{asked_differ}
-use Rattle.llb_board.proofs.Written.{written_made}
+use Rattle.llb_model.proofs.BridgeWritten.{written_made}
 use Rattle.llb_board.proofs.Worked.{seen_of}
 
 -- ---- refusals

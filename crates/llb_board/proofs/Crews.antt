@@ -5,13 +5,13 @@ use Rattle.std.proofs.lemmas.List.{length-replicate}
 use Rattle.llb_cache.specs.Caches.{CachesValue, Leases, leases}
 use Rattle.llb_loader.specs.declared.graph.Vertex.{Vertex}
 use Rattle.llb_events.specs.declared.fault.VertexFault.{VertexFault}
-use Rattle.llb_model.specs.Leases.{AreLeased}
+use Rattle.llb_model.specs.Bridge.{AreLeased}
 use Rattle.llb_model.specs.Outcome.{ended}
 use Rattle.llb_model.specs.Program.{Workspace, outputs_of, program_at}
 use Rattle.llb_model.specs.State.{Status, Settled, WorkerStatus, Idle}
 use Rattle.llb_model.proofs.Outcomes.{ended_count}
 use Rattle.llb_model.proofs.Lists.{length_set}
-use Rattle.llb_board.specs.Caches.{given_back, IsOutIf}
+use Rattle.llb_board.specs.OptionalLeases.{given_back, IsOutIf}
 use Rattle.llb_board.specs.Vertices.{IsWhole}
 use Rattle.llb_board.specs.Views.{at_of, leased_by}
 use Rattle.llb_board.specs.Workers.{IsCrew}

@@ -14,14 +14,13 @@ use Rattle.llb_model.specs.Program.{Build, Start, start_with, Need, needs_of}
 use Rattle.llb_model.specs.Outcome.{inputs_from}
 use Rattle.llb_model.specs.State.{Status, Waiting, Settled, Execution, WorkerStatus, Idle, Runs, State, ending_at, program_in}
 use Rattle.llb_model.specs.State.{start_from, ending_from, held, held_key, places_for}
-use Rattle.llb_model.specs.Kept.{store_of}
-use Rattle.llb_model.specs.Leases.{HoldsAs, asked}
+use Rattle.llb_model.specs.Bridge.{store_of, HoldsAs, asked, places_taken}
 use Rattle.llb_model.specs.Table.{or_not_ready, claim_start, claim_unless, claimed, claim_grant}
 use Rattle.llb_model.proofs.Lists.{inside}
 use Rattle.llb_model.proofs.Events.{Answer, ready_is}
-use Rattle.llb_model.proofs.Leases.{refuses_alike, takes_alike}
-use Rattle.llb_board.specs.Caches.{some_lease, lease_if}
-use Rattle.llb_board.specs.Needs.{first_held_key, unless_held, places_taken}
+use Rattle.llb_model.proofs.BridgeClaims.{refuses_alike, takes_alike}
+use Rattle.llb_board.specs.OptionalLeases.{some_lease, lease_if}
+use Rattle.llb_board.specs.Needs.{first_held_key, unless_held}
 use Rattle.llb_board.specs.WorkerRules.{Begun, begun_at, begun, Written}
 use Rattle.llb_board.specs.Views.{at_of}
 use Rattle.llb_board.specs.declared.workers.seat.Seat.{Seat}

@@ -6,8 +6,8 @@ use Rattle.std.proofs.lemmas.Option.{slice_get_within}
 use Rattle.llb_cache.specs.Caches.{Row}
 use Rattle.llb_loader.specs.declared.graph.Vertex.{Vertex}
 use Rattle.llb_model.specs.Program.{Build}
-use Rattle.llb_model.specs.Kept.{store_of}
-use Rattle.llb_model.specs.State.{Status, Waiting, Running, WorkerStatus, Idle, State, opening}
+use Rattle.llb_model.specs.Bridge.{store_of, written, rows_after}
+use Rattle.llb_model.specs.State.{Status, Waiting, Running, WorkerStatus, Idle, State, opening, places_at}
 use Rattle.llb_events.specs.declared.event.Event.{Event}
 use Rattle.llb_model.specs.Table.{Reply, worker_of, after_end, table}
 use Rattle.llb_model.specs.Run.{run}
@@ -17,7 +17,6 @@ use Rattle.llb_model.proofs.Events.{Answer}
 use Rattle.llb_model.proofs.Runs.{run_more}
 use Rattle.llb_model.proofs.Owing.{IsRoomy, room_for_event, event_roomy}
 use Rattle.llb_model.proofs.Cancels.{counts_length, cancels_few}
-use Rattle.llb_board.specs.Caches.{written, places_at, rows_after}
 use Rattle.llb_board.specs.Vertices.{VerticesValue, IsWhole}
 use Rattle.llb_board.specs.Workers.{WorkersValue, Fits, state_in}
 use Rattle.llb_board.specs.Seen.{BoardValue, Replays, opening_with, seen, kept_next, kept_along, recorded}

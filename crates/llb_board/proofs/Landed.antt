@@ -15,9 +15,8 @@ use Rattle.llb_model.specs.Caches.{Instance, Store, Has, Hold, Distinct, put_all
 use Rattle.llb_model.specs.Laws.{HasDistinctNeeds}
 use Rattle.llb_model.specs.Program.{Build, Left, Need, key_of, needs_of, step_on}
 use Rattle.llb_model.specs.State.{State, Running, WorkerStatus, Idle, Runs, Execution, opening, program_in, is_finished, ending_from, held, places_for}
-use Rattle.llb_model.specs.State.{work_of, begin_at}
-use Rattle.llb_model.specs.Kept.{store_of}
-use Rattle.llb_model.specs.Leases.{put_each}
+use Rattle.llb_model.specs.State.{work_of, begin_at, places_at}
+use Rattle.llb_model.specs.Bridge.{store_of, put_each, written, rows_after}
 use Rattle.llb_model.specs.Landing.{steps_by, further, AreThere, AreLeft, left_so_far, with_steps, after_steps}
 use Rattle.llb_events.specs.declared.refusal.SettleFault.TheVariants.{NotFinished}
 use Rattle.llb_events.specs.declared.event.Event.{Event}
@@ -28,8 +27,8 @@ use Rattle.llb_model.specs.Room.{cancels_in}
 use Rattle.llb_model.proofs.Lists.{get_set_same, get_within, got_within, got_set, got_replicate, length_set}
 use Rattle.llb_model.proofs.Stores.{hold_all, hold_trees, hold_length}
 use Rattle.llb_model.proofs.Parts.{go_keeps}
-use Rattle.llb_model.proofs.Leases.{writes_alike}
-use Rattle.llb_model.proofs.Kept.{shows_instances}
+use Rattle.llb_model.proofs.BridgeClaims.{writes_alike}
+use Rattle.llb_model.proofs.BridgeContents.{shows_instances}
 use Rattle.llb_model.proofs.Needs.{graph_distinct}
 use Rattle.llb_model.proofs.There.{held_are_there}
 use Rattle.llb_model.proofs.Events.{Answer, claim_places, claim_is, step_is, settle_is, cancel_is}
@@ -40,12 +39,11 @@ use Rattle.llb_events.specs.Faults.{GivesSettle}
 use Rattle.llb_events.specs.declared.event.Settled.{Settled}
 use Rattle.llb_events.specs.declared.refusal.SettleFault.{SettleFault}
 use Rattle.llb_execution.specs.Jobs.{OutcomeValue, IsOutcome, begun_on}
-use Rattle.llb_board.specs.Caches.{written, places_at, rows_after}
 use Rattle.llb_board.specs.Jobs.{job_now, IsRunOf}
 use Rattle.llb_board.specs.Vertices.{VerticesValue}
 use Rattle.llb_board.specs.Workers.{WorkersValue, Fits, state_in, RunsJob, steps_left}
-use Rattle.llb_board.proofs.Rewritten.{AreKeysApart, AreWithin, each_within, each_again, each_there}
-use Rattle.llb_board.proofs.Written.{written_each}
+use Rattle.llb_model.proofs.BridgeRewritten.{AreKeysApart, AreWithin, each_within, each_again, each_there}
+use Rattle.llb_model.proofs.BridgeWritten.{written_each}
 use Rattle.llb_board.specs.Seen.{BoardValue, Replays, seen, opening_with, kept_next, kept_along, after_event, recorded}
 use Rattle.llb_board.specs.Kept.{IsBoard}
 use Rattle.llb_board.specs.History.{Space}

@@ -6,14 +6,13 @@ use Rattle.std.proofs.lemmas.Option.{slice_get-map, slice_get_within}
 use Rattle.llb_cache.specs.Caches.{Row, Leases}
 use Rattle.llb_loader.specs.Graph.{IsGraph}
 use Rattle.llb_model.specs.Caches.{Instance, trees_at}
-use Rattle.llb_model.specs.Kept.{store_of}
-use Rattle.llb_model.specs.Leases.{HasLease, put_each}
+use Rattle.llb_model.specs.Bridge.{store_of, HasLease, put_each}
 use Rattle.llb_model.specs.Program.{Build, Left, key_of}
-use Rattle.llb_model.specs.State.{WorkerStatus, Idle, Runs, Execution, program_in}
+use Rattle.llb_model.specs.State.{WorkerStatus, Idle, Runs, Execution, program_in, places_at}
 use Rattle.llb_model.specs.Table.{Job}
 use Rattle.llb_model.proofs.Landing.{further_keeps}
 use Rattle.llb_model.proofs.Lists.{inside}
-use Rattle.llb_board.specs.Caches.{leased_places, places_at}
+use Rattle.llb_board.specs.OptionalLeases.{leased_places}
 use Rattle.llb_execution.specs.Jobs.{OutcomeValue, IsOutcome, begun_on}
 use Rattle.llb_board.specs.Jobs.{IsRunOf, job_now, seat_left}
 use Rattle.llb_board.specs.Supplies.{Supplies, supplies_of, needs_at}

@@ -8,17 +8,17 @@ use Rattle.llb_cache.specs.Caches as cache
 use Rattle.llb_cache.specs.Caches.{Row, Leases, AreThere, trees_of, is_held}
 use Rattle.llb_cache.specs.Growth.{CanLend}
 use Rattle.llb_model.specs.Caches.{Instance, IsExclusive, Has}
-use Rattle.llb_model.specs.Leases.{AreLeased, HasLease}
-use Rattle.llb_model.specs.State.{Execution, WorkerStatus, Idle, Runs}
+use Rattle.llb_model.specs.Bridge.{AreLeased, HasLease}
+use Rattle.llb_model.specs.State.{Execution, WorkerStatus, Idle, Runs, places_at}
 use Rattle.llb_model.proofs.Dense.{holder_of}
-use Rattle.llb_model.proofs.Leasing.{leased_holds_as}
+use Rattle.llb_model.proofs.BridgeLeases.{leased_holds_as}
 use Rattle.llb_model.proofs.Lists.{get_set_same, get_set_other}
-use Rattle.llb_board.specs.Caches.{leased_places, places_at}
+use Rattle.llb_board.specs.OptionalLeases.{leased_places}
 use Rattle.llb_board.specs.Displaced.{AreHeldThere, AreHeldOnce}
 use Rattle.llb_board.proofs.Returned.{few_leases}
-use Rattle.llb_board.proofs.Rewritten.{AreKeysApart, AreWithin}
+use Rattle.llb_model.proofs.BridgeRewritten.{AreKeysApart, AreWithin}
 use Rattle.llb_board.proofs.Stepping.{places_are}
-use Rattle.llb_board.proofs.Unmade.{all_by, pairs_apart}
+use Rattle.llb_model.proofs.BridgeUnmade.{all_by, pairs_apart}
 
 -- ---- the instances of a lease
 

@@ -6,13 +6,12 @@ use Rattle.std.proofs.Math.Seq.{drop-cons}
 use Rattle.llb_cache.specs.Caches as cache
 use Rattle.llb_cache.specs.Caches.{CachesValue, Row, Leases, leases, tree_at, place_at, places_of}
 use Rattle.llb_tree.specs.Tree.{TreeMap, empty_tree}
-use Rattle.llb_model.specs.Caches.{Instance}
+use Rattle.llb_model.specs.Caches.{Instance, tree_of}
 use Rattle.llb_model.specs.State.{WorkerStatus, Idle}
-use Rattle.llb_model.specs.Kept.{store_of}
-use Rattle.llb_model.specs.Leases.{AreLeased, put_each}
-use Rattle.llb_model.proofs.Kept.{shows_instances}
-use Rattle.llb_model.proofs.Leasing.{end_gives_back, end_without}
-use Rattle.llb_board.specs.Caches.{tree_of, IsOutIf, given_back}
+use Rattle.llb_model.specs.Bridge.{store_of, AreLeased, put_each}
+use Rattle.llb_model.proofs.BridgeContents.{shows_instances}
+use Rattle.llb_model.proofs.BridgeLeases.{end_gives_back, end_without}
+use Rattle.llb_board.specs.OptionalLeases.{IsOutIf, given_back}
 use Rattle.llb_board.specs.Views.{at_of, leased_by}
 use Rattle.llb_board.specs.declared.workers.seat.Seat.{Seat}
 use Rattle.llb_board.specs.declared.workers.seat.Seat.TheVariants as seat

@@ -10,8 +10,6 @@ pub mod Steps
 pub mod Behind
 pub mod Searches
 pub mod Wanting
-pub mod Written
-pub mod Rewritten
 pub mod Returned
 pub mod Lent
 pub mod Begins
@@ -24,7 +22,6 @@ pub mod Stages
 pub mod InStep
 pub mod Crews
 pub mod Worked
-pub mod Unmade
 pub mod Leasable
 pub mod Claims
 pub mod Landings

@@ -4,13 +4,12 @@ use Rattle.std.specs.Prelude.{slice_get, option_map}
 use Rattle.std.proofs.lemmas.Option.{slice_get-map, slice_get_past}
 use Rattle.llb_cache.specs.Caches.{Row, trees_of}
 use Rattle.llb_tree.specs.Tree.{TreeMap, empty_tree}
-use Rattle.llb_model.specs.Caches.{Instance, trees_at}
-use Rattle.llb_model.specs.Kept.{store_of}
-use Rattle.llb_model.proofs.Kept.{shows_instances}
+use Rattle.llb_model.specs.Caches.{Instance, trees_at, tree_of}
+use Rattle.llb_model.specs.Bridge.{store_of}
+use Rattle.llb_model.proofs.BridgeContents.{shows_instances}
 use Rattle.llb_model.proofs.Lists.{get_within}
-use Rattle.llb_board.specs.Caches.{tree_of}
 use Rattle.llb_board.proofs.Lists.{length_map, got_has}
-use Rattle.llb_board.proofs.Rewritten.{AreWithin}
+use Rattle.llb_model.proofs.BridgeRewritten.{AreWithin}
 
 -- what an instance that is there has is its tree
 pub instance_there : (rows : List Row) (ps : List Instance) (k : ℕ) (p : Instance) (o : Option TreeMap) → AreWithin rows ps → slice_get ps k ≡ Some p

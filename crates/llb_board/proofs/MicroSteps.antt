@@ -12,8 +12,7 @@ use Rattle.llb_tree.specs.Tree.{TreeMap}
 use Rattle.llb_events.specs.declared.event.Stepped.TheVariants as did
 use Rattle.llb_model.specs.Table.{HasStepped}
 use Rattle.llb_model.specs.Caches.{Instance, Has, Distinct, trees_at}
-use Rattle.llb_model.specs.Kept.{store_of}
-use Rattle.llb_model.specs.Leases.{put_each}
+use Rattle.llb_model.specs.Bridge.{store_of, put_each}
 use Rattle.llb_model.specs.Program.{Build, MicroStep, Left, key_of, mount_of, needs_of, program_of, program_at, step_on}
 use Rattle.llb_model.specs.State.{Execution}
 use Rattle.llb_model.specs.Table.{Reply, with_step, step_reply}

@@ -15,7 +15,7 @@ use Rattle.llb_loader.specs.Mounts.{CacheKey}
 use Rattle.llb_tree.specs.Tree.{TreeMap}
 use Rattle.llb_model.specs.Caches.{Instance}
 use Rattle.llb_model.specs.Program.{Need, key_of, mount_of, with_need, needs_from, needs_of, shown_of, workspace_on}
-use Rattle.llb_board.specs.Needs.{places_taken}
+use Rattle.llb_model.specs.Bridge.{places_taken}
 use Rattle.llb_execution.specs.Parts.{mounts_in, shown_in}
 use Rattle.llb_board.specs.Supplies.{needs_at}
 use Rattle.llb_board.proofs.Lists.{length_map}

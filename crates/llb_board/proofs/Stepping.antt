@@ -10,16 +10,15 @@ use Rattle.llb_cache.specs.Caches.{Row, Leases, places_of, trees_of, AreApart, A
 use Rattle.llb_tree.specs.Tree.{TreeMap}
 use Rattle.llb_model.specs.Caches.{Instance, Store, Has, Distinct, content, trees_at}
 use Rattle.llb_model.specs.Program.{Build, MicroStep, step_on}
-use Rattle.llb_model.specs.State.{Execution, WorkerStatus, Runs, program_in, is_finished, next_step}
-use Rattle.llb_model.specs.Kept.{store_of}
-use Rattle.llb_model.specs.Leases.{AreLeased, HasLease, put_each}
+use Rattle.llb_model.specs.State.{Execution, WorkerStatus, Runs, program_in, is_finished, next_step, places_at}
+use Rattle.llb_model.specs.Bridge.{store_of, AreLeased, HasLease, put_each, written}
 use Rattle.llb_model.specs.Table.{Reply, with_step, step_reply}
-use Rattle.llb_model.proofs.Leases.{writes_alike}
+use Rattle.llb_model.proofs.BridgeClaims.{writes_alike}
 use Rattle.llb_model.proofs.Lists.{get_set_same}
-use Rattle.llb_model.proofs.Leasing.{step_keeps_lease}
+use Rattle.llb_model.proofs.BridgeLeases.{step_keeps_lease}
 use Rattle.llb_model.proofs.Parts.{step_keeps}
 use Rattle.llb_execution.specs.Parts.{work_with}
-use Rattle.llb_board.specs.Caches.{written, places_at, leased_places}
+use Rattle.llb_board.specs.OptionalLeases.{leased_places}
 use Rattle.llb_events.specs.Faults.{step_memory, GivesStep}
 use Rattle.llb_board.specs.WorkerRules.{Written, worked_by, written_by, worked_in}
 use Rattle.llb_board.specs.Views.{at_of, leased_by, execution_of}
@@ -30,8 +29,8 @@ use Rattle.llb_board.specs.declared.workers.seat.Seat.TheVariants as seat
 use Rattle.llb_board.specs.declared.workers.seat.Execution as own
 use Rattle.llb_board.proofs.Lists.{length_map, get_map, map_set, set_same}
 use Rattle.llb_board.proofs.Grants.{granted_by}
-use Rattle.llb_board.proofs.Written.{written_each}
-use Rattle.llb_board.proofs.Rewritten.{AreKeysApart}
+use Rattle.llb_model.proofs.BridgeWritten.{written_each}
+use Rattle.llb_model.proofs.BridgeRewritten.{AreKeysApart}
 
 inside_ok : {A E : Type 0} {x y : A} → ◌≡◌ {A = Result A E} (Ok x) (Ok y) → x ≡ y
 inside_ok e = cc

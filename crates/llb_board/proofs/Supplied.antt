@@ -6,10 +6,10 @@ use Rattle.llb_tree.specs.Tree.{empty_tree}
 use Rattle.llb_loader.specs.declared.graph.Vertex.{Vertex}
 use Rattle.llb_model.specs.Program.{Build, program_at}
 use Rattle.llb_model.specs.State.{Status, Settled, WorkerStatus, Idle, Runs, program_in, is_finished}
-use Rattle.llb_model.specs.Leases.{AreLeased}
+use Rattle.llb_model.specs.Bridge.{AreLeased}
 use Rattle.llb_model.specs.Outcome.{ended}
 use Rattle.llb_model.proofs.Lists.{inside}
-use Rattle.llb_model.proofs.Leasing.{claim_leases, claim_without}
+use Rattle.llb_model.proofs.BridgeLeases.{claim_leases, claim_without}
 use Rattle.llb_model.specs.Caches.{Instance}
 use Rattle.llb_board.specs.Views.{at_of, leased_by, execution_of}
 use Rattle.llb_board.specs.WorkerRules.{left_at}

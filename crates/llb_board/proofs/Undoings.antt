@@ -12,10 +12,10 @@ use Rattle.llb_execution.specs.Marks.{Mark, put_back}
 use Rattle.llb_execution.specs.Parts.{mounts_in}
 use Rattle.llb_execution.proofs.Marks.{shown_back}
 use Rattle.llb_model.specs.Caches.{Instance}
-use Rattle.llb_model.specs.Leases.{AreLeased, put_each}
-use Rattle.llb_model.specs.State.{WorkerStatus, Idle, Runs, Execution}
+use Rattle.llb_model.specs.Bridge.{AreLeased, put_each}
+use Rattle.llb_model.specs.State.{WorkerStatus, Idle, Runs, Execution, places_at}
 use Rattle.llb_model.proofs.Lists.{length_set}
-use Rattle.llb_board.specs.Caches.{IsOutIf, given_back, taken_back, leased_places, places_at, lent_of, lent_if}
+use Rattle.llb_board.specs.OptionalLeases.{IsOutIf, given_back, taken_back, leased_places, lent_of, lent_if}
 use Rattle.llb_board.specs.Supplies.{ready_made, supplies_of}
 use Rattle.llb_board.specs.Displaced.{Back, Unclaim, Unstep, Resume, back_in, workers_before, supplies_before, rows_before, step_before, IsStepped, CanPutBack}
 use Rattle.llb_board.specs.Undoing.{seat_before, left_in}
@@ -32,7 +32,7 @@ use Rattle.llb_board.proofs.Leasable.{lease_places, leased_there, can_lend}
 use Rattle.llb_board.proofs.Lent.{leased_settled, lease_out}
 use Rattle.llb_board.proofs.Lists.{map_set, get_map, set_same, length_map}
 use Rattle.llb_board.proofs.Stepping.{leased_stepped}
-use Rattle.llb_board.proofs.Unmade.{keys_apart}
+use Rattle.llb_model.proofs.BridgeUnmade.{keys_apart}
 use Rattle.llb_board.proofs.Worked.{seen_of}
 
 -- ---- a micro-step

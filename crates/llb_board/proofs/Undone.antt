@@ -12,7 +12,7 @@ use Rattle.llb_loader.specs.Graph.{IsGraph}
 use Rattle.llb_loader.specs.declared.graph.Vertex.{Vertex}
 use Rattle.llb_model.specs.Table.{cancel_reply}
 use Rattle.llb_model.specs.Caches.{Instance, Distinct, trees_at}
-use Rattle.llb_model.specs.Kept.{store_of}
+use Rattle.llb_model.specs.Bridge.{store_of}
 use Rattle.llb_model.specs.Laws.{HasDistinctNeeds}
 use Rattle.llb_model.specs.Program.{Build, key_of, program_at, step_on}
 use Rattle.llb_model.specs.Room.{events_of, cancel_counts}
@@ -37,7 +37,7 @@ use Rattle.llb_board.specs.Workers.{WorkersValue}
 use Rattle.llb_board.specs.declared.workers.undoing.End.TheVariants as end
 use Rattle.llb_board.proofs.Lists.{map_set, set_same, get_map, length_map}
 use Rattle.llb_board.proofs.Needed.{few_needs}
-use Rattle.llb_board.proofs.Unmade.{within_held}
+use Rattle.llb_model.proofs.BridgeUnmade.{within_held}
 use Rattle.llb_board.specs.Seen.{BoardValue, Replays, opening_with, seen}
 use Rattle.llb_board.specs.Kept.{IsBoard}
 use Rattle.llb_board.specs.History.{Space, front, last_of, space_back}

@@ -14,13 +14,11 @@ use Rattle.llb_events.specs.declared.fault.VertexFault.{VertexFault}
 use Rattle.llb_model.specs.Caches.{Instance, Hold, Distinct, content, put_all, trees_at}
 use Rattle.llb_model.specs.Program.{Build, MicroStep, needs_of, step_on}
 use Rattle.llb_model.specs.State.{Status, Waiting, Running, Settled, Execution, WorkerStatus, Idle, Runs, State, program_in, work_of, next_step, ending_from}
-use Rattle.llb_model.specs.State.{held}
-use Rattle.llb_model.specs.State.{places_for, begin_at, first_trees}
+use Rattle.llb_model.specs.State.{held, places_for, begin_at, first_trees, places_at}
 use Rattle.llb_events.specs.declared.event.Event.{Event}
 use Rattle.llb_events.specs.declared.event.Event.TheVariants.{Claim, Step, Settle, Cancel}
 use Rattle.llb_model.specs.Table.{worker_of, with_step, step_by, after_end, table}
-use Rattle.llb_model.specs.Kept.{store_of}
-use Rattle.llb_model.specs.Leases.{put_each}
+use Rattle.llb_model.specs.Bridge.{store_of, put_each, written, rows_after}
 use Rattle.llb_model.proofs.Claims.{places_distinct, places_length, first_length}
 use Rattle.llb_model.proofs.Events.{Answer, IsStep, claim_places, claim_is, step_is, settle_is, cancel_is}
 use Rattle.llb_model.proofs.Lists.{get_set_same, length_set}
@@ -31,7 +29,7 @@ use Rattle.llb_model.proofs.There.{held_are_there}
 use Rattle.llb_board.specs.Faults.{faulted}
 use Rattle.llb_board.specs.declared.fault.WalkFault.{WalkFault}
 use Rattle.llb_board.specs.declared.fault.WalkFault.TheVariants as walk
-use Rattle.llb_board.specs.Caches.{written, places_at, rows_after, lent_of}
+use Rattle.llb_board.specs.OptionalLeases.{lent_of}
 use Rattle.llb_board.specs.Supplies.{needs_at}
 use Rattle.llb_board.specs.Displaced.{Back, Unclaim, Unstep, Resume, Displaced, walk_in, end_of, workers_before, with_view_back, step_before, rows_before}
 use Rattle.llb_board.specs.Displaced.{taken_at, MarksClaim, MarksStep, MarksEnd, MarksIn}
@@ -40,8 +38,8 @@ use Rattle.llb_board.specs.Workers.{WorkersValue}
 use Rattle.llb_board.specs.declared.workers.undoing.End.{End}
 use Rattle.llb_board.specs.declared.workers.undoing.End.TheVariants as end
 use Rattle.llb_board.proofs.Lists.{length_map, set_back, front_again}
-use Rattle.llb_board.proofs.Rewritten.{AreKeysApart}
-use Rattle.llb_board.proofs.Unmade.{keys_apart, keys_for, unwritten, unstepped}
+use Rattle.llb_model.proofs.BridgeRewritten.{AreKeysApart}
+use Rattle.llb_model.proofs.BridgeUnmade.{keys_apart, keys_for, unwritten, unstepped}
 use Rattle.llb_board.specs.Seen.{BoardValue, Replays, seen, after_event, recorded}
 use Rattle.llb_board.specs.Undo.{told_as, walk_of, statuses_before, undone, event_before, IsLast, StandsBehind, CanUndo}
 use Rattle.llb_board.specs.declared.board.walk.Reply as replied

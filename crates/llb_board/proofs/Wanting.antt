@@ -20,7 +20,7 @@ use Rattle.llb_loader.specs.Rules.{kind_mounts}
 use Rattle.llb_tree.specs.Tree.{TreeMap}
 use Rattle.llb_model.specs.Caches.{Has, Distinct}
 use Rattle.llb_model.specs.Program.{Need, key_of, mount_of, base_in, with_need, needs_from, needs_of}
-use Rattle.llb_model.specs.Leases.{asked}
+use Rattle.llb_model.specs.Bridge.{asked}
 use Rattle.llb_model.proofs.Lists.{get_within, got_within}
 use Rattle.llb_board.specs.Needs.{HasEdges, is_locked_and_held, first_held_key}
 

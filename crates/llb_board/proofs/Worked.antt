@@ -5,16 +5,14 @@ use Rattle.llb_wire.specs.Answer.{MemoryLast}
 use Rattle.llb_cache.specs.Caches.{Row, Leases, trees_of, AreApart, AreThere}
 use Rattle.llb_model.specs.Table.{HasStepped}
 use Rattle.llb_model.specs.Caches.{Instance, Has, trees_at}
-use Rattle.llb_model.specs.Kept.{store_of}
-use Rattle.llb_model.specs.Leases.{put_each}
+use Rattle.llb_model.specs.Bridge.{store_of, put_each, written, rows_after}
 use Rattle.llb_model.specs.Program.{Build, MicroStep, step_on}
 use Rattle.llb_model.specs.State.{Status, Execution, WorkerStatus, Runs, State, program_in, next_step}
 use Rattle.llb_model.specs.Table.{Reply, step_grant, stepped, step_with, with_step, step_reply}
-use Rattle.llb_model.proofs.Leases.{writes_alike}
+use Rattle.llb_model.proofs.BridgeClaims.{writes_alike}
 use Rattle.llb_execution.specs.Parts.{work_with}
 use Rattle.llb_events.specs.declared.event.Stepped.{Stepped}
 use Rattle.llb_events.specs.declared.refusal.StepFault.{StepFault}
-use Rattle.llb_board.specs.Caches.{written, rows_after}
 use Rattle.llb_board.specs.Supplies.{ready_made, supplies_of, supplies_for}
 use Rattle.llb_events.specs.Faults.{step_memory, GivesStep}
 use Rattle.llb_board.specs.WorkerRules.{Written, worked_by, written_by, worked_in}

@@ -7,10 +7,9 @@ use Rattle.llb_tree.specs.Tree.{TreeMap}
 use Rattle.llb_execution.specs.Marks.{Mark, mark_of, put_back}
 use Rattle.llb_execution.specs.Parts.{mounts_in}
 use Rattle.llb_model.specs.Caches.{Instance, Has, Distinct, IsExclusive, trees_at}
-use Rattle.llb_model.specs.Kept.{store_of}
-use Rattle.llb_model.specs.Leases.{put_each}
+use Rattle.llb_model.specs.Bridge.{store_of, put_each}
 use Rattle.llb_model.specs.Program.{key_of}
-use Rattle.llb_model.specs.State.{State, Status, Waiting, Running, Execution, WorkerStatus, Idle, Runs, held, places_for}
+use Rattle.llb_model.specs.State.{State, Status, Waiting, Running, Execution, WorkerStatus, Idle, Runs, held, places_for, places_at}
 use Rattle.llb_model.specs.Table as table
 use Rattle.llb_events.specs.declared.event.Event as own_event
 use Rattle.llb_events.specs.declared.event.Event.TheVariants as event
@@ -20,7 +19,7 @@ use Rattle.llb_events.specs.declared.refusal.SettleFault.TheVariants as no_settl
 use Rattle.llb_events.specs.declared.refusal.CancelFault.TheVariants as no_cancel
 use Rattle.llb_board.specs.Supplies.{Supplies, supplies_for, mounts_at, needs_at}
 use Rattle.llb_board.specs.Faults.{faulted}
-use Rattle.llb_board.specs.Caches.{places_at, lent_of}
+use Rattle.llb_board.specs.OptionalLeases.{lent_of}
 use Rattle.llb_board.specs.Undoing.{Left, left_in}
 use Rattle.llb_board.specs.Vertices.{VerticesValue, status_of}
 use Rattle.llb_board.specs.Workers.{WorkersValue, state_in, claim_in, step_in}

@@ -12,8 +12,7 @@ use Rattle.llb_ops.specs.declared.op.Input.{Input}
 use Rattle.llb_loader.specs.declared.graph.Edge.{Edge}
 use Rattle.llb_loader.specs.declared.graph.Vertex.{Vertex}
 use Rattle.llb_model.specs.Caches.{Instance, place}
-use Rattle.llb_model.specs.Kept.{store_of}
-use Rattle.llb_model.specs.Leases.{asked}
+use Rattle.llb_model.specs.Bridge.{store_of, asked}
 use Rattle.llb_model.specs.Program.{Need, base_in}
 use Rattle.llb_model.specs.State.{first_trees}
 use Rattle.llb_events.specs.declared.refusal.ClaimFault.{ClaimFault}
@@ -33,10 +32,6 @@ first_held_key out (n ∷ needs) = if is_locked_and_held out n.key then Some n.k
 abbrev pub unless_held : List Need → Option Key → Result (List Need) ClaimFault
 unless_held needs None = Ok needs
 unless_held needs (Some k) = Err (claim.Held k)
-
--- the instances that a lease takes
-abbrev pub places_taken : Leases → List Need → List Instance
-places_taken out needs = map (λ (n : Need). cache.place_for out n.key) needs
 
 -- a wanted cache, as a need of the model
 abbrev pub need_of : Wanted → Need
@@ -84,10 +79,6 @@ taken_with c inputs needs = (
   first_trees (store_of c.rows) inputs (places_taken c.out needs) needs,
   asked inputs needs,
 )
-
--- what a lease of a need adds
-abbrev pub growth_for : cache.CachesValue → Need → Growth
-growth_for c n = growth_at c.rows (cache.place_for c.out n.key)
 
 -- what a claim takes of caches that are wanted, as they were found
 abbrev pub taken_by : List TreeMap → List Wanted → Taking

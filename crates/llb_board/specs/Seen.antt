@@ -2,12 +2,11 @@
 use Rattle.std.specs.Prelude.{◌≡◌, ℕ, List, [], ◌∷◌, ◌++◌, length, fold, option_map, Option, Some, None, Result, Ok, Err, unwrap_or}
 use Rattle.llb_model.specs.Program.{Build}
 use Rattle.llb_cache.specs.Caches.{Row}
-use Rattle.llb_model.specs.Kept.{store_of}
+use Rattle.llb_model.specs.Bridge.{store_of, rows_after}
 use Rattle.llb_model.specs.State.{State, Opening, opening}
 use Rattle.llb_events.specs.declared.event.Event.{Event}
 use Rattle.llb_model.specs.Table.{Reply, worker_of, table}
 use Rattle.llb_model.specs.Run.{run}
-use Rattle.llb_board.specs.Caches.{rows_after}
 use Rattle.llb_board.specs.Vertices.{VerticesValue}
 use Rattle.llb_board.specs.Workers.{WorkersValue, state_in}
 

@@ -6,13 +6,13 @@ use Rattle.llb_tree.specs.Tree.{TreeMap}
 use Rattle.llb_execution.specs.Marks.{Mark, put_back}
 use Rattle.llb_execution.specs.Parts.{mounts_in}
 use Rattle.llb_model.specs.Caches.{Instance}
-use Rattle.llb_model.specs.Kept.{store_of}
+use Rattle.llb_model.specs.Bridge.{store_of}
 use Rattle.llb_model.specs.Program.{key_of}
 use Rattle.llb_model.specs.State.{Status, Waiting, Running, Execution, Idle, Runs}
 use Rattle.llb_model.specs.Table as table
 use Rattle.llb_events.specs.declared.event.Event as own_event
 use Rattle.llb_events.specs.declared.event.Event.TheVariants as event
-use Rattle.llb_board.specs.Caches.{lent_of}
+use Rattle.llb_board.specs.OptionalLeases.{lent_of}
 use Rattle.llb_board.specs.Supplies.{supplies_for, mounts_at, needs_at}
 use Rattle.llb_board.specs.Displaced.{Back, Unclaim, Unstep, Resume, Displaced, walk_memory, end_of, workers_before, rows_before}
 use Rattle.llb_board.specs.Undoing.{Left}

@@ -16,8 +16,7 @@ ghost use Rattle.llb_board.specs.Links.{users_of};
 ghost use Rattle.llb_wire.specs.Answer.{MemoryLast};
 ghost use Rattle.llb_cache.specs.Caches.{leases};
 ghost use Rattle.llb_model.specs.Caches.{content, place};
-ghost use Rattle.llb_model.specs.Kept.{store_of};
-ghost use Rattle.llb_model.specs.Leases.{HoldsAs};
+ghost use Rattle.llb_model.specs.Bridge.{store_of, HoldsAs};
 ghost use Rattle.llb_events.specs.Faults.{step_memory, GivesStep, GivesSettle, GivesCancel};
 ghost use Rattle.llb_events.specs.Faults.{GivesClaim, claim_memory, claim_may_want};
 ghost use Rattle.llb_board.specs.Statuses.{look_at, worker_look};
@@ -79,7 +78,7 @@ impl Drop for Board {
 impl Model for Board {
     ghost use Rattle.std.specs.Coded.{codes};
     ghost use Rattle.llb_tree.specs.Coded.{coded_tree};
-    ghost use Rattle.llb_board.specs.Store.{coded_store};
+    ghost use Rattle.llb_model.specs.Coded.{coded_store};
     ghost use Rattle.llb_board.specs.Seen.{BoardValue, seen};
     ghost use Rattle.llb_board.specs.Kept.{IsBoard};
 

@@ -3,9 +3,8 @@
 
 ghost use Rattle.std.specs.Prelude.{◌≡◌, ◌↔◌, ◌<◌, ◌≤◌, [], IsTrue, length, option_map, replicate, slice_get, IfOk, IfErr};
 ghost use Rattle.llb_cache.specs.Caches.{leases};
-ghost use Rattle.llb_model.specs.Leases.{HoldsAs};
-ghost use Rattle.llb_model.specs.State.{Execution, Idle, runs};
-ghost use Rattle.llb_board.specs.Caches.{places_at};
+ghost use Rattle.llb_model.specs.Bridge.{HoldsAs};
+ghost use Rattle.llb_model.specs.State.{Execution, Idle, runs, places_at};
 ghost use Rattle.llb_board.specs.Supplies.{supplies_for};
 ghost use Rattle.llb_board.specs.Statuses.{look_of};
 

@@ -26,9 +26,12 @@ pub mod Whole
 pub mod Dense
 pub mod There
 pub mod Needs
-pub mod Kept
-pub mod Leases
-pub mod Leasing
+pub mod BridgeContents
+pub mod BridgeClaims
+pub mod BridgeLeases
+pub mod BridgeWritten
+pub mod BridgeRewritten
+pub mod BridgeUnmade
 pub mod Vertices
 pub mod Landing
 pub mod Endings

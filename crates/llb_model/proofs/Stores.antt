@@ -1,63 +1,35 @@
 -- Contents and places: what a write changes, and what stays.
 use Rattle.std.proofs.Common.{◌≡◌, ◌≢◌, suc, Bool, true, false, ◌||◌, List, [], ◌∷◌, ◌++◌, length, map, Option, Some, None, unwrap_or, ◌⊎◌}
 use Rattle.std.proofs.Common.{inl, inr, refl, sym, ap, subst, ◌∙◌, cond, arith}
-use Rattle.std.specs.Ordering.{eq_by_cmp}
-use Rattle.std.specs.Cmp.{IsTotalOrder, Equal-is, on_total}
-use Rattle.std.specs.Cmp.Lexicographic.{lists_total, nat_list_cmp_total}
+use Rattle.std.specs.declared.cmp.Ordering.{Ordering}
+use Rattle.std.specs.declared.cmp.Ordering.TheVariants.{Less, Equal, Greater}
+use Rattle.std.specs.Ordering.{eq_by_cmp, is_eq, nat_cmp, ordering_then}
+use Rattle.std.specs.Cmp.{IsTotalOrder, Equal-is, nat_cmp_total, on_total, then_total}
 use Rattle.std.proofs.lemmas.Cmp.{eq_by_cmp_equiv}
 use Rattle.std.specs.FinMap as finite
-use Rattle.std.specs.FinMap.{IsAntisymmetric, slice_cmp-IsAntisymmetric, nat_cmp-IsAntisymmetric}
-use Rattle.llb_cache.specs.declared.key.Key.{Key}
-use Rattle.llb_cache.specs.declared.key.Seed.{Seed}
-use Rattle.llb_cache.specs.declared.key.Mode.{Mode}
-use Rattle.llb_cache.specs.declared.key.Mode.TheVariants.{Shared, Private, Locked}
+use Rattle.std.specs.FinMap.{IsAntisymmetric, nat_cmp-IsAntisymmetric}
+use Rattle.llb_cache.specs.KeyOrder.{key_cmp}
+use Rattle.llb_cache.specs.LawsOfKeyOrder.{key_cmp-IsTotalOrder, tie_is_same}
+use Rattle.llb_cache.specs.LawsOfKeys.{same_keys}
 use Rattle.llb_tree.specs.Tree.{TreeMap, empty_tree}
-use Rattle.llb_model.specs.Caches.{Instance, mode_number, seed_name, key_name, name_of, place_cmp, Store, content, put, put_all, trees_at}
-use Rattle.llb_model.specs.Caches.{Hold, Has, Distinct, is_in}
+use Rattle.llb_model.specs.Caches.{Instance, place_cmp, Store, content, put, put_all, trees_at, Hold, Has, Distinct, is_in}
 
 -- ---- places
 
-mode_same : (a b : Mode) → mode_number a ≡ mode_number b → a ≡ b
-mode_same Shared Shared e = refl
-mode_same Shared Private e = absurd (omega arith)
-mode_same Shared Locked e = absurd (omega arith)
-mode_same Private Shared e = absurd (omega arith)
-mode_same Private Private e = refl
-mode_same Private Locked e = absurd (omega arith)
-mode_same Locked Shared e = absurd (omega arith)
-mode_same Locked Private e = absurd (omega arith)
-mode_same Locked Locked e = refl
-
-mode_of_name : (k l : Mode) → mode_number k ∷ [] ≡ mode_number l ∷ [] → k ≡ l
-mode_of_name k l e = mode_same k l cc
-
-seed_same : (a b : Option Seed) → seed_name a ≡ seed_name b → a ≡ b
-seed_same None None e = refl
-seed_same None (Some t) e = absurd cc
-seed_same (Some s) None e = absurd cc
-seed_same (Some s) (Some t) e =
-    let index : s.index ≡ t.index = cc in
-    let digest : s.digest ≡ t.digest = cc in
-    (λ i. Some (record { digest = digest i; index = index i }))
-
-key_same : (k l : Key) → key_name k ≡ key_name l → k ≡ l
-key_same k l e =
-    let id : k.id ≡ l.id = cc in
-    let seed : seed_name k.seed ≡ seed_name l.seed = cc in
-    let mode : mode_number k.mode ∷ [] ≡ mode_number l.mode ∷ [] = cc in
-    (λ i. record { id = id i; seed = seed_same k.seed l.seed seed i; mode = mode_of_name k.mode l.mode mode i })
-
-place_same : (p q : Instance) → name_of p ≡ name_of q → p ≡ q
-place_same p q e =
-    let number : p.number ≡ q.number = cc in
-    let key : key_name p.key ≡ key_name q.key = cc in
-    (λ i. record { key = key_same p.key q.key key i; number = number i })
-
 place_total : IsTotalOrder place_cmp
-place_total = on_total name_of (lists_total nat_list_cmp_total)
+place_total = then_total (on_total (λ (p : Instance). p.number) nat_cmp_total) (on_total (λ (p : Instance). p.key) key_cmp-IsTotalOrder)
+
+both_equal : (a b : Ordering) → ordering_then a b ≡ Equal → (a ≡ Equal) × (b ≡ Equal)
+both_equal Equal b e = (refl, e)
+both_equal Less b e = absurd (let x : Less ≡ Equal = e in cc)
+both_equal Greater b e = absurd (let x : Greater ≡ Equal = e in cc)
 
 place_antisymmetric : IsAntisymmetric place_cmp
-place_antisymmetric p q e = place_same p q (slice_cmp-IsAntisymmetric (slice_cmp-IsAntisymmetric nat_cmp-IsAntisymmetric) (name_of p) (name_of q) e)
+place_antisymmetric p q e =
+    let parts = both_equal (nat_cmp p.number q.number) (key_cmp p.key q.key) e in
+    let number = nat_cmp-IsAntisymmetric p.number q.number parts.0 in
+    let key = same_keys p.key q.key (sym (tie_is_same p.key q.key) ∙ ap is_eq parts.1) in
+    (λ i. record { key = key i; number = number i })
 
 -- places that compare as equal are the same place
 pub place_test : (p q : Instance) → eq_by_cmp place_cmp p q ≡ true → p ≡ q

@@ -1,43 +1,20 @@
 -- The contents of caches: a finite map from instances, each a key and a number, to trees.
 use Rattle.std.specs.Prelude.{◌≡◌, ℕ, Bool, List, [], ◌∷◌, map, Option, Some, None, unwrap_or, ◌⊎◌}
-use Rattle.std.specs.Ordering.{on, nat_cmp, eq_by_cmp}
-use Rattle.std.specs.Cmp.Lexicographic.{slice_cmp}
+use Rattle.std.specs.Ordering.{ordering_then, nat_cmp, eq_by_cmp}
 use Rattle.std.specs.List.{list_any}
 use Rattle.std.specs.declared.cmp.Ordering.{Ordering}
 use Rattle.std.specs.FinMap as finite
 use Rattle.std.specs.FinMap.{FinMap}
-use Rattle.llb_cache.specs.declared.key.Key.{Key}
-use Rattle.llb_cache.specs.declared.key.Seed.{Seed}
-use Rattle.llb_cache.specs.declared.key.Mode.{Mode}
-use Rattle.llb_cache.specs.declared.key.Mode.TheVariants.{Shared, Private, Locked}
+use Rattle.llb_cache.specs.KeyOrder.{key_cmp}
 pub use Rattle.llb_cache.specs.declared.need.Instance.{Instance}
 pub use Rattle.llb_cache.specs.Caches.{place, IsExclusive}
 use Rattle.llb_tree.specs.Tree.{TreeMap, empty_tree}
 
 -- ---- instances
 
--- the number of a mode, by which modes are ordered
-abbrev pub mode_number : Mode → ℕ
-mode_number Shared = 0
-mode_number Private = 1
-mode_number Locked = 2
-
--- a seed as lists of numbers, by which seeds are ordered
-abbrev pub seed_name : Option Seed → List (List ℕ)
-seed_name None = []
-seed_name (Some s) = (s.index ∷ []) ∷ s.digest ∷ []
-
--- a key as lists of numbers, by which keys are ordered
-abbrev pub key_name : Key → List (List ℕ)
-key_name k = (mode_number k.mode ∷ []) ∷ k.id ∷ seed_name k.seed
-
--- an instance as lists of numbers, by which instances are ordered: its number, and then its key's name
-abbrev pub name_of : Instance → List (List ℕ)
-name_of p = (p.number ∷ []) ∷ key_name p.key
-
--- the order of instances, by their names
+-- the order of instances: by number, then by key
 abbrev pub place_cmp : Instance → Instance → Ordering
-place_cmp = on name_of (slice_cmp (slice_cmp nat_cmp))
+place_cmp p q = ordering_then (nat_cmp p.number q.number) (key_cmp p.key q.key)
 
 -- whether an instance is in a list
 abbrev pub is_in : List Instance → Instance → Bool
@@ -66,6 +43,10 @@ abbrev pub put_all : Store → List Instance → List TreeMap → Store
 put_all s [] ts = s
 put_all s (p ∷ ps) [] = s
 put_all s (p ∷ ps) (t ∷ ts) = put_all (put s p t) ps ts
+
+-- the tree of an instance; the empty tree for one that is not there
+abbrev pub tree_of : Store → Instance → TreeMap
+tree_of s p = unwrap_or (content s p) empty_tree
 
 -- the trees of these instances; the empty tree for one that is not there
 abbrev pub trees_at : Store → List Instance → List TreeMap

@@ -49,6 +49,12 @@ pub record Opening : Type 0 where
 abbrev pub opening : Build → Opening → State
 opening b o = record { statuses = replicate (length b.graph.vertices) Waiting; workers = replicate o.workers Idle; store = o.store }
 
+-- the instances that a worker holds; none if it is idle or not there
+abbrev pub places_at : Option WorkerStatus → List Instance
+places_at (Some (Runs x)) = x.places
+places_at (Some Idle) = []
+places_at None = []
+
 -- how a vertex of this status ended, if it is settled
 abbrev pub ending_of : Option Status → Option Ending
 ending_of (Some (Settled e)) = Some e

@@ -45,7 +45,7 @@ impl Model for Stepper {
     ghost use Rattle.std.specs.Coded.{codes};
     ghost use Rattle.std.specs.Prelude.{reverse};
     ghost use Rattle.llb_tree.specs.Coded.{coded_tree};
-    ghost use Rattle.llb_board.specs.Store.{coded_store};
+    ghost use Rattle.llb_model.specs.Coded.{coded_store};
     ghost use Rattle.llb_stepper.specs.Stepping.{Stepping};
     ghost use Rattle.llb_stepper.specs.Kept.{stepping, AreWalked};
 

@@ -12,7 +12,7 @@ ghost use Rattle.llb_model.specs.State.{ending_at, Running};
 ghost use Rattle.llb_model.specs.Table.{claim_grant};
 ghost use Rattle.llb_cache.specs.Caches.{CachesValue};
 ghost use Rattle.llb_board.specs.Needs.{IsFound, need_of};
-ghost use Rattle.llb_board.specs.Caches.{rows_after};
+ghost use Rattle.llb_model.specs.Bridge.{rows_after};
 ghost use Rattle.llb_board.specs.Supplies.{supplies_for, supplies_of};
 ghost use Rattle.llb_board.specs.WorkerRules as rules;
 ghost use Rattle.llb_board.specs.Vertices.{with_status};

@@ -5,10 +5,10 @@ ghost use Rattle.std.specs.Prelude.{◌≡◌, ◌<◌, ◌^◌, Ok, IfErr, IfOk
 ghost use Rattle.std.specs.List.{All};
 ghost use Rattle.llb_loader.specs.Mounts.{key_of, seed_of};
 ghost use Rattle.llb_loader.specs.Rules.{kind_mounts};
-ghost use Rattle.llb_model.specs.Leases.{asked};
+ghost use Rattle.llb_model.specs.Bridge.{asked, growth_for};
 ghost use Rattle.llb_model.specs.Program.{needs_of, mount_of, base_in, mode_of, key_as, seed_as};
 ghost use Rattle.llb_board.specs.Needs.{need_of, first_held_key, unless_held, if_locked, number_of, HasEdges};
-ghost use Rattle.llb_board.specs.Needs.{IsFound, place_found, row_found, first_tree, taken_by, growth_for};
+ghost use Rattle.llb_board.specs.Needs.{IsFound, place_found, row_found, first_tree, taken_by};
 ghost use Rattle.llb_cache.specs.Key.{seed_by};
 ghost use Rattle.llb_events.specs.Faults.{GivesClaim, claim_memory, claim_may_want};
 

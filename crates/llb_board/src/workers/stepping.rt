@@ -4,11 +4,10 @@ ghost use Rattle.std.specs.Prelude.{◌≡◌, length, false, Some, OnErr, OnOk,
 ghost use Rattle.llb_execution.specs.Parts as parts;
 ghost use Rattle.llb_execution.specs.Parts.{is_skipped};
 ghost use Rattle.llb_model.specs.Table.{HasStepped, unless_failed};
-ghost use Rattle.llb_model.specs.Leases.{HasLease};
+ghost use Rattle.llb_model.specs.Bridge.{HasLease, rows_after};
 ghost use Rattle.llb_model.specs.Program as model;
 ghost use Rattle.llb_model.specs.Program.{Left, last_of};
 ghost use Rattle.llb_model.specs.Table as table;
-ghost use Rattle.llb_board.specs.Caches.{rows_after};
 ghost use Rattle.llb_board.specs.Supplies.{supplies_of, supplies_for};
 ghost use Rattle.llb_events.specs.Faults.{step_memory, GivesStep};
 ghost use Rattle.llb_board.specs.WorkerRules.{worked_in};

@@ -3,7 +3,7 @@
 
 ghost use Rattle.std.specs.Prelude.{◌≡◌, ◌<◌, false, length, map, option_map, slice_get, IfOk, IfErr, Err};
 ghost use Rattle.llb_events.specs.declared.event.Event.TheVariants.{Step};
-ghost use Rattle.llb_board.specs.Needs.{growth_for};
+ghost use Rattle.llb_model.specs.Bridge.{growth_for};
 ghost use Rattle.llb_board.specs.Supplies.{needs_at, ready_made};
 ghost use Rattle.llb_board.specs.Displaced.{MarksIn, MarksClaim, MarksStep, MarksEnd, CanPutBack};
 ghost use Rattle.llb_board.specs.Displaced.{walk_in, walk_memory, end_of, no_worker, not_running};

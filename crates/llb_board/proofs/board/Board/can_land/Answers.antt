@@ -2,8 +2,7 @@ use Rattle.std.proofs.Common.{◌≡◌, ◌∙◌, Option, Some, sym, ap, subst
 use Rattle.std.specs.List.{list_any}
 use Rattle.std.specs.Prelude.{slice_get}
 use Rattle.llb_model.specs.Caches.{Instance}
-use Rattle.llb_model.specs.State.{WorkerStatus}
-use Rattle.llb_board.specs.Caches.{places_at}
+use Rattle.llb_model.specs.State.{WorkerStatus, places_at}
 use Rattle.llb_board.specs.Jobs.{is_shared, has_shared}
 use Rattle.llb_board.specs.Seen.{BoardValue, seen}
 use Rattle.llb_board.specs.Landing.{RunsAlone, RunsShared}

@@ -1,6 +1,6 @@
 use Rattle.std.proofs.Common.{◌≡◌, ◌+◌, ◌∙◌, Some, length, sym, subst, rules, vec_len}
 use Rattle.std.specs.Prelude.{slice_get}
-use Rattle.llb_board.specs.Caches.{lent_of}
+use Rattle.llb_board.specs.OptionalLeases.{lent_of}
 use Rattle.llb_board.specs.Displaced.{Resume, MarksEnd}
 use Rattle.llb_board.specs.Undoing.{left_in}
 use Rattle.llb_board.specs.Workers.{WorkersValue, Fits}

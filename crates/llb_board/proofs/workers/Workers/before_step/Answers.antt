@@ -1,7 +1,7 @@
 use Rattle.std.proofs.Common.{◌≡◌, ◌∙◌, Some, List, sym, ap, subst, rules}
 use Rattle.std.specs.Prelude.{slice_get}
 use Rattle.llb_model.specs.Caches.{Instance, trees_at}
-use Rattle.llb_model.specs.Kept.{store_of}
+use Rattle.llb_model.specs.Bridge.{store_of}
 use Rattle.llb_board.specs.Displaced.{Unstep, MarksStep}
 use Rattle.llb_board.specs.Workers.{WorkersValue, Fits}
 use Rattle.llb_board.specs.declared.workers.seat.Seat.TheVariants as seat

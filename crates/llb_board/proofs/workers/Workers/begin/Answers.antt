@@ -5,7 +5,7 @@ use Rattle.llb_cache.specs.Caches.{CachesValue}
 use Rattle.llb_model.specs.Table.{Claimed}
 use Rattle.llb_model.specs.State.{WorkerStatus, Idle}
 use Rattle.llb_model.specs.Table.{claim_start, claimed}
-use Rattle.llb_model.proofs.Leasing.{leased_holds_as}
+use Rattle.llb_model.proofs.BridgeLeases.{leased_holds_as}
 use Rattle.llb_events.specs.Faults.{GivesClaim, claim_memory, claim_may_want}
 use Rattle.llb_board.specs.Views.{at_of, leased_by}
 use Rattle.llb_board.specs.Workers.{WorkersValue, IsBegunOn, state_in, claim_in, reply_of}

@@ -4,7 +4,8 @@ use Rattle.llb_cache.specs.declared.need.Need as cache_need
 use Rattle.llb_model.specs.Table.{Claimed}
 use Rattle.llb_model.specs.State.{Running}
 use Rattle.llb_model.specs.Table.{Job, claim_grant}
-use Rattle.llb_board.specs.Caches.{lease_if, rows_after}
+use Rattle.llb_board.specs.OptionalLeases.{lease_if}
+use Rattle.llb_model.specs.Bridge.{rows_after}
 use Rattle.llb_board.specs.Vertices.{with_status}
 use Rattle.llb_board.specs.Workers.{WorkersValue, IsBegunAt, Fits, state_in}
 use Rattle.llb_board.specs.declared.workers.seat.Seat.TheVariants as seat

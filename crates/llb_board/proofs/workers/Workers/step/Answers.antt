@@ -5,7 +5,7 @@ use Rattle.llb_wire.specs.Answer.{MemoryLast}
 use Rattle.llb_model.specs.Table.{HasStepped}
 use Rattle.llb_model.specs.State.{WorkerStatus}
 use Rattle.llb_model.specs.Table.{stepped}
-use Rattle.llb_board.specs.Caches.{rows_after}
+use Rattle.llb_model.specs.Bridge.{rows_after}
 use Rattle.llb_events.specs.Faults.{step_memory, GivesStep}
 use Rattle.llb_board.specs.Views.{at_of}
 use Rattle.llb_board.specs.Workers.{WorkersValue, Fits, state_in, step_in}

@@ -1,6 +1,6 @@
 use Rattle.std.proofs.Common.{◌≡◌, ◌∙◌, List, Option, map, sym, ap}
 use Rattle.std.specs.Prelude.{Some, slice_get}
-use Rattle.llb_model.specs.Kept.{store_of}
+use Rattle.llb_model.specs.Bridge.{store_of}
 use Rattle.llb_model.specs.State.{WorkerStatus, Runs, runs}
 use Rattle.llb_board.specs.Looks.{worked_by}
 use Rattle.llb_board.specs.Views.{at_of, leased_by, execution_of}

@@ -2,10 +2,10 @@ use Rattle.std.proofs.Common.{◌≡◌, Some, None, Option, ap, sym, ◌∙◌}
 use Rattle.std.specs.Prelude.{unwrap_or}
 use Rattle.llb_cache.specs.Caches.{trees_of}
 use Rattle.llb_tree.specs.Tree.{empty_tree}
-use Rattle.llb_model.specs.Kept.{store_of}
-use Rattle.llb_model.proofs.Kept.{shows_instances}
+use Rattle.llb_model.specs.Bridge.{store_of}
+use Rattle.llb_model.proofs.BridgeContents.{shows_instances}
 use Rattle.llb_model.proofs.Lists.{get_within}
-use Rattle.llb_board.specs.Caches.{tree_of}
+use Rattle.llb_model.specs.Caches.{tree_of}
 use Rattle.llb_board.proofs.workers.comparing.has_tree.Goals as goal
 
 none_some : {A : Type 0} {x : A} → ◌≡◌ {A = Option A} None (Some x) → ⊥

@@ -1,6 +1,6 @@
 use Rattle.std.proofs.Common.{◌≡◌, map, take}
-use Rattle.llb_model.specs.Kept.{store_of}
-use Rattle.llb_board.specs.Caches.{tree_of}
+use Rattle.llb_model.specs.Bridge.{store_of}
+use Rattle.llb_model.specs.Caches.{tree_of}
 use Rattle.llb_board.proofs.workers.comparing.has_trees.Given as goal
 
 abbrev pub invariant-loop-i : goal.invariant-loop-i

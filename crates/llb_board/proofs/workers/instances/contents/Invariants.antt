@@ -1,6 +1,6 @@
 use Rattle.std.specs.Prelude.{vec_capacity}
-use Rattle.llb_model.specs.Kept.{store_of}
-use Rattle.llb_board.specs.Caches.{tree_of}
+use Rattle.llb_model.specs.Bridge.{store_of}
+use Rattle.llb_model.specs.Caches.{tree_of}
 use Rattle.llb_board.proofs.Lists.{Copied}
 use Rattle.llb_board.proofs.workers.instances.contents.Given as goal
 

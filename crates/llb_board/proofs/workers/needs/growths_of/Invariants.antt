@@ -1,7 +1,7 @@
 use Rattle.std.proofs.Common.{◌≡◌, ◌++◌, map}
 use Rattle.llb_loader.specs.Rules.{kind_mounts}
 use Rattle.llb_model.specs.Program.{needs_of}
-use Rattle.llb_board.specs.Needs.{growth_for}
+use Rattle.llb_model.specs.Bridge.{growth_for}
 use Rattle.llb_board.proofs.Wanted.{needs_left}
 use Rattle.llb_board.proofs.workers.needs.growths_of.Given as goal
 

@@ -2,9 +2,9 @@ use Rattle.std.proofs.Common.{◌≡◌, ◌∙◌, Option, Some, None, length, 
 use Rattle.std.specs.Prelude.{is_some, false}
 use Rattle.llb_model.specs.Table.{HasStepped}
 use Rattle.llb_model.specs.Caches.{trees_at}
-use Rattle.llb_model.specs.Kept.{store_of}
+use Rattle.llb_model.specs.Bridge.{store_of}
 use Rattle.llb_execution.specs.Parts.{left_with, step_in}
-use Rattle.llb_board.specs.Caches.{leased_places}
+use Rattle.llb_board.specs.OptionalLeases.{leased_places}
 use Rattle.llb_board.specs.Views.{execution_of}
 use Rattle.llb_board.proofs.MicroSteps.{step_last, skipped_to, stepped_by, shown_apart, shown_within, few_places, few_done}
 use Rattle.llb_board.proofs.Stepping.{held_within, places_are, trees_count}

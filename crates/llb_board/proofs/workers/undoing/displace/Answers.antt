@@ -4,7 +4,7 @@ use Rattle.std.proofs.lemmas.Option.{slice_get_within}
 use Rattle.llb_cache.specs.declared.growth.Growth.{Growth}
 use Rattle.llb_cache.specs.Caches.{AreThere}
 use Rattle.llb_model.specs.State.{Idle, Runs}
-use Rattle.llb_board.specs.Caches.{taken_back}
+use Rattle.llb_board.specs.OptionalLeases.{taken_back}
 use Rattle.llb_board.specs.Supplies.{ready_made}
 use Rattle.llb_board.specs.Displaced.{Unclaim, Unstep, Resume, back_in, workers_before, supplies_before, rows_before}
 use Rattle.llb_board.specs.Undoing.{left_in}

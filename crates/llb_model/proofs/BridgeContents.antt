@@ -1,4 +1,4 @@
--- A list of instances for each key represents a map from places.
+-- The store that rows represent: what it has at an instance, and what a write of rows puts into it.
 use Rattle.std.proofs.Common.{◌≡◌, ◌≢◌, ℕ, zero, suc, ◌+◌, ◌<◌, ◌≤◌, Bool, true, false, List, [], ◌∷◌, ◌++◌, length, Option, Some, None}
 use Rattle.std.proofs.Common.{unwrap_or, ◌⊎◌, inl, inr, refl, sym, ap, ◌∙◌, cond, arith}
 use Rattle.std.specs.Prelude.{slice_get, slice_set, is_some, nat_lt}
@@ -14,7 +14,7 @@ use Rattle.llb_cache.specs.Rows.{same_trees, other_trees}
 use Rattle.llb_tree.specs.Tree.{TreeMap}
 use Rattle.llb_model.specs.Caches.{Instance, place, place_cmp, Store, content, put}
 use Rattle.llb_model.specs.Laws.{IsDense}
-use Rattle.llb_model.specs.Kept.{with_trees, store_from, store_of, ShowsInstances, EditIsPut}
+use Rattle.llb_model.specs.Bridge.{put_from, store_from, store_of}
 use Rattle.llb_model.proofs.Lists.{get_set_same, get_set_other, get_within, get_past}
 use Rattle.llb_model.proofs.Stores.{content_same, content_other, same_store, place_or}
 
@@ -27,23 +27,23 @@ key_apart k l m n apart e = apart (ap (λ (p : Instance). p.key) e)
 -- ---- the trees of one key
 
 -- the instances of another key, or below the first number, stay as they are
-other_key : (s : Store) (k l : Key) (n m : ℕ) (ts : List TreeMap) → l ≢ k → content (with_trees s k n ts) (place l m) ≡ content s (place l m)
+other_key : (s : Store) (k l : Key) (n m : ℕ) (ts : List TreeMap) → l ≢ k → content (put_from s k n ts) (place l m) ≡ content s (place l m)
 other_key s k l n m [] apart = refl
-other_key s k l n m (t ∷ ts) apart = content_other (with_trees s k (n + 1) ts) (place k n) t (place l m) (key_apart l k m n apart)
+other_key s k l n m (t ∷ ts) apart = content_other (put_from s k (n + 1) ts) (place k n) t (place l m) (key_apart l k m n apart)
     ∙ other_key s k l (n + 1) m ts apart
 
 -- where nothing of the key was past the trees before
 at_number : (s : Store) (k : Key) (n i : ℕ) (ts : List TreeMap) → ((j : ℕ) → slice_get ts j ≡ None → content s (place k (n + j)) ≡ None)
-    → content (with_trees s k n ts) (place k (n + i)) ≡ slice_get ts i
+    → content (put_from s k n ts) (place k (n + i)) ≡ slice_get ts i
 at_number s k n i [] none = none i refl
 at_number s k n zero (t ∷ ts) none =
-    ap (λ m. content (with_trees s k n (t ∷ ts)) (place k m)) (nothing n) ∙ content_same (with_trees s k (n + 1) ts) (place k n) t
+    ap (λ m. content (put_from s k n (t ∷ ts)) (place k m)) (nothing n) ∙ content_same (put_from s k (n + 1) ts) (place k n) t
   where
     nothing : (n : ℕ) → n + 0 ≡ n
     nothing n = omega arith
 at_number s k n (suc i) (t ∷ ts) none =
-    content_other (with_trees s k (n + 1) ts) (place k n) t (place k (n + suc i)) (number_apart k k (n + suc i) n (λ e. absurd (omega (arith, e))))
-    ∙ ap (λ m. content (with_trees s k (n + 1) ts) (place k m)) (one n i)
+    content_other (put_from s k (n + 1) ts) (place k n) t (place k (n + suc i)) (number_apart k k (n + suc i) n (λ e. absurd (omega (arith, e))))
+    ∙ ap (λ m. content (put_from s k (n + 1) ts) (place k m)) (one n i)
     ∙ at_number s k (n + 1) i ts (λ j past. ap (λ m. content s (place k m)) (sym (one n j)) ∙ none (suc j) past)
   where
     one : (n i : ℕ) → n + suc i ≡ n + 1 + i
@@ -68,19 +68,19 @@ shown all (r ∷ rows) k n = go (same_key k r.0) refl (λ m. shown all rows k m)
     zero_plus m = omega arith
 
     go : (b : Bool) → same_key k r.0 ≡ b → ((m : ℕ) → content (store_from all rows) (place k m) ≡ cond (has_row k rows) (slice_get (trees_of all k) m) None)
-        → content (with_trees (store_from all rows) r.0 0 (trees_of all r.0)) (place k n)
+        → content (put_from (store_from all rows) r.0 0 (trees_of all r.0)) (place k n)
         ≡ cond (is_some (cond b (Some r.1) (lookup (same_key k) rows))) (slice_get (trees_of all k) n) None
     go true is rest =
         let same : k ≡ r.0 = same_keys k r.0 is in
-        ap (λ l. content (with_trees (store_from all rows) l 0 (trees_of all l)) (place k n)) (sym same)
-        ∙ ap (λ m. content (with_trees (store_from all rows) k 0 (trees_of all k)) (place k m)) (zero_plus n)
+        ap (λ l. content (put_from (store_from all rows) l 0 (trees_of all l)) (place k n)) (sym same)
+        ∙ ap (λ m. content (put_from (store_from all rows) k 0 (trees_of all k)) (place k m)) (zero_plus n)
         ∙ at_number (store_from all rows) k 0 n (trees_of all k)
         (λ j past. ap (λ m. content (store_from all rows) (place k m)) (sym (zero_plus j)) ∙ rest j ∙ none_past (has_row k rows) j past)
     go false is rest =
         other_key (store_from all rows) r.0 k 0 n (trees_of all r.0) (λ e. let both : true ≡ false = sym (key_itself k) ∙ ap (same_key k) e ∙ is in cc) ∙ rest n
 
 -- the store that rows represent has at each place the instance of that number, and nothing where no row has the key
-pub shows_instances : (rows : List Row) → ShowsInstances rows
+pub shows_instances : (rows : List Row) (p : Instance) → content (store_of rows) p ≡ tree_at rows p
 unfolding store_of has_row
 shows_instances rows p = shown rows rows p.key p.number ∙ go (lookup (same_key p.key) rows)
   where
@@ -90,7 +90,14 @@ shows_instances rows p = shown rows rows p.key p.number ∙ go (lookup (same_key
 
 -- ---- writes
 
-pub edit_is_put : (rows new : List Row) → EditIsPut rows new
+-- one instance is written or comes next, and the rest stays
+record IsEdit (rows new : List Row) (p : Instance) (t : TreeMap) : Type 0 where
+  others : (k : Key) → k ≢ p.key → trees_of new k ≡ trees_of rows k
+  here : slice_get (trees_of new p.key) p.number ≡ Some t
+  rest : (n : ℕ) → n ≢ p.number → slice_get (trees_of new p.key) n ≡ slice_get (trees_of rows p.key) n
+
+-- such an edit of rows puts one tree into their store
+edit_is_put : (rows new : List Row) (p : Instance) (t : TreeMap) → IsEdit rows new p t → store_of new ≡ put (store_of rows) p t
 edit_is_put rows new p t e = same_store (store_of new) (put (store_of rows) p t) (λ q. shows_instances new q ∙ each q)
   where
     key_or : (k l : Key) → (k ≡ l) ⊎ (k ≢ l)
@@ -115,7 +122,8 @@ edit_is_put rows new p t e = same_store (store_of new) (put (store_of rows) p t)
       | inr h ↦ other q h ∙ sym (shows_instances rows q) ∙ sym (content_other (store_of rows) p t q h)
     ]
 
-apart_keys : (k l : Key) → k ≢ l → same_key k l ≡ false
+-- keys that are not the same are told apart by the test of keys
+pub apart_keys : (k l : Key) → k ≢ l → same_key k l ≡ false
 apart_keys k l apart = go (same_key k l) refl
   where
     go : (b : Bool) → same_key k l ≡ b → b ≡ false

@@ -11,11 +11,10 @@ use Rattle.llb_cache.specs.Caches.{Row, trees_of, with_trees}
 use Rattle.llb_cache.specs.Rows.{same_trees, other_trees, put_counts}
 use Rattle.llb_tree.specs.Tree.{TreeMap}
 use Rattle.llb_model.specs.Caches.{Instance, content, Has, Hold}
-use Rattle.llb_model.specs.Kept.{store_of}
-use Rattle.llb_model.specs.Leases.{put_each}
+use Rattle.llb_model.specs.Bridge.{store_of, put_each}
 use Rattle.llb_model.proofs.Landing.{set_set}
-use Rattle.llb_model.proofs.Kept.{shows_instances}
-use Rattle.llb_board.proofs.Written.{same_rows, set_got}
+use Rattle.llb_model.proofs.BridgeContents.{shows_instances, apart_keys}
+use Rattle.llb_model.proofs.BridgeWritten.{same_rows, set_got}
 
 -- no two places have one key
 abbrev pub AreKeysApart : List Instance → Type 0
@@ -25,13 +24,6 @@ AreKeysApart (p ∷ ps) = ((q : Instance) → Has ps q → p.key ≢ q.key) × A
 -- these places are there
 abbrev pub AreWithin : List Row → List Instance → Type 0
 AreWithin rows ps = (p : Instance) → Has ps p → p.number < length (trees_of rows p.key)
-
-pub other_key : (k l : Key) → k ≢ l → same_key k l ≡ false
-other_key k l apart = go (same_key k l) refl
-  where
-    go : (b : Bool) → same_key k l ≡ b → b ≡ false
-    go false is = refl
-    go true is = absurd (apart (same_keys k l is))
 
 -- ---- the trees of keys
 
@@ -80,9 +72,9 @@ put_swap rows p q t u apart there =
     let ts = slice_set (trees_of rows p.key) p.number t in
     let us = slice_set (trees_of rows q.key) q.number u in
     ap (λ old. with_trees (with_trees rows p.key ts) q.key (slice_set old q.number u))
-    (other_trees rows p.key q.key ts (other_key q.key p.key (λ e. apart (sym e))))
+    (other_trees rows p.key q.key ts (apart_keys q.key p.key (λ e. apart (sym e))))
     ∙ trees_swap rows p.key q.key ts us apart there
-    ∙ sym (ap (λ old. with_trees (with_trees rows q.key us) p.key (slice_set old p.number t)) (other_trees rows q.key p.key us (other_key p.key q.key apart)))
+    ∙ sym (ap (λ old. with_trees (with_trees rows q.key us) p.key (slice_set old p.number t)) (other_trees rows q.key p.key us (apart_keys p.key q.key apart)))
 
 put_there : (rows : List Row) (p : Instance) (t : TreeMap) → p.number < length (trees_of rows p.key) → content (store_of rows) p ≡ Some t
     → cache.put rows p t ≡ rows

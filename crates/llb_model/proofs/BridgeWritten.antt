@@ -1,4 +1,4 @@
--- The lists of instances after an event: what is written there is what a step puts, and what a claim makes.
+-- The rows after an event: what is written there is what a step puts, and what a claim makes.
 use Rattle.std.proofs.Common.{◌≡◌, ℕ, zero, suc, ◌<◌, ◌≤◌, Bool, true, false, List, [], ◌∷◌, ◌++◌, length, map, Some, unwrap_or, inl, inr}
 use Rattle.std.proofs.Common.{refl, sym, ap, subst, ◌∙◌, cond, arith, lt-ltb}
 use Rattle.std.specs.Prelude.{slice_get, slice_set, nat_lt}
@@ -14,16 +14,13 @@ use Rattle.llb_tree.specs.Tree.{TreeMap, empty_tree}
 use Rattle.llb_model.specs.Caches.{Instance, Store, content, put, put_all, Hold, Has, Distinct}
 use Rattle.llb_model.specs.Program.{Need, key_of, base_in}
 use Rattle.llb_model.specs.State.{WorkerStatus, held, places_for, first_trees}
-use Rattle.llb_model.specs.Kept.{store_of}
-use Rattle.llb_model.specs.Leases.{HoldsAs, asked, put_each}
+use Rattle.llb_model.specs.Bridge.{store_of, put_each, showing, written, asked, places_taken, HoldsAs}
 use Rattle.llb_model.proofs.Lists.{get_within, get_past}
 use Rattle.llb_model.proofs.Stores.{hold_all, has_map}
 use Rattle.llb_model.proofs.Claims.{places_distinct, places_length, first_length}
-use Rattle.llb_model.proofs.Kept.{shows_instances, made_stands}
-use Rattle.llb_model.proofs.Leases.{takes_alike}
+use Rattle.llb_model.proofs.BridgeContents.{shows_instances, made_stands}
+use Rattle.llb_model.proofs.BridgeClaims.{takes_alike}
 use Rattle.llb_model.proofs.Others.{first_same}
-use Rattle.llb_board.specs.Caches.{showing, written}
-use Rattle.llb_board.specs.Needs.{places_taken}
 
 -- ---- instances that are there
 

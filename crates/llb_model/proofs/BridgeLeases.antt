@@ -1,4 +1,4 @@
--- The leases of workers, after a claim, a step and an end.
+-- The leases of workers after a claim, a step and an end: a claim leases if it has instances, a step keeps its lease, an end gives it back.
 use Rattle.std.proofs.Common.{◌≡◌, ◌≢◌, ℕ, zero, suc, ◌+◌, ◌<◌, Bool, true, false, List, [], ◌∷◌, ◌++◌, length, Option, Some, None, inl}
 use Rattle.std.proofs.Common.{inr, refl, sym, ap, subst, ◌∙◌, cond, arith}
 use Rattle.std.specs.Prelude.{slice_get, slice_set, nat_lt}
@@ -8,7 +8,7 @@ use Rattle.llb_cache.specs.Caches.{Leases, with_lease, free_lease, before, trimm
 use Rattle.llb_cache.specs.Leased.{held_by, holder, free_within, lease_cases}
 use Rattle.llb_model.specs.Caches.{Instance, Has}
 use Rattle.llb_model.specs.State.{Execution, WorkerStatus, Idle, Runs}
-use Rattle.llb_model.specs.Leases.{AreLeased, LeasedHoldsAs, ClaimLeases, ClaimWithout, StepKeepsLease, EndGivesBack, EndWithout}
+use Rattle.llb_model.specs.Bridge.{HoldsAs, AreLeased}
 use Rattle.llb_model.proofs.Lists.{some_of, eq_or, got_set, get_set_same, get_set_other, length_set, get_within, got_within, get_middle}
 use Rattle.llb_model.proofs.Claims.{held_has}
 use Rattle.llb_model.proofs.Dense.{holder_of}
@@ -117,7 +117,7 @@ module _ (out : Leases) (workers : List WorkerStatus) (ls : List (Option ℕ)) (
       free_apart out (free_lease out) r.0.places (leased_at u (free_lease out) r.0 at r.1) refl
 
 -- where each running worker has its own lease, an instance is held by a lease exactly where a running worker has it
-pub leased_holds_as : LeasedHoldsAs
+pub leased_holds_as : (out : Leases) (workers : List WorkerStatus) (ls : List (Option ℕ)) → AreLeased out workers ls → HoldsAs out workers
 leased_holds_as out workers ls are = record {
   leased = λ p h.
       let r = holder_of workers p h in
@@ -137,7 +137,9 @@ leased_holds_as out workers ls are = record {
     places_same l ps qs at here = let both : ◌≡◌ {A = Option (Option (List Instance))} (Some (Some ps)) (Some (Some qs)) = sym at ∙ here in cc
 
 -- an idle worker that takes instances has a new lease of them, whose number no other worker has
-pub claim_leases : ClaimLeases
+pub claim_leases : (out : Leases) (workers : List WorkerStatus) (ls : List (Option ℕ)) (w : ℕ) (z : Execution) → AreLeased out workers ls
+    → slice_get workers w ≡ Some Idle
+    → AreLeased (with_lease out (free_lease out) z.places) (slice_set workers w (Runs z)) (slice_set ls w (Some (free_lease out)))
 claim_leases out workers ls w z are idle = record {
   count = length_set ls w (Some l) ∙ are.count ∙ sym (length_set workers w (Runs z));
   has = λ u x at. elim (got_set workers w (Runs z) u (Runs x) at) [
@@ -194,7 +196,9 @@ without ls w u k at = elim (got_set ls w None u (Some k) at) [
 ]
 
 -- an idle worker that takes no instances needs no lease
-pub claim_without : ClaimWithout
+pub claim_without : (out : Leases) (workers : List WorkerStatus) (ls : List (Option ℕ)) (w : ℕ) (z : Execution) → AreLeased out workers ls
+    → slice_get workers w ≡ Some Idle → z.places ≡ []
+    → AreLeased out (slice_set workers w (Runs z)) (slice_set ls w None)
 claim_without out workers ls w z are idle none = record {
   count = length_set ls w None ∙ are.count ∙ sym (length_set workers w (Runs z));
   has = λ u x at. elim (got_set workers w (Runs z) u (Runs x) at) [
@@ -221,7 +225,9 @@ claim_without out workers ls w z are idle none = record {
     there = let old = get_within ls w (omega (arith, are.count, got_within workers w Idle idle)) in get_set_same ls w None old.0 old.1
 
 -- a worker that goes on with the same instances goes on with the same lease
-pub step_keeps_lease : StepKeepsLease
+pub step_keeps_lease : (out : Leases) (workers : List WorkerStatus) (ls : List (Option ℕ)) (w : ℕ) (x z : Execution) → AreLeased out workers ls
+    → slice_get workers w ≡ Some (Runs x) → z.places ≡ x.places
+    → AreLeased out (slice_set workers w (Runs z)) ls
 step_keeps_lease out workers ls w x z are at_w places = record {
   count = are.count ∙ sym (length_set workers w (Runs z));
   has = λ u y at. elim (got_set workers w (Runs z) u (Runs y) at) [
@@ -243,7 +249,8 @@ step_keeps_lease out workers ls w x z are at_w places = record {
 }
 
 -- the lease that a worker releases was its own, so the others keep theirs
-pub end_gives_back : EndGivesBack
+pub end_gives_back : (out : Leases) (workers : List WorkerStatus) (ls : List (Option ℕ)) (w l : ℕ) → AreLeased out workers ls → slice_get ls w ≡ Some (Some l)
+    → AreLeased (trimmed (slice_set out l None)) (slice_set workers w Idle) (slice_set ls w None)
 end_gives_back out workers ls w l are at_w = record {
   count = length_set ls w None ∙ are.count ∙ sym (length_set workers w Idle);
   has = λ u x at. elim (got_set workers w Idle u (Runs x) at) [
@@ -273,7 +280,8 @@ end_gives_back out workers ls w l are at_w = record {
 }
 
 -- a worker without a lease leaves all leases as they are when it ends what it runs
-pub end_without : EndWithout
+pub end_without : (out : Leases) (workers : List WorkerStatus) (ls : List (Option ℕ)) (w : ℕ) → AreLeased out workers ls → slice_get ls w ≡ Some None
+    → AreLeased out (slice_set workers w Idle) (slice_set ls w None)
 end_without out workers ls w are at_w = record {
   count = length_set ls w None ∙ are.count ∙ sym (length_set workers w Idle);
   has = λ u x at. elim (got_set workers w Idle u (Runs x) at) [

@@ -14,15 +14,12 @@ use Rattle.llb_tree.specs.Tree.{TreeMap, empty_tree}
 use Rattle.llb_model.specs.Caches.{Instance, Store, content, put_all, trees_at, Hold, Has, Distinct}
 use Rattle.llb_model.specs.Program.{Need, key_of, base_in}
 use Rattle.llb_model.specs.State.{WorkerStatus, held, places_for, first_trees}
-use Rattle.llb_model.specs.Kept.{store_of}
-use Rattle.llb_model.specs.Leases.{HoldsAs, put_each}
-use Rattle.llb_model.proofs.Kept.{shows_instances}
-use Rattle.llb_model.proofs.Leases.{takes_alike}
+use Rattle.llb_model.specs.Bridge.{store_of, HoldsAs, put_each, places_taken, showing, written, growth_for}
+use Rattle.llb_model.proofs.BridgeContents.{shows_instances, apart_keys}
+use Rattle.llb_model.proofs.BridgeClaims.{takes_alike}
 use Rattle.llb_model.proofs.Stores.{hold_trees, hold_length}
-use Rattle.llb_board.specs.Needs.{growth_for, places_taken}
-use Rattle.llb_board.specs.Caches.{showing, written}
-use Rattle.llb_board.proofs.Rewritten.{AreKeysApart, AreWithin, other_key, each_again, each_there}
-use Rattle.llb_board.proofs.Written.{made_shown, taken_places, written_each}
+use Rattle.llb_model.proofs.BridgeRewritten.{AreKeysApart, AreWithin, each_again, each_there}
+use Rattle.llb_model.proofs.BridgeWritten.{made_shown, taken_places, written_each}
 
 -- ---- keys that differ
 
@@ -86,14 +83,14 @@ growths_stay : (rows : List Row) (p : Instance) (t : TreeMap) (ps : List Instanc
     → map (growth_at rows) ps ≡ map (growth_at (made rows p t)) ps
 growths_stay rows p t [] apart = refl
 growths_stay rows p t (q ∷ ps) apart =
-    let look = look_made rows p t q.key (other_key q.key p.key (λ e. apart q (inl refl) (sym e))) in
+    let look = look_made rows p t q.key (apart_keys q.key p.key (λ e. apart q (inl refl) (sym e))) in
     let rest = growths_stay rows p t ps (λ r h. apart r (inr h)) in
     λ i. growth_by (sym look i) q.number ∷ rest i
 
 content_stays : (rows : List Row) (p : Instance) (t : TreeMap) (q : Instance) → p.key ≢ q.key
     → content (store_of (made rows p t)) q ≡ content (store_of rows) q
 content_stays rows p t q apart =
-    let look = look_made rows p t q.key (other_key q.key p.key (λ e. apart (sym e))) in
+    let look = look_made rows p t q.key (apart_keys q.key p.key (λ e. apart (sym e))) in
     shows_instances (made rows p t) q ∙ ap (λ (o : Option (List TreeMap)). slice_get (unwrap_or o []) q.number) look ∙ sym (shows_instances rows q)
 
 firsts_stay : (rows : List Row) (p : Instance) (t : TreeMap) (inputs : List TreeMap) (ps : List Instance) (needs : List Need)

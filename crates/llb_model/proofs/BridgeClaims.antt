@@ -1,4 +1,4 @@
--- A claim, a step and an end in words of leases.
+-- A claim and a step in words of leases: a lease is refused for the key for which a claim is, takes the same instances, and makes the same contents.
 use Rattle.std.proofs.Common.{◌≡◌, ℕ, zero, suc, ◌+◌, ◌<◌, ◌≤◌, Bool, true, false, ◌&&◌, List, [], ◌∷◌, length, map, Some, option_map}
 use Rattle.std.proofs.Common.{unwrap_or, ◌⊎◌, inl, inr, refl, sym, ap, subst, ◌∙◌, cond, arith}
 use Rattle.std.specs.List.{find}
@@ -13,14 +13,13 @@ use Rattle.llb_cache.specs.Numbers.{number_free, number_next}
 use Rattle.llb_cache.specs.Rows.{put_counts, makes}
 use Rattle.llb_tree.specs.Tree.{TreeMap}
 use Rattle.llb_model.specs.Caches.{Instance, place, content, put, put_all, Has, Distinct, is_in}
-use Rattle.llb_model.specs.Program.{Need, base_in}
+use Rattle.llb_model.specs.Program.{Need, key_of, base_in}
 use Rattle.llb_model.specs.State.{WorkerStatus, held, above, number_for, place_for, places_for, is_locked_and_held, held_key, first_trees}
-use Rattle.llb_model.specs.Kept.{store_of}
-use Rattle.llb_model.specs.Leases.{HoldsAs, asked, RefusesAlike, TakesAlike, MakesAlike, WritesAlike}
+use Rattle.llb_model.specs.Bridge.{store_of, put_each, HoldsAs, asked}
 use Rattle.llb_model.proofs.Stores.{has_in, has_map}
 use Rattle.llb_model.proofs.Claims.{free_found, places_distinct}
 use Rattle.llb_model.proofs.Dense.{in_has, below_number}
-use Rattle.llb_model.proofs.Kept.{put_stands, made_stands}
+use Rattle.llb_model.proofs.BridgeContents.{put_stands, made_stands}
 use Rattle.llb_model.proofs.Others.{first_same}
 
 same_bool : (a b : Bool) → (a ≡ true → b ≡ true) → (b ≡ true → a ≡ true) → a ≡ b
@@ -87,7 +86,8 @@ module _ (out : Leases) (workers : List WorkerStatus) (same : HoldsAs out worker
   place_same apart k = ap (place k) (number_same apart k k.mode)
 
 -- a lease is refused for the same locked key as a claim: the first among the needs whose instance is held
-pub refuses_alike : (out : Leases) (workers : List WorkerStatus) → RefusesAlike out workers
+pub refuses_alike : (out : Leases) (workers : List WorkerStatus) (inputs : List TreeMap) (needs : List Need) → HoldsAs out workers
+    → option_map (λ (n : cache_need.Need). n.key) (find (cache.is_locked_and_held out) (asked inputs needs)) ≡ held_key (held workers) needs
 refuses_alike out workers inputs [] same = refl
 refuses_alike out workers inputs (n ∷ needs) same = go (is_locked_and_held (held workers) n.key n.key.mode)
     (locked_and_held_same out workers same n.key n.key.mode) (refuses_alike out workers inputs needs same)
@@ -111,7 +111,8 @@ refuses_alike out workers inputs (n ∷ needs) same = go (is_locked_and_held (he
         by_test false rest = rest
 
 -- a lease takes the instances that a claim takes, by one rule of the least number that nobody has
-pub takes_alike : (out : Leases) (workers : List WorkerStatus) → TakesAlike out workers
+pub takes_alike : (out : Leases) (workers : List WorkerStatus) (inputs : List TreeMap) (needs : List Need) → HoldsAs out workers → AreApart out
+    → map (λ (t : Taken). t.0) (cache.taken out (asked inputs needs)) ≡ places_for (held workers) needs
 takes_alike out workers inputs [] same apart = refl
 takes_alike out workers inputs (n ∷ needs) same apart =
     ap (λ p. p ∷ map (λ (t : Taken). t.0) (cache.taken out (asked inputs needs))) (place_same out workers same apart n.key)
@@ -148,7 +149,10 @@ all_made rows inputs (p ∷ ps) (n ∷ needs) apart reached count =
     ∙ ap (put_all (put (store_of rows) p u) ps) (first_same (store_of rows) p u inputs ps needs apart.0)
 
 -- the instances that a lease makes, and the trees that they begin with, are those of a claim
-pub makes_alike : (rows : List Row) (out : Leases) (workers : List WorkerStatus) → MakesAlike rows out workers
+pub makes_alike : (rows : List Row) (out : Leases) (workers : List WorkerStatus) (inputs : List TreeMap) (needs : List Need) → HoldsAs out workers
+    → AreApart out → AreThere rows out → Distinct (map key_of needs)
+    → store_of (made_all rows (cache.taken out (asked inputs needs)))
+    ≡ put_all (store_of rows) (places_for (held workers) needs) (first_trees (store_of rows) inputs (places_for (held workers) needs) needs)
 makes_alike rows out workers inputs needs same apart there differ =
     ap (λ ts. store_of (made_all rows ts)) (taken_paired out workers inputs needs same apart)
     ∙ all_made rows inputs (places_for (held workers) needs) needs (places_distinct (held workers) needs differ) reached (count needs)
@@ -165,7 +169,8 @@ makes_alike rows out workers inputs needs same apart there differ =
     count (n ∷ needs) = ap suc (count needs)
 
 -- trees that are written one by one to instances of rows are written to the same places of the store
-pub writes_alike : (rows : List Row) → WritesAlike rows
+pub writes_alike : (rows : List Row) (ps : List Instance) (ts : List TreeMap) → ((p : Instance) → Has ps p → p.number < length (trees_of rows p.key))
+    → store_of (put_each rows ps ts) ≡ put_all (store_of rows) ps ts
 writes_alike rows [] ts within = refl
 writes_alike rows (p ∷ ps) [] within = refl
 writes_alike rows (p ∷ ps) (t ∷ ts) within =

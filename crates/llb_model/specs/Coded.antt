@@ -1,20 +1,21 @@
--- The contents of caches as a value that contracts can see a type as.
+-- The code of a store, with which a type whose value has a store can be compared by its value.
 use Rattle.std.specs.Prelude.{◌≡◌, ℕ, zero, suc, List, Option, Some, None, refl}
 use Rattle.std.specs.FinMap as finite
 use Rattle.std.specs.Coded.{Coded, code_by, coded×, coded_ℕ, coded_list, coded_option}
 use Rattle.llb_cache.specs.declared.key.Seed.{Seed}
 use Rattle.llb_cache.specs.declared.key.Mode.{Mode}
 use Rattle.llb_cache.specs.declared.key.Mode.TheVariants.{Shared, Private, Locked}
+use Rattle.llb_cache.specs.KeyOrder.{mode_place}
 use Rattle.llb_tree.specs.Coded.{coded_tree}
-use Rattle.llb_model.specs.Caches.{Instance, Store, mode_number}
+use Rattle.llb_model.specs.Caches.{Instance, Store}
 
--- a cache's sharing mode, by its number
-abbrev pub mode_by : ℕ → Mode
-mode_by zero = Shared
-mode_by (suc zero) = Private
-mode_by (suc (suc n)) = Locked
+-- the mode at a position among the modes
+abbrev pub mode_at : ℕ → Mode
+mode_at zero = Shared
+mode_at (suc zero) = Private
+mode_at (suc (suc n)) = Locked
 
--- a place as the numbers and texts in it
+-- an instance as the numbers and texts in it
 abbrev pub Packed : Type 0
 Packed = (ℕ × ℕ) × (List ℕ × Option (List ℕ × ℕ))
 
@@ -30,13 +31,13 @@ unpacked_seed (Some p) = Some (record { digest = p.0; index = p.1 })
 
 -- an instance as pairs
 abbrev pub packed : Instance → Packed
-packed p = ((p.number, mode_number p.key.mode), (p.key.id, packed_seed p.key.seed))
+packed p = ((p.number, mode_place p.key.mode), (p.key.id, packed_seed p.key.seed))
 
 -- the instance of pairs
 abbrev pub unpacked : Packed → Instance
-unpacked p = record { number = p.0.0; key = record { id = p.1.0; seed = unpacked_seed p.1.1; mode = mode_by p.0.1 } }
+unpacked p = record { number = p.0.0; key = record { id = p.1.0; seed = unpacked_seed p.1.1; mode = mode_at p.0.1 } }
 
-pub mode_back : (m : Mode) → mode_by (mode_number m) ≡ m
+pub mode_back : (m : Mode) → mode_at (mode_place m) ≡ m
 mode_back Shared = refl
 mode_back Private = refl
 mode_back Locked = refl
