@@ -12,7 +12,7 @@ use Rattle.llb_ops.specs.declared.op.Input.{Input}
 use Rattle.llb_loader.specs.declared.graph.Edge.{Edge}
 use Rattle.llb_loader.specs.declared.graph.Vertex.{Vertex}
 use Rattle.llb_model.specs.Caches.{Instance, place}
-use Rattle.llb_model.specs.Bridge.{store_of, asked}
+use Rattle.llb_model.specs.Bridge.{store_of, asked, places_taken}
 use Rattle.llb_model.specs.Program.{Need, base_in}
 use Rattle.llb_model.specs.State.{first_trees}
 use Rattle.llb_events.specs.declared.refusal.ClaimFault.{ClaimFault}

@@ -2,7 +2,7 @@
 
 ghost use Rattle.std.specs.Prelude.{◌≡◌, ◌↔◌, ◌<◌, length, map, IsTrue};
 ghost use Rattle.llb_model.specs.Caches as model;
-ghost use Rattle.llb_model.specs.Caches.{trees_at, Has};
+ghost use Rattle.llb_model.specs.Caches.{trees_at, Has, tree_of};
 ghost use Rattle.llb_model.specs.Bridge.{store_of};
 ghost use Rattle.llb_cache.specs.Caches.{trees_of};
 ghost use Rattle.llb_board.specs.Needs.{number_of};
