@@ -33,9 +33,8 @@ from llbm_tools.streams import exit_status
 # The crates whose proofs others may cite, and which others; None for any.
 LENDERS = {
     "llb_model": None,
-    "llb_state": {"llb_board"},
     "llb_ops": {"llb_asm", "llb_loader"},
-    "llb_execution": {"llb_state", "llb_board"},
+    "llb_execution": {"llb_board"},
     "llb_fileop": {"llb_contents"},
     "llb_loader": {"llb_contents", "llb_sharing"},
     "llb_board": {"llb_contents"},
@@ -50,8 +49,8 @@ CRATE_OF = {
     "graph": "llb_loader",
     "vertex": "llb_loader",
     "event": "llb_events",
-    "worker": "llb_state",
-    "state": "llb_state",
+    "worker": "llb_board",
+    "state": "llb_board",
     "board": "llb_board",
 }
 

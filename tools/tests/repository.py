@@ -28,15 +28,15 @@ KEPT_EDITS = {
         "new_instance_copies_the_first",
     ],
     "llb_execution": ["runs_skipped_command", "resets_last_status", "works_on_its_own_copy_of_a_cache"],
-    "llb_state": [
+    "llb_board": [
         "lands_on_another_view",
         "lands_on_another_program",
         "failed_vertex_readies_its_users",
         "failure_takes_its_cache_changes_back",
         "cancel_takes_cache_changes_back",
         "cancel_keeps_key",
+        "lands_without_its_steps",
     ],
-    "llb_board": ["lands_without_its_steps"],
     "llb_ready": ["number_that_met_full_is_lost", "number_given_twice"],
     "llb_work": ["another_graph_comes_back", "opening_board_without_a_fault"],
     "llb_stepper": ["stops_one_event_late", "back_to_the_opening"],

@@ -16,7 +16,7 @@ use Rattle.llb_model.proofs.Outcomes.{inputs_mono, plain_needs, plain_inputs}
 use Rattle.llb_model.proofs.Plain.{ending_plain}
 use Rattle.llb_execution.specs.Parts.{work_with}
 use Rattle.llb_board.specs.Seen.{BoardValue}
-use Rattle.llb_state.specs.Jobs.{is_shared}
+use Rattle.llb_board.specs.Jobs.{is_shared}
 use Rattle.llb_board.specs.Begun.{plain_start, job_from, IsBegunPlainly, BegunArePlain, ClaimsArePlain, KnownLand}
 
 module _ (b : BoardValue) (w : ℕ) (x : Execution) (under : IsUnderWay b.build x) (first : x.done ≡ 0) where

@@ -12,7 +12,7 @@ use Rattle.llb_model.specs.Table.{cancelled, table}
 use Rattle.llb_model.proofs.Events.{Answer}
 use Rattle.llb_events.specs.declared.refusal.SettleFault.{SettleFault}
 use Rattle.llb_events.specs.declared.refusal.SettleFault.TheVariants.{NotFinished}
-use Rattle.llb_state.specs.Rules.{left_at, given_up_at}
+use Rattle.llb_board.specs.WorkerRules.{left_at, given_up_at}
 
 abbrev ok_of : {A E : Type 0} → A → Result A E
 ok_of x = Ok x

@@ -7,9 +7,9 @@ use Rattle.llb_model.specs.Program.{Build}
 use Rattle.llb_model.specs.State.{WorkerStatus, Idle, Runs, Execution, is_finished, program_in}
 use Rattle.llb_events.specs.declared.event.Event.TheVariants.{Step, Settle}
 use Rattle.llb_model.specs.Run.{next_of}
-use Rattle.llb_state.specs.Statuses.{look_of}
-use Rattle.llb_state.specs.declared.status.WorkerStatus as seen
-use Rattle.llb_state.specs.declared.status.WorkerStatus.TheVariants as at
+use Rattle.llb_board.specs.Statuses.{look_of}
+use Rattle.llb_board.specs.declared.status.WorkerStatus as seen
+use Rattle.llb_board.specs.declared.status.WorkerStatus.TheVariants as at
 
 -- ---- what is seen of a worker
 

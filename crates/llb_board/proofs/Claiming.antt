@@ -13,9 +13,9 @@ use Rattle.llb_model.specs.Table.{Reply, claim_grant}
 use Rattle.llb_model.proofs.Events.{Answer, claim_is}
 use Rattle.llb_events.specs.Faults.{claim_may_want}
 use Rattle.llb_events.specs.declared.refusal.ClaimFault.{ClaimFault}
-use Rattle.llb_state.specs.Caches.{rows_after}
-use Rattle.llb_state.specs.Vertices.{VerticesValue, with_status}
-use Rattle.llb_state.specs.Workers.{WorkersValue, Fits, state_in, reply_of}
+use Rattle.llb_board.specs.Caches.{rows_after}
+use Rattle.llb_board.specs.Vertices.{VerticesValue, with_status}
+use Rattle.llb_board.specs.Workers.{WorkersValue, Fits, state_in, reply_of}
 use Rattle.llb_board.specs.Seen.{BoardValue, seen, recorded}
 use Rattle.llb_board.specs.Kept.{IsBoard}
 use Rattle.llb_board.specs.History.{Space, taken_by, claimed, unclaimed}

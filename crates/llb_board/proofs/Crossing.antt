@@ -1,16 +1,121 @@
--- A board may go to another thread, as its parts may.
+-- A board may go to another thread, as its parts may. A search over all their fields at once is past its limit, so that each type has its own fact.
+use denote.Hole.{as_row}
 use denote.Param.Send.{IsSend, sendable, view_send}
-use denote.Param.SendFields.{as_row_send, declared_send}
-use Rattle.std.proofs.Crossing.{crosses}
+use denote.Param.SendFields.{as_row_send, variants_send, declared_send}
+use Rattle.std.proofs.Crossing.{crosses, Vec-send}
+use Rattle.std.specs.contracts.alloc.Global as heap
+use Rattle.std.specs.contracts.impls.GlobalAllocator.TheImpl.{ghosts}
+use Rattle.std.specs.contracts.vec.Vec as vec
+use Rattle.llb_wire.proofs.many.Many.TheSendSync as many_crosses
+use Rattle.llb_tree.specs.contracts.tree.Tree as tree
+use Rattle.llb_execution.proofs.Crossing.{tree_send, trees_send, workspace_crosses}
+use Rattle.llb_execution.specs.contracts.workspace.Workspace as workspace
+use Rattle.llb_applet.proofs.setting.Setting.TheSendSync as setting_crosses
+use Rattle.llb_applet.specs.contracts.setting.Setting as setting
+use Rattle.llb_cache.proofs.caches.Lease.TheSendSync as lease_crosses
+use Rattle.llb_cache.proofs.need.Instance.TheSendSync as place_crosses
+use Rattle.llb_cache.specs.contracts.need.Instance as place
 use Rattle.llb_cache.specs.contracts.caches.Caches as caches
-use Rattle.llb_state.specs.contracts.vertices.Vertices as vertices
-use Rattle.llb_state.specs.contracts.workers.Workers as workers
-use Rattle.llb_state.proofs.Crossing.{caches_send, vertices_send, workers_send}
-use Rattle.llb_board.specs.contracts.events.Events as events
+use Rattle.llb_board.specs.contracts.links.Links as links
+use Rattle.llb_loader.proofs.graph.Graph.TheSendSync as graph_crosses
+use Rattle.llb_loader.specs.contracts.graph.Graph as graph
+use Rattle.llb_loader.specs.contracts.locals.Locals as locals
+use Rattle.llb_events.proofs.fault.VertexFault.TheSendSync as fault_crosses
+use Rattle.llb_board.specs.contracts.vertices.build.Build as build
+use Rattle.llb_board.specs.contracts.vertices.build.Build.TheInside as build_inside
+use Rattle.llb_board.specs.contracts.workers.desk.Desk as desk
+use Rattle.llb_board.specs.contracts.workers.desk.Execution as execution
+use Rattle.llb_board.specs.contracts.vertices.stage.Stage as stage
+use Rattle.llb_board.specs.contracts.vertices.Vertices as vertices
+use Rattle.llb_board.specs.contracts.vertices.Vertices.TheInside as vertices_inside
+use Rattle.llb_board.specs.contracts.workers.Workers as workers
+use Rattle.llb_board.specs.contracts.workers.Workers.TheInside as workers_inside
+use Rattle.llb_board.specs.contracts.history.events.Events as events
 use Rattle.llb_board.specs.contracts.history.History as history
 use Rattle.llb_board.specs.contracts.history.History.TheInside as history_inside
 use Rattle.llb_board.specs.contracts.board.Board as board
 use Rattle.llb_board.specs.contracts.board.Board.TheInside as inside
+
+setting_send : IsSend setting.the_row
+setting_send = setting_crosses.the_send
+
+places_send : IsSend (as_row (vec.the_field place.the_row heap.the_row ghosts))
+places_send = as_row_send (vec.the_field place.the_row heap.the_row ghosts) (Vec-send place.the_row place_crosses.the_send)
+
+execution_send : IsSend execution.the_row
+execution_send = declared_send execution.the_type (
+  search sendable,
+  (
+    search sendable,
+    (
+      search (crosses, sendable) depth 20,
+      (
+        as_row_send workspace.the_field workspace_crosses,
+        (
+          places_send,
+          (
+            as_row_send (vec.the_field tree.the_row heap.the_row ghosts) trees_send,
+            (setting_send, tt),
+          ),
+        ),
+      ),
+    ),
+  ),
+)
+
+desk_send : IsSend desk.the_row
+desk_send = variants_send desk.enum (tt, ((search (lease_crosses.the_send, crosses, sendable) depth 20, (execution_send, tt)), tt))
+
+graph_send : IsSend graph.the_row
+graph_send = graph_crosses.the_send
+
+locals_send : IsSend locals.the_row
+locals_send = search (tree_send, crosses, sendable) depth 60 fits 20000
+
+build_inside_send : IsSend build_inside.the_row
+build_inside_send = declared_send build_inside.the_type (as_row_send graph.the_field graph_send, (as_row_send locals.the_field locals_send, tt))
+
+build_send : IsSend build.the_row
+build_send = view_send build_inside.the_row _ _ _ _ build_inside_send
+
+desks_send : IsSend (as_row (vec.the_field desk.the_row heap.the_row ghosts))
+desks_send = as_row_send (vec.the_field desk.the_row heap.the_row ghosts) (Vec-send desk.the_row desk_send)
+
+stage_send : IsSend stage.the_row
+stage_send = variants_send stage.enum (
+  tt,
+  (
+    (search sendable, tt),
+    (
+      (search (many_crosses.the_send, tree_send, crosses, sendable) depth 20, tt),
+      ((search (fault_crosses.the_send, crosses, sendable) depth 20, tt), tt),
+    ),
+  ),
+)
+
+stages_send : IsSend (as_row (vec.the_field stage.the_row heap.the_row ghosts))
+stages_send = as_row_send (vec.the_field stage.the_row heap.the_row ghosts) (Vec-send stage.the_row stage_send)
+
+links_send : IsSend links.the_row
+links_send = search (crosses, sendable) depth 60 fits 20000
+
+vertices_inside_send : IsSend vertices_inside.the_row
+vertices_inside_send = declared_send vertices_inside.the_type (
+  as_row_send build.the_field build_send,
+  (stages_send, (search (crosses, sendable) depth 20, (as_row_send links.the_field links_send, (search sendable, tt)))),
+)
+
+pub vertices_send : IsSend vertices.the_row
+vertices_send = view_send vertices_inside.the_row _ _ _ _ vertices_inside_send
+
+pub caches_send : IsSend caches.the_row
+caches_send = search (tree_send, place_crosses.the_send, crosses, sendable) depth 60 fits 20000
+
+workers_inside_send : IsSend workers_inside.the_row
+workers_inside_send = declared_send workers_inside.the_type (desks_send, (as_row_send caches.the_field caches_send, tt))
+
+pub workers_send : IsSend workers.the_row
+workers_send = view_send workers_inside.the_row _ _ _ _ workers_inside_send
 
 events_send : IsSend events.the_row
 events_send = search (crosses, sendable) depth 60 fits 20000

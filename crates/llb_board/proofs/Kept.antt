@@ -17,9 +17,9 @@ use Rattle.llb_model.proofs.Events.{Answer}
 use Rattle.llb_model.proofs.Runs.{run_more}
 use Rattle.llb_model.proofs.Owing.{IsRoomy, room_for_event, event_roomy}
 use Rattle.llb_model.proofs.Cancels.{counts_length, cancels_few}
-use Rattle.llb_state.specs.Caches.{written, places_at, rows_after}
-use Rattle.llb_state.specs.Vertices.{VerticesValue, IsWhole}
-use Rattle.llb_state.specs.Workers.{WorkersValue, Fits, state_in}
+use Rattle.llb_board.specs.Caches.{written, places_at, rows_after}
+use Rattle.llb_board.specs.Vertices.{VerticesValue, IsWhole}
+use Rattle.llb_board.specs.Workers.{WorkersValue, Fits, state_in}
 use Rattle.llb_board.specs.Seen.{BoardValue, Replays, opening_with, seen, kept_next, kept_along, recorded}
 use Rattle.llb_board.specs.Kept.{IsBoard}
 use Rattle.llb_board.specs.History.{Space}

@@ -41,12 +41,12 @@ use Rattle.llb_events.specs.Faults.{GivesSettle}
 use Rattle.llb_events.specs.declared.event.Settled.{Settled}
 use Rattle.llb_events.specs.declared.refusal.SettleFault.{SettleFault}
 use Rattle.llb_execution.specs.Jobs.{OutcomeValue, IsOutcome, begun_on}
-use Rattle.llb_state.specs.Caches.{written, places_at, rows_after}
-use Rattle.llb_state.specs.Jobs.{job_now, IsRunOf}
-use Rattle.llb_state.specs.Vertices.{VerticesValue}
-use Rattle.llb_state.specs.Workers.{WorkersValue, Fits, state_in, RunsJob, steps_left}
-use Rattle.llb_state.proofs.Rewritten.{AreKeysApart, AreWithin, each_within, each_again, each_there}
-use Rattle.llb_state.proofs.Written.{written_each}
+use Rattle.llb_board.specs.Caches.{written, places_at, rows_after}
+use Rattle.llb_board.specs.Jobs.{job_now, IsRunOf}
+use Rattle.llb_board.specs.Vertices.{VerticesValue}
+use Rattle.llb_board.specs.Workers.{WorkersValue, Fits, state_in, RunsJob, steps_left}
+use Rattle.llb_board.proofs.Rewritten.{AreKeysApart, AreWithin, each_within, each_again, each_there}
+use Rattle.llb_board.proofs.Written.{written_each}
 use Rattle.llb_board.specs.Seen.{BoardValue, Replays, seen, opening_with, kept_next, kept_along, after_event, recorded}
 use Rattle.llb_board.specs.Kept.{IsBoard}
 use Rattle.llb_board.specs.History.{Space}

@@ -11,10 +11,10 @@ use Rattle.llb_model.specs.State.{Status, Waiting, Running, Idle, Runs, is_faile
 use Rattle.llb_events.specs.declared.event.Event.{Event}
 use Rattle.llb_events.specs.declared.event.Event.TheVariants.{Settle, Cancel}
 use Rattle.llb_model.specs.Table.{settle_reply, settle_grant, cancel_grant, after_end}
-use Rattle.llb_state.specs.Rules.{left_at, given_up_at}
-use Rattle.llb_state.specs.Caches.{rows_after}
-use Rattle.llb_state.specs.Vertices.{VerticesValue}
-use Rattle.llb_state.specs.Workers.{WorkersValue, Fits, state_in}
+use Rattle.llb_board.specs.WorkerRules.{left_at, given_up_at}
+use Rattle.llb_board.specs.Caches.{rows_after}
+use Rattle.llb_board.specs.Vertices.{VerticesValue}
+use Rattle.llb_board.specs.Workers.{WorkersValue, Fits, state_in}
 use Rattle.llb_board.specs.Seen.{seen}
 use Rattle.llb_board.specs.Kept.{IsBoard}
 use Rattle.llb_board.specs.History.{Space, cancelled}

@@ -12,9 +12,9 @@ use Rattle.llb_model.specs.Room.{most_events}
 use Rattle.llb_model.specs.Run.{run}
 use Rattle.llb_model.proofs.Owing.{IsRoomy, opening_roomy}
 use Rattle.llb_model.proofs.Cancels.{counts_open}
-use Rattle.llb_state.specs.Room.{supplies_for, needed}
-use Rattle.llb_state.specs.Vertices.{VerticesValue, all_waiting}
-use Rattle.llb_state.specs.Workers.{WorkersValue}
+use Rattle.llb_board.specs.Supplies.{supplies_for, needed}
+use Rattle.llb_board.specs.Vertices.{VerticesValue, all_waiting}
+use Rattle.llb_board.specs.Workers.{WorkersValue}
 use Rattle.llb_board.specs.Seen.{BoardValue, opening_with, opened, seen}
 use Rattle.llb_board.specs.Kept.{IsBoard}
 use Rattle.llb_board.specs.History.{Space}

@@ -29,15 +29,15 @@ use Rattle.llb_model.proofs.Owing.{IsRoomy}
 use Rattle.llb_model.proofs.Runs.{run_more}
 use Rattle.llb_model.proofs.Separate.{held_once}
 use Rattle.llb_model.proofs.There.{held_are_there}
-use Rattle.llb_state.specs.Room.{Supplies, needed, needs_at, supplies_for}
-use Rattle.llb_state.specs.Undo.{Back, Unclaim, Unstep, Resume, Displaced, workers_before, with_view_back, step_before, rows_before, supplies_before}
-use Rattle.llb_state.specs.Undo.{change_in, IsBehind, CanPutBack}
-use Rattle.llb_state.specs.Vertices.{VerticesValue, IsWhole}
-use Rattle.llb_state.specs.Workers.{WorkersValue}
-use Rattle.llb_state.specs.declared.workers.undoing.End.TheVariants as end
-use Rattle.llb_state.proofs.Lists.{map_set, set_same, get_map, length_map}
-use Rattle.llb_state.proofs.Needed.{few_needs}
-use Rattle.llb_state.proofs.Unmade.{within_held}
+use Rattle.llb_board.specs.Supplies.{Supplies, needed, needs_at, supplies_for}
+use Rattle.llb_board.specs.Displaced.{Back, Unclaim, Unstep, Resume, Displaced, workers_before, with_view_back, step_before, rows_before, supplies_before}
+use Rattle.llb_board.specs.Displaced.{change_in, IsBehind, CanPutBack}
+use Rattle.llb_board.specs.Vertices.{VerticesValue, IsWhole}
+use Rattle.llb_board.specs.Workers.{WorkersValue}
+use Rattle.llb_board.specs.declared.workers.undoing.End.TheVariants as end
+use Rattle.llb_board.proofs.Lists.{map_set, set_same, get_map, length_map}
+use Rattle.llb_board.proofs.Needed.{few_needs}
+use Rattle.llb_board.proofs.Unmade.{within_held}
 use Rattle.llb_board.specs.Seen.{BoardValue, Replays, opening_with, seen}
 use Rattle.llb_board.specs.Kept.{IsBoard}
 use Rattle.llb_board.specs.History.{Space, front, last_of, space_back}

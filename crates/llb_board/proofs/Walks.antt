@@ -28,23 +28,23 @@ use Rattle.llb_model.proofs.Needs.{graph_distinct}
 use Rattle.llb_model.proofs.Parts.{step_keeps}
 use Rattle.llb_model.proofs.Stores.{hold_all}
 use Rattle.llb_model.proofs.There.{held_are_there}
-use Rattle.llb_state.specs.Faults.{faulted}
-use Rattle.llb_state.specs.declared.fault.WalkFault.{WalkFault}
-use Rattle.llb_state.specs.declared.fault.WalkFault.TheVariants as walk
-use Rattle.llb_state.specs.Caches.{written, places_at, rows_after, lent_of}
-use Rattle.llb_state.specs.Room.{needs_at}
-use Rattle.llb_state.specs.Undo.{Back, Unclaim, Unstep, Resume, Displaced, walk_in, end_of, workers_before, with_view_back, step_before, rows_before}
-use Rattle.llb_state.specs.Undo.{taken_at, MarksClaim, MarksStep, MarksEnd, MarksIn}
-use Rattle.llb_state.specs.Vertices.{VerticesValue}
-use Rattle.llb_state.specs.Workers.{WorkersValue}
-use Rattle.llb_state.specs.declared.workers.undoing.End.{End}
-use Rattle.llb_state.specs.declared.workers.undoing.End.TheVariants as end
-use Rattle.llb_state.proofs.Lists.{length_map, set_back, front_again}
-use Rattle.llb_state.proofs.Rewritten.{AreKeysApart}
-use Rattle.llb_state.proofs.Unmade.{keys_apart, keys_for, unwritten, unstepped}
+use Rattle.llb_board.specs.Faults.{faulted}
+use Rattle.llb_board.specs.declared.fault.WalkFault.{WalkFault}
+use Rattle.llb_board.specs.declared.fault.WalkFault.TheVariants as walk
+use Rattle.llb_board.specs.Caches.{written, places_at, rows_after, lent_of}
+use Rattle.llb_board.specs.Supplies.{needs_at}
+use Rattle.llb_board.specs.Displaced.{Back, Unclaim, Unstep, Resume, Displaced, walk_in, end_of, workers_before, with_view_back, step_before, rows_before}
+use Rattle.llb_board.specs.Displaced.{taken_at, MarksClaim, MarksStep, MarksEnd, MarksIn}
+use Rattle.llb_board.specs.Vertices.{VerticesValue}
+use Rattle.llb_board.specs.Workers.{WorkersValue}
+use Rattle.llb_board.specs.declared.workers.undoing.End.{End}
+use Rattle.llb_board.specs.declared.workers.undoing.End.TheVariants as end
+use Rattle.llb_board.proofs.Lists.{length_map, set_back, front_again}
+use Rattle.llb_board.proofs.Rewritten.{AreKeysApart}
+use Rattle.llb_board.proofs.Unmade.{keys_apart, keys_for, unwritten, unstepped}
 use Rattle.llb_board.specs.Seen.{BoardValue, Replays, seen, after_event, recorded}
 use Rattle.llb_board.specs.Undo.{told_as, walk_of, statuses_before, undone, event_before, IsLast, StandsBehind, CanUndo}
-use Rattle.llb_board.specs.declared.walk.Reply as replied
+use Rattle.llb_board.specs.declared.board.walk.Reply as replied
 use Rattle.llb_board.proofs.Calls.{claim_done, step_done, settle_done, cancel_done}
 use Rattle.llb_board.proofs.Sound.{consistent, reached}
 use Rattle.llb_board.proofs.Undone.{distinct_needs}

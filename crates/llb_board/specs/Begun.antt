@@ -7,7 +7,7 @@ use Rattle.llb_model.specs.State.{Execution, Runs, State}
 use Rattle.llb_events.specs.declared.event.Event.TheVariants.{Claim}
 use Rattle.llb_model.specs.Table.{Job, Claimed, job_on, table}
 use Rattle.llb_board.specs.Seen.{BoardValue}
-use Rattle.llb_state.specs.Jobs.{job_now}
+use Rattle.llb_board.specs.Jobs.{job_now}
 use Rattle.llb_board.specs.Landing.{CanLand}
 
 -- what a claim of a vertex starts with: the vertex and its inputs' plain outcomes, if each has a tree

@@ -1,7 +1,7 @@
 -- What a board keeps of its parts: that its record replays, the room for what is to come, how often each vertex was cancelled, and the workers' supplies.
 use Rattle.std.specs.Prelude.{◌+◌, ◌≡◌}
 use Rattle.llb_model.specs.Room.{most_events, owed, cancel_counts}
-use Rattle.llb_state.specs.Workers.{WorkersValue, Fits}
+use Rattle.llb_board.specs.Workers.{WorkersValue, Fits}
 use Rattle.llb_board.specs.Seen.{BoardValue, Replays}
 use Rattle.llb_board.specs.History.{Space}
 

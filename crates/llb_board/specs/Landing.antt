@@ -7,12 +7,12 @@ use Rattle.llb_model.specs.Run.{run}
 use Rattle.llb_model.specs.Landing.{steps_by, landing}
 use Rattle.llb_board.specs.Seen.{BoardValue, kept_along}
 use Rattle.llb_execution.specs.Jobs.{OutcomeValue}
-use Rattle.llb_state.specs.Caches.{places_at}
-use Rattle.llb_state.specs.Jobs.{has_shared, IsRunOf}
+use Rattle.llb_board.specs.Caches.{places_at}
+use Rattle.llb_board.specs.Jobs.{has_shared, IsRunOf}
 use Rattle.llb_board.specs.declared.fault.LandFault.{LandFault}
 use Rattle.llb_board.specs.declared.fault.LandFault.TheVariants as fault
-use Rattle.llb_board.specs.declared.landing.LandCause.{LandCause}
-use Rattle.llb_board.specs.declared.landing.LandCause.TheVariants as cause
+use Rattle.llb_board.specs.declared.board.landing.LandCause.{LandCause}
+use Rattle.llb_board.specs.declared.board.landing.LandCause.TheVariants as cause
 
 -- ---- which outcomes land
 

@@ -7,9 +7,9 @@ use Rattle.llb_model.specs.State.{State, Opening, opening}
 use Rattle.llb_events.specs.declared.event.Event.{Event}
 use Rattle.llb_model.specs.Table.{Reply, worker_of, table}
 use Rattle.llb_model.specs.Run.{run}
-use Rattle.llb_state.specs.Caches.{rows_after}
-use Rattle.llb_state.specs.Vertices.{VerticesValue}
-use Rattle.llb_state.specs.Workers.{WorkersValue, state_in}
+use Rattle.llb_board.specs.Caches.{rows_after}
+use Rattle.llb_board.specs.Vertices.{VerticesValue}
+use Rattle.llb_board.specs.Workers.{WorkersValue, state_in}
 
 -- what contracts see of a board: its build, what it was opened with, the lists of cache instances as they were handed in (`first`) and as they are now
 -- (`rows`), the machine's state, which has the contents of the caches, and the record, which is the events so far

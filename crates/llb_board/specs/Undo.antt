@@ -12,19 +12,19 @@ use Rattle.llb_model.specs.State.{Status, Waiting, Running, Execution, Idle, Run
 use Rattle.llb_model.specs.Table as table
 use Rattle.llb_events.specs.declared.event.Event as own_event
 use Rattle.llb_events.specs.declared.event.Event.TheVariants as event
-use Rattle.llb_state.specs.Caches.{lent_of}
-use Rattle.llb_state.specs.Room.{supplies_for, mounts_at, needs_at}
-use Rattle.llb_state.specs.Undo.{Back, Unclaim, Unstep, Resume, Displaced, walk_memory, end_of, workers_before, rows_before}
-use Rattle.llb_state.specs.Undoing.{Left}
+use Rattle.llb_board.specs.Caches.{lent_of}
+use Rattle.llb_board.specs.Supplies.{supplies_for, mounts_at, needs_at}
+use Rattle.llb_board.specs.Displaced.{Back, Unclaim, Unstep, Resume, Displaced, walk_memory, end_of, workers_before, rows_before}
+use Rattle.llb_board.specs.Undoing.{Left}
 use Rattle.llb_events.specs.declared.event.Stepped.TheVariants as stepped
 use Rattle.llb_events.specs.declared.event.Settled.TheVariants as settled
-use Rattle.llb_state.specs.declared.fault.WalkFault.{WalkFault}
-use Rattle.llb_state.specs.declared.fault.WalkFault.TheVariants as walk
+use Rattle.llb_board.specs.declared.fault.WalkFault.{WalkFault}
+use Rattle.llb_board.specs.declared.fault.WalkFault.TheVariants as walk
 use Rattle.llb_board.specs.Seen.{BoardValue, Replays}
 use Rattle.llb_board.specs.History.{front}
 use Rattle.llb_board.specs.Rules.{claim_of, step_of, settle_of, cancel_of}
-use Rattle.llb_board.specs.declared.walk.Reply.{Reply}
-use Rattle.llb_board.specs.declared.walk.Reply.TheVariants as reply
+use Rattle.llb_board.specs.declared.board.walk.Reply.{Reply}
+use Rattle.llb_board.specs.declared.board.walk.Reply.TheVariants as reply
 
 -- ---- the result of a walked event
 

@@ -12,7 +12,7 @@ ghost use Rattle.llb_model.specs.Room.{most_events, owed, still_to_come};
 ghost use Rattle.llb_model.specs.Run.{chosen, is_complete};
 ghost use Rattle.llb_model.specs.Laws.{IsReached};
 ghost use Rattle.llb_loader.specs.Graph.{IsGraph};
-ghost use Rattle.llb_links.specs.Links.{users_of};
+ghost use Rattle.llb_board.specs.Links.{users_of};
 ghost use Rattle.llb_wire.specs.Answer.{MemoryLast};
 ghost use Rattle.llb_cache.specs.Caches.{leases};
 ghost use Rattle.llb_model.specs.Caches.{content, place};
@@ -20,38 +20,47 @@ ghost use Rattle.llb_model.specs.Kept.{store_of};
 ghost use Rattle.llb_model.specs.Leases.{HoldsAs};
 ghost use Rattle.llb_events.specs.Faults.{step_memory, GivesStep, GivesSettle, GivesCancel};
 ghost use Rattle.llb_events.specs.Faults.{GivesClaim, claim_memory, claim_may_want};
-ghost use Rattle.llb_state.specs.Statuses.{look_at, worker_look};
-ghost use Rattle.llb_state.specs.Looks.{worked_on, cached_at};
-ghost use Rattle.llb_state.specs.Vertices.{all_waiting, status_of};
+ghost use Rattle.llb_board.specs.Statuses.{look_at, worker_look};
+ghost use Rattle.llb_board.specs.Looks.{worked_on, cached_at};
+ghost use Rattle.llb_board.specs.Vertices.{all_waiting, status_of};
 ghost use Rattle.llb_board.specs.Seen.{BoardValue, Replays, opened, replies_in};
 ghost use Rattle.llb_board.specs.declared.fault.OpenFault.TheVariants as opening;
 ghost use Rattle.llb_board.specs.Opening.{may_work, open_memory, GivesOpen, open_of, open_with, returned, may_want_memory};
 ghost use Rattle.llb_board.specs.Rules.{claim_of, step_of, settle_of, cancel_of};
 
-use crate::choice::next_event;
-use crate::events::Events;
-use crate::fault::OpenFault;
-use crate::history::History;
+mod choice;
+mod copying;
+mod landing;
+mod same;
+mod undo;
+mod walk;
+
+use crate::fault::{Memory, OpenFault};
+use crate::history::{Events, History};
+use crate::status::{Status, WorkerStatus};
+use crate::vertices::{Stage, Vertices};
+use crate::workers::Workers;
+use choice::next_event;
 use llb_cache::{Caches, Key};
 use llb_events::{
     CancelFault, Cancelled, ClaimFault, Event, SettleFault, Settled, StepFault, Stepped,
 };
 use llb_execution::Job;
 use llb_loader::{Graph, Locals, missing_local};
-use llb_state::{Memory, Stage, Status, Vertices, WorkerStatus, Workers};
 use llb_tree::Tree;
 use llb_wire::Text;
 use std::alloc::Global;
 use std::marker::Model;
+pub use walk::{Reply, Walked};
 
 /// A graph that workers work on, with its local trees and caches, and the record of what was done.
 pub struct Board {
-    pub(crate) alloc: Global,
-    pub(crate) vertices: Vertices,
-    pub(crate) workers: Workers,
+    alloc: Global,
+    vertices: Vertices,
+    workers: Workers,
     /// The caches as they were handed in.
-    pub(crate) start: Caches,
-    pub(crate) history: History,
+    start: Caches,
+    history: History,
 }
 
 // It is written out so that the crates above drop one by this one function.

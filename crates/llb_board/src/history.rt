@@ -5,9 +5,11 @@ ghost use Rattle.llb_model.specs.Landing.{steps_by};
 ghost use Rattle.llb_events.specs.declared.event.Event.TheVariants as own;
 ghost use Rattle.llb_board.specs.History.{claimed, unclaimed, cancelled, taken_by, uncancelled, front, last_of, space_back};
 
-use crate::events::Events;
+mod events;
+
+use crate::fault::Memory;
+pub use events::Events;
 use llb_events::Event;
-use llb_state::Memory;
 use std::alloc::{AllocError, Global};
 use std::marker::Model;
 

@@ -4,8 +4,8 @@ use Rattle.std.specs.Io.KnownBytes.{Appends}
 use Rattle.std.proofs.KnownBytes.{Appends-nil, Appends-trans}
 use Rattle.llb_model.specs.Program.{Build}
 use Rattle.llb_model.specs.State.{State}
-use Rattle.llb_state.specs.Statuses.{look_at}
-use Rattle.llb_state.specs.declared.status.Status.{Status}
+use Rattle.llb_board.specs.Statuses.{look_at}
+use Rattle.llb_board.specs.declared.status.Status.{Status}
 use Rattle.llb_commands.specs.Answer.{failed_line, failed_lines}
 
 -- none so far

@@ -18,9 +18,9 @@ use Rattle.llb_model.specs.Run.{run, is_complete, StandsPlainly}
 use Rattle.llb_model.specs.Laws.{HasNoCaches}
 use Rattle.llb_treetext.specs.TreeText.{tree_text}
 use Rattle.llb_events.specs.Failure.{failure_text}
-use Rattle.llb_state.specs.Statuses.{look_at}
-use Rattle.llb_state.specs.declared.status.Status.{Status}
-use Rattle.llb_state.specs.declared.status.Status.TheVariants as look
+use Rattle.llb_board.specs.Statuses.{look_at}
+use Rattle.llb_board.specs.declared.status.Status.{Status}
+use Rattle.llb_board.specs.declared.status.Status.TheVariants as look
 use Rattle.llb_board.specs.Opening.{may_work}
 use Rattle.llb_work.specs.Alone.{EndsInClaimOrder}
 use Rattle.llb_commands.specs.declared.fault.ProgramFault.{ProgramFault}

@@ -7,7 +7,7 @@ use Rattle.llb_model.specs.State.{Execution, ending_at, runs}
 use Rattle.llb_model.specs.Outcome.{output_in}
 use Rattle.llb_model.specs.Run.{chosen}
 use Rattle.llb_events.specs.declared.event.Event.{Event}
-use Rattle.llb_state.specs.Looks.{worked_on, cached_at}
+use Rattle.llb_board.specs.Looks.{worked_on, cached_at}
 use Rattle.llb_stepper.specs.declared.stop.Stop.{Stop}
 use Rattle.llb_stepper.specs.declared.fault.StepperFault.{StepperFault}
 use Rattle.llb_stepper.specs.declared.fault.StepperFault.TheVariants.{NothingBefore, BadCommand, Memory}

@@ -13,9 +13,9 @@ use Rattle.llb_model.specs.Program.{Workspace}
 use Rattle.llb_execution.specs.Looks.{Role, Local, Input, ResultOf, Laid, MountAt, roles_of}
 use Rattle.llb_events.specs.Failure.{failure_text}
 use Rattle.llb_board.specs.Seen.{BoardValue}
-use Rattle.llb_state.specs.Statuses.{look_at}
-use Rattle.llb_state.specs.declared.status.Status.{Status}
-use Rattle.llb_state.specs.declared.status.Status.TheVariants.{Waiting, Ready, Blocked, Running, Done, Failed}
+use Rattle.llb_board.specs.Statuses.{look_at}
+use Rattle.llb_board.specs.declared.status.Status.{Status}
+use Rattle.llb_board.specs.declared.status.Status.TheVariants.{Waiting, Ready, Blocked, Running, Done, Failed}
 use Rattle.llb_stepper.specs.declared.fault.StepperFault.{StepperFault}
 use Rattle.llb_stepper.specs.Faults.{stepper_text}
 use Rattle.llb_stepper.specs.Records.{record_text, record_at}

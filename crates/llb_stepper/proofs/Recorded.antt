@@ -10,8 +10,8 @@ use Rattle.llb_events.specs.declared.event.Event.{Event}
 use Rattle.llb_model.specs.Table.{Reply, table}
 use Rattle.llb_board.specs.Seen.{BoardValue, after_event}
 use Rattle.llb_board.specs.Undo.{told, undone}
-use Rattle.llb_board.specs.declared.walk.Reply as short
-use Rattle.llb_board.specs.declared.walk.Walked.{Walked}
+use Rattle.llb_board.specs.declared.board.walk.Reply as short
+use Rattle.llb_board.specs.declared.board.walk.Walked.{Walked}
 use Rattle.llb_stepper.specs.Kept.{past_of, AreWalked}
 use Rattle.llb_stepper.specs.Records.{record_at, replied}
 use Rattle.llb_stepper.specs.Stepping.{Stepping, answered}

@@ -11,9 +11,9 @@ use Rattle.llb_model.specs.Run.{run}
 use Rattle.llb_model.proofs.Runs.{run_first}
 use Rattle.std.specs.Prelude.{fold, take, slice_get}
 use Rattle.llb_board.specs.Seen.{BoardValue, Replays, after_event, kept_along, kept_next}
-use Rattle.llb_state.specs.Caches.{rows_after}
+use Rattle.llb_board.specs.Caches.{rows_after}
 use Rattle.llb_board.specs.Undo.{undone}
-use Rattle.llb_board.specs.declared.walk.Walked.{Walked}
+use Rattle.llb_board.specs.declared.board.walk.Walked.{Walked}
 use Rattle.llb_stepper.specs.Kept.{past_of, AreWalked}
 use Rattle.llb_stepper.specs.Stepping.{Stepping, PastIsTheRecords, at_first, run_on, then_on}
 use Rattle.llb_stepper.proofs.Grown.{Grew, grew, shifted}

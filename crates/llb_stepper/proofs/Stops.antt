@@ -14,8 +14,8 @@ use Rattle.llb_stepper.specs.declared.stop.Break.{Break}
 use Rattle.llb_stepper.specs.declared.stop.Stop.{Stop}
 use Rattle.llb_board.specs.Undo.{walk_of}
 use Rattle.llb_events.specs.declared.event.Event as own
-use Rattle.llb_state.specs.declared.fault.WalkFault.{WalkFault}
-use Rattle.llb_board.specs.declared.walk.Reply as short
+use Rattle.llb_board.specs.declared.fault.WalkFault.{WalkFault}
+use Rattle.llb_board.specs.declared.board.walk.Reply as short
 use Rattle.llb_stepper.specs.declared.fault.StepperFault.{StepperFault}
 use Rattle.llb_stepper.specs.declared.fault.StepperFault.TheVariants as fault
 use Rattle.llb_stepper.specs.Rules.{IsRefusedAt, MeetsOn, done_by, done_of, stepper_memory}

@@ -15,10 +15,10 @@ use Rattle.llb_model.specs.Table.{claim_grant, step_grant, settle_grant, cancel_
 use Rattle.llb_board.specs.Seen.{BoardValue, after_event, recorded}
 use Rattle.llb_board.specs.Laws.{ChosenIsGranted}
 use Rattle.llb_board.specs.Undo.{told, told_as, undone, walk_of, CanUndo}
-use Rattle.llb_state.specs.declared.fault.WalkFault.{WalkFault}
-use Rattle.llb_state.specs.declared.fault.WalkFault.TheVariants as walk
-use Rattle.llb_board.specs.declared.walk.Reply as short
-use Rattle.llb_board.specs.declared.walk.Walked.{Walked}
+use Rattle.llb_board.specs.declared.fault.WalkFault.{WalkFault}
+use Rattle.llb_board.specs.declared.fault.WalkFault.TheVariants as walk
+use Rattle.llb_board.specs.declared.board.walk.Reply as short
+use Rattle.llb_board.specs.declared.board.walk.Walked.{Walked}
 use Rattle.llb_stepper.specs.declared.stop.Break.{Break}
 use Rattle.llb_stepper.specs.declared.stop.Break.TheVariants as stop
 use Rattle.llb_stepper.specs.declared.fault.StepperFault.{StepperFault}

@@ -1,7 +1,7 @@
 -- The text after the word `fault` when a stepper refuses: the number, the board's own fault, and the line that is no command.
 use Rattle.std.specs.Prelude.{ℕ, List, ◌++◌, codes}
 use Rattle.std.specs.Fmt.{decimal}
-use Rattle.llb_state.specs.Faults.{walk_text}
+use Rattle.llb_board.specs.Faults.{walk_text}
 use Rattle.llb_stepper.specs.declared.fault.StepperFault.{StepperFault}
 use Rattle.llb_stepper.specs.declared.fault.StepperFault.TheVariants.{Board, NothingBefore, BadCommand, Memory}
 

@@ -4,8 +4,8 @@ use Rattle.llb_events.specs.declared.event.Event.{Event}
 use Rattle.llb_model.specs.Table.{Reply}
 use Rattle.llb_board.specs.Seen.{BoardValue}
 use Rattle.llb_board.specs.Undo.{told, undone, CanUndo}
-use Rattle.llb_board.specs.declared.walk.Reply as short
-use Rattle.llb_board.specs.declared.walk.Walked.{Walked}
+use Rattle.llb_board.specs.declared.board.walk.Reply as short
+use Rattle.llb_board.specs.declared.board.walk.Walked.{Walked}
 use Rattle.llb_stepper.specs.declared.stop.Break.{Break}
 use Rattle.llb_stepper.specs.Stepping.{Stepping, answered}
 

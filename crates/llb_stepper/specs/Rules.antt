@@ -7,9 +7,9 @@ use Rattle.llb_model.specs.Table.{Reply}
 use Rattle.llb_model.specs.Run.{chosen}
 use Rattle.llb_board.specs.Seen.{BoardValue}
 use Rattle.llb_board.specs.Undo.{walk_of}
-use Rattle.llb_state.specs.Undo.{walk_memory}
-use Rattle.llb_board.specs.declared.walk.Reply as short
-use Rattle.llb_state.specs.declared.fault.WalkFault.{WalkFault}
+use Rattle.llb_board.specs.Displaced.{walk_memory}
+use Rattle.llb_board.specs.declared.board.walk.Reply as short
+use Rattle.llb_board.specs.declared.fault.WalkFault.{WalkFault}
 use Rattle.llb_stepper.specs.declared.fault.StepperFault.{StepperFault}
 use Rattle.llb_stepper.specs.declared.fault.StepperFault.TheVariants as fault
 use Rattle.llb_stepper.specs.Stepping.{Stepping, GoesBack, answered, onward, meets, meets_at, run_on}

@@ -10,10 +10,10 @@ use Rattle.llb_model.specs.State as model
 use Rattle.llb_model.specs.Program.{Build}
 use Rattle.llb_model.specs.Table.{Job}
 use Rattle.llb_model.proofs.Lists.{inside}
-use Rattle.llb_state.specs.declared.status.WorkerStatus.{WorkerStatus}
-use Rattle.llb_state.specs.declared.status.WorkerStatus.TheVariants.{Idle, Runs}
+use Rattle.llb_board.specs.declared.status.WorkerStatus.{WorkerStatus}
+use Rattle.llb_board.specs.declared.status.WorkerStatus.TheVariants.{Idle, Runs}
 use Rattle.llb_board.specs.Seen.{BoardValue}
-use Rattle.llb_state.specs.Statuses.{look_of, worker_look}
+use Rattle.llb_board.specs.Statuses.{look_of, worker_look}
 use Rattle.llb_board.specs.Begun.{plain_job, IsKnown}
 use Rattle.llb_work.specs.Turns.{IsClaimed}
 

@@ -1,7 +1,7 @@
 use Rattle.std.proofs.Common.{List, ap, ◌∙◌}
 use Rattle.llb_cache.specs.Caches.{Row}
 use Rattle.llb_model.specs.Kept.{store_of}
-use Rattle.llb_state.specs.Looks.{cached_at, cached_by}
+use Rattle.llb_board.specs.Looks.{cached_at, cached_by}
 use Rattle.llb_board.specs.Seen.{BoardValue}
 use Rattle.llb_board.proofs.board.Board.cached.Goals as goal
 

@@ -3,8 +3,8 @@ use Rattle.std.specs.List.{list_any}
 use Rattle.std.specs.Prelude.{slice_get}
 use Rattle.llb_model.specs.Caches.{Instance}
 use Rattle.llb_model.specs.State.{WorkerStatus}
-use Rattle.llb_state.specs.Caches.{places_at}
-use Rattle.llb_state.specs.Jobs.{is_shared, has_shared}
+use Rattle.llb_board.specs.Caches.{places_at}
+use Rattle.llb_board.specs.Jobs.{is_shared, has_shared}
 use Rattle.llb_board.specs.Seen.{BoardValue, seen}
 use Rattle.llb_board.specs.Landing.{RunsAlone, RunsShared}
 use Rattle.llb_board.proofs.Choices.{runs_at}

@@ -2,7 +2,7 @@ use Rattle.std.proofs.Common.{◌≡◌, ◌∙◌, sym, ap}
 use Rattle.std.specs.Prelude.{Ok, slice_get}
 use Rattle.llb_model.specs.Table.{cancel_reply}
 use Rattle.llb_events.specs.declared.event.Event.TheVariants.{Cancel}
-use Rattle.llb_state.specs.Rules.{given_up_at}
+use Rattle.llb_board.specs.WorkerRules.{given_up_at}
 use Rattle.llb_board.specs.Seen.{BoardValue, seen}
 use Rattle.llb_board.specs.Rules.{cancel_of}
 use Rattle.llb_board.proofs.Kept.{recorded_as, left_count, waits_whole}

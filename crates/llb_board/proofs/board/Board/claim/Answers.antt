@@ -4,7 +4,7 @@ use Rattle.llb_model.specs.Table.{Claimed}
 use Rattle.llb_events.specs.declared.event.Event.TheVariants.{Claim}
 use Rattle.llb_model.specs.Table.{claim_grant}
 use Rattle.llb_events.specs.Faults.{claim_memory, claim_may_want}
-use Rattle.llb_state.specs.Workers.{state_in}
+use Rattle.llb_board.specs.Workers.{state_in}
 use Rattle.llb_board.specs.Seen.{BoardValue, seen}
 use Rattle.llb_board.specs.Rules.{claim_of}
 use Rattle.llb_board.proofs.Claiming.{refused_as, wants_as, granted_wants, released, granted_at, rows_at, low, room, keeps}

@@ -5,8 +5,8 @@ use Rattle.llb_model.specs.Table.{HasSettled}
 use Rattle.llb_model.specs.State.{Status, ending_of, is_failed}
 use Rattle.llb_model.specs.Table as table
 use Rattle.llb_events.specs.declared.event.Event.TheVariants.{Settle}
-use Rattle.llb_state.specs.Rules.{left_at}
-use Rattle.llb_state.specs.Vertices.{status_of}
+use Rattle.llb_board.specs.WorkerRules.{left_at}
+use Rattle.llb_board.specs.Vertices.{status_of}
 use Rattle.llb_board.specs.Seen.{BoardValue, seen}
 use Rattle.llb_board.specs.Rules.{settle_of}
 use Rattle.llb_board.proofs.Kept.{recorded_as, left_count}

@@ -2,7 +2,7 @@ use Rattle.std.proofs.Common.{◌≡◌, refl, arith}
 use Rattle.std.specs.Prelude.{Ok}
 use Rattle.llb_events.specs.declared.event.Event.TheVariants.{Step}
 use Rattle.llb_model.specs.Table.{HasStepped, step_grant}
-use Rattle.llb_state.specs.Workers.{state_in}
+use Rattle.llb_board.specs.Workers.{state_in}
 use Rattle.llb_board.specs.Seen.{seen}
 use Rattle.llb_board.proofs.Calls.{step_done}
 use Rattle.llb_board.proofs.Kept.{has_room, kept_after}

@@ -1,7 +1,7 @@
 use Rattle.std.proofs.Common.{◌≡◌, ◌∙◌, false, sym, ap, subst, rules}
 use Rattle.std.specs.Prelude.{Err}
 use Rattle.llb_loader.specs.Graph.{IsGraph}
-use Rattle.llb_state.specs.Undo.{walk_memory}
+use Rattle.llb_board.specs.Displaced.{walk_memory}
 use Rattle.llb_board.specs.Seen.{BoardValue}
 use Rattle.llb_board.specs.Undo.{walk_of}
 use Rattle.llb_board.proofs.Walks.{walk_back, walk_can, walk_refused}

@@ -1,0 +1,5 @@
+use Rattle.llb_board.proofs.Marked.{AsBehind}
+use Rattle.llb_board.proofs.vertices.marks.is_behind.Given as goal
+
+abbrev pub invariant-loop-edge : goal.invariant-loop-edge
+invariant-loop-edge l = AsBehind l.before l.inputs l.edge-index

@@ -1,0 +1,193 @@
+-- What an event displaces of the workers, and the workers after it is put back.
+use Rattle.std.specs.Prelude.{◌≡◌, ℕ, ◌+◌, ◌-◌, ◌^◌, ◌<◌, Bool, true, false, List, length, map, Option, Some, None, Result, slice_get, slice_set}
+use Rattle.llb_cache.specs.declared.growth.Growth.{Growth}
+use Rattle.llb_cache.specs.Caches.{Row, trees_of}
+use Rattle.llb_cache.specs.Growth.{LentValue, growth_at, unmade}
+use Rattle.llb_tree.specs.Tree.{TreeMap}
+use Rattle.llb_execution.specs.Marks.{Mark, mark_of, put_back}
+use Rattle.llb_execution.specs.Parts.{mounts_in}
+use Rattle.llb_model.specs.Caches.{Instance, Has, Distinct, IsExclusive, trees_at}
+use Rattle.llb_model.specs.Kept.{store_of}
+use Rattle.llb_model.specs.Leases.{put_each}
+use Rattle.llb_model.specs.Program.{key_of}
+use Rattle.llb_model.specs.State.{State, Status, Waiting, Running, Execution, WorkerStatus, Idle, Runs, held, places_for}
+use Rattle.llb_model.specs.Table as table
+use Rattle.llb_events.specs.declared.event.Event as own_event
+use Rattle.llb_events.specs.declared.event.Event.TheVariants as event
+use Rattle.llb_board.specs.declared.fault.WalkFault.{WalkFault}
+use Rattle.llb_board.specs.declared.fault.WalkFault.TheVariants as walk
+use Rattle.llb_events.specs.declared.refusal.SettleFault.TheVariants as no_settle
+use Rattle.llb_events.specs.declared.refusal.CancelFault.TheVariants as no_cancel
+use Rattle.llb_board.specs.Supplies.{Supplies, supplies_for, mounts_at, needs_at}
+use Rattle.llb_board.specs.Faults.{faulted}
+use Rattle.llb_board.specs.Caches.{places_at, lent_of}
+use Rattle.llb_board.specs.Undoing.{Left, left_in}
+use Rattle.llb_board.specs.Vertices.{VerticesValue, status_of}
+use Rattle.llb_board.specs.Workers.{WorkersValue, state_in, claim_in, step_in}
+use Rattle.llb_board.specs.declared.workers.undoing.Back as undo
+use Rattle.llb_board.specs.declared.workers.undoing.Back.TheVariants as back
+use Rattle.llb_board.specs.declared.workers.undoing.Change as change
+use Rattle.llb_board.specs.declared.workers.undoing.End.{End}
+use Rattle.llb_board.specs.declared.workers.undoing.End.TheVariants as end
+
+-- ---- the result of an event
+
+-- the table's answer to an event on this state, its refusals as those of a walk
+abbrev pub walk_in : VerticesValue → WorkersValue → own_event.Event → Result (State × table.Reply) WalkFault
+walk_in vs ws (event.Claim w v) = faulted walk.Claim (claim_in vs ws w v)
+walk_in vs ws (event.Step w) = faulted walk.Step (step_in vs ws w)
+walk_in vs ws (event.Settle w) = faulted walk.Settle (table.settle_grant vs.build (state_in vs ws) w)
+walk_in vs ws (event.Cancel w) = faulted walk.Cancel (table.cancel_grant (state_in vs ws) w)
+
+-- whether a refusal of a walk is that of memory
+abbrev pub walk_memory : WalkFault → Bool
+walk_memory walk.Memory = true
+walk_memory (walk.Claim e) = false
+walk_memory (walk.Step e) = false
+walk_memory (walk.Settle e) = false
+walk_memory (walk.Cancel e) = false
+
+-- the event by which a worker leaves what it runs, and its faults if the worker is not there or is idle
+abbrev pub end_of : End → ℕ → own_event.Event
+end_of end.Settle w = event.Settle w
+end_of end.Cancel w = event.Cancel w
+
+-- the refusal of an end by a worker that is not there
+abbrev pub no_worker : End → WalkFault
+no_worker end.Settle = walk.Settle no_settle.NoWorker
+no_worker end.Cancel = walk.Cancel no_cancel.NoWorker
+
+-- the refusal of an end by an idle worker
+abbrev pub not_running : End → WalkFault
+not_running end.Settle = walk.Settle no_settle.NotRunning
+not_running end.Cancel = walk.Cancel no_cancel.NotRunning
+
+-- ---- what an event displaces
+
+-- a claim displaces the vertex that waited, and what its lease added is known; a step displaces what it can change of a view, and the trees of the worker's
+-- instances; a settle and a cancel displace what the worker ran, and the lease of its instances
+pub data Back : Type 0 where
+  Unclaim : ℕ → ℕ → List Growth → Back
+  Unstep : ℕ → Mark → List TreeMap → Back
+  Resume : End → ℕ → Left → Option LentValue → Back
+
+-- what an event displaced
+pub record Displaced : Type 0 where
+  pub back : Back
+
+-- what an event displaced, as contracts see it
+abbrev pub back_in : undo.Back → Back
+back_in (back.Unclaim w v growths) = Unclaim w v growths.items
+back_in (back.Unstep w mark trees) = Unstep w mark trees.items
+back_in (back.Resume e w x lent) = Resume e w (left_in x) lent
+
+-- ---- the event taken back
+
+-- one micro-step less is done, and none has faulted
+abbrev pub with_view_back : Mark → Execution → Execution
+with_view_back mark x = record x { done = x.done - 1; fault = None; own = put_back mark x.own }
+
+-- what a worker did before its last micro-step
+abbrev pub step_before : Mark → Option WorkerStatus → WorkerStatus
+step_before mark (Some (Runs x)) = Runs (with_view_back mark x)
+step_before mark (Some Idle) = Idle
+step_before mark None = Idle
+
+-- what the workers did before the event
+abbrev pub workers_before : Back → List WorkerStatus → List WorkerStatus
+workers_before (Unclaim w v growths) workers = slice_set workers w Idle
+workers_before (Unstep w mark trees) workers = slice_set workers w (step_before mark (slice_get workers w))
+workers_before (Resume e w left lent) workers = slice_set workers w (Runs left.execution)
+
+-- the supplies of the workers before the event
+abbrev pub supplies_before : Back → List Supplies → List Supplies
+supplies_before (Unclaim w v growths) supplies = slice_set supplies w (supplies_for None)
+supplies_before (Unstep w mark trees) supplies = supplies
+supplies_before (Resume e w left lent) supplies = slice_set supplies w left.supplies
+
+-- the lists of instances, given what the workers do now: only those of the worker's instances change
+abbrev pub rows_before : Back → List WorkerStatus → List Row → List Row
+rows_before (Unclaim w v growths) workers rows = unmade rows (places_at (slice_get workers w)) growths
+rows_before (Unstep w mark trees) workers rows = put_each rows (places_at (slice_get workers w)) trees
+rows_before (Resume e w left lent) workers rows = rows
+
+-- which vertex goes back to which status
+abbrev pub change_in : Back → Option (ℕ × Status)
+change_in (Unclaim w v growths) = Some (v, Waiting)
+change_in (Unstep w mark trees) = None
+change_in (Resume e w left lent) = Some (left.execution.vertex, Running w)
+
+-- a vertex and the status that it goes back to
+abbrev pub change_of : change.Change → ℕ × Status
+change_of c = (c.vertex, status_of c.stage)
+
+-- ---- when it can be put back
+
+-- the view that is put back has as many mounts, and there is a tree for each instance of the worker
+pub record IsStepped (workers : List WorkerStatus) (w : ℕ) (mark : Mark) (trees : List TreeMap) : Type 0 where
+  pub x : Execution
+  pub runs : slice_get workers w ≡ Some (Runs x)
+  pub mounts : mounts_in (put_back mark x.own) ≡ mounts_in x.own
+  pub count : length trees ≡ length x.places
+  pub few : length trees < 2 ^ 32
+
+-- the worker is idle, what it left has instances of different keys, and a lease of them is ready
+pub record IsLeft (workers : List WorkerStatus) (w : ℕ) (left : Left) (lent : Option LentValue) : Type 0 where
+  pub idle : slice_get workers w ≡ Some Idle
+  pub keys : Distinct (map (λ (p : Instance). p.key) left.execution.places)
+  pub ready : lent ≡ lent_of left.execution.places (length workers + 1)
+
+-- the worker is as the event left it
+abbrev pub IsBehind : Back → List WorkerStatus → Type 0
+IsBehind (Unclaim w v growths) workers = w < length workers
+IsBehind (Unstep w mark trees) workers = IsStepped workers w mark trees
+IsBehind (Resume e w left lent) workers = IsLeft workers w left lent
+
+-- the instances that workers hold are there
+abbrev pub AreHeldThere : List WorkerStatus → List Row → Type 0
+AreHeldThere workers rows = (w : ℕ) (x : Execution) (p : Instance) → slice_get workers w ≡ Some (Runs x) → Has x.places p
+    → p.number < length (trees_of rows p.key)
+
+-- two workers that hold one instance of a locked or a private key are one worker
+abbrev pub AreHeldOnce : List WorkerStatus → Type 0
+AreHeldOnce workers = (w u : ℕ) (x y : Execution) (p : Instance) → slice_get workers w ≡ Some (Runs x) → slice_get workers u ≡ Some (Runs y)
+    → Has x.places p → Has y.places p → IsExclusive p.key.mode → w ≡ u
+
+-- the worker is as the event left it, and the workers before the event hold instances that are there, exclusively if their keys say so
+pub record CanPutBack (u : Displaced) (ws : WorkersValue) : Type 0 where
+  pub behind : IsBehind u.back ws.workers
+  pub there : AreHeldThere (workers_before u.back ws.workers) (rows_before u.back ws.workers ws.rows)
+  pub once : AreHeldOnce (workers_before u.back ws.workers)
+
+-- ---- what is kept of workers before an event
+
+-- the instances that the claim of a vertex takes
+abbrev pub taken_at : VerticesValue → WorkersValue → ℕ → List Instance
+taken_at vs ws v = places_for (held ws.workers) (needs_at (slice_get vs.build.graph.vertices v))
+
+-- this undoes a claim of vertex v by worker w
+pub record MarksClaim (vs : VerticesValue) (ws : WorkersValue) (w v : ℕ) (u : Displaced) : Type 0 where
+  pub back : u.back ≡ Unclaim w v (map (growth_at ws.rows) (taken_at vs ws v))
+
+-- this undoes a micro-step of worker w
+pub record MarksStep (vs : VerticesValue) (ws : WorkersValue) (w : ℕ) (u : Displaced) : Type 0 where
+  pub x : Execution
+  pub runs : slice_get ws.workers w ≡ Some (Runs x)
+  pub back : u.back ≡ Unstep w (mark_of x.own) (trees_at (store_of ws.rows) x.places)
+  pub mounts : mounts_in x.own ≡ length (mounts_at (slice_get vs.build.graph.vertices x.vertex))
+  pub keys : map (λ (p : Instance). p.key) x.places ≡ map key_of (needs_at (slice_get vs.build.graph.vertices x.vertex))
+
+-- this undoes the end of what worker w runs
+pub record MarksEnd (vs : VerticesValue) (ws : WorkersValue) (e : End) (w : ℕ) (u : Displaced) : Type 0 where
+  pub left : Left
+  pub runs : slice_get ws.workers w ≡ Some (Runs left.execution)
+  pub back : u.back ≡ Resume e w left (lent_of left.execution.places (length ws.workers + 1))
+  pub supplies : left.supplies ≡ supplies_for (slice_get vs.build.graph.vertices left.execution.vertex)
+  pub keys : map (λ (p : Instance). p.key) left.execution.places ≡ left.supplies.keys
+
+-- what is kept before an event has what the event can displace
+abbrev pub MarksIn : VerticesValue → WorkersValue → own_event.Event → Displaced → Type 0
+MarksIn vs ws (event.Claim w v) u = MarksClaim vs ws w v u
+MarksIn vs ws (event.Step w) u = MarksStep vs ws w u
+MarksIn vs ws (event.Settle w) u = MarksEnd vs ws end.Settle w u
+MarksIn vs ws (event.Cancel w) u = MarksEnd vs ws end.Cancel w u

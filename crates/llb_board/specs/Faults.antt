@@ -1,0 +1,38 @@
+-- The refusal of an event of a walk: its text, and what it is by the refusal of the event.
+use Rattle.std.specs.Prelude.{List, ℕ, Result, Ok, Err, codes}
+use Rattle.llb_events.specs.declared.refusal.ClaimFault.{ClaimFault}
+use Rattle.llb_events.specs.declared.refusal.ClaimFault.TheVariants as claim
+use Rattle.llb_events.specs.declared.refusal.StepFault.{StepFault}
+use Rattle.llb_events.specs.declared.refusal.StepFault.TheVariants as step
+use Rattle.llb_events.specs.Faults.{claim_text, step_text, settle_text, cancel_text}
+use Rattle.llb_board.specs.declared.fault.WalkFault.{WalkFault}
+use Rattle.llb_board.specs.declared.fault.WalkFault.TheVariants as walk
+
+-- the text of the refusal of any event
+abbrev pub walk_text : WalkFault → List ℕ
+walk_text (walk.Claim e) = claim_text e
+walk_text (walk.Step e) = step_text e
+walk_text (walk.Settle e) = settle_text e
+walk_text (walk.Cancel e) = cancel_text e
+walk_text walk.Memory = codes "141"
+
+-- refused memory is one fault, whichever call it was refused to
+abbrev pub claim_refused : ClaimFault → WalkFault
+claim_refused claim.Memory = walk.Memory
+claim_refused claim.NoWorker = walk.Claim claim.NoWorker
+claim_refused claim.Busy = walk.Claim claim.Busy
+claim_refused claim.NoVertex = walk.Claim claim.NoVertex
+claim_refused claim.NotReady = walk.Claim claim.NotReady
+claim_refused (claim.Held k) = walk.Claim (claim.Held k)
+
+-- the refusal of a step as that of a walk
+abbrev pub step_refused : StepFault → WalkFault
+step_refused step.Memory = walk.Memory
+step_refused step.NoWorker = walk.Step step.NoWorker
+step_refused step.NotRunning = walk.Step step.NotRunning
+step_refused step.NothingLeft = walk.Step step.NothingLeft
+
+-- a result with its cause as a fault
+abbrev pub faulted : {A C F : Type 0} → (C → F) → Result A C → Result A F
+faulted fault (Ok x) = Ok x
+faulted fault (Err cause) = Err (fault cause)

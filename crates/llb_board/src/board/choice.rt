@@ -1,0 +1,25 @@
+//! The next event of the workers that run.
+
+ghost use Rattle.std.specs.Prelude.{◌≡◌};
+ghost use Rattle.llb_model.specs.Run.{next_of};
+
+use crate::status::WorkerStatus;
+use crate::vertices::Vertices;
+use crate::workers::Workers;
+use llb_events::Event;
+
+/// Returns the next event of the lowest running worker: a settle if what it runs is finished, else a step. `None` where no worker runs.
+pub(crate) fn next_event(vertices: &Vertices, workers: &Workers) -> Option<Event>
+    ensures { result ≡ next_of vertices.now.build 0 workers.now.workers }
+{
+    let _ = workers.look(vertices, 0);
+    for w in 0..64 {
+        match workers.look(vertices, w) {
+            None => return None,
+            Some(WorkerStatus::Idle) => {}
+            Some(WorkerStatus::Runs(_, _, true)) => return Some(Event::Settle(w)),
+            Some(WorkerStatus::Runs(_, _, false)) => return Some(Event::Step(w)),
+        }
+    }
+    None
+}

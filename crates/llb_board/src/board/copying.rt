@@ -1,0 +1,22 @@
+//! A second board: it shares the graph and all trees.
+
+ghost use Rattle.std.specs.Prelude.{◌≡◌, IfOk};
+
+use crate::board::Board;
+use crate::fault::Memory;
+
+impl Board {
+    /// Returns a second board on which the same has happened. Its record has the same room, since `events` fixes the room by what contracts
+    /// see of a board. It shares the graph and all trees. Fails with 141 `Memory` alone.
+    pub fn copy(&self) -> Result<Board, Memory>
+        ensures { IfOk result (λ b. b ≡ self.now) }
+    {
+        Ok(Board {
+            alloc: self.alloc,
+            vertices: self.vertices.copy(self.alloc)?,
+            workers: self.workers.copy(self.alloc)?,
+            start: self.start.copy()?,
+            history: self.history.copy(self.alloc)?,
+        })
+    }
+}

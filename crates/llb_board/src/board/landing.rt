@@ -1,0 +1,137 @@
+//! The landing of an outcome: the block of all micro-steps that a worker has left and of its settle, for work that was done away from
+//! the board. It settles and does no micro-step. `land` compares trees, by value alone; `land_known` compares nothing.
+
+ghost use Rattle.std.specs.Prelude.{◌≡◌, option_map, slice_get, IfOk, IfErr, OnOk, OnErr};
+ghost use Rattle.std.specs.List.{list_any};
+ghost use Rattle.llb_model.specs.Table.{HasSettled};
+ghost use Rattle.llb_model.specs.Caches as model;
+ghost use Rattle.llb_model.specs.State.{Execution, runs};
+ghost use Rattle.llb_board.specs.Jobs.{is_shared};
+ghost use Rattle.llb_board.specs.Begun.{IsKnown};
+ghost use Rattle.llb_board.specs.Landing.{CanLand, StandsInWay, IsRefused, land_fault, places_had, runs_shared, IsThrough, Lands};
+
+use crate::board::Board;
+use crate::fault::LandFault;
+use crate::laws::begun_are_plain;
+use crate::status::WorkerStatus;
+use llb_cache::{Instance, Mode};
+use llb_events::Settled;
+use llb_execution::{Job, Outcome, Workspace};
+
+/// Why an outcome does not land.
+#[derive(Clone, Copy)]
+pub(crate) enum LandCause {
+    NoWorker,
+    NotRunning,
+    HasShared,
+    Stranger,
+}
+
+impl Board {
+    /// Lands the outcome of a worker's job: the effect is that of all micro-steps that the worker has left and of its settle, and the record
+    /// grows by exactly these. Fails with 131 `NoWorker`, 136 `NotRunning`, 140 `HasShared` where a cache of its vertex is in shared mode, or
+    /// 139 `Stranger` where the outcome's job is not what the worker runs now, with the caches as they are now. Then the fault holds the
+    /// outcome, and the board is as it was. Does not allocate.
+    pub fn land(&mut self, w: u32, outcome: Outcome) -> Result<Settled, LandFault>
+        ensures gives { IfOk result (λ r. Lands self.old w outcome self.new (HasSettled r)) }
+        ensures refused { IfErr result (λ e. IsRefused self.old w outcome e) }
+        ensures err { OnErr result (self.new ≡ self.old) }
+    {
+        if let Err(cause) = self.can_land(w, outcome.job()) {
+            return Err(refused(cause, outcome));
+        }
+        let vertex = outcome.job().vertex();
+        self.go_through(w, outcome);
+        Ok(self.settle(w).unwrap_or(Settled::Done(vertex)))
+    }
+
+    /// Lands an outcome, as `land` does, whose job is known to be what the worker runs: with no cache mount at or before its vertex and no
+    /// micro-step done. It compares nothing. Does not allocate.
+    pub fn land_known(&mut self, w: u32, outcome: Outcome) -> Settled
+        requires known { IsKnown self.old w outcome.job }
+        ensures gives { Lands self.old w outcome self.new (HasSettled result) }
+    {
+        begun_are_plain(self);
+        let vertex = outcome.job().vertex();
+        self.go_through(w, outcome);
+        self.settle(w).unwrap_or(Settled::Done(vertex))
+    }
+
+    /// Returns whether what a worker runs has an instance of a shared cache, so that no outcome of it lands. False where the worker runs nothing
+    /// or there is no such worker. Does not allocate.
+    pub fn has_shared(&self, w: u32) -> bool
+        ensures { result ≡ runs_shared (slice_get self.now.state.workers w) }
+    {
+        has_shared(self.workers.places(w))
+    }
+
+    /// Returns the instances of caches that a worker has; none where it runs nothing, or there is no such worker. Does not allocate.
+    pub fn places(&self, w: u32) -> &[Instance]
+        ensures { result.now ≡ places_had (slice_get self.now.state.workers w) }
+    {
+        self.workers.places(w)
+    }
+
+    /// Returns the workspace of what a worker runs; `None` where it runs nothing, or there is no such worker. Does not allocate.
+    pub fn workspace(&self, w: u32) -> Option<&Workspace>
+        ensures { option_map (λ v. v.now) result ≡ option_map (λ (x : Execution). x.own) (runs (slice_get self.now.state.workers w)) }
+    {
+        self.workers.workspace(w)
+    }
+
+    // Checks that the outcome of a job lands; otherwise returns the first cause why it does not.
+    fn can_land(&self, w: u32, job: &Job) -> Result<(), LandCause>
+        ensures ok { OnOk result (CanLand self.now w job.now) }
+        ensures err { IfErr result (λ cause. StandsInWay self.now w job.now cause) }
+    {
+        match self.workers.look(&self.vertices, w) {
+            None => Err(LandCause::NoWorker),
+            Some(WorkerStatus::Idle) => Err(LandCause::NotRunning),
+            Some(WorkerStatus::Runs(_, _, _)) => {
+                if has_shared(self.workers.places(w)) {
+                    return Err(LandCause::HasShared);
+                }
+                if !self.workers.is_run_of(&self.vertices, w, job) {
+                    return Err(LandCause::Stranger);
+                }
+                Ok(())
+            }
+        }
+    }
+
+    // Puts what an outcome's steps leave into its worker's execution and its caches, and records the steps.
+    fn go_through(&mut self, w: u32, outcome: Outcome)
+        requires { CanLand self.old w outcome.job }
+        ensures { IsThrough self.old w outcome.count self.new }
+    {
+        outcome.is_whole();
+        let _ = self.vertices.graph().vertices();
+        let count = outcome.count();
+        self.workers.land(&self.vertices, w, outcome);
+        self.history.record_steps(w, count);
+    }
+}
+
+// Returns the fault for a cause, with the outcome in it.
+fn refused(cause: LandCause, outcome: Outcome) -> LandFault
+    ensures { result ≡ land_fault cause outcome }
+{
+    match cause {
+        LandCause::NoWorker => LandFault::NoWorker(outcome),
+        LandCause::NotRunning => LandFault::NotRunning(outcome),
+        LandCause::HasShared => LandFault::HasShared(outcome),
+        LandCause::Stranger => LandFault::Stranger(outcome),
+    }
+}
+
+// Returns whether one of the instances belongs to a shared cache.
+fn has_shared(places: &[Instance]) -> bool
+    ensures { result ≡ list_any (λ (p : model.Instance). is_shared p.key.mode) places.now }
+{
+    for place in places {
+        if let Mode::Shared = place.key.mode {
+            return true;
+        }
+    }
+    false
+}

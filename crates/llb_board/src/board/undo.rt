@@ -1,0 +1,26 @@
+//! Takes an event back: what it displaced is on the board again.
+
+ghost use Rattle.std.specs.Prelude.{◌≡◌};
+ghost use Rattle.llb_board.specs.Undo.{undone, CanUndo};
+
+use crate::board::Board;
+use crate::workers::Undo;
+
+impl Board {
+    /// Takes an event back, given the `Undo` that `walk` returned for it, or one that satisfies `CanUndo`. Does not allocate.
+    pub fn undo(&mut self, undo: Undo)
+        requires { CanUndo undo self.old }
+        ensures { self.new ≡ undone undo self.old }
+    {
+        self.is_graph();
+        match self.workers.put_back(undo) {
+            Some(change) => {
+                let v = change.vertex;
+                self.vertices.set(v, change.stage);
+                let events = self.vertices.steps(v) as usize + 2;
+                self.history.take_back(v, events);
+            }
+            None => self.history.take_back(0, 0),
+        }
+    }
+}

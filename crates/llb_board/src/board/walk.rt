@@ -1,0 +1,66 @@
+//! Does an event and keeps what undoes it, for callers that go through a run forwards and back.
+
+ghost use Rattle.std.specs.Prelude.{◌≡◌, OnErr, IfOk};
+ghost use Rattle.llb_board.specs.Undo.{GivesWalk, walk_of, undone, CanUndo};
+
+use crate::board::Board;
+use crate::fault::WalkFault;
+use crate::workers::Undo;
+use llb_events::{Cancelled, Event, Settled, Stepped};
+
+/// The reply of an event.
+#[derive(Clone, Copy, Debug, PartialEq, Eq)]
+pub enum Reply {
+    Claimed,
+    Stepped(Stepped),
+    Settled(Settled),
+    Cancelled(Cancelled),
+}
+
+/// An event that was done: its reply, and what takes it back.
+#[derive(Drop)]
+pub struct Walked {
+    pub reply: Reply,
+    pub undo: Undo,
+}
+
+impl Board {
+    /// Does an event, and returns its reply with what takes it back; memory for that grows with what the event changes. Fails with the fault of
+    /// the claim, the step, the settle or the cancel, or with 141 `Memory`, which may come at any time.
+    pub fn walk(&mut self, event: Event) -> Result<Walked, WalkFault>
+        ensures gives { GivesWalk (λ r. (self.new, r.reply)) result (walk_of self.old event) }
+        ensures undo { IfOk result (λ r. undone r.undo self.new ≡ self.old) }
+        ensures can { IfOk result (λ r. CanUndo r.undo self.new) }
+        ensures err { OnErr result (self.new ≡ self.old) }
+    {
+        self.is_graph();
+        let undo = self.workers.before(self.alloc, &self.vertices, event)?;
+        let reply = self.happen(event)?;
+        Ok(Walked { reply, undo })
+    }
+
+    // Does an event and returns its reply.
+    fn happen(&mut self, event: Event) -> Result<Reply, WalkFault>
+        ensures gives { GivesWalk (λ r. (self.new, r)) result (walk_of self.old event) }
+        ensures err { OnErr result (self.new ≡ self.old) }
+    {
+        match event {
+            Event::Claim(w, v) => {
+                self.claim(w, v)?;
+                Ok(Reply::Claimed)
+            }
+            Event::Step(w) => {
+                let stepped = self.step(w)?;
+                Ok(Reply::Stepped(stepped))
+            }
+            Event::Settle(w) => {
+                let settled = self.settle(w)?;
+                Ok(Reply::Settled(settled))
+            }
+            Event::Cancel(w) => {
+                let cancelled = self.cancel(w)?;
+                Ok(Reply::Cancelled(cancelled))
+            }
+        }
+    }
+}

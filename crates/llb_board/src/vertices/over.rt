@@ -1,0 +1,58 @@
+//! Which vertices are Ready, and which are over: done, failed, or without hope of their inputs.
+
+ghost use Rattle.std.specs.Prelude.{◌≡◌, map, slice_get, false, unwrap_or, ◌||◌, ◌&&◌};
+ghost use Rattle.llb_model.specs.State.{stopped, is_waiting};
+ghost use Rattle.llb_model.specs.Run.{is_settled};
+ghost use Rattle.llb_board.specs.Links.{has_inputs};
+ghost use Rattle.llb_board.specs.Vertices.{status_of, AreOver, TellsInputs};
+
+use crate::links::Links;
+use crate::vertices::build::Build;
+use crate::vertices::marks::is_marked;
+use crate::vertices::stage::Stage;
+
+/// Returns whether a vertex waits and has no open input.
+pub(crate) fn is_ready(stages: &[Stage], links: &Links, v: u32) -> bool
+    ensures { result ≡ (is_waiting (slice_get (map status_of stages.now) v) && has_inputs links.now v) }
+{
+    match stages.get(v as usize) {
+        Some(Stage::Waiting) => links.has_inputs(v),
+        _ => false,
+    }
+}
+
+/// Returns whether a vertex is done or failed, or waits and is marked.
+pub(crate) fn is_ended(stages: &[Stage], stop_marks: &[bool], v: u32) -> bool
+    ensures { result ≡ (is_settled (slice_get (map status_of stages.now) v)
+        || (is_waiting (slice_get (map status_of stages.now) v) && unwrap_or (slice_get stop_marks.now v) false)) }
+{
+    match stages.get(v as usize) {
+        Some(Stage::Done(_)) => true,
+        Some(Stage::Failed(_)) => true,
+        Some(Stage::Waiting) => is_marked(stop_marks, v),
+        Some(Stage::Running(_)) => false,
+        None => false,
+    }
+}
+
+/// Returns a number at or after `from` below which every vertex is over; those below `from` are.
+pub(crate) fn first_open(
+    build: &Build,
+    stages: &[Stage],
+    stop_marks: &[bool],
+    links: &Links,
+    from: u32,
+) -> u32
+    requires marks { stop_marks.now ≡ stopped build.now (map status_of stages.now) }
+    requires tells { TellsInputs build.now (map status_of stages.now) links.now }
+    requires over { AreOver build.now (map status_of stages.now) from }
+    ensures { AreOver build.now (map status_of stages.now) result }
+{
+    let count = build.vertices().len() as u32;
+    for v in from..count {
+        if !is_ended(stages, stop_marks, v) || is_ready(stages, links, v) {
+            return v;
+        }
+    }
+    count
+}

@@ -1,0 +1,83 @@
+//! The state of a vertex.
+
+ghost use Rattle.std.specs.Prelude.{◌≡◌, Some, IfOk};
+ghost use Rattle.llb_model.specs.State.{ending_of, is_done, is_failed};
+ghost use Rattle.llb_board.specs.Vertices.{status_of};
+
+use crate::fault::Memory;
+use llb_events::VertexFault;
+use llb_tree::Tree;
+use llb_wire::{Many, Same};
+use std::alloc::Global;
+
+/// What is known of a vertex: that it waits, which worker runs it, its trees or its fault.
+#[derive(Drop)]
+pub(crate) enum Stage {
+    /// No worker runs it, and it has not ended.
+    Waiting,
+    /// The worker of this number runs it.
+    Running(u32),
+    /// It ended with these outputs.
+    Done(Many<Tree>),
+    /// It ended with this fault.
+    Failed(VertexFault),
+}
+
+impl Stage {
+    /// Returns whether the vertex has failed.
+    pub(crate) fn has_failed(&self) -> bool
+        ensures { result ≡ is_failed (ending_of (Some (status_of self.now))) }
+    {
+        match self {
+            Stage::Failed(_) => true,
+            _ => false,
+        }
+    }
+
+    /// Returns whether the vertex is done.
+    pub(crate) fn is_done(&self) -> bool
+        ensures { result ≡ is_done (ending_of (Some (status_of self.now))) }
+    {
+        match self {
+            Stage::Done(_) => true,
+            _ => false,
+        }
+    }
+
+    /// Returns a copy, which shares the trees. Fails with 141 `Memory` alone.
+    pub(crate) fn copy(&self, alloc: Global) -> Result<Stage, Memory>
+        ensures { IfOk result (λ s. s ≡ self.now) }
+    {
+        match self {
+            Stage::Waiting => Ok(Stage::Waiting),
+            Stage::Running(w) => Ok(Stage::Running(*w)),
+            Stage::Done(trees) => {
+                let trees = copied_trees(alloc, trees.as_slice())?;
+                Ok(Stage::Done(Many::new(trees)))
+            }
+            Stage::Failed(fault) => Ok(Stage::Failed(*fault)),
+        }
+    }
+}
+
+impl Same for Stage {
+    fn same(&self, other: &Stage) -> bool {
+        match (self, other) {
+            (Stage::Waiting, Stage::Waiting) => true,
+            (Stage::Running(w), Stage::Running(u)) => w == u,
+            (Stage::Done(trees), Stage::Done(others)) => trees.same(others),
+            (Stage::Failed(fault), Stage::Failed(other)) => fault.same(other),
+            _ => false,
+        }
+    }
+}
+
+fn copied_trees(alloc: Global, trees: &[Tree]) -> Result<Vec<Tree>, Memory>
+    ensures { IfOk result (λ t. t.items ≡ trees.now) }
+{
+    let mut copies = Vec::new(alloc);
+    for tree in trees {
+        copies.push(tree.copy()?)?;
+    }
+    Ok(copies)
+}

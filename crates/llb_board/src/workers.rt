@@ -1,0 +1,161 @@
+//! What the workers of a board do, on which cache instances, and the caches themselves. By the invariant of `Workers` there are 1 to 64
+//! workers, and each that runs with instances has a lease of its own of them.
+
+ghost use Rattle.std.specs.Prelude.{◌≡◌, ◌↔◌, ◌<◌, ◌≤◌, [], IsTrue, length, option_map, replicate, slice_get, IfOk, IfErr};
+ghost use Rattle.llb_cache.specs.Caches.{leases};
+ghost use Rattle.llb_model.specs.Leases.{HoldsAs};
+ghost use Rattle.llb_model.specs.State.{Execution, Idle, runs};
+ghost use Rattle.llb_board.specs.Caches.{places_at};
+ghost use Rattle.llb_board.specs.Supplies.{supplies_for};
+ghost use Rattle.llb_board.specs.Statuses.{look_of};
+
+mod claiming;
+mod comparing;
+mod copying;
+mod desk;
+mod ending;
+mod instances;
+mod landing;
+mod leaving;
+mod looking;
+mod needs;
+mod outfit;
+mod stepping;
+mod undoing;
+
+use crate::fault::Memory;
+use crate::status::WorkerStatus;
+use crate::vertices::Vertices;
+use copying::copied_desks;
+use desk::{Desk, desk_at, idle, is_finished, same_desks};
+use instances::give_all_back;
+use llb_cache::{Caches, Instance};
+use llb_execution::Workspace;
+use std::alloc::Global;
+use std::marker::Model;
+pub use undoing::Undo;
+
+/// The workers of a board, and the caches whose instances they hold. Contracts see what each worker does, the lists of instances, and what
+/// each worker is supplied with.
+pub(crate) struct Workers {
+    seats: Vec<Desk>,
+    caches: Caches,
+}
+
+// It is written out so that a board drops one by this one function.
+impl Drop for Workers {
+    fn drop(self) {
+        let Workers {
+            seats: _,
+            caches: _,
+        } = self;
+    }
+}
+
+impl Model for Workers {
+    ghost use Rattle.std.specs.Coded.{codes};
+    ghost use Rattle.std.specs.Prelude.{map};
+    ghost use Rattle.llb_tree.specs.Coded.{coded_tree};
+    ghost use Rattle.llb_board.specs.Supplies.{ready_made};
+    ghost use Rattle.llb_board.specs.Views.{at_of, leased_by};
+    ghost use Rattle.llb_board.specs.Workers.{WorkersValue, IsCrew};
+
+    ghost Value = { WorkersValue };
+
+    ghost coded = { Prim.hlevel (codes, coded_tree) };
+
+    ghost view = { λ s. record { workers = map at_of s.seats.items; rows = s.caches.rows; supplies = map ready_made s.seats.items } };
+
+    ghost invariant = { λ s. IsCrew (map at_of s.seats.items) s.caches.out (map leased_by s.seats.items) };
+}
+
+impl Workers {
+    /// Makes idle workers, of a number from 1 to 64, on caches of which no lease is out. If memory is refused, returns
+    /// the caches.
+    pub(crate) fn open(alloc: Global, caches: Caches, count: u32) -> Result<Workers, Caches>
+        requires count { (0 < count) × (count ≤ 64) }
+        requires free { leases caches.out ≡ 0 }
+        ensures ok { IfOk result (λ s. s ≡ record {
+          workers = replicate count Idle;
+          rows = caches.rows;
+          supplies = replicate count (supplies_for None);
+        }) }
+        ensures back { IfErr result (λ c. c ≡ caches) }
+    {
+        match idle(alloc, count) {
+            Ok(seats) => Ok(Workers { seats, caches }),
+            Err(_) => Err(caches),
+        }
+    }
+
+    /// Returns the caches; the leases that are out have the instances of the running workers. Does not allocate.
+    pub(crate) fn caches(&self) -> &Caches
+        ensures rows { result.now.rows ≡ self.now.rows }
+        ensures leased { HoldsAs result.now.out self.now.workers }
+    {
+        &self.caches
+    }
+
+    /// Returns the caches as they are, with no lease out. Does not allocate.
+    pub(crate) fn into_caches(self) -> Caches
+        ensures rows { result.rows ≡ self.rows }
+        ensures free { result.out ≡ [] }
+    {
+        let Workers { seats, mut caches } = self;
+        give_all_back(&mut caches, &seats);
+        caches.is_exclusive();
+        caches
+    }
+
+    /// Returns what a worker does; `None` past the last of the 1 to 64 workers. Does not allocate.
+    pub(crate) fn look(&self, vertices: &Vertices, w: u32) -> Option<WorkerStatus>
+        ensures looks { result ≡ option_map (look_of vertices.now.build) (slice_get self.now.workers w) }
+        ensures some { 0 < length self.now.workers }
+        ensures few { length self.now.workers ≤ 64 }
+    {
+        match desk_at(&self.seats, w)? {
+            Desk::Idle => Some(WorkerStatus::Idle),
+            Desk::Runs(_, execution) => {
+                let finished = is_finished(execution, vertices.steps(execution.vertex));
+                Some(WorkerStatus::Runs(execution.vertex, execution.done, finished))
+            }
+        }
+    }
+
+    /// Returns the instances that a worker holds; none if it is idle, or past the last worker. Does not allocate.
+    pub(crate) fn places(&self, w: u32) -> &[Instance]
+        ensures { result.now ≡ places_at (slice_get self.now.workers w) }
+    {
+        match desk_at(&self.seats, w) {
+            Some(Desk::Runs(_, execution)) => &execution.places,
+            _ => &[],
+        }
+    }
+
+    /// Returns the workspace of what a worker runs; `None` if it is idle, or past the last worker. Does not allocate.
+    pub(crate) fn workspace(&self, w: u32) -> Option<&Workspace>
+        ensures { option_map (λ v. v.now) result ≡ option_map (λ (x : Execution). x.own) (runs (slice_get self.now.workers w)) }
+    {
+        match desk_at(&self.seats, w) {
+            Some(Desk::Runs(_, execution)) => Some(&execution.view),
+            _ => None,
+        }
+    }
+
+    /// Copies the workers, with the same leases on equal caches. Fails with 141 `Memory` alone.
+    pub(crate) fn copy(&self, alloc: Global) -> Result<Workers, Memory>
+        ensures { IfOk result (λ s. s ≡ self.now) }
+    {
+        Ok(Workers {
+            seats: copied_desks(alloc, &self.seats)?,
+            caches: self.caches.copy()?,
+        })
+    }
+
+    /// Returns whether each worker does the same, by value, and the caches have the same trees. Does not allocate.
+    pub(crate) fn same(&self, other: &Workers) -> bool
+        ensures { IsTrue result ↔ ((self.now.workers ≡ other.now.workers) × (self.now.rows ≡ other.now.rows)) }
+    {
+        same_desks(&self.seats, &other.seats) && self.caches.has_same_trees(&other.caches)
+    }
+}

@@ -1,0 +1,20 @@
+//! How an execution ends: with its fault, or with its outputs, which replace the empty trees that it has for them.
+
+ghost use Rattle.std.specs.Prelude.{◌≡◌, option_map, replicate};
+ghost use Rattle.llb_tree.specs.Tree.{empty_tree};
+ghost use Rattle.llb_model.specs.Program.{program_at, outputs_of};
+
+use llb_execution::Workspace;
+use llb_loader::Vertex;
+use llb_tree::Tree;
+
+/// Returns the outputs, read from the view that the micro-steps left. Without a vertex there are none.
+pub(crate) fn outputs(view: Workspace, outputs: Vec<Tree>, vertex: Option<&Vertex>) -> Vec<Tree>
+    requires { outputs.items ≡ replicate (program_at (option_map (λ v. v.now) vertex)).outputs empty_tree }
+    ensures { result.items ≡ outputs_of (program_at (option_map (λ v. v.now) vertex.entry)) view }
+{
+    match vertex {
+        Some(vertex) => view.into_outputs(outputs, vertex),
+        None => outputs,
+    }
+}

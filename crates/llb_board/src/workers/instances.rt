@@ -1,0 +1,152 @@
+//! The cache instances of a worker: it leases them, reads their trees for a micro-step, writes them after it, and gives the lease
+//! back. A worker whose vertex shows no cache has no lease.
+
+ghost use Rattle.std.specs.Prelude.{◌≡◌, ◌≢◌, ◌<◌, ◌^◌, map, length, AllPairs, IfOk, IfErr, OnErr, Ok, true};
+ghost use Rattle.std.specs.Option.{ForSome};
+ghost use Rattle.llb_cache.specs.Caches.{places_of, leases, AreThere};
+ghost use Rattle.llb_cache.specs.Growth.{CanLend};
+ghost use Rattle.llb_cache.specs.Faults.{Gives};
+ghost use Rattle.llb_model.specs.Caches.{trees_at};
+ghost use Rattle.llb_model.specs.Kept.{store_of};
+ghost use Rattle.llb_model.specs.Leases.{AreLeased, put_each};
+ghost use Rattle.llb_board.specs.Caches.{tree_of, leased_places, IsOutIf, given_back, taken_back, lease_if, lent_of, lent_if};
+ghost use Rattle.llb_board.specs.Views.{at_of, leased_by};
+ghost use Rattle.llb_events.specs.Faults.{step_memory};
+
+use crate::fault::Memory;
+use crate::workers::desk::Desk;
+use llb_cache::{Caches, Growth, Instance, Lease, LeaseFault, Lent, Need};
+use llb_events::StepFault;
+use llb_tree::Tree;
+use llb_wire::Many;
+use std::alloc::Global;
+
+/// Returns copies of the trees of instances; an instance that is not there has the empty tree. Fails with 141 `Memory` alone.
+pub(crate) fn contents(
+    alloc: Global,
+    caches: &Caches,
+    places: &[Instance],
+) -> Result<Vec<Tree>, StepFault>
+    ensures trees { IfOk result (λ ts. ts.items ≡ trees_at (store_of caches.now.rows) places.now) }
+    ensures memory { IfErr result (λ e. step_memory e ≡ true) }
+{
+    let mut trees = Vec::with_capacity(alloc, places.len())?;
+    for place in places {
+        trees.push_reserved(content(alloc, caches, place)?);
+    }
+    Ok(trees)
+}
+
+fn content(alloc: Global, caches: &Caches, place: &Instance) -> Result<Tree, StepFault>
+    ensures tree { IfOk result (λ t. t ≡ tree_of (store_of caches.now.rows) place.now) }
+    ensures memory { IfErr result (λ e. step_memory e ≡ true) }
+{
+    match caches.instance(&place.key, place.number) {
+        Some(tree) => Ok(tree.copy()?),
+        None => Ok(Tree::empty(alloc)?),
+    }
+}
+
+/// Leases instances for these needs, whose keys differ and are looked for in these rows first; `None` if there are no
+/// needs. Fails with 111 `Held` and the first locked key that is held, or with 112 `Memory`; then the caches are as
+/// they were.
+pub(crate) fn lease_for(
+    caches: &mut Caches,
+    needs: Vec<Need>,
+    rows: &[Option<usize>],
+) -> Result<Option<Lease>, LeaseFault>
+    requires differ { AllPairs (λ n m. n.key ≢ m.key) needs.items }
+    requires few { leases caches.old.out < 65536 }
+    ensures gives { Gives (λ l. (l, caches.new)) result (lease_if caches.old needs.items) }
+    ensures err { OnErr result (caches.new ≡ caches.old) }
+{
+    if needs.is_empty() {
+        return Ok(None);
+    }
+    Ok(Some(caches.lease_near(Many::new(needs), rows)?))
+}
+
+/// Gives back a lease that is out, if there is one.
+pub(crate) fn give_back(caches: &mut Caches, lease: Option<Lease>)
+    requires { IsOutIf caches.old.out lease }
+    ensures { caches.new ≡ given_back caches.old lease }
+{
+    if let Some(lease) = lease {
+        caches.give_back(lease);
+    }
+}
+
+/// Takes a lease back, if there is one, with what it added, given for each of its instances.
+pub(crate) fn take_back(caches: &mut Caches, lease: Option<Lease>, growths: &[Growth])
+    requires out { IsOutIf caches.old.out lease }
+    requires there { AreThere (taken_back caches.old lease growths.now).rows (taken_back caches.old lease growths.now).out }
+    ensures { caches.new ≡ taken_back caches.old lease growths.now }
+{
+    if let Some(lease) = lease {
+        caches.take_back(lease, growths);
+    }
+}
+
+/// Returns what a lease of these instances is made of, with room for this many leases; `None` if there are none. Fails with 141 `Memory` alone.
+pub(crate) fn lent_for(
+    alloc: Global,
+    places: &[Instance],
+    room: usize,
+) -> Result<Option<Lent>, Memory>
+    ensures { IfOk result (λ l. l ≡ lent_of places.now room) }
+{
+    if places.is_empty() {
+        return Ok(None);
+    }
+    Ok(Some(Lent::new(alloc, places, room)?))
+}
+
+/// Grants a lease that was made ready, if there is one. Does not allocate.
+pub(crate) fn lend_again(caches: &mut Caches, lent: Option<Lent>) -> Option<Lease>
+    requires { ForSome lent (CanLend caches.old) }
+    ensures { (result, caches.new) ≡ lent_if caches.old lent }
+{
+    match lent {
+        Some(lent) => Some(caches.lend_again(lent)),
+        None => None,
+    }
+}
+
+/// Replaces the trees of a lease's instances by these. Without a lease there are no trees.
+pub(crate) fn write_back(caches: &mut Caches, lease: Option<Lease>, trees: Vec<Tree>)
+    requires count { length trees.items ≡ length (leased_places caches.old.out lease) }
+    requires few { length trees.items < 2 ^ 32 }
+    ensures rows { caches.new.rows ≡ put_each caches.old.rows (leased_places caches.old.out lease) trees.items }
+    ensures out { caches.new.out ≡ caches.old.out }
+{
+    if let Some(lease) = lease {
+        write_all(caches, lease, trees);
+    }
+}
+
+// Replaces the trees of a lease's instances by these.
+fn write_all(caches: &mut Caches, lease: Lease, trees: Vec<Tree>)
+    requires count { length trees.items ≡ length (places_of caches.old.out lease) }
+    requires few { length trees.items < 2 ^ 32 }
+    ensures rows { caches.new.rows ≡ put_each caches.old.rows (places_of caches.old.out lease) trees.items }
+    ensures out { caches.new.out ≡ caches.old.out }
+{
+    let mut need = 0;
+    for tree in trees {
+        caches.set_content(&lease, need, tree);
+        need += 1;
+    }
+}
+
+/// Gives back the leases of all workers.
+pub(crate) fn give_all_back(caches: &mut Caches, desks: &[Desk])
+    requires { AreLeased caches.old.out (map at_of desks.now) (map leased_by desks.now) }
+    ensures rows { caches.new.rows ≡ caches.old.rows }
+    ensures none { leases caches.new.out ≡ 0 }
+{
+    for desk in desks {
+        if let Desk::Runs(lease, _) = desk {
+            give_back(caches, *lease);
+        }
+    }
+}

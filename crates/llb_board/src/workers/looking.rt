@@ -1,0 +1,62 @@
+//! A look at the trees that a worker works on, those of its cache instances as they are now.
+
+ghost use Rattle.std.specs.Prelude.{◌≡◌, ◌<◌, length, option_map, slice_get, Some};
+ghost use Rattle.llb_cache.specs.Caches.{trees_of};
+ghost use Rattle.llb_model.specs.Caches as model;
+ghost use Rattle.llb_model.specs.Caches.{Has, trees_at};
+ghost use Rattle.llb_model.specs.Kept.{store_of};
+ghost use Rattle.llb_model.specs.State.{runs};
+ghost use Rattle.llb_board.specs.Looks.{worked_by};
+ghost use Rattle.llb_board.specs.Views.{execution_of};
+
+use crate::workers::Workers;
+use crate::workers::desk::{Desk, Execution, desk_at};
+use llb_cache::{Caches, Instance};
+use llb_execution::Look;
+use llb_tree::Tree;
+
+impl Workers {
+    /// Returns tree i of those that a worker works on (`Workspace::look`), that of a cache instance as it is now;
+    /// `None` if the worker is idle, past the last worker, or past the last tree. Does not allocate.
+    pub(crate) fn worked_on(&self, w: u32, i: u32) -> Option<&Tree>
+        ensures { option_map (λ t. t.now) result ≡ slice_get (worked_by (store_of self.now.rows) (runs (slice_get self.now.workers w))) i }
+    {
+        self.caches.is_exclusive();
+        match desk_at(&self.seats, w) {
+            Some(Desk::Runs(_, execution)) => tree_in(&self.caches, execution, i),
+            _ => None,
+        }
+    }
+}
+
+// Returns tree i of those that an execution works on, whose instances are there.
+fn tree_in<'a>(caches: &'a Caches, execution: &'a Execution, i: u32) -> Option<&'a Tree>
+    requires { (p : model.Instance) → Has execution.now.places.items p → p.number < length (trees_of caches.now.rows p.key) }
+    ensures { option_map (λ t. t.now) result ≡ slice_get (worked_by (store_of caches.now.rows) (Some (execution_of execution.now))) i }
+{
+    let Some(look) = execution.view.look(i, execution.places.len()) else {
+        return None;
+    };
+    match look {
+        Look::Here(tree) => Some(tree),
+        Look::Cached(k) => instance_at(caches, &execution.places, k),
+    }
+}
+
+// Returns the tree of the held instance at index k; all held instances are there.
+fn instance_at<'a>(caches: &'a Caches, places: &[Instance], k: usize) -> Option<&'a Tree>
+    requires { (p : model.Instance) → Has places.now p → p.number < length (trees_of caches.now.rows p.key) }
+    ensures { option_map (λ t. t.now) result ≡ slice_get (trees_at (store_of caches.now.rows) places.now) k }
+{
+    let Some(place) = place_at(places, k) else {
+        return None;
+    };
+    caches.instance(&place.key, place.number)
+}
+
+// Returns the instance at index k.
+fn place_at(places: &[Instance], k: usize) -> Option<&Instance>
+    ensures { option_map (λ p. p.now) result ≡ slice_get places.now k }
+{
+    places.get(k)
+}

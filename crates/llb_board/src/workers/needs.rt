@@ -1,0 +1,295 @@
+//! The caches that a vertex shows, and what its claim takes of them: the instances, the trees that they begin with, and
+//! the needs of a lease. It is built on the mounts of a vertex and on caches, which it only reads.
+
+ghost use Rattle.std.specs.Prelude.{◌≡◌, ◌<◌, ◌^◌, Ok, IfErr, IfOk, MatchResult, Some, None, true, map, length, option_map};
+ghost use Rattle.std.specs.List.{All};
+ghost use Rattle.llb_loader.specs.Mounts.{key_of, seed_of};
+ghost use Rattle.llb_loader.specs.Rules.{kind_mounts};
+ghost use Rattle.llb_model.specs.Leases.{asked};
+ghost use Rattle.llb_model.specs.Program.{needs_of, mount_of, base_in, mode_of, key_as, seed_as};
+ghost use Rattle.llb_board.specs.Needs.{need_of, first_held_key, unless_held, if_locked, number_of, HasEdges};
+ghost use Rattle.llb_board.specs.Needs.{IsFound, place_found, row_found, first_tree, taken_by, growth_for};
+ghost use Rattle.llb_cache.specs.Key.{seed_by};
+ghost use Rattle.llb_events.specs.Faults.{GivesClaim, claim_memory, claim_may_want};
+
+use crate::fault::Memory;
+use llb_cache::{Caches, Found, Growth, Instance, KeyRef, Mode, Need};
+use llb_events::ClaimFault;
+use llb_execution::input_tree;
+use llb_loader::{Vertex, cache_in, mounts_of};
+use llb_ops::Mount;
+use llb_tree::Tree;
+use std::alloc::Global;
+
+/// A cache that an exec shows: at which mount, its key, the number of the input that a new instance begins with, -1 for none, and what the
+/// caches have of the key.
+#[derive(Drop)]
+pub(crate) struct Wanted<'a> {
+    pub mount: u32,
+    pub key: KeyRef<'a>,
+    pub input: i64,
+    pub found: Found<'a>,
+}
+
+/// What a claim takes, made before anything changes.
+#[derive(Drop)]
+pub(crate) struct Taking {
+    pub places: Vec<Instance>,
+    /// The numbers of the instances.
+    pub instances: Vec<u32>,
+    /// The trees that they begin with.
+    pub trees: Vec<Tree>,
+    pub needs: Vec<Need>,
+    /// The rows in which the keys of the needs were found.
+    pub rows: Vec<Option<usize>>,
+}
+
+// Returns the caches that a vertex shows, in the order of the mounts. Fails with 135 `Held` and the first locked key
+// that a lease has, for which alone it then allocates; else with 141 `Memory`, which can also come in place of 135.
+pub(crate) fn wanted_by<'a>(
+    alloc: Global,
+    caches: &'a Caches,
+    vertex: &'a Vertex,
+) -> Result<Vec<Wanted<'a>>, ClaimFault>
+    requires seeds { HasEdges vertex.now }
+    requires few { length (kind_mounts vertex.now.op.kind) < 2 ^ 32 }
+    ensures gives { GivesClaim (λ ws. map need_of ws.items) result (unless_held (needs_of vertex.now) (first_held_key caches.now.out (needs_of vertex.now))) }
+    ensures last { IfErr result (λ e. claim_memory e ≡ true
+        → claim_may_want (unless_held (needs_of vertex.now) (first_held_key caches.now.out (needs_of vertex.now))) ≡ true) }
+    ensures found { IfOk result (λ ws. All (IsFound caches.now) ws.items) }
+{
+    match last_locked(caches, vertex) {
+        Err(key) => Err(ClaimFault::Held(key.to_key(alloc)?)),
+        Ok(row) => wants(alloc, caches, vertex, row),
+    }
+}
+
+/// Returns what a claim of a vertex would add to the caches, for each cache that it shows. Fails with 141 `Memory` alone.
+pub(crate) fn growths_of(
+    alloc: Global,
+    caches: &Caches,
+    vertex: &Vertex,
+) -> Result<Vec<Growth>, Memory>
+    requires { HasEdges vertex.now }
+    ensures { IfOk result (λ gs. gs.items ≡ map (growth_for caches.now) (needs_of vertex.now)) }
+{
+    let mut growths = Vec::new(alloc);
+    for mount in mounts_of(&vertex.op.kind) {
+        if let Some(key) = key_shown(vertex, mount) {
+            growths.push(caches.growth(&key))?;
+        }
+    }
+    Ok(growths)
+}
+
+// Returns the row of the last locked key that a vertex shows, or fails with the first of these keys that a lease has.
+// Does not allocate.
+fn last_locked<'a>(caches: &Caches, vertex: &'a Vertex) -> Result<Option<usize>, KeyRef<'a>>
+    requires { HasEdges vertex.now }
+    ensures { MatchResult result (λ _. first_held_key caches.now.out (needs_of vertex.now) ≡ None)
+        (λ k. first_held_key caches.now.out (needs_of vertex.now) ≡ Some k) }
+{
+    let mut row = None;
+    for mount in mounts_of(&vertex.op.kind) {
+        let Some(key) = locked_key_shown(vertex, mount) else {
+            continue;
+        };
+        let found = caches.look_up(&key, None);
+        if found.is_held {
+            return Err(key);
+        }
+        row = found.row;
+    }
+    Ok(row)
+}
+
+// Looks up the caches that a vertex shows. The row of number `near` is tried first for each of the keys.
+fn wants<'a>(
+    alloc: Global,
+    caches: &'a Caches,
+    vertex: &'a Vertex,
+    near: Option<usize>,
+) -> Result<Vec<Wanted<'a>>, ClaimFault>
+    requires seeds { HasEdges vertex.now }
+    requires few { length (kind_mounts vertex.now.op.kind) < 2 ^ 32 }
+    ensures gives { GivesClaim (λ ws. map need_of ws.items) result (Ok (needs_of vertex.now)) }
+    ensures found { IfOk result (λ ws. All (IsFound caches.now) ws.items) }
+{
+    let mut wanted = Vec::new(alloc);
+    for (i, mount) in mounts_of(&vertex.op.kind).iter().enumerate() {
+        let Some(key) = key_shown(vertex, mount) else {
+            continue;
+        };
+        let found = caches.look_up(&key, near);
+        wanted.push(Wanted {
+            mount: i as u32,
+            key,
+            input: mount.input,
+            found,
+        })?;
+    }
+    Ok(wanted)
+}
+
+// Returns the key of the cache that a mount of a vertex shows, if it shows a locked one. Does not allocate.
+fn locked_key_shown<'a>(vertex: &'a Vertex, mount: &'a Mount) -> Option<KeyRef<'a>>
+    requires { HasEdges vertex.now }
+    ensures { result ≡ if_locked (option_map key_as (key_of vertex.now.op.inputs mount.now)) }
+{
+    let key = key_shown(vertex, mount)?;
+    if key.is_locked() {
+        return Some(key);
+    }
+    None
+}
+
+// Returns the key of the cache that a mount of a vertex shows, if it shows one. Does not allocate.
+fn key_shown<'a>(vertex: &'a Vertex, mount: &'a Mount) -> Option<KeyRef<'a>>
+    requires { HasEdges vertex.now }
+    ensures { result ≡ option_map key_as (key_of vertex.now.op.inputs mount.now) }
+{
+    let options = cache_in(mount)?;
+    let seed = seed_shown(vertex, mount.input);
+    Some(KeyRef::new(options.id.as_str(), seed, mode_of(options.sharing)))
+}
+
+// Returns the digest text and the index of the output that a new instance begins with: that of an input of a vertex;
+// `None` for -1.
+fn seed_shown(vertex: &Vertex, input: i64) -> Option<(&str, u32)>
+    requires { HasEdges vertex.now }
+    ensures { option_map (λ s. seed_by s.0.now s.1) result ≡ option_map seed_as (seed_of vertex.now.op.inputs input) }
+{
+    if input < 0 {
+        return None;
+    }
+    let at = input as usize;
+    let shown = vertex.op.inputs.as_slice().get(at)?;
+    Some((shown.digest.as_str(), vertex.inputs.as_slice()[at].index))
+}
+
+// Returns how a cache is shared, by its number.
+fn mode_of(sharing: i32) -> Mode
+    ensures { result ≡ mode_of sharing }
+{
+    match sharing {
+        1 => Mode::Private,
+        2 => Mode::Locked,
+        _ => Mode::Shared,
+    }
+}
+
+// Returns the numbers of the mounts that show caches. Fails with 141 `Memory` alone.
+pub(crate) fn mount_numbers(alloc: Global, wanted: &[Wanted<'_>]) -> Result<Vec<u32>, ClaimFault>
+    ensures { GivesClaim (λ ns. ns.items) result (Ok (map mount_of (map need_of wanted.now))) }
+{
+    let mut numbers = Vec::new(alloc);
+    for want in wanted {
+        numbers.push(want.mount)?;
+    }
+    Ok(numbers)
+}
+
+// Returns what a claim of these caches takes, with the trees of the inputs. Fails with 141 `Memory` alone.
+pub(crate) fn taking_for(
+    alloc: Global,
+    inputs: &[Tree],
+    wanted: &[Wanted<'_>],
+) -> Result<Taking, ClaimFault>
+    ensures { GivesClaim (λ t. (t.places.items, t.instances.items, t.trees.items, t.needs.items)) result (Ok (taken_by inputs.now wanted.now)) }
+{
+    let places = places_found(alloc, wanted)?;
+    let instances = instance_numbers(alloc, &places)?;
+    let trees = first_trees(alloc, inputs, wanted)?;
+    let needs = asked(alloc, inputs, wanted)?;
+    let rows = rows_found(alloc, wanted)?;
+    Ok(Taking {
+        places,
+        instances,
+        trees,
+        needs,
+        rows,
+    })
+}
+
+// Makes the instances that a lease of these caches would have.
+fn places_found(alloc: Global, wanted: &[Wanted<'_>]) -> Result<Vec<Instance>, ClaimFault>
+    ensures { GivesClaim (λ ps. ps.items) result (Ok (map place_found wanted.now)) }
+{
+    let mut places = Vec::new(alloc);
+    for want in wanted {
+        let key = want.key.to_key(alloc)?;
+        let number = want.found.number;
+        places.push(Instance { key, number })?;
+    }
+    Ok(places)
+}
+
+fn instance_numbers(alloc: Global, places: &[Instance]) -> Result<Vec<u32>, ClaimFault>
+    ensures { GivesClaim (λ ns. ns.items) result (Ok (map number_of places.now)) }
+{
+    let mut numbers = Vec::new(alloc);
+    for place in places {
+        numbers.push(place.number)?;
+    }
+    Ok(numbers)
+}
+
+// Copies the trees that the instances begin with.
+fn first_trees(
+    alloc: Global,
+    inputs: &[Tree],
+    wanted: &[Wanted<'_>],
+) -> Result<Vec<Tree>, ClaimFault>
+    ensures { GivesClaim (λ ts. ts.items) result (Ok (map (first_tree inputs.now) wanted.now)) }
+{
+    let mut trees = Vec::new(alloc);
+    for want in wanted {
+        let tree = first_tree(alloc, inputs, want)?;
+        trees.push(tree)?;
+    }
+    Ok(trees)
+}
+
+// Copies the tree of an instance, or that of its seed if the instance is not there.
+fn first_tree(alloc: Global, inputs: &[Tree], want: &Wanted<'_>) -> Result<Tree, ClaimFault>
+    ensures { GivesClaim (λ t. t) result (Ok (first_tree inputs.now want.now)) }
+{
+    match want.found.tree {
+        Some(tree) => Ok(tree.copy()?),
+        None => seed_tree(alloc, inputs, want.input),
+    }
+}
+
+// Copies the tree of a seed; returns the empty tree if there is none.
+fn seed_tree(alloc: Global, inputs: &[Tree], input: i64) -> Result<Tree, ClaimFault>
+    ensures { GivesClaim (λ t. t) result (Ok (base_in input inputs.now)) }
+{
+    match input_tree(inputs, input) {
+        Some(tree) => Ok(tree.copy()?),
+        None => Ok(Tree::empty(alloc)?),
+    }
+}
+
+// Makes the needs of a lease of these caches.
+fn asked(alloc: Global, inputs: &[Tree], wanted: &[Wanted<'_>]) -> Result<Vec<Need>, ClaimFault>
+    ensures { GivesClaim (λ ns. ns.items) result (Ok (asked inputs.now (map need_of wanted.now))) }
+{
+    let mut needs = Vec::new(alloc);
+    for want in wanted {
+        let key = want.key.to_key(alloc)?;
+        let tree = seed_tree(alloc, inputs, want.input)?;
+        needs.push(Need { key, tree })?;
+    }
+    Ok(needs)
+}
+
+// Returns the rows in which the keys of these caches were found.
+fn rows_found(alloc: Global, wanted: &[Wanted<'_>]) -> Result<Vec<Option<usize>>, ClaimFault>
+    ensures { GivesClaim (λ rs. rs.items) result (Ok (map row_found wanted.now)) }
+{
+    let mut rows = Vec::new(alloc);
+    for want in wanted {
+        rows.push(want.found.row)?;
+    }
+    Ok(rows)
+}

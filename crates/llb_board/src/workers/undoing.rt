@@ -1,0 +1,254 @@
+//! What an event displaces of the workers and of the caches, taken before the event and put back after it. It has a part for each cache that
+//! the vertex of the event shows, and none for other caches.
+
+ghost use Rattle.std.specs.Prelude.{◌≡◌, ◌<◌, false, length, map, option_map, slice_get, IfOk, IfErr, Err};
+ghost use Rattle.llb_events.specs.declared.event.Event.TheVariants.{Step};
+ghost use Rattle.llb_board.specs.Needs.{growth_for};
+ghost use Rattle.llb_board.specs.Supplies.{needs_at, ready_made};
+ghost use Rattle.llb_board.specs.Displaced.{MarksIn, MarksClaim, MarksStep, MarksEnd, CanPutBack};
+ghost use Rattle.llb_board.specs.Displaced.{walk_in, walk_memory, end_of, no_worker, not_running};
+ghost use Rattle.llb_board.specs.Displaced.{back_in, workers_before, rows_before, supplies_before, change_in, change_of};
+ghost use Rattle.llb_board.specs.Views.{at_of, leased_by};
+ghost use Rattle.llb_board.specs.Workers.{Fits, IsCrew};
+
+use crate::fault::{Memory, WalkFault};
+use crate::vertices::{Stage, Vertices};
+use crate::workers::Workers;
+use crate::workers::copying::copied;
+use crate::workers::desk::{Desk, Execution, make_idle, step_back};
+use crate::workers::instances::{contents, lend_again, lent_for, take_back, write_back};
+use crate::workers::needs::growths_of;
+use llb_cache::{Caches, Growth, Lent};
+use llb_events::{CancelFault, Event, SettleFault, StepFault};
+use llb_execution::Mark;
+use llb_tree::Tree;
+use std::alloc::Global;
+use std::marker::Model;
+
+/// What is needed to put an event back: what the event displaced. Contracts see it as `Displaced`.
+pub struct Undo {
+    back: Back,
+}
+
+// It is written out so that a board drops one by this one function.
+impl Drop for Undo {
+    fn drop(self) {
+        let Undo { back: _ } = self;
+    }
+}
+
+/// What an event displaced, by the kind of the event.
+#[derive(Drop)]
+pub(crate) enum Back {
+    /// For a claim: the worker, the vertex that waited, and what its lease added to the caches.
+    Unclaim(u32, u32, Vec<Growth>),
+    /// For a step: the worker, what the micro-step could change of its view, and the trees of its cache instances.
+    Unstep(u32, Mark, Vec<Tree>),
+    /// For a settle or a cancel: which of the two it was, the worker, what it ran, and a lease of its cache instances, if it had some.
+    Resume(End, u32, Execution, Option<Lent>),
+}
+
+/// The event by which a worker leaves what it runs.
+#[derive(Clone, Copy)]
+pub(crate) enum End {
+    /// The execution was finished.
+    Settle,
+    /// The execution was given up.
+    Cancel,
+}
+
+/// The status that a vertex goes back to.
+#[derive(Drop)]
+pub(crate) struct Change {
+    pub vertex: u32,
+    pub stage: Stage,
+}
+
+impl Model for Undo {
+    ghost use Rattle.std.specs.Coded.{codes};
+    ghost use Rattle.llb_tree.specs.Coded.{coded_tree};
+    ghost use Rattle.llb_board.specs.Displaced.{Displaced, back_in};
+
+    ghost Value = { Displaced };
+
+    ghost coded = { Prim.hlevel (codes, coded_tree) };
+
+    ghost view = { λ u. record { back = back_in u.back } };
+}
+
+impl Undo {
+    // Returns what the event displaced.
+    fn into_back(self) -> Back
+        ensures { back_in result ≡ self.back }
+    {
+        let Undo { back } = self;
+        back
+    }
+}
+
+impl Workers {
+    /// Returns what puts an event back, before it is done. Fails with 131 `NoWorker` or 136 `NotRunning` if the event
+    /// would, and with 141 `Memory`.
+    pub(crate) fn before(
+        &self,
+        alloc: Global,
+        vertices: &Vertices,
+        event: Event,
+    ) -> Result<Undo, WalkFault>
+        requires { Fits vertices.now.build self.now }
+        ensures marks { IfOk result (λ u. MarksIn vertices.now self.now event u) }
+        ensures refused { IfErr result (λ e. walk_memory e ≡ false → walk_in vertices.now self.now event ≡ Err e) }
+    {
+        match event {
+            Event::Claim(w, v) => Ok(self.before_claim(alloc, vertices, w, v)?),
+            Event::Step(w) => self.before_step(alloc, vertices, w),
+            Event::Settle(w) => self.before_end(alloc, vertices, End::Settle, w),
+            Event::Cancel(w) => self.before_end(alloc, vertices, End::Cancel, w),
+        }
+    }
+
+    fn before_claim(
+        &self,
+        alloc: Global,
+        vertices: &Vertices,
+        w: u32,
+        v: u32,
+    ) -> Result<Undo, Memory>
+        ensures { IfOk result (λ u. MarksClaim vertices.now self.now w v u) }
+    {
+        self.caches.is_exclusive();
+        let growths = growths_at(alloc, vertices, &self.caches, v)?;
+        Ok(Undo {
+            back: Back::Unclaim(w, v, growths),
+        })
+    }
+
+    fn before_step(&self, alloc: Global, vertices: &Vertices, w: u32) -> Result<Undo, WalkFault>
+        requires { Fits vertices.now.build self.now }
+        ensures marks { IfOk result (λ u. MarksStep vertices.now self.now w u) }
+        ensures refused { IfErr result (λ e. walk_memory e ≡ false → walk_in vertices.now self.now (Step w) ≡ Err e) }
+    {
+        match seat_of(&self.seats, w) {
+            None => Err(WalkFault::Step(StepFault::NoWorker)),
+            Some(Desk::Idle) => Err(WalkFault::Step(StepFault::NotRunning)),
+            Some(Desk::Runs(_, execution)) => {
+                let mark = execution.view.mark()?;
+                let trees = contents(alloc, &self.caches, &execution.places)?;
+                Ok(Undo {
+                    back: Back::Unstep(w, mark, trees),
+                })
+            }
+        }
+    }
+
+    fn before_end(
+        &self,
+        alloc: Global,
+        vertices: &Vertices,
+        end: End,
+        w: u32,
+    ) -> Result<Undo, WalkFault>
+        requires { Fits vertices.now.build self.now }
+        ensures marks { IfOk result (λ u. MarksEnd vertices.now self.now end w u) }
+        ensures refused { IfErr result (λ e. walk_memory e ≡ false → walk_in vertices.now self.now (end_of end w) ≡ Err e) }
+    {
+        match seat_of(&self.seats, w) {
+            None => Err(no_worker(end)),
+            Some(Desk::Idle) => Err(not_running(end)),
+            Some(Desk::Runs(_, execution)) => {
+                let left = copied(alloc, execution)?;
+                let lent = lent_for(alloc, &execution.places, self.seats.len() + 1)?;
+                Ok(Undo {
+                    back: Back::Resume(end, w, left, lent),
+                })
+            }
+        }
+    }
+
+    /// Puts back what an event displaced of the workers and the caches. Returns the vertex that goes back to another status with that status;
+    /// `None` for a step. Does not allocate.
+    pub(crate) fn put_back(&mut self, undo: Undo) -> Option<Change>
+        requires { CanPutBack undo self.old }
+        ensures workers { self.new.workers ≡ workers_before undo.back self.old.workers }
+        ensures rows { self.new.rows ≡ rows_before undo.back self.old.workers self.old.rows }
+        ensures supplies { self.new.supplies ≡ supplies_before undo.back self.old.supplies }
+        ensures change { option_map change_of result ≡ change_in undo.back }
+    {
+        displace(&mut self.seats, &mut self.caches, undo.into_back())
+    }
+}
+
+// Puts back what an event displaced.
+fn displace(seats: &mut Vec<Desk>, caches: &mut Caches, back: Back) -> Option<Change>
+    requires can { CanPutBack (record { back = back_in back })
+        (record { workers = map at_of seats.old.items; rows = caches.old.rows; supplies = map ready_made seats.old.items }) }
+    requires crew { IsCrew (map at_of seats.old.items) caches.old.out (map leased_by seats.old.items) }
+    ensures workers { map at_of seats.new.items ≡ workers_before (back_in back) (map at_of seats.old.items) }
+    ensures made { map ready_made seats.new.items ≡ supplies_before (back_in back) (map ready_made seats.old.items) }
+    ensures rows { caches.new.rows ≡ rows_before (back_in back) (map at_of seats.old.items) caches.old.rows }
+    ensures crew { IsCrew (map at_of seats.new.items) caches.new.out (map leased_by seats.new.items) }
+    ensures change { option_map change_of result ≡ change_in (back_in back) }
+{
+    match back {
+        Back::Unclaim(w, vertex, growths) => {
+            let lease = make_idle(seats, w);
+            take_back(caches, lease, &growths);
+            let stage = Stage::Waiting;
+            Some(Change { vertex, stage })
+        }
+        Back::Unstep(w, mark, trees) => {
+            let lease = step_back(seats, w, mark);
+            write_back(caches, lease, trees);
+            None
+        }
+        Back::Resume(_, w, execution, lent) => {
+            let vertex = execution.vertex;
+            let lease = lend_again(caches, lent);
+            seats[w as usize] = Desk::Runs(lease, execution);
+            let stage = Stage::Running(w);
+            Some(Change { vertex, stage })
+        }
+    }
+}
+
+// Returns the fault of a settle or a cancel by a worker that is not there, 131 `NoWorker`.
+fn no_worker(end: End) -> WalkFault
+    ensures { result ≡ no_worker end }
+{
+    match end {
+        End::Settle => WalkFault::Settle(SettleFault::NoWorker),
+        End::Cancel => WalkFault::Cancel(CancelFault::NoWorker),
+    }
+}
+
+// Returns the fault of a settle or a cancel by a worker that is idle, 136 `NotRunning`.
+fn not_running(end: End) -> WalkFault
+    ensures { result ≡ not_running end }
+{
+    match end {
+        End::Settle => WalkFault::Settle(SettleFault::NotRunning),
+        End::Cancel => WalkFault::Cancel(CancelFault::NotRunning),
+    }
+}
+
+// Returns the state of a worker; `None` past the last worker.
+fn seat_of(seats: &[Desk], w: u32) -> Option<&Desk>
+    ensures { option_map (λ d. d.now) result ≡ slice_get seats.now w }
+{
+    seats.get(w as usize)
+}
+
+// Returns what a claim of the vertex of a number would add to the caches; nothing past the last vertex.
+fn growths_at(
+    alloc: Global,
+    vertices: &Vertices,
+    caches: &Caches,
+    v: u32,
+) -> Result<Vec<Growth>, Memory>
+    ensures { IfOk result (λ gs. gs.items ≡ map (growth_for caches.now) (needs_at (slice_get vertices.now.build.graph.vertices v))) }
+{
+    match vertices.vertex(v) {
+        Some(vertex) => growths_of(alloc, caches, vertex),
+        None => Ok(Vec::new(alloc)),
+    }
+}

@@ -1,7 +1,0 @@
-use Rattle.std.specs.Prelude.{vec_capacity}
-use Rattle.llb_state.specs.declared.desk.Desk.TheVariants.{Idle}
-use Rattle.llb_state.proofs.Lists.{Replicated}
-use Rattle.llb_state.proofs.desk.idle.Given as goal
-
-abbrev pub invariant-loop-i : goal.invariant-loop-i
-invariant-loop-i l = Replicated Idle l._i l.desks.items l.count (vec_capacity l.desks)

@@ -1,6 +1,0 @@
-use Rattle.std.proofs.Common.{◌≡◌, map, take}
-use Rattle.llb_state.specs.Needs.{number_of}
-use Rattle.llb_state.proofs.landing.has_numbers.Given as goal
-
-abbrev pub invariant-loop-i : goal.invariant-loop-i
-invariant-loop-i l = take l.i l.numbers ≡ map number_of (take l.i l.places)

@@ -1,7 +1,0 @@
-use Rattle.std.specs.Prelude.{vec_capacity}
-use Rattle.llb_state.specs.declared.vertices.stage.Stage.TheVariants.{Waiting}
-use Rattle.llb_state.proofs.Lists.{Replicated}
-use Rattle.llb_state.proofs.vertices.waiting.Given as goal
-
-abbrev pub invariant-loop-i : goal.invariant-loop-i
-invariant-loop-i l = Replicated Waiting l._i l.stages.items l.count (vec_capacity l.stages)
