@@ -24,7 +24,8 @@ first_are steps work (suc n) =
 whole_is : (steps : List MicroStep) (work : Work) (n : ℕ) → AreLeft steps 0 (part steps work 0) n → whole steps work ≡ further steps 0 (part steps work 0) n
 whole_is steps work n left =
     let over : is_over steps n (part steps work n) ≡ true
-    = ap (is_over steps n) (sym (first_are steps work n)) ∙ ap (λ j. is_over steps j (further steps 0 (part steps work 0) n)) (sym (none_before n)) ∙ left.over in
+    = ap (is_over steps n) (sym (first_are steps work n))
+    ∙ ap (λ j. is_over steps j (further steps 0 (part steps work 0) n)) (sym (none_before n)) ∙ left.over in
     finished_whole steps work n over ∙ sym (first_are steps work n)
 
 -- a program ends as its micro-steps leave the workspace, where no tree of a cache is held
