@@ -1,7 +1,4 @@
-use Rattle.std.proofs.Common.{◌≡◌, ◌<◌, ◌^◌, ◌∙◌, length, sym, ap, subst, rules}
-use Rattle.llb_loader.specs.declared.graph.Vertex.{Vertex}
-use Rattle.llb_loader.specs.Graph.{IsVertexOf}
-use Rattle.llb_execution.specs.Parts.{steps_in}
+use Rattle.std.proofs.Common.{◌<◌, ◌^◌, ◌∙◌, length, sym, ap, subst, rules}
 use Rattle.llb_model.proofs.Vertices.{counted_by}
 use Rattle.llb_execution.proofs.steps.Steps.of.Goals as goal
 
