@@ -3,7 +3,8 @@
 -- holds of every board; Kept and History say what a board keeps.
 -- Of its parts: Links (the users of a vertex, how many inputs of it are open, and what a mark spreads to), Vertices (what contracts see of the vertices, and
 -- what is kept beside) and Workers (what they see of the workers), then WorkerRules (what a claim begins, a micro-step leaves, and a worker leaves or gives
--- up), OptionalLeases and Jobs. Needs is what a claim takes of the caches, Supplies what each worker has from its claim on, Displaced what an event displaces, Looks
+-- up), OptionalLeases and Jobs. Needs is what a claim takes of the caches, Supplies what each worker has from its claim on, Displaced what an event
+-- displaces, Looks
 -- the trees that a worker works on. Statuses says how a vertex and a worker look, Faults what a walk's refusal is. Views says what a worker's data represents;
 -- Outfits and Undoing are the parts of a claim and of an event taken back.
 pub mod Links
