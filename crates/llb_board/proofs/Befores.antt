@@ -22,7 +22,8 @@ use Rattle.llb_board.specs.declared.workers.seat.Execution as own
 use Rattle.llb_board.specs.declared.workers.undoing.End.{End}
 use Rattle.llb_board.proofs.Crews.{Crew}
 use Rattle.llb_board.proofs.Supplied.{made_enough}
-use Rattle.llb_board.proofs.Lists.{get_map, length_map}
+use Rattle.llb_board.proofs.Lists.{get_map}
+use Rattle.llb_model.proofs.Lists.{length_map}
 use Rattle.llb_model.proofs.BridgeUnmade.{growths_are}
 use Rattle.llb_board.proofs.Worked.{seen_of}
 

@@ -9,22 +9,20 @@ use Rattle.llb_loader.specs.declared.graph.Vertex.{Vertex}
 use Rattle.llb_tree.specs.Tree.{TreeMap}
 use Rattle.llb_model.specs.Caches.{Instance, Distinct}
 use Rattle.llb_model.specs.Program.{Build, Workspace, Need, key_of, mount_of, needs_of, program_of, workspace_on}
-use Rattle.llb_model.specs.Table.{Claimed}
+use Rattle.llb_model.specs.Table.{Claimed, or_not_ready}
 use Rattle.llb_board.specs.declared.workers.needs.Wanted.{Wanted}
 use Rattle.llb_board.specs.Needs.{Taking, taken_by, taken_with, IsFound, need_of, first_tree}
 use Rattle.llb_execution.specs.Jobs.{IsWorkable}
 use Rattle.llb_execution.specs.Parts.{work_with, mounts_in, shown_in}
 use Rattle.llb_board.specs.Supplies.{Supplies, supplies_for}
-use Rattle.llb_board.specs.WorkerRules.{or_not_ready, Begun, begun}
+use Rattle.llb_board.specs.WorkerRules.{Begun, begun}
 use Rattle.llb_board.specs.Outfits.{Outfitted, outfit_of}
 use Rattle.llb_events.specs.declared.refusal.ClaimFault.{ClaimFault}
-use Rattle.llb_board.proofs.Lists.{length_map}
+use Rattle.llb_model.proofs.Lists.{length_map}
 use Rattle.llb_board.proofs.Needed.{mounts_on, shown_on}
 use Rattle.llb_board.proofs.Wanted.{keys_found, taken_as}
 use Rattle.llb_board.proofs.Wanting.{needs_apart, needs_within}
-
-inside_ok : {A : Type 0} {x y : A} → ◌≡◌ {A = Result A ClaimFault} (Ok x) (Ok y) → x ≡ y
-inside_ok e = cc
+use Rattle.llb_model.proofs.General.{inside_ok}
 
 pub are_ready : {A : Type 0} (o : Option A) (x : A) → or_not_ready o ≡ Ok x → o ≡ Some x
 are_ready None x is = absurd cc

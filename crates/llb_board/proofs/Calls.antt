@@ -13,12 +13,8 @@ use Rattle.llb_model.proofs.Events.{Answer}
 use Rattle.llb_events.specs.declared.refusal.SettleFault.{SettleFault}
 use Rattle.llb_events.specs.declared.refusal.SettleFault.TheVariants.{NotFinished}
 use Rattle.llb_board.specs.WorkerRules.{left_at, given_up_at}
-
-abbrev ok_of : {A E : Type 0} → A → Result A E
-ok_of x = Ok x
-
-inside_ok : {A E : Type 0} {x y : A} → ok_of {E = E} x ≡ ok_of y → x ≡ y
-inside_ok e = cc
+use Rattle.llb_model.proofs.General.{inside_ok}
+use Rattle.llb_board.proofs.Grants.{left_if}
 
 -- ---- the table, by the grants
 
@@ -43,9 +39,6 @@ unfolding table
 cancel_done b s w a is = ap result_ok is
 
 -- ---- a settle
-
-abbrev pub left_if : Build → Execution → Bool → Result (ℕ × Status) SettleFault
-left_if b x f = if f then Ok (x.vertex, Settled (ending_from (program_in b x) x)) else Err NotFinished
 
 abbrev settled_if : Build → State → ℕ → Execution → Bool → Result Answer SettleFault
 settled_if b s w x f = if f then Ok (settle_with s w x.vertex (ending_from (program_in b x) x)) else Err no_settle.NotFinished

@@ -10,6 +10,7 @@ use Rattle.llb_model.specs.Run.{next_of}
 use Rattle.llb_board.specs.Statuses.{look_of}
 use Rattle.llb_board.specs.declared.status.WorkerStatus as seen
 use Rattle.llb_board.specs.declared.status.WorkerStatus.TheVariants as at
+use Rattle.llb_model.proofs.General.{inside_some}
 
 -- ---- what is seen of a worker
 
@@ -17,16 +18,13 @@ finished_in : Bool → seen.WorkerStatus → Bool
 finished_in other (at.Runs v d f) = f
 finished_in other at.Idle = other
 
-option_inside : {A : Type 0} {x y : A} → ◌≡◌ {A = Option A} (Some x) (Some y) → x ≡ y
-option_inside e = cc
-
 -- a worker that is seen to run runs something
 pub runs_at : (b : Build) (o : Option WorkerStatus) (v d : ℕ) (f : Bool) → option_map (look_of b) o ≡ Some (at.Runs v d f)
     → (x : Execution) × (o ≡ Some (Runs x)) × (is_finished (program_in b x).steps x ≡ f)
 unfolding finished_in
 runs_at b None v d f is = absurd cc
 runs_at b (Some Idle) v d f is = absurd cc
-runs_at b (Some (Runs x)) v d f is = (x, refl, ap (finished_in f) (option_inside is))
+runs_at b (Some (Runs x)) v d f is = (x, refl, ap (finished_in f) (inside_some is))
 
 -- one that is seen to be idle is idle
 pub idle_at : (b : Build) (o : Option WorkerStatus) → option_map (look_of b) o ≡ Some at.Idle → o ≡ Some Idle

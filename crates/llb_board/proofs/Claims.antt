@@ -16,7 +16,7 @@ use Rattle.llb_model.specs.State.{first_trees, places_at}
 use Rattle.llb_model.specs.Table.{Job, Reply, Claimed, claim_start, claim_at, claim_unless, claimed, claim_grant, or_not_ready, execution_on, job_on}
 use Rattle.llb_model.proofs.BridgeClaims.{makes_alike}
 use Rattle.llb_model.proofs.BridgeLeases.{leased_holds_as}
-use Rattle.llb_model.proofs.Lists.{get_set_same}
+use Rattle.llb_model.proofs.Lists.{get_set_same, length_map}
 use Rattle.llb_model.proofs.Needs.{graph_distinct}
 use Rattle.llb_events.specs.Faults.{GivesClaim, claim_memory, claim_may_want}
 use Rattle.llb_events.specs.declared.refusal.ClaimFault.{ClaimFault}
@@ -33,11 +33,12 @@ use Rattle.llb_board.specs.declared.workers.seat.Execution as own
 use Rattle.llb_board.proofs.Grants.{CanClaim, Leased, Granted, granted_of, leased_as_held, held_is_fault, open_is, places_alike, begun_is, needs_asked}
 use Rattle.llb_board.proofs.Crews.{Crew, crew_set}
 use Rattle.llb_board.proofs.Supplied.{leased_claimed, made_for, supplies_claimed}
-use Rattle.llb_board.proofs.Lists.{length_map, map_set}
+use Rattle.llb_board.proofs.Lists.{map_set}
 use Rattle.llb_board.proofs.Returned.{few_leases}
 use Rattle.llb_board.proofs.Wanting.{asked_differ}
 use Rattle.llb_model.proofs.BridgeWritten.{written_made}
 use Rattle.llb_board.proofs.Worked.{seen_of}
+use Rattle.llb_model.proofs.General.{runs_inside}
 
 -- ---- refusals
 
@@ -192,9 +193,6 @@ idle_of : (S : List Status) (v : ℕ) (o : Option WorkerStatus) (x : Vertex) (st
 idle_of S v None x start is = absurd cc
 idle_of S v (Some (Runs y)) x start is = absurd cc
 idle_of S v (Some Idle) x start is = refl
-
-runs_inside : {x y : Execution} → ◌≡◌ {A = Option WorkerStatus} (Some (Runs x)) (Some (Runs y)) → x ≡ y
-runs_inside e = cc
 
 module _ (vs : VerticesValue) (ds : List Seat) (c : CachesValue) (w v : ℕ) (g : BegunValue) (on : IsBegunAt vs (seen_of ds c.rows) w v g)
     (crew : Crew ds c.out) (apart : AreApart c.out) (there : AreThere c.rows c.out) (graph : IsGraph vs.build.graph) where

@@ -10,7 +10,7 @@ use Rattle.llb_model.specs.Outcome.{ended}
 use Rattle.llb_model.specs.Program.{Workspace, outputs_of, program_at}
 use Rattle.llb_model.specs.State.{Status, Settled, WorkerStatus, Idle}
 use Rattle.llb_model.proofs.Outcomes.{ended_count}
-use Rattle.llb_model.proofs.Lists.{length_set}
+use Rattle.llb_model.proofs.Lists.{length_set, map_replicate, length_map}
 use Rattle.llb_board.specs.OptionalLeases.{given_back, IsOutIf}
 use Rattle.llb_board.specs.Vertices.{IsWhole}
 use Rattle.llb_board.specs.Views.{at_of, leased_by}
@@ -18,7 +18,7 @@ use Rattle.llb_board.specs.Workers.{IsCrew}
 use Rattle.llb_board.specs.declared.workers.seat.Seat.{Seat}
 use Rattle.llb_board.specs.declared.workers.seat.Seat.TheVariants as seat
 use Rattle.llb_board.specs.declared.workers.seat.Execution as own
-use Rattle.llb_board.proofs.Lists.{length_map, get_map}
+use Rattle.llb_board.proofs.Lists.{get_map}
 use Rattle.llb_board.proofs.Lent.{leased_settled, lease_out}
 use Rattle.llb_board.proofs.Returned.{none_leased}
 
@@ -61,9 +61,6 @@ whole_end o view fault s is = subst (IsWhole o) (sym is) (by_fault o fault)
 -- ---- workers that are made
 
 -- all idle, on caches of which no lease is out
-pub map_replicate : {A B : Type 0} (f : A → B) (n : ℕ) (x : A) → map f (replicate n x) ≡ replicate n (f x)
-map_replicate f zero x = refl
-map_replicate f (suc n) x = ap (λ l. f x ∷ l) (map_replicate f n x)
 
 pub crew_open : (ds : List Seat) (n : ℕ) (out : Leases) → ds ≡ replicate n seat.Idle → 0 < n → n ≤ 64 → leases out ≡ 0 → Crew ds out
 crew_open ds n out is some few free =

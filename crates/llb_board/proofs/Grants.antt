@@ -30,12 +30,7 @@ use Rattle.llb_events.specs.declared.refusal.StepFault.{StepFault}
 use Rattle.llb_events.specs.declared.refusal.SettleFault.{SettleFault}
 use Rattle.llb_events.specs.declared.refusal.SettleFault.TheVariants.{NotFinished}
 use Rattle.llb_board.proofs.Wanting.{first_refused_held}
-
-abbrev ok_of : {A E : Type 0} → A → Result A E
-ok_of x = Ok x
-
-inside_ok : {A E : Type 0} {x y : A} → ok_of {E = E} x ≡ ok_of y → x ≡ y
-inside_ok e = cc
+use Rattle.llb_model.proofs.General.{inside_ok}
 
 -- ---- a claim
 

@@ -19,14 +19,14 @@ use Rattle.llb_model.specs.Program.{Build, start_with}
 use Rattle.llb_model.specs.Run.{is_settled}
 use Rattle.llb_model.specs.State.{Status, Waiting, Running, Settled, ending_of, ending_at, start_from, is_done, is_failed, is_waiting, is_ready, is_blocked}
 use Rattle.llb_model.specs.State.{is_stopped, stopped, next_stopped}
-use Rattle.llb_model.proofs.Lists.{Each_of, got_set, got_replicate, get_set_same, get_set_other, get_within, length_set}
+use Rattle.llb_model.proofs.Lists.{Each_of, got_set, got_replicate, get_set_same, get_set_other, get_within, length_set, length_map}
 use Rattle.llb_model.proofs.Outcomes.{HasOutputs, each_below, inputs_same, inputs_there}
 use Rattle.llb_model.proofs.Plain.{ending_settled}
 use Rattle.llb_model.proofs.Ready.{ready_waits}
 use Rattle.llb_board.specs.Vertices.{IsWhole, done_in, is_over, AreCounted, AreOver, TellsInputs, IsInStep, status_of}
 use Rattle.llb_board.specs.declared.vertices.stage.Stage.{Stage}
 use Rattle.llb_board.proofs.Behind.{test_set, others_done, done_here, below, linked_open, ready_so, spread_stops}
-use Rattle.llb_board.proofs.Lists.{length_map, map_set, get_map, set_back}
+use Rattle.llb_board.proofs.Lists.{map_set, get_map, set_back}
 use Rattle.llb_board.proofs.Marked.{marks_stay, unmarked}
 
 -- ---- what is done is whole

@@ -52,6 +52,7 @@ use Rattle.llb_board.specs.Landing.{CanLand, IsThrough, Lands}
 use Rattle.llb_board.proofs.Calls.{settle_done}
 use Rattle.llb_board.proofs.Kept.{kept_more}
 use Rattle.llb_board.proofs.Sound.{consistent, reached}
+use Rattle.llb_model.proofs.General.{inside_ok}
 
 -- ---- the lists of instances after the steps
 
@@ -310,9 +311,6 @@ runs_vertex b here w x runs =
     ap is_some (get_within b.build.graph.vertices x.vertex (omega (arith, low, count))).1
 
 -- ---- the block
-
-inside_ok : {A E : Type 0} {x y : A} → ◌≡◌ {A = Result A E} (Ok x) (Ok y) → x ≡ y
-inside_ok e = cc
 
 -- a settle after the steps completes the landing
 pub settles : (b n m : BoardValue) (w : ℕ) (o : OutcomeValue) (reply : Reply) → CanLand b w o.job → IsThrough b w o.count n → settle_of n w ≡ Ok (m, reply)

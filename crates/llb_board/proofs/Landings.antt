@@ -11,7 +11,7 @@ use Rattle.llb_model.specs.Program.{Build, Left, key_of}
 use Rattle.llb_model.specs.State.{WorkerStatus, Idle, Runs, Execution, program_in, places_at}
 use Rattle.llb_model.specs.Table.{Job}
 use Rattle.llb_model.proofs.Landing.{further_keeps}
-use Rattle.llb_model.proofs.Lists.{inside}
+use Rattle.llb_model.proofs.Lists.{inside, length_map}
 use Rattle.llb_board.specs.OptionalLeases.{leased_places}
 use Rattle.llb_execution.specs.Jobs.{OutcomeValue, IsOutcome, begun_on}
 use Rattle.llb_board.specs.Jobs.{IsRunOf, job_now, seat_left}
@@ -24,10 +24,11 @@ use Rattle.llb_board.specs.declared.workers.seat.Seat.TheVariants as seat
 use Rattle.llb_board.specs.declared.workers.seat.Execution as own
 use Rattle.llb_board.proofs.Crews.{Crew, crew_set}
 use Rattle.llb_board.proofs.Supplied.{made_enough, supplies_claimed}
-use Rattle.llb_board.proofs.Lists.{length_map, map_set, get_map}
+use Rattle.llb_board.proofs.Lists.{map_set, get_map}
 use Rattle.llb_board.proofs.Needed.{few_needs}
 use Rattle.llb_board.proofs.Stepping.{places_are, leased_stepped, trees_count}
 use Rattle.llb_board.proofs.Worked.{seen_of}
+use Rattle.llb_model.proofs.General.{runs_inside}
 
 -- the seat of a worker that runs a job
 pub record HasSeat (b : Build) (ds : List Seat) (rows : List Row) (w : ℕ) (job : Job) : Type 0 where
@@ -61,9 +62,6 @@ has_seat vs ds rows ws w job is runs =
 
 not_true : IsTrue false → ⊥
 not_true e = cc
-
-runs_inside : {x y : Execution} → ◌≡◌ {A = Option WorkerStatus} (Some (Runs x)) (Some (Runs y)) → x ≡ y
-runs_inside e = cc
 
 -- a worker that runs: a test of its execution tells
 module _ (vs : VerticesValue) (ws : WorkersValue) (w : ℕ) (x : Execution) (job : Job) (runs : slice_get ws.workers w ≡ Some (Runs x)) where

@@ -19,6 +19,7 @@ use Rattle.llb_board.proofs.Returned.{few_leases}
 use Rattle.llb_model.proofs.BridgeRewritten.{AreKeysApart, AreWithin}
 use Rattle.llb_board.proofs.Stepping.{places_are}
 use Rattle.llb_model.proofs.BridgeUnmade.{all_by, pairs_apart}
+use Rattle.llb_model.proofs.General.{lease_inside}
 
 -- ---- the instances of a lease
 
@@ -47,9 +48,6 @@ all_within : (rows : List Row) (ps : List Instance) → AreWithin rows ps → Al
 all_within rows ps within =
     All-from_recursion (λ (p : Instance). p.number < length (trees_of rows p.key)) ps
     (all_by (λ (p : Instance). p.number < length (trees_of rows p.key)) ps within)
-
-lease_inside : {k n : ℕ} → ◌≡◌ {A = Option (Option ℕ)} (Some (Some k)) (Some (Some n)) → k ≡ n
-lease_inside e = cc
 
 lease_apart : {k : ℕ} → ◌≡◌ {A = Option (Option ℕ)} (Some None) (Some (Some k)) → ⊥
 lease_apart e = cc

@@ -18,6 +18,7 @@ use Rattle.llb_board.specs.declared.workers.seat.Seat.TheVariants as seat
 use Rattle.llb_board.specs.declared.workers.seat.Execution as own
 use Rattle.llb_board.proofs.Lists.{map_set, get_map}
 use Rattle.llb_board.proofs.Returned.{none_out}
+use Rattle.llb_model.proofs.General.{lease_inside, some_apart}
 
 -- ---- reads and writes
 
@@ -54,12 +55,6 @@ leased_settled c ds w l leased at =
         → AreLeased (given_back c l).out (slice_set (map at_of ds) w Idle) (slice_set (map leased_by ds) w None)
     by_lease None at = end_without c.out (map at_of ds) (map leased_by ds) w leased at
     by_lease (Some n) at = end_gives_back c.out (map at_of ds) (map leased_by ds) w n leased at
-
-some_apart : (l : ℕ) → ◌≡◌ {A = Option (Option ℕ)} (Some None) (Some (Some l)) → ⊥
-some_apart l e = cc
-
-lease_inside : {k n : ℕ} → ◌≡◌ {A = Option (Option ℕ)} (Some (Some k)) (Some (Some n)) → k ≡ n
-lease_inside e = cc
 
 -- its lease is out
 pub lease_out : (out : Leases) (workers : List WorkerStatus) (ls : List (Option ℕ)) (w : ℕ) (l : Option ℕ) → AreLeased out workers ls

@@ -7,20 +7,12 @@ use Rattle.llb_model.specs.Caches.{Has}
 use Rattle.std.specs.Prelude.{Some, replicate, slice_get, slice_set, option_map}
 use Rattle.std.proofs.lemmas.Option.{slice_get-map, slice_get_within, get_or_from_slice_get}
 use Rattle.std.proofs.lemmas.List.{replicate-append-replicate}
+use Rattle.llb_model.proofs.Lists.{length_map}
 
 -- n equal items, and room for more
 pub record Replicated {A : Type 0} (x : A) (n : ℕ) (xs : List A) (last capacity : ℕ) : Type 0 where
   pub all : xs ≡ replicate n x
   pub reserved : last ≤ capacity
-
--- n equal items and one more are n + 1 of them
-pub replicate_more : {A : Type 0} (x : A) (n : ℕ) → replicate n x ++ x ∷ [] ≡ replicate (n + 1) x
-replicate_more x n = replicate-append-replicate n 1 x
-
--- a function on each item leaves as many items
-pub length_map : {A B : Type 0} (f : A → B) (xs : List A) → length (map f xs) ≡ length xs
-length_map f [] = refl
-length_map f (x ∷ xs) = omega (arith, length_map f xs)
 
 -- a list so far of what a function makes of each item, and room for all
 pub record Copied {A B : Type 0} (f : A → B) (xs : List A) (n : ℕ) (ys : List B) (capacity : ℕ) : Type 0 where

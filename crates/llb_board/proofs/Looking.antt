@@ -7,8 +7,8 @@ use Rattle.llb_tree.specs.Tree.{TreeMap, empty_tree}
 use Rattle.llb_model.specs.Caches.{Instance, trees_at, tree_of}
 use Rattle.llb_model.specs.Bridge.{store_of}
 use Rattle.llb_model.proofs.BridgeContents.{shows_instances}
-use Rattle.llb_model.proofs.Lists.{get_within}
-use Rattle.llb_board.proofs.Lists.{length_map, got_has}
+use Rattle.llb_model.proofs.Lists.{get_within, length_map}
+use Rattle.llb_board.proofs.Lists.{got_has}
 use Rattle.llb_model.proofs.BridgeRewritten.{AreWithin}
 
 -- what an instance that is there has is its tree

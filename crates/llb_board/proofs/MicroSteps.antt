@@ -10,19 +10,18 @@ use Rattle.llb_loader.specs.Rules.{kind_mounts}
 use Rattle.llb_loader.specs.declared.graph.Vertex.{Vertex}
 use Rattle.llb_tree.specs.Tree.{TreeMap}
 use Rattle.llb_events.specs.declared.event.Stepped.TheVariants as did
-use Rattle.llb_model.specs.Table.{HasStepped}
+use Rattle.llb_model.specs.Table.{HasStepped, Reply, with_step, step_reply}
 use Rattle.llb_model.specs.Caches.{Instance, Has, Distinct, trees_at}
 use Rattle.llb_model.specs.Bridge.{store_of, put_each}
 use Rattle.llb_model.specs.Program.{Build, MicroStep, Left, key_of, mount_of, needs_of, program_of, program_at, step_on}
 use Rattle.llb_model.specs.State.{Execution}
-use Rattle.llb_model.specs.Table.{Reply, with_step, step_reply}
 use Rattle.llb_execution.specs.Parts.{work_with, mounts_in, shown_in, is_skipped}
 use Rattle.llb_events.specs.declared.refusal.StepFault.{StepFault}
 use Rattle.llb_events.specs.Faults.{step_memory}
 use Rattle.llb_board.specs.Supplies.{Supplies, supplies_of, supplies_for, setting_at, needs_at}
 use Rattle.llb_board.specs.WorkerRules.{worked, worked_to, written_by, worked_in}
 use Rattle.llb_board.specs.declared.workers.seat.Execution as own
-use Rattle.llb_board.proofs.Lists.{length_map}
+use Rattle.llb_model.proofs.Lists.{length_map}
 use Rattle.llb_board.proofs.Needed.{few_needs}
 use Rattle.llb_board.proofs.Skipping.{put_each_same, skip_to}
 use Rattle.llb_board.proofs.Stepping.{last_of}

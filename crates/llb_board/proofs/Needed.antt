@@ -18,7 +18,7 @@ use Rattle.llb_model.specs.Program.{Need, key_of, mount_of, with_need, needs_fro
 use Rattle.llb_model.specs.Bridge.{places_taken}
 use Rattle.llb_execution.specs.Parts.{mounts_in, shown_in}
 use Rattle.llb_board.specs.Supplies.{needs_at}
-use Rattle.llb_board.proofs.Lists.{length_map}
+use Rattle.llb_model.proofs.Lists.{length_map}
 use Rattle.llb_model.proofs.Vertices.{kind_at}
 
 -- ---- a view before the first micro-step

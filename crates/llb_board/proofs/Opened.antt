@@ -21,11 +21,7 @@ use Rattle.llb_board.specs.History.{Space}
 use Rattle.llb_board.specs.Opening.{may_work, open_with, open_memory, GivesOpen, returned}
 use Rattle.llb_board.specs.declared.fault.OpenFault.{OpenFault}
 use Rattle.llb_board.specs.declared.fault.OpenFault.TheVariants as opening
-
--- a function maps n equal items to n equal results
-map_replicate : {A B : Type 0} (f : A → B) (n : ℕ) (x : A) → map f (replicate n x) ≡ replicate n (f x)
-map_replicate f zero x = refl
-map_replicate f (suc n) x = ap (λ l. f x ∷ l) (map_replicate f n x)
+use Rattle.llb_model.proofs.Lists.{map_replicate}
 
 -- n idle workers on these lists of instances
 abbrev pub idle_on : ℕ → List Row → WorkersValue

@@ -14,7 +14,7 @@ use Rattle.llb_model.specs.State.{Execution, WorkerStatus, Runs, program_in, is_
 use Rattle.llb_model.specs.Bridge.{store_of, AreLeased, HasLease, put_each, written}
 use Rattle.llb_model.specs.Table.{Reply, with_step, step_reply}
 use Rattle.llb_model.proofs.BridgeClaims.{writes_alike}
-use Rattle.llb_model.proofs.Lists.{get_set_same}
+use Rattle.llb_model.proofs.Lists.{get_set_same, length_map}
 use Rattle.llb_model.proofs.BridgeLeases.{step_keeps_lease}
 use Rattle.llb_model.proofs.Parts.{step_keeps}
 use Rattle.llb_execution.specs.Parts.{work_with}
@@ -27,13 +27,11 @@ use Rattle.llb_events.specs.declared.refusal.StepFault.{StepFault}
 use Rattle.llb_board.specs.declared.workers.seat.Seat.{Seat}
 use Rattle.llb_board.specs.declared.workers.seat.Seat.TheVariants as seat
 use Rattle.llb_board.specs.declared.workers.seat.Execution as own
-use Rattle.llb_board.proofs.Lists.{length_map, get_map, map_set, set_same}
+use Rattle.llb_board.proofs.Lists.{get_map, map_set, set_same}
 use Rattle.llb_board.proofs.Grants.{granted_by}
 use Rattle.llb_model.proofs.BridgeWritten.{written_each}
 use Rattle.llb_model.proofs.BridgeRewritten.{AreKeysApart}
-
-inside_ok : {A E : Type 0} {x y : A} → ◌≡◌ {A = Result A E} (Ok x) (Ok y) → x ≡ y
-inside_ok e = cc
+use Rattle.llb_model.proofs.General.{inside_ok, lease_inside, some_apart}
 
 -- ---- what is not finished has a micro-step
 
@@ -72,12 +70,6 @@ goes_on b rows x {A} r open_still =
     ∙ goes_by rows x (trees_at (store_of rows) x.places) (slice_get steps x.done) (there_by steps (is_some x.fault) x.done open_still))
 
 -- ---- the instances of a lease
-
-some_apart : (l : ℕ) → ◌≡◌ {A = Option (Option ℕ)} (Some None) (Some (Some l)) → ⊥
-some_apart l e = cc
-
-lease_inside : {k n : ℕ} → ◌≡◌ {A = Option (Option ℕ)} (Some (Some k)) (Some (Some n)) → k ≡ n
-lease_inside e = cc
 
 -- the instances of a worker's lease are those of its execution, none where it has no lease
 pub places_are : (out : Leases) (l : Option ℕ) (ps : List Instance) → HasLease out (Some l) ps → leased_places out l ≡ ps

@@ -14,7 +14,7 @@ use Rattle.llb_execution.proofs.Marks.{shown_back}
 use Rattle.llb_model.specs.Caches.{Instance}
 use Rattle.llb_model.specs.Bridge.{AreLeased, put_each}
 use Rattle.llb_model.specs.State.{WorkerStatus, Idle, Runs, Execution, places_at}
-use Rattle.llb_model.proofs.Lists.{length_set}
+use Rattle.llb_model.proofs.Lists.{length_set, length_map}
 use Rattle.llb_board.specs.OptionalLeases.{IsOutIf, given_back, taken_back, leased_places, lent_of, lent_if}
 use Rattle.llb_board.specs.Supplies.{ready_made, supplies_of}
 use Rattle.llb_board.specs.Displaced.{Back, Unclaim, Unstep, Resume, back_in, workers_before, supplies_before, rows_before, step_before, IsStepped, CanPutBack}
@@ -30,7 +30,7 @@ use Rattle.llb_board.proofs.Crews.{Crew, crew_set}
 use Rattle.llb_board.proofs.Supplied.{leased_claimed}
 use Rattle.llb_board.proofs.Leasable.{lease_places, leased_there, can_lend}
 use Rattle.llb_board.proofs.Lent.{leased_settled, lease_out}
-use Rattle.llb_board.proofs.Lists.{map_set, get_map, set_same, length_map}
+use Rattle.llb_board.proofs.Lists.{map_set, get_map, set_same}
 use Rattle.llb_board.proofs.Stepping.{leased_stepped}
 use Rattle.llb_model.proofs.BridgeUnmade.{keys_apart}
 use Rattle.llb_board.proofs.Worked.{seen_of}

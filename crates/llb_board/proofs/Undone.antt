@@ -10,7 +10,7 @@ use Rattle.llb_execution.specs.Parts.{mounts_in}
 use Rattle.llb_execution.proofs.Stepping.{seen_so}
 use Rattle.llb_loader.specs.Graph.{IsGraph}
 use Rattle.llb_loader.specs.declared.graph.Vertex.{Vertex}
-use Rattle.llb_model.specs.Table.{cancel_reply}
+use Rattle.llb_model.specs.Table.{cancel_reply, Reply, with_step, table}
 use Rattle.llb_model.specs.Caches.{Instance, Distinct, trees_at}
 use Rattle.llb_model.specs.Bridge.{store_of}
 use Rattle.llb_model.specs.Laws.{HasDistinctNeeds}
@@ -20,10 +20,9 @@ use Rattle.llb_model.specs.Run.{run}
 use Rattle.llb_model.specs.State.{State, opening, Status, Running, Execution, WorkerStatus, Idle, Runs, work_of}
 use Rattle.llb_events.specs.declared.event.Event.{Event}
 use Rattle.llb_events.specs.declared.event.Event.TheVariants.{Claim, Step, Settle, Cancel}
-use Rattle.llb_model.specs.Table.{Reply, with_step, table}
 use Rattle.llb_model.proofs.Cancels.{event_returns}
 use Rattle.llb_model.proofs.Events.{Answer, step_is, cancel_is}
-use Rattle.llb_model.proofs.Lists.{inside, get_set_same, length_set}
+use Rattle.llb_model.proofs.Lists.{inside, get_set_same, length_set, length_map}
 use Rattle.llb_model.proofs.Needs.{graph_distinct}
 use Rattle.llb_model.proofs.Owing.{IsRoomy}
 use Rattle.llb_model.proofs.Runs.{run_more}
@@ -35,7 +34,7 @@ use Rattle.llb_board.specs.Displaced.{change_in, IsBehind, CanPutBack}
 use Rattle.llb_board.specs.Vertices.{VerticesValue, IsWhole}
 use Rattle.llb_board.specs.Workers.{WorkersValue}
 use Rattle.llb_board.specs.declared.workers.undoing.End.TheVariants as end
-use Rattle.llb_board.proofs.Lists.{map_set, set_same, get_map, length_map}
+use Rattle.llb_board.proofs.Lists.{map_set, set_same, get_map}
 use Rattle.llb_board.proofs.Needed.{few_needs}
 use Rattle.llb_model.proofs.BridgeUnmade.{within_held}
 use Rattle.llb_board.specs.Seen.{BoardValue, Replays, opening_with, seen}
@@ -46,11 +45,9 @@ use Rattle.llb_board.proofs.Kept.{waits_whole, runs_whole, has_vertex}
 use Rattle.llb_board.proofs.Recorded.{last_is}
 use Rattle.llb_board.proofs.Sound.{consistent, reached}
 use Rattle.llb_board.proofs.Spaces.{SpaceBefore, space_stayed, space_unclaimed, space_uncancelled}
+use Rattle.llb_model.proofs.General.{runs_inside}
 
 -- ---- the workers as the event left them
-
-runs_inside : {x y : Execution} → ◌≡◌ {A = Option WorkerStatus} (Some (Runs x)) (Some (Runs y)) → x ≡ y
-runs_inside e = cc
 
 -- a view that is put back has as many mounts, since the micro-step that is taken back kept them
 unstepped_mounts : (b : BoardValue) (w : ℕ) (mark : Mark) (ts : List TreeMap) (x : Execution) → CanUndo (record { back = Unstep w mark ts }) b

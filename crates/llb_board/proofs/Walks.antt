@@ -21,7 +21,7 @@ use Rattle.llb_model.specs.Table.{worker_of, with_step, step_by, after_end, tabl
 use Rattle.llb_model.specs.Bridge.{store_of, put_each, written, rows_after}
 use Rattle.llb_model.proofs.Claims.{places_distinct, places_length, first_length}
 use Rattle.llb_model.proofs.Events.{Answer, IsStep, claim_places, claim_is, step_is, settle_is, cancel_is}
-use Rattle.llb_model.proofs.Lists.{get_set_same, length_set}
+use Rattle.llb_model.proofs.Lists.{get_set_same, length_set, length_map}
 use Rattle.llb_model.proofs.Needs.{graph_distinct}
 use Rattle.llb_model.proofs.Parts.{step_keeps}
 use Rattle.llb_model.proofs.Stores.{hold_all}
@@ -37,7 +37,7 @@ use Rattle.llb_board.specs.Vertices.{VerticesValue}
 use Rattle.llb_board.specs.Workers.{WorkersValue}
 use Rattle.llb_board.specs.declared.workers.undoing.End.{End}
 use Rattle.llb_board.specs.declared.workers.undoing.End.TheVariants as end
-use Rattle.llb_board.proofs.Lists.{length_map, set_back, front_again}
+use Rattle.llb_board.proofs.Lists.{set_back, front_again}
 use Rattle.llb_model.proofs.BridgeRewritten.{AreKeysApart}
 use Rattle.llb_model.proofs.BridgeUnmade.{keys_apart, keys_for, unwritten, unstepped}
 use Rattle.llb_board.specs.Seen.{BoardValue, Replays, seen, after_event, recorded}
@@ -46,6 +46,7 @@ use Rattle.llb_board.specs.declared.board.walk.Reply as replied
 use Rattle.llb_board.proofs.Calls.{claim_done, step_done, settle_done, cancel_done}
 use Rattle.llb_board.proofs.Sound.{consistent, reached}
 use Rattle.llb_board.proofs.Undone.{distinct_needs}
+use Rattle.llb_model.proofs.General.{runs_inside}
 
 -- ---- what `walk` returns
 
@@ -123,9 +124,6 @@ record StepsBy (b : Build) (s : State) (w : ℕ) (a : Answer) (x : Execution) : 
   step : MicroStep
   next : next_step (program_in b x).steps x ≡ Some step
   gives : a ≡ step_by s w x step (step_on x.done (Some step) (work_of s x))
-
-runs_inside : {x y : Execution} → ◌≡◌ {A = Option WorkerStatus} (Some (Runs x)) (Some (Runs y)) → x ≡ y
-runs_inside e = cc
 
 steps_by : (b : Build) (s : State) (w : ℕ) (a : Answer) (x : Execution) → slice_get s.workers w ≡ Some (Runs x) → IsStep b s w a → StepsBy b s w a x
 steps_by b s w a x runs c =

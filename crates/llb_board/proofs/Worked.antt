@@ -26,9 +26,7 @@ use Rattle.llb_board.proofs.Crews.{Crew, crew_set}
 use Rattle.llb_board.proofs.Supplied.{made_enough, supplies_claimed}
 use Rattle.llb_board.proofs.Lists.{get_map, map_set}
 use Rattle.llb_board.proofs.Stepping.{holding, ok_through, rows_through, places_set, leased_stepped}
-
-inside_ok : {A E : Type 0} {x y : A} → ◌≡◌ {A = Result A E} (Ok x) (Ok y) → x ≡ y
-inside_ok e = cc
+use Rattle.llb_model.proofs.General.{inside_ok}
 
 -- what contracts see of seats and caches
 abbrev pub seen_of : List Seat → List Row → WorkersValue

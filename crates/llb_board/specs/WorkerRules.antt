@@ -22,11 +22,6 @@ use Rattle.llb_events.specs.declared.refusal.CancelFault.TheVariants as cancel
 
 -- ---- the result of a claim, and what it begins
 
--- inputs that are not all there are refused as `NotReady`
-abbrev pub or_not_ready : {A : Type 0} → Option A → Result A ClaimFault
-or_not_ready (Some x) = Ok x
-or_not_ready None = Err claim.NotReady
-
 -- what a claim begins: the worker's execution, the reply, and what is to be leased
 pub record Begun : Type 0 where
   pub execution : Execution

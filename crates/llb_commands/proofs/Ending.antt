@@ -22,7 +22,7 @@ use Rattle.llb_model.proofs.Events.{Answer}
 use Rattle.llb_model.proofs.Runs.{run_none, run_first}
 use Rattle.llb_model.proofs.Outcomes.{each_below, edge_there}
 use Rattle.llb_model.proofs.Consistent.{opening_consistent, run_consistent}
-use Rattle.llb_model.proofs.Stopped.{stopped_there, stopped_cases, done_count}
+use Rattle.llb_model.proofs.Stopped.{stopped_there, stopped_cases, done_count, failed_is}
 use Rattle.llb_model.proofs.Complete.{is_over, over_by, each_true, complete_is_none}
 use Rattle.llb_board.specs.Seen.{BoardValue, opened}
 use Rattle.llb_commands.proofs.Reaching.{none_fails}
@@ -124,11 +124,6 @@ finishes_by ls g workers old new several fresh goes complete plain here =
     }
 
 -- ---- where the result is no tree
-
-failed_is : (o : Option Ending) → is_failed o ≡ true → (f : VertexFault) × (o ≡ Some (Failed f))
-failed_is None e = absurd cc
-failed_is (Some (Done trees)) e = absurd cc
-failed_is (Some (Failed f)) e = (f, refl)
 
 -- what is stopped has failed, or a vertex before it has
 stopped_fails : (b : Build) → IsGraph b.graph → (s : State) (n k : ℕ) → k < n → is_stopped b s.statuses k ≡ true → FailsBy s k

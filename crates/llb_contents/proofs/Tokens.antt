@@ -16,8 +16,9 @@ use Rattle.llb_tree.specs.Tree.{TreeMap, Entry, Dir, File}
 use Rattle.llb_contents.specs.Alike.{IsKept, BothOptions, AreLike, AreAlike, RelatesStep}
 use Rattle.llb_contents.specs.Laws.{ExpandsTo, spelled_from, spelled, has_mark, step_digests, IsLiteral, HaveAlikeSources, HasAlikeOutcomes, HandsTokensOn}
 use Rattle.llb_contents.proofs.Outcomes.{hands_on, hands_on_but}
-use Rattle.llb_contents.proofs.Written.{first_of, second_of, relates_steps}
+use Rattle.llb_contents.proofs.Written.{relates_steps}
 use Rattle.llb_contents.proofs.Literals.{literal_kept, literal_itself, literal_digest, weaker_outcomes, reached_through}
+use Rattle.std.proofs.lemmas.Bool.{or_parts}
 
 abbrev some_bytes : List ℕ → Option (List ℕ)
 some_bytes xs = Some xs
@@ -78,8 +79,8 @@ module _ (table : ℕ → List ℕ) where
   unmarked : (a : List ℕ) → has_mark a ≡ false → spelled table a ≡ Some a
   unmarked [] none = refl
   unmarked (b ∷ a) none =
-      literal b 0 a (first_of (b == 255) (has_mark a) none)
-      ∙ ap (option_map (λ rest. b ∷ rest)) (unmarked a (second_of (b == 255) (has_mark a) none))
+      literal b 0 a (or_parts (b == 255) (has_mark a) none).0
+      ∙ ap (option_map (λ rest. b ∷ rest)) (unmarked a (or_parts (b == 255) (has_mark a) none).1)
 
 -- with tokens for contents in local trees, the outcome is the one with the contents
 pub hands_tokens_on : (g : Numbered) → IsGraph g → HandsTokensOn g

@@ -3,7 +3,7 @@ use Rattle.std.proofs.Common.{◌≡◌, ℕ, zero, suc, ◌<◌, Bool, true, fa
 use Rattle.std.proofs.Common.{inl, inr, arith, get_or, nat_lt}
 use Rattle.std.specs.Prelude.{IsAscii}
 use Rattle.std.specs.List.{All, flat_map, list_any}
-use Rattle.std.proofs.lemmas.Bool.{agree_below_at, cases_lt, ltb-true, ne_eqb}
+use Rattle.std.proofs.lemmas.Bool.{agree_below_at, cases_lt, ltb-true, ne_eqb, or_parts}
 use Rattle.std.proofs.lemmas.List.{get_or_past}
 use Rattle.llb_ops.specs.declared.file.ActionKind.{ActionKind}
 use Rattle.llb_ops.specs.declared.file.ActionKind.TheVariants as kind
@@ -19,20 +19,12 @@ use Rattle.llb_model.specs.Program.{MicroStep, ReadLocal, Act, LayInput, Run}
 use Rattle.llb_contents.specs.Alike.{RelatesTexts, RelatesBody, RelatesStep}
 use Rattle.llb_contents.specs.Laws.{has_mark, digests, step_digests, writes_mark, body_has_mark, step_writes_mark}
 
-pub first_of : (a b : Bool) → (a || b) ≡ false → a ≡ false
-first_of true b e = absurd cc
-first_of false b e = refl
-
-pub second_of : (a b : Bool) → (a || b) ≡ false → b ≡ false
-second_of true b e = absurd cc
-second_of false b e = e
-
 -- ---- contents without the byte
 
 pub unmarked_both : (a c : List ℕ) → has_mark a ≡ false → has_mark c ≡ false → has_mark (a ++ c) ≡ false
 unmarked_both [] c first second = second
 unmarked_both (b ∷ a) c first second =
-    ap (λ t. t || has_mark (a ++ c)) (first_of (b == 255) (has_mark a) first) ∙ unmarked_both a c (second_of (b == 255) (has_mark a) first) second
+    ap (λ t. t || has_mark (a ++ c)) (or_parts (b == 255) (has_mark a) first).0 ∙ unmarked_both a c (or_parts (b == 255) (has_mark a) first).1 second
 
 ascii_unmarked : (a : List ℕ) → IsAscii a → has_mark a ≡ false
 ascii_unmarked [] ascii = refl
@@ -92,12 +84,12 @@ module _ (R : List ℕ → List ℕ → Type 0) (itself : (a : List ℕ) → has
       → All (RelatesStep R) steps
   relates_steps [] none digest k d l = absurd (omega (arith, l))
   relates_steps (m ∷ steps) none (inl not) zero d l =
-      relates_step m (first_of (step_writes_mark m) (list_any step_writes_mark steps) none)
-      (inl (first_of (step_digests m) (list_any step_digests steps) not))
+      relates_step m (or_parts (step_writes_mark m) (list_any step_writes_mark steps) none).0
+      (inl (or_parts (step_digests m) (list_any step_digests steps) not).0)
   relates_steps (m ∷ steps) none (inr digest) zero d l =
-      relates_step m (first_of (step_writes_mark m) (list_any step_writes_mark steps) none) (inr digest)
+      relates_step m (or_parts (step_writes_mark m) (list_any step_writes_mark steps) none).0 (inr digest)
   relates_steps (m ∷ steps) none (inl not) (suc k) d l =
-      relates_steps steps (second_of (step_writes_mark m) (list_any step_writes_mark steps) none)
-      (inl (second_of (step_digests m) (list_any step_digests steps) not)) k d (omega (arith, l))
+      relates_steps steps (or_parts (step_writes_mark m) (list_any step_writes_mark steps) none).1
+      (inl (or_parts (step_digests m) (list_any step_digests steps) not).1) k d (omega (arith, l))
   relates_steps (m ∷ steps) none (inr digest) (suc k) d l =
-      relates_steps steps (second_of (step_writes_mark m) (list_any step_writes_mark steps) none) (inr digest) k d (omega (arith, l))
+      relates_steps steps (or_parts (step_writes_mark m) (list_any step_writes_mark steps) none).1 (inr digest) k d (omega (arith, l))

@@ -48,9 +48,6 @@ still_fits first workspace fits mounts shown = record {
       (subst (λ (ms : List ℕ). All (λ m. m < mounts_in first) ms) (sym shown) fits.within);
 }
 
-inside : {A : Type 0} {x y : A} → ◌≡◌ {A = Option A} (Some x) (Some y) → x ≡ y
-inside e = cc
-
 within_not : (n k : ℕ) → k < n → nat_le n k ≡ false
 within_not n k low = go (nat_le n k) refl
   where

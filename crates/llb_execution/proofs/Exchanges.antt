@@ -10,7 +10,7 @@ use Rattle.llb_mount.specs.declared.shown.Shown.{Shown}
 use Rattle.llb_mount.specs.View.{mount_at, with_tree_of, no_mount}
 use Rattle.llb_model.specs.Caches.{Has, Distinct}
 use Rattle.llb_model.specs.Program.{filled, taken, blanked}
-use Rattle.llb_model.proofs.Views.{parts_meet, parts_count, swap, again}
+use Rattle.llb_model.proofs.Views.{parts_meet, parts_count, swap, again, past}
 
 -- ---- one mount
 
@@ -24,13 +24,6 @@ shown_elsewhere : (mounts : List Shown) (m n : ℕ) (t : TreeMap) → n ≢ m �
 shown_elsewhere mounts m n t apart = ap (λ (s : Shown). s.tree) (get_or-set_other mounts m n (record (mount_at mounts m) { tree = t }) no_mount apart)
 
 -- ---- mounts of different numbers
-
-past : (mounts : List Shown) (m : ℕ) (t : TreeMap) (ms : List ℕ) (ts : List TreeMap) → (Has ms m → ⊥)
-    → with_tree_of (filled mounts ms ts) m t ≡ filled (with_tree_of mounts m t) ms ts
-past mounts m t [] ts apart = refl
-past mounts m t (n ∷ ms) [] apart = refl
-past mounts m t (n ∷ ms) (u ∷ ts) apart =
-    past (with_tree_of mounts n u) m t ms ts (λ h. apart (inr h)) ∙ ap (λ xs. filled xs ms ts) (swap mounts n m u t (λ e. apart (inl (sym e))))
 
 -- trees that are filled in leave as many mounts
 pub as_many_filled : (mounts : List Shown) (ms : List ℕ) (ts : List TreeMap) → length (filled mounts ms ts) ≡ length mounts

@@ -16,6 +16,3 @@ copied_more f xs n ys x is at =
 
 pub copied_all : {A B : Type 0} (f : A → B) (xs : List A) (n : ℕ) (ys : List B) → Copied f xs n ys → length xs ≤ n → ys ≡ map f xs
 copied_all f xs n ys is past = is ∙ ap (map f) (take_all n xs past)
-
-pub replicate_more : {A : Type 0} (x : A) (n : ℕ) → replicate n x ++ x ∷ [] ≡ replicate (n + 1) x
-replicate_more x n = replicate-append-replicate n 1 x

@@ -12,6 +12,7 @@ use Rattle.llb_model.specs.Program.{filled}
 use Rattle.llb_model.proofs.Lists.{get_set_same, get_set_other, get_within, length_map, length_set}
 use Rattle.llb_execution.specs.Looks.{shown_tree, tree_or, last_tree, next_place, Role, Input, ResultOf, input_role, results_from}
 use Rattle.llb_execution.proofs.Exchanges.{as_many_filled}
+use Rattle.llb_model.proofs.General.{none_some}
 
 -- ---- the last of some numbers
 
@@ -167,16 +168,13 @@ seen_there mounts ms i t trees place at last =
     let within : i < length (map shown_tree mounts) = slice_get_within (map shown_tree mounts) i t at in
     last ∙ ap (last_tree i ms trees) (sym at) ∙ sym (filled_tree mounts ms trees i (omega (arith, count, within)))
 
-differ : {A : Type 0} {x : A} → ◌≡◌ {A = Option A} None (Some x) → ⊥
-differ e = cc
-
 -- and at one that is not
 pub seen_past : (mounts : List Shown) (ms : List ℕ) (i : ℕ) (trees : List TreeMap) → slice_get (map shown_tree mounts) i ≡ None
     → None ≡ slice_get (map shown_tree (filled mounts ms trees)) i
 seen_past mounts ms i trees none =
     let count : length (map shown_tree mounts) ≡ length mounts = length_map shown_tree mounts in
     elim (cases_lt i (length mounts)) [
-      | inl low ↦ absurd (differ (sym none ∙ (get_within (map shown_tree mounts) i (omega (arith, count, low))).1))
+      | inl low ↦ absurd (none_some (sym none ∙ (get_within (map shown_tree mounts) i (omega (arith, count, low))).1))
       | inr past ↦ sym (filled_past mounts ms trees i past)
     ]
 

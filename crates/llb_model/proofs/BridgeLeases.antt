@@ -12,6 +12,7 @@ use Rattle.llb_model.specs.Bridge.{HoldsAs, AreLeased}
 use Rattle.llb_model.proofs.Lists.{some_of, eq_or, got_set, get_set_same, get_set_other, length_set, get_within, got_within, get_middle}
 use Rattle.llb_model.proofs.Claims.{held_has}
 use Rattle.llb_model.proofs.Dense.{holder_of}
+use Rattle.llb_model.proofs.General.{lease_inside, some_apart}
 
 -- ---- leases
 
@@ -88,22 +89,12 @@ back_stays out l a qs apart at = trim_stays (slice_set out l None) a qs (get_set
 abbrev some_lease : ℕ → Option (Option ℕ)
 some_lease l = Some (Some l)
 
-same_lease : {k l : ℕ} → ◌≡◌ {A = Option (Option ℕ)} (Some (Some k)) (Some (Some l)) → k ≡ l
-same_lease e = cc
-
-runs_same : {x y : Execution} → ◌≡◌ {A = Option WorkerStatus} (Some (Runs x)) (Some (Runs y)) → x ≡ y
-runs_same e = cc
-
--- having no lease differs from having one
-some_apart : (l : ℕ) → ◌≡◌ {A = Option (Option ℕ)} (Some None) (Some (Some l)) → ⊥
-some_apart l e = cc
-
 module _ (out : Leases) (workers : List WorkerStatus) (ls : List (Option ℕ)) (are : AreLeased out workers ls) where
   -- the lease of a worker is out, of what it has
   leased_at : (w l : ℕ) (x : Execution) → slice_get ls w ≡ Some (Some l) → slice_get workers w ≡ Some (Runs x) → cache.Has out l x.places
   leased_at w l x at there =
       elim (are.has w x there) [
-        | inl h ↦ subst (λ k. cache.Has out k x.places) (same_lease (sym h.1 ∙ at)) h.2
+        | inl h ↦ subst (λ k. cache.Has out k x.places) (lease_inside (sym h.1 ∙ at)) h.2
         | inr h ↦ absurd (some_apart l (sym h.0 ∙ at))
       ]
 
@@ -276,7 +267,7 @@ end_gives_back out workers ls w l are at_w = record {
   whose = λ a ps at.
       let b = back_is out l a ps at in
       let old = are.whose a ps b.1 in
-      (old.0, get_set_other ls w None old.0 (λ same. b.0 (same_lease (sym old.1 ∙ ap (slice_get ls) same ∙ at_w))) ∙ old.1);
+      (old.0, get_set_other ls w None old.0 (λ same. b.0 (lease_inside (sym old.1 ∙ ap (slice_get ls) same ∙ at_w))) ∙ old.1);
 }
 
 -- a worker without a lease leaves all leases as they are when it ends what it runs

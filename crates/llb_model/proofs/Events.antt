@@ -17,6 +17,7 @@ use Rattle.llb_events.specs.declared.event.Event.TheVariants.{Claim, Step, Settl
 use Rattle.llb_model.specs.Table.{Reply, or_not_ready, claim_start, claim_at, claim_unless, claimed}
 use Rattle.llb_model.specs.Table.{execution_on, with_step, step_by, step_with, stepped, settle_with, settled, cancel_with, cancelled, table}
 use Rattle.llb_model.proofs.Lists.{inside, length_set}
+use Rattle.llb_model.proofs.General.{inside_ok}
 
 -- the state after an event, and its reply
 abbrev pub Answer : Type 0
@@ -86,12 +87,6 @@ ready_as b statuses v start r =
     ∙ ap (option_map (start_with start.vertex)) r.inputs
 
 -- ---- what is granted
-
-abbrev ok_of : {A E : Type 0} → A → Result A E
-ok_of x = Ok x
-
-inside_ok : {A E : Type 0} {x y : A} → ok_of {E = E} x ≡ ok_of y → x ≡ y
-inside_ok e = cc
 
 granted_ok : {E : Type 0} (r : Result Answer E) (a : Answer) → result_ok r ≡ Some a → r ≡ Ok a
 granted_ok (Ok x) a e = ap (λ y. Ok y) (inside e)

@@ -1,3 +1,4 @@
+pub mod General
 pub mod Lists
 pub mod ByNumber
 pub mod Views

@@ -1,11 +1,13 @@
 -- What is at a place of a list that is written, repeated or made longer.
-use Rattle.std.proofs.Common.{◌≡◌, ◌≢◌, ℕ, zero, suc, ◌<◌, Bool, true, ◌||◌, List, [], ◌∷◌, ◌++◌, length, map, take, Option, Some, ◌⊎◌, inl}
-use Rattle.std.proofs.Common.{inr, refl, sym, ap, ◌∙◌, arith}
+use Rattle.std.proofs.Common.{◌≡◌, ◌≢◌, ℕ, zero, suc, ◌+◌, ◌<◌, Bool, true, ◌||◌, List, [], ◌∷◌, ◌++◌, length, map, take, Option, Some, ◌⊎◌, inl}
+use Rattle.std.proofs.Common.{inr, refl, sym, ap, ◌∙◌, arith, drop, drop-cons, add-one}
 use Rattle.std.specs.Prelude.{slice_get, slice_set, replicate}
 use Rattle.std.specs.List.{list_any}
 use Rattle.std.proofs.lemmas.Bool.{or_cases}
+use Rattle.std.proofs.lemmas.List.{replicate-append-replicate}
 use Rattle.std.proofs.Math.Bool.{or-true}
 pub use Rattle.std.proofs.lemmas.Bool.{cases_eq as eq_or}
+use Rattle.std.proofs.lemmas.Option.{get_or_from_slice_get}
 pub use Rattle.std.proofs.lemmas.Option.{slice_get_within as got_within, slice_get_past as get_past}
 
 abbrev pub some_of : {A : Type 0} → A → Option A
@@ -55,6 +57,15 @@ pub got_replicate : {A : Type 0} (n : ℕ) (x : A) (j : ℕ) (z : A) → slice_g
 got_replicate zero x j z e = absurd cc
 got_replicate (suc n) x zero z e = let h : x ≡ z = cc in sym h
 got_replicate (suc n) x (suc j) z e = got_replicate n x j z e
+
+-- a function maps n equal items to n equal results
+pub map_replicate : {A B : Type 0} (f : A → B) (n : ℕ) (x : A) → map f (replicate n x) ≡ replicate n (f x)
+map_replicate f zero x = refl
+map_replicate f (suc n) x = ap (λ ys. f x ∷ ys) (map_replicate f n x)
+
+-- n equal items and one more are n + 1 of them
+pub replicate_more : {A : Type 0} (x : A) (n : ℕ) → replicate n x ++ x ∷ [] ≡ replicate (n + 1) x
+replicate_more x n = replicate-append-replicate n 1 x
 
 -- below the length of a list there is an item
 pub get_within : {A : Type 0} (xs : List A) (i : ℕ) → i < length xs → (x : A) × (slice_get xs i ≡ Some x)
@@ -116,3 +127,7 @@ pub some_as : {A : Type 0} (P Q R : A → Type 0) (xs : List A) → Some_of P xs
 some_as P Q R [] h each f = absurd h
 some_as P Q R (x ∷ xs) (inl h) each f = inl (f x h each.0)
 some_as P Q R (x ∷ xs) (inr h) each f = inr (some_as P Q R xs h each.1 f)
+
+-- the item at a place, before those after it
+pub drop_at : {A : Type 0} (xs : List A) (i : ℕ) (x : A) → slice_get xs i ≡ Some x → drop i xs ≡ x ∷ drop (i + 1) xs
+drop_at xs i x at = drop-cons xs i x (got_within xs i x at) ∙ (λ j. get_or_from_slice_get xs i x x at j ∷ drop (sym (add-one i) j) xs)

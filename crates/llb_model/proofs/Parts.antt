@@ -2,7 +2,7 @@
 use Rattle.std.proofs.Common.{◌≡◌, ℕ, zero, suc, ◌+◌, ◌-◌, ◌<◌, ◌≤◌, Bool, true, false, ◌||◌, List, length, Option, Some, None, is_some}
 use Rattle.std.proofs.Common.{inl, inr, refl, sym, ap, ◌∙◌, cond, add-zero, add-suc, arith}
 use Rattle.std.specs.Prelude.{slice_get, nat_le, Result, Ok, Err}
-use Rattle.std.proofs.lemmas.Bool.{leb-true, leb-false, le-leb, cases_lt}
+use Rattle.std.proofs.lemmas.Bool.{leb-true, leb-false, le-leb, cases_lt, or_parts}
 use Rattle.llb_applet.specs.Commands.{run}
 use Rattle.llb_applet.specs.declared.join.Joined.{Joined}
 use Rattle.llb_applet.specs.declared.setting.Setting.{Setting}
@@ -72,10 +72,6 @@ clean_of : (f : Option VertexFault) (b : Bool) → (is_some f || b) ≡ false �
 clean_of None b e = refl
 clean_of (Some f) b e = absurd cc
 
-none_done : (a b : Bool) → (a || b) ≡ false → b ≡ false
-none_done true b e = absurd cc
-none_done false b e = e
-
 -- a next micro-step is the one after those done, of an execution that is not finished and has no fault
 pub next_step_is : (steps : List MicroStep) (x : Execution) (m : MicroStep) → next_step steps x ≡ Some m → IsNextStep steps x m
 next_step_is steps x m e = by_test (is_finished steps x) refl e
@@ -91,7 +87,7 @@ finished_none steps x e = ap (λ b. cond b None (slice_get steps x.done)) e
 -- what is not finished has a next micro-step
 pub unfinished_some : (steps : List MicroStep) (x : Execution) → is_finished steps x ≡ false → (m : MicroStep) × (next_step steps x ≡ Some m)
 unfinished_some steps x e =
-    let lt : x.done < length steps = leb-false _ _ (none_done (is_some x.fault) (nat_le (length steps) x.done) e) in
+    let lt : x.done < length steps = leb-false _ _ (or_parts (is_some x.fault) (nat_le (length steps) x.done) e).1 in
     let m = get_within steps x.done lt in
     (m.0, ap (λ b. cond b None (slice_get steps x.done)) e ∙ m.1)
 

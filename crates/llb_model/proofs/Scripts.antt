@@ -2,7 +2,7 @@
 use Rattle.std.proofs.Common.{◌≡◌, ℕ, zero, suc, ◌==◌, Bool, true, false, not, cond, ◌&&◌, ◌||◌, List, [], ◌∷◌, length, map, drop, ◌⊎◌, inl}
 use Rattle.std.proofs.Common.{inr, Option, Some, None, is_some, option_map, refl, sym, ap, subst, ◌∙◌, true≢false}
 use Rattle.std.specs.Prelude.{slice_get, nat_le}
-use Rattle.std.proofs.lemmas.Bool.{false≢true, leb-true}
+use Rattle.std.proofs.lemmas.Bool.{false≢true, leb-true, and_parts}
 use Rattle.std.proofs.Math.Bool.{or-true, or-false, and-false}
 use Rattle.std.proofs.lemmas.List.{drop_all}
 use Rattle.std.proofs.lemmas.Option.{slice_get-map}
@@ -55,10 +55,6 @@ work_at mounts caches last trees = record { own = Mounted mounts caches last; tr
 
 abbrev left_at : List Shown → List ℕ → ℕ → List TreeMap → Option VertexFault → Left
 left_at mounts caches last trees f = record { work = record { own = Mounted mounts caches last; trees = trees }; fault = f }
-
-both_true : (a b : Bool) → (a && b) ≡ true → (a ≡ true) × (b ≡ true)
-both_true true b e = (refl, e)
-both_true false b e = absurd (false≢true e)
 
 -- ---- how it ends
 
@@ -147,7 +143,7 @@ module _ (setting : Setting) (cs : List Joined) (work : Work) (k : ℕ) where
     stands_failed : (f : VertexFault) → part (runs_of setting cs) work k ≡ left_at mounts caches last trees (Some f)
         → Agree (last_ran setting cs work k) (drop k cs) last (Some f) → Stands setting cs work (suc k)
     stands_failed f is agrees =
-        let ands = both_true (is_and h.c.join) (all_and h.later) (ap all_and (sym h.rest) ∙ agrees.2) in
+        let ands = and_parts (is_and h.c.join) (all_and h.later) (ap all_and (sym h.rest) ∙ agrees.2) in
         let same : last_ran setting cs work (suc k) ≡ last_ran setting cs work k =
         last_here (Some f) is ∙ ap (λ b. cond b k (last_ran setting cs work k)) (and_skips h.c.join last ands.0 agrees.1) in
         record {
@@ -288,7 +284,7 @@ fails_by_last_status setting cs mounts caches trees k = ends setting cs (at_star
 all_later : (cs : List Joined) (k : ℕ) → all_and cs ≡ true → all_and (drop k cs) ≡ true
 all_later cs zero e = e
 all_later [] (suc k) e = refl
-all_later (c ∷ cs) (suc k) e = all_later cs k (both_true (is_and c.join) (all_and cs) e).1
+all_later (c ∷ cs) (suc k) e = all_later cs k (and_parts (is_and c.join) (all_and cs) e).1
 
 and_runs : (join : Join) → is_and join ≡ true → is_run join 0 ≡ true
 and_runs Then is = refl
@@ -301,13 +297,13 @@ runs_at : (cs : List Joined) (k : ℕ) (c : Joined) (later : List Joined) → ar
 runs_at [] zero c later ands at = absurd cc
 runs_at [] (suc k) c later ands at = absurd cc
 runs_at (d ∷ ds) zero c later ands at =
-    let halves = both_true (is_run d.join 0) (all_and ds) ands in
+    let halves = and_parts (is_run d.join 0) (all_and ds) ands in
     let same : d ≡ c = cc in
     let rest : ds ≡ later = cc in
     (ap (λ (x : Joined). is_run x.join 0) (sym same) ∙ halves.0, ap all_and (sym rest) ∙ halves.1)
 runs_at (d ∷ ds) (suc k) c later ands at =
-    let halves = both_true (is_run d.join 0) (all_and ds) ands in
-    let all = both_true (is_and c.join) (all_and later) (ap all_and (sym at) ∙ all_later ds k halves.1) in
+    let halves = and_parts (is_run d.join 0) (all_and ds) ands in
+    let all = and_parts (is_and c.join) (all_and later) (ap all_and (sym at) ∙ all_later ds k halves.1) in
     (and_runs c.join all.0, all.1)
 
 record GoesInTurn (setting : Setting) (cs : List Joined) (work : Work) (k : ℕ) : Type 0 where

@@ -66,7 +66,8 @@ pub stopped_cases : (b : Build) → IsGraph b.graph → (statuses : List Status)
 stopped_cases b graph statuses k v there stop = or_cases (is_failed (ending_at statuses k)) (any_stopped b statuses v.inputs)
     (sym (stopped_is b graph statuses k v there) ∙ stop)
 
-failed_is : (o : Option Ending) → is_failed o ≡ true → (f : VertexFault) × (o ≡ Some (Failed f))
+-- what is failed has a fault
+pub failed_is : (o : Option Ending) → is_failed o ≡ true → (f : VertexFault) × (o ≡ Some (Failed f))
 failed_is None e = absurd cc
 failed_is (Some (Done trees)) e = absurd cc
 failed_is (Some (Failed f)) e = (f, refl)

@@ -26,7 +26,8 @@ itself [] m = refl
 itself (s ∷ mounts) zero = refl
 itself (s ∷ mounts) (suc m) = ap (λ xs. s ∷ xs) (itself mounts m)
 
-past : (mounts : List Shown) (m : ℕ) (t : TreeMap) (ms : List ℕ) (ts : List TreeMap) → (Has ms m → ⊥)
+-- a tree of a mount that is not among those filled in may be put there before or after
+pub past : (mounts : List Shown) (m : ℕ) (t : TreeMap) (ms : List ℕ) (ts : List TreeMap) → (Has ms m → ⊥)
     → with_tree_of (filled mounts ms ts) m t ≡ filled (with_tree_of mounts m t) ms ts
 past mounts m t [] ts apart = refl
 past mounts m t (n ∷ ms) [] apart = refl

@@ -5,7 +5,7 @@ use Rattle.std.specs.Prelude.{Option, Some, None, option_map, slice_get}
 use Rattle.llb_loader.specs.declared.graph.Edge.{Edge}
 use Rattle.llb_tree.specs.Tree.{TreeMap}
 use Rattle.llb_model.specs.Outcome.{Ending, inputs_from, both, output_in}
-use Rattle.llb_plain.proofs.Lists.{drop_at}
+use Rattle.llb_model.proofs.Lists.{drop_at}
 
 abbrev pub edge_at : List Edge → ℕ → Edge
 edge_at es i = get_or es i (record { vertex = 0; index = 0 })

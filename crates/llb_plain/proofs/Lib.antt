@@ -1,4 +1,3 @@
-pub mod Lists
 pub mod Steps
 pub mod Gathered
 pub mod Vertices

@@ -8,11 +8,7 @@ use Rattle.llb_loader.specs.Graph.{Numbered, IsGraph, IsVertexOf}
 use Rattle.llb_model.specs.ByNumber.{by_number}
 use Rattle.llb_model.specs.Program.{Build}
 use Rattle.llb_model.specs.Outcome.{Outcome, next_outcome, outcomes}
-use Rattle.llb_plain.proofs.Lists.{drop_at}
-
-pub kind_at : (g : Numbered) (k : ℕ) (v : Vertex) → IsGraph g → slice_get g.vertices k ≡ Some v → IsVertexOf v v.op.kind
-kind_at g k v graph at =
-    subst (λ x. IsVertexOf x x.op.kind) (get_or_from_slice_get g.vertices k v v at) (graph.kind k v (slice_get_within g.vertices k v at))
+use Rattle.llb_model.proofs.Lists.{drop_at}
 
 -- ---- outcomes by number
 

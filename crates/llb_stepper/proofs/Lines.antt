@@ -1,7 +1,7 @@
 -- The replies that a stepper has for its record are those of the run of the record, since the boards before are those of the record.
 use Rattle.std.proofs.Common.{◌≡◌, ℕ, zero, suc, ◌+◌, ◌-◌, ◌<◌, ◌≤◌, ◌&&◌, Bool, true, false, cond, List, [], ◌∷◌, ◌++◌, length, take, get_or}
 use Rattle.std.proofs.Common.{Option, Some, None, option_map, refl, sym, ap, ◌∙◌, arith}
-use Rattle.std.proofs.lemmas.Bool.{leb-true}
+use Rattle.std.proofs.lemmas.Bool.{leb-true, and_parts}
 use Rattle.std.proofs.lemmas.List.{append-nil}
 use Rattle.std.proofs.lemmas.Option.{slice_get_within, slice_get-get_or}
 use Rattle.std.specs.Prelude.{slice_get, nat_le}
@@ -112,14 +112,6 @@ parts_of (Some b) (Some x) e r is =
       given = ap (λ y. replied (Some b) (Some y)) (sym same) ∙ is;
     }
 
-first_true : (a b : Bool) → (a && b) ≡ true → a ≡ true
-first_true true b is = refl
-first_true false b is = absurd cc
-
-second_true : (a b : Bool) → (a && b) ≡ true → b ≡ true
-second_true true b is = is
-second_true false b is = absurd cc
-
 one_reply : (e : Event) (x r : Reply) (o : Option (Event × Reply)) → o ≡ Some (e, x) → o ≡ Some (e, r) → x ≡ r
 one_reply e x r o this that =
     let same : ◌≡◌ {A = Option (Event × Reply)} (Some (e, x)) (Some (e, r)) = sym this ∙ that in
@@ -154,8 +146,8 @@ module _ (s : Stepping) (records : PastIsTheRecords s) where
           → replied (slice_get s.past (after_it i)) (slice_get s.board.events (i - 1)) ≡ Some (e, r)
           → (slice_get s.board.events (i - 1) ≡ Some e) × (slice_get replies (i - 1) ≡ Some r)
       there test is =
-          let low : 1 ≤ i = leb-true 1 i (first_true (nat_le 1 i) (nat_le i (length s.board.events)) test) in
-          let high : i ≤ length s.board.events = leb-true i (length s.board.events) (second_true (nat_le 1 i) (nat_le i (length s.board.events)) test) in
+          let low : 1 ≤ i = leb-true 1 i (and_parts (nat_le 1 i) (nat_le i (length s.board.events)) test).0 in
+          let high : i ≤ length s.board.events = leb-true i (length s.board.events) (and_parts (nat_le 1 i) (nat_le i (length s.board.events)) test).1 in
           let p = parts_of (slice_get s.past (after_it i)) (slice_get s.board.events (i - 1)) e r is in
           let q = at_line i e t replies p.board whole low high p.event p.is in
           let reply : q.0 ≡ r = one_reply e q.0 r (replied (slice_get s.past (after_it i)) (Some e)) q.1 p.given in

@@ -1,6 +1,6 @@
 -- Workers and vertices of a board, and of the boards that go on from it.
 use Rattle.std.proofs.Common.{◌≡◌, ℕ, ◌<◌, ◌&&◌, Bool, true, false, List, length, Some, sym, ap, subst, ◌∙◌}
-use Rattle.std.proofs.lemmas.Bool.{lt-ltb, ltb-true}
+use Rattle.std.proofs.lemmas.Bool.{lt-ltb, ltb-true, and_parts}
 use Rattle.std.specs.Prelude.{nat_lt, IfOk, Result, Ok, Err}
 use Rattle.llb_model.specs.Program.{Build}
 use Rattle.llb_model.specs.Outcome.{is_plain}
@@ -23,16 +23,6 @@ both : (a b : Bool) → a ≡ true → b ≡ true → (a && b) ≡ true
 both true true p q = p
 both true false p q = q
 both false b p q = absurd cc
-
-first_of : (a b : Bool) → (a && b) ≡ true → a ≡ true
-first_of true b is = is_true where
-  is_true : true ≡ true
-  is_true = λ i. true
-first_of false b is = absurd cc
-
-second_of : (a b : Bool) → (a && b) ≡ true → b ≡ true
-second_of true b is = is
-second_of false b is = absurd cc
 
 pub is_of_both : (b : BoardValue) (w v : ℕ) → w < length b.state.workers → v < length b.build.graph.vertices → is_of b w v ≡ true
 is_of_both b w v worker vertex =
@@ -71,12 +61,12 @@ claimed_as s w v job claimed = subst (λ u. IsClaimed s w u job) (sym claimed.ve
 -- a stop that may be noted is one at a worker and a vertex of the board
 pub stops_here : (may_stop : ℕ → ℕ → Bool) (b : BoardValue) (w v : ℕ) → may_be may_stop b (Some (Stopped w v)) ≡ true → StopsSomewhere may_stop b
 stops_here may_stop b w v is =
-    let has = second_of (may_stop w v) (is_of b w v) is in (
+    let has = (and_parts (may_stop w v) (is_of b w v) is).1 in (
       w,
       v,
-      ltb-true w (length b.state.workers) (first_of (nat_lt w (length b.state.workers)) (nat_lt v (length b.build.graph.vertices)) has),
-      ltb-true v (length b.build.graph.vertices) (second_of (nat_lt w (length b.state.workers)) (nat_lt v (length b.build.graph.vertices)) has),
-      first_of (may_stop w v) (is_of b w v) is,
+      ltb-true w (length b.state.workers) (and_parts (nat_lt w (length b.state.workers)) (nat_lt v (length b.build.graph.vertices)) has).0,
+      ltb-true v (length b.build.graph.vertices) (and_parts (nat_lt w (length b.state.workers)) (nat_lt v (length b.build.graph.vertices)) has).1,
+      (and_parts (may_stop w v) (is_of b w v) is).0,
     )
 
 -- a stop at a worker and a vertex of the board, where the gate may stop, may be noted

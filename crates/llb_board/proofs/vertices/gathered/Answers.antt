@@ -2,7 +2,7 @@ use Rattle.std.proofs.Common.{map, rules, arith, refl, ap}
 use Rattle.std.proofs.lemmas.List.{length-append}
 use Rattle.llb_model.specs.State.{ending_at}
 use Rattle.llb_board.specs.Vertices.{status_of}
-use Rattle.llb_board.specs.WorkerRules.{or_not_ready}
+use Rattle.llb_model.specs.Table.{or_not_ready}
 use Rattle.llb_board.proofs.Inputs.{gathered_start, gathered_next, gathered_missing, gathered_end}
 use Rattle.llb_board.proofs.vertices.gathered.Goals as goal
 

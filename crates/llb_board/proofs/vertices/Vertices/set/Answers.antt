@@ -11,7 +11,8 @@ use Rattle.llb_board.specs.Vertices.{VerticesValue, AreCounted, AreOver, IsWhole
 use Rattle.llb_board.specs.declared.vertices.stage.Stage.{Stage}
 use Rattle.llb_board.proofs.Behind.{low_user, users_counted, counts_fit}
 use Rattle.llb_board.proofs.InStep.{before_is, whole_after, over_after, linked_after, in_step_after, low_vertex, tells_in}
-use Rattle.llb_board.proofs.Lists.{length_map, map_set}
+use Rattle.llb_board.proofs.Lists.{map_set}
+use Rattle.llb_model.proofs.Lists.{length_map}
 use Rattle.llb_board.proofs.vertices.Vertices.set.Goals as goal
 use Rattle.llb_board.proofs.vertices.Vertices.set.Goals.{After-replace-had, After-mark, After-count}
 

@@ -11,9 +11,7 @@ use Rattle.llb_events.specs.declared.refusal.ClaimFault.{ClaimFault}
 use Rattle.llb_board.proofs.Begins.{Parts, AreParts, put_together, begun_of, supplied, workable}
 use Rattle.llb_board.proofs.workers.claiming.begun_with.Goals as goal
 use Rattle.llb_board.proofs.workers.claiming.begun_with.Goals.{After-new-instances}
-
-inside_ok : {A : Type 0} {x y : A} → ◌≡◌ {A = Result A ClaimFault} (Ok x) (Ok y) → x ≡ y
-inside_ok e = cc
+use Rattle.llb_model.proofs.General.{inside_ok}
 
 parts : goal.After-new-instances → Parts
 parts c =

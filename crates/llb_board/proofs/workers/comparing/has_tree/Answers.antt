@@ -6,10 +6,8 @@ use Rattle.llb_model.specs.Bridge.{store_of}
 use Rattle.llb_model.proofs.BridgeContents.{shows_instances}
 use Rattle.llb_model.proofs.Lists.{get_within}
 use Rattle.llb_model.specs.Caches.{tree_of}
+use Rattle.llb_model.proofs.General.{none_some}
 use Rattle.llb_board.proofs.workers.comparing.has_tree.Goals as goal
-
-none_some : {A : Type 0} {x : A} → ◌≡◌ {A = Option A} None (Some x) → ⊥
-none_some e = cc
 
 pub returns-in-Some : goal.returns-in-Some
 returns-in-Some c =

@@ -1,7 +1,7 @@
 use Rattle.std.proofs.Common.{◌≡◌, length, rules, arith, ap, ◌∙◌, ◌++◌, ◌∷◌, [], vec_len}
 use Rattle.std.proofs.lemmas.List.{length-replicate}
 use Rattle.llb_board.specs.declared.workers.seat.Seat.TheVariants.{Idle}
-use Rattle.llb_board.proofs.Lists.{replicate_more}
+use Rattle.llb_model.proofs.Lists.{replicate_more}
 use Rattle.llb_board.proofs.workers.seat.idle.Goals as goal
 
 pub push_reserved-requires : goal.push_reserved-requires

@@ -11,7 +11,7 @@ use Rattle.llb_board.specs.Undoing.{left_in}
 use Rattle.llb_board.specs.Views.{at_of}
 use Rattle.llb_board.specs.declared.workers.seat.Seat.TheVariants as seat
 use Rattle.llb_board.specs.declared.workers.undoing.Back as undo
-use Rattle.llb_board.proofs.Lists.{length_map}
+use Rattle.llb_model.proofs.Lists.{length_map}
 use Rattle.llb_board.proofs.Undoings.{PutsBack, can_by, is_out, still_there, unclaims, as_many, unsteps, lends, resumes}
 use Rattle.llb_board.proofs.workers.undoing.displace.Goals as goal
 use Rattle.llb_board.proofs.workers.undoing.displace.Goals.{After-take_back, After-write_back, After-lend_again-lease}
