@@ -1,5 +1,4 @@
 pub mod Lists
 pub mod Steps
-pub mod Gathered
 pub mod Vertices
 pub mod NoCaches
