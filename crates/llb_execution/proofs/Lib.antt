@@ -9,3 +9,4 @@ pub mod Marks
 pub mod Doing
 pub mod Matching
 pub mod Looking
+pub mod Inputs

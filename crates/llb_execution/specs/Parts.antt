@@ -8,8 +8,8 @@ use Rattle.llb_model.specs.Program as model
 use Rattle.llb_events.specs.declared.fault.VertexFault.{VertexFault}
 use Rattle.llb_execution.specs.declared.micro_step.MicroStep.{MicroStep}
 use Rattle.llb_execution.specs.declared.micro_step.MicroStep.TheVariants as step
-use Rattle.llb_execution.specs.declared.program.Steps.{Steps}
-use Rattle.llb_execution.specs.declared.program.Steps.TheVariants as steps
+use Rattle.llb_execution.specs.declared.steps.ByKind.{ByKind}
+use Rattle.llb_execution.specs.declared.steps.ByKind.TheVariants as steps
 use Rattle.llb_execution.specs.declared.workspace.Own.{Own}
 use Rattle.llb_execution.specs.declared.workspace.Own.TheVariants as own
 
@@ -27,8 +27,8 @@ step_in (step.Act action) = model.Act action.now
 step_in (step.LayInput number) = model.LayInput number
 step_in (step.Run setting command later) = model.Run setting.now command.now (model.all_and later.now)
 
--- the micro-steps that a program owns
-abbrev pub steps_in : Steps → List model.MicroStep
+-- micro-steps that own their data
+abbrev pub steps_in : ByKind → List model.MicroStep
 steps_in steps.Nothing = []
 steps_in steps.Read = model.ReadLocal ∷ []
 steps_in (steps.Actions actions) = map model.Act actions

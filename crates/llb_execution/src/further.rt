@@ -1,4 +1,4 @@
-//! All remaining micro-steps of a program, one after another, on a workspace of its own. It is built on single
+//! All remaining micro-steps of a vertex, one after another, on a workspace of its own. It is built on single
 //! micro-steps.
 
 ghost use Rattle.std.specs.Prelude.{◌≡◌, ◌+◌, ◌<◌, ◌^◌, length, IfOk, None};
@@ -7,7 +7,7 @@ ghost use Rattle.llb_model.specs.Caches.{Distinct};
 ghost use Rattle.llb_model.specs.Landing.{AreLeft, further};
 ghost use Rattle.llb_execution.specs.Parts.{left_with, mounts_in, shown_in};
 
-use crate::program::Program;
+use crate::steps::Steps;
 use crate::workspace::Workspace;
 use llb_events::VertexFault;
 use llb_tree::Tree;
@@ -21,29 +21,29 @@ pub struct Further {
     pub fault: Option<VertexFault>,
 }
 
-/// Does the micro-steps of a program from number `done`, up to the first that faults or the last. The trees are those
+/// Does micro-steps from number `done`, up to the first that faults or the last. The trees are those
 /// of the instances of the caches that the workspace shows, in the order of the needs. Fails with 5 `Memory` alone;
 /// then some of the micro-steps may be done.
 pub fn do_further(
     alloc: Global,
-    program: &Program,
+    steps: &Steps,
     done: u32,
     workspace: &mut Workspace,
     trees: &mut Vec<Tree>,
 ) -> Result<Further, Memory>
-    requires few { length program.now.steps < 2 ^ 32 }
+    requires few { length steps.now < 2 ^ 32 }
     requires apart { Distinct (shown_in workspace.old) }
     requires within { All (λ n. n < mounts_in workspace.old) (shown_in workspace.old) }
     requires count { length trees.old.items ≡ length (shown_in workspace.old) }
-    ensures all { IfOk result (λ f. AreLeft program.now.steps done (left_with workspace.old trees.old.items None) f.count) }
+    ensures all { IfOk result (λ f. AreLeft steps.now done (left_with workspace.old trees.old.items None) f.count) }
     ensures left { IfOk result (λ f. left_with workspace.new trees.new.items f.fault
-        ≡ further program.now.steps done (left_with workspace.old trees.old.items None) f.count) }
+        ≡ further steps.now done (left_with workspace.old trees.old.items None) f.count) }
     ensures few { IfOk result (λ f. done + f.count < 2 ^ 32) }
     ensures mounts { IfOk result (λ _. mounts_in workspace.new ≡ mounts_in workspace.old) }
     ensures shown { IfOk result (λ _. shown_in workspace.new ≡ shown_in workspace.old) }
 {
     for k in done..u32::MAX {
-        let Some(step) = program.step(k) else {
+        let Some(step) = steps.get(k) else {
             let count = k - done;
             return Ok(Further { count, fault: None });
         };

@@ -1,7 +1,7 @@
 //! One vertex's execution: its program of micro-steps, the workspace that they change, and the work of a whole job away from any board, behind
 //! a gate. It keeps no caches. It is built on `llb_model`.
 //!
-//! Types: `Program`, `MicroStep`, `Workspace` (what a program works on), `Job` (a program with its workspace and cache trees), `Outcome`,
+//! Types: `Program`, `Steps`, `MicroStep`, `Workspace` (what a program works on), `Job` (a program with its workspace and cache trees), `Outcome`,
 //! `Gate`, `WorkFault`.
 //! Promise: `Workspace::step` (`left`, `err`) leaves exactly what the machine's micro-step leaves; where memory is refused, all is as it was.
 //! `work` (`job`, `stopped`) does all micro-steps that a job has left, and is stopped (143) only where the gate's type allows it.
@@ -18,6 +18,7 @@ mod fault;
 mod filling;
 mod further;
 mod gate;
+mod gathering;
 mod job;
 mod look;
 mod mark;
@@ -28,18 +29,21 @@ mod outputs;
 mod program;
 mod refusal;
 mod same;
+mod steps;
 mod workspace;
 
 pub use fault::WorkFault;
 pub use filling::empty_trees;
 pub use further::{Further, do_further};
 pub use gate::{Gate, Stopped};
+pub use gathering::{Outputs, gathered};
 pub use job::Job;
 pub use llb_wire::Memory;
 pub use look::{Look, Part};
 pub use mark::Mark;
-pub use micro_step::{MicroStep, step_count, step_of};
-pub use mounting::{input_tree, setting_of};
+pub use micro_step::{MicroStep, step_of};
+pub use mounting::{input_tree, mounts_cache, setting_of};
 pub use outcome::{Outcome, work};
 pub use program::Program;
+pub use steps::Steps;
 pub use workspace::Workspace;

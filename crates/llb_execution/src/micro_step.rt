@@ -1,8 +1,6 @@
-//! The micro-steps of a vertex, one by one: each borrows from the vertex, or from a program that owns its data. Nothing
-//! here does one.
+//! One micro-step, which borrows from the micro-steps that it is one of, or from its vertex. Nothing here does one.
 
-ghost use Rattle.std.specs.Prelude.{◌≡◌, ◌∷◌, [], length, map, option_map, slice_get, unwrap_or};
-ghost use Rattle.llb_loader.specs.Graph.{IsVertexOf};
+ghost use Rattle.std.specs.Prelude.{◌≡◌, ◌∷◌, [], map, option_map, slice_get, unwrap_or};
 ghost use Rattle.llb_model.specs.Program.{ReadLocal, Act, LayInput, runs_of, program_of};
 ghost use Rattle.llb_ops.specs.declared.merge.MergeInput as merge_input;
 ghost use Rattle.llb_execution.specs.Parts.{step_in, kind_setting};
@@ -24,14 +22,6 @@ pub enum MicroStep<'a> {
     Run(&'a Setting, &'a Joined, &'a [Joined]),
 }
 
-/// Returns how many micro-steps a vertex has. Does not allocate.
-pub fn step_count(vertex: &Vertex) -> u32
-    requires { IsVertexOf vertex.now vertex.now.op.kind }
-    ensures { result ≡ length (program_of vertex.now).steps }
-{
-    vertex.steps
-}
-
 /// Returns micro-step k, from 0, of a vertex whose commands run in this setting (`setting_of`); `None` if k is at least
 /// the number of its micro-steps. Does not allocate.
 pub fn step_of<'a>(vertex: &'a Vertex, setting: &'a Setting, k: u32) -> Option<MicroStep<'a>>
@@ -41,7 +31,7 @@ pub fn step_of<'a>(vertex: &'a Vertex, setting: &'a Setting, k: u32) -> Option<M
     match &vertex.op.kind {
         Some(Kind::Source(_)) => read_at(k),
         Some(Kind::File(file)) => act_at(file.actions.as_slice(), k),
-        Some(Kind::Merge(merge)) => lay_at(merge.inputs.as_slice(), k),
+        Some(Kind::Merge(merge)) => laying_at(merge.inputs.as_slice(), k),
         Some(Kind::Exec(_)) => run_at(setting, commands_of(&vertex.script), k),
         _ => None,
     }
@@ -67,8 +57,18 @@ pub(crate) fn act_at<'a>(actions: &'a [Action], k: u32) -> Option<MicroStep<'a>>
     }
 }
 
+// Returns the laying of the number at index k.
+pub(crate) fn lay_at<'a>(numbers: &[i64], k: u32) -> Option<MicroStep<'a>>
+    ensures { option_map step_in result ≡ slice_get (map LayInput numbers.now) k }
+{
+    match numbers.get(k as usize) {
+        Some(number) => Some(MicroStep::LayInput(*number)),
+        None => None,
+    }
+}
+
 // Returns the laying of the input at index k.
-fn lay_at<'a>(inputs: &'a [MergeInput], k: u32) -> Option<MicroStep<'a>>
+fn laying_at<'a>(inputs: &'a [MergeInput], k: u32) -> Option<MicroStep<'a>>
     ensures { option_map step_in result ≡ slice_get (map (λ (i : merge_input.MergeInput). LayInput i.input) inputs.now) k }
 {
     match inputs.get(k as usize) {

@@ -4,12 +4,12 @@
 ghost use Rattle.std.specs.Prelude.{◌≡◌, IfOk, map, option_map, unwrap_or};
 ghost use Rattle.llb_tree.specs.Tree.{empty_tree};
 ghost use Rattle.llb_mount.specs.View.{IsView};
-ghost use Rattle.llb_model.specs.Program.{path_in, setting_of, selector_of, tree_shown, shown_of, base_in};
+ghost use Rattle.llb_model.specs.Program.{has_cache, path_in, setting_of, selector_of, tree_shown, shown_of, base_in};
 ghost use Rattle.llb_execution.specs.Parts.{kind_setting};
 
 use crate::refusal::NoMemory;
 use llb_applet::Setting;
-use llb_loader::{MountType, Vertex};
+use llb_loader::{MountType, Vertex, mounts_of};
 use llb_mount::{Shown, View};
 use llb_ops::{Kind, Meta, Mount};
 use llb_tree::{Path, Tree, TreeFault};
@@ -135,4 +135,16 @@ pub fn input_tree(inputs: &[Tree], input: i64) -> Option<&Tree>
         return None;
     }
     inputs.get(input as usize)
+}
+
+/// Returns whether a vertex has a mount that shows a cache. Does not allocate.
+pub fn mounts_cache(vertex: &Vertex) -> bool
+    ensures { result ≡ has_cache vertex.now }
+{
+    for mount in mounts_of(&vertex.op.kind) {
+        if MountType::Cache.is_of(mount) {
+            return true;
+        }
+    }
+    false
 }

@@ -8,7 +8,8 @@ ghost use Rattle.llb_ops.specs.declared.merge.MergeInput as merge_input;
 ghost use Rattle.llb_execution.specs.Parts.{steps_in, own_of};
 
 use crate::micro_step::commands_of;
-use crate::program::{Program, Steps};
+use crate::program::Program;
+use crate::steps::ByKind;
 use crate::workspace::{Own, Workspace};
 use llb_applet::{Joined, Script, Setting};
 use llb_loader::{Vertex, mounts_of};
@@ -49,7 +50,7 @@ impl Program {
     {
         self.outputs == vertex.outputs
             && are_outputs(self.output_numbers.as_slice(), mounts_of(&vertex.op.kind))
-            && are_steps(&self.steps, &vertex.op.kind, &vertex.script)
+            && are_steps(&self.steps.by, &vertex.op.kind, &vertex.script)
     }
 }
 
@@ -84,7 +85,7 @@ fn are_inputs(numbers: &[i64], inputs: &[MergeInput]) -> bool
 }
 
 // Returns whether these are the micro-steps of an op's kind; those of an exec are the commands of its script.
-fn are_steps(steps: &Steps, kind: &Option<Kind>, script: &Option<Script>) -> bool
+fn are_steps(steps: &ByKind, kind: &Option<Kind>, script: &Option<Script>) -> bool
     ensures { IsTrue result ↔ (steps_in steps.now ≡ steps_of kind.now script.now) }
 {
     match kind {
@@ -97,76 +98,76 @@ fn are_steps(steps: &Steps, kind: &Option<Kind>, script: &Option<Script>) -> boo
 }
 
 // Returns whether there are no micro-steps.
-fn are_none(steps: &Steps) -> bool
+fn are_none(steps: &ByKind) -> bool
     ensures { IsTrue result ↔ (steps_in steps.now ≡ []) }
 {
     match steps {
-        Steps::Nothing => true,
-        Steps::Read => false,
-        Steps::Actions(actions) => actions.is_empty(),
-        Steps::Inputs(numbers) => numbers.is_empty(),
-        Steps::Commands(_, script) => script.commands().is_empty(),
+        ByKind::Nothing => true,
+        ByKind::Read => false,
+        ByKind::Actions(actions) => actions.is_empty(),
+        ByKind::Inputs(numbers) => numbers.is_empty(),
+        ByKind::Commands(_, script) => script.commands().is_empty(),
     }
 }
 
 // Returns whether the one micro-step is the read of a source.
-fn are_reads(steps: &Steps) -> bool
+fn are_reads(steps: &ByKind) -> bool
     ensures { IsTrue result ↔ (steps_in steps.now ≡ ReadLocal ∷ []) }
 {
     match steps {
-        Steps::Nothing => false,
-        Steps::Read => true,
-        Steps::Actions(_) => false,
-        Steps::Inputs(_) => false,
-        Steps::Commands(_, _) => false,
+        ByKind::Nothing => false,
+        ByKind::Read => true,
+        ByKind::Actions(_) => false,
+        ByKind::Inputs(_) => false,
+        ByKind::Commands(_, _) => false,
     }
 }
 
 // Returns whether the micro-steps are these actions.
-fn are_actions(steps: &Steps, actions: &[Action]) -> bool
+fn are_actions(steps: &ByKind, actions: &[Action]) -> bool
     ensures { IsTrue result ↔ (steps_in steps.now ≡ map Act actions.now) }
 {
     if actions.is_empty() {
         return are_none(steps);
     }
     match steps {
-        Steps::Nothing => false,
-        Steps::Read => false,
-        Steps::Actions(own) => all_same(own.as_slice(), actions),
-        Steps::Inputs(_) => false,
-        Steps::Commands(_, _) => false,
+        ByKind::Nothing => false,
+        ByKind::Read => false,
+        ByKind::Actions(own) => all_same(own.as_slice(), actions),
+        ByKind::Inputs(_) => false,
+        ByKind::Commands(_, _) => false,
     }
 }
 
 // Returns whether the micro-steps are the layings of these inputs.
-fn are_layings(steps: &Steps, inputs: &[MergeInput]) -> bool
+fn are_layings(steps: &ByKind, inputs: &[MergeInput]) -> bool
     ensures { IsTrue result ↔ (steps_in steps.now ≡ map (λ (i : merge_input.MergeInput). LayInput i.input) inputs.now) }
 {
     if inputs.is_empty() {
         return are_none(steps);
     }
     match steps {
-        Steps::Nothing => false,
-        Steps::Read => false,
-        Steps::Actions(_) => false,
-        Steps::Inputs(numbers) => are_inputs(numbers.as_slice(), inputs),
-        Steps::Commands(_, _) => false,
+        ByKind::Nothing => false,
+        ByKind::Read => false,
+        ByKind::Actions(_) => false,
+        ByKind::Inputs(numbers) => are_inputs(numbers.as_slice(), inputs),
+        ByKind::Commands(_, _) => false,
     }
 }
 
 // Returns whether the micro-steps are these commands, run where an exec of that meta runs them.
-fn are_runs(steps: &Steps, meta: &Option<Meta>, commands: &[Joined]) -> bool
+fn are_runs(steps: &ByKind, meta: &Option<Meta>, commands: &[Joined]) -> bool
     ensures { IsTrue result ↔ (steps_in steps.now ≡ runs_of (setting_of meta.now) commands.now) }
 {
     if commands.is_empty() {
         return are_none(steps);
     }
     match steps {
-        Steps::Nothing => false,
-        Steps::Read => false,
-        Steps::Actions(_) => false,
-        Steps::Inputs(_) => false,
-        Steps::Commands(setting, script) => {
+        ByKind::Nothing => false,
+        ByKind::Read => false,
+        ByKind::Actions(_) => false,
+        ByKind::Inputs(_) => false,
+        ByKind::Commands(setting, script) => {
             is_setting(setting, meta) && all_same(script.commands(), commands)
         }
     }

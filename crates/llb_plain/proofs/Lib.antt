@@ -1,4 +1,3 @@
 pub mod Steps
-pub mod Gathered
 pub mod Vertices
 pub mod NoCaches

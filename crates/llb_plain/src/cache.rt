@@ -2,13 +2,10 @@
 //! run, so no graph with a cache is evaluated.
 
 ghost use Rattle.std.specs.Prelude.{◌≡◌};
-ghost use Rattle.std.specs.List.{list_any};
-ghost use Rattle.llb_loader.specs.Mounts.{cache, has_type};
-ghost use Rattle.llb_model.specs.Program.{has_cache};
 ghost use Rattle.llb_plain.specs.Evaluation.{cache_from};
 
-use llb_loader::{Graph, MountType, Vertex};
-use llb_ops::{Kind, Mount};
+use llb_execution::mounts_cache;
+use llb_loader::Graph;
 
 // Returns the least vertex that mounts a cache; `None` if none does.
 pub(crate) fn first_with_cache(graph: &Graph) -> Option<u32>
@@ -21,25 +18,4 @@ pub(crate) fn first_with_cache(graph: &Graph) -> Option<u32>
         }
     }
     None
-}
-
-// Returns whether a vertex mounts a cache; only an exec has mounts.
-fn mounts_cache(vertex: &Vertex) -> bool
-    ensures { result ≡ has_cache vertex.now }
-{
-    match &vertex.op.kind {
-        Some(Kind::Exec(exec)) => any_cache(exec.get().mounts.as_slice()),
-        _ => false,
-    }
-}
-
-fn any_cache(mounts: &[Mount]) -> bool
-    ensures { result ≡ list_any (has_type cache) mounts.now }
-{
-    for mount in mounts {
-        if MountType::Cache.is_of(mount) {
-            return true;
-        }
-    }
-    false
 }

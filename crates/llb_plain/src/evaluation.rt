@@ -1,6 +1,6 @@
 //! The plain outcome of every vertex of a graph, from the lowest on.
 
-ghost use Rattle.std.specs.Prelude.{◌≡◌, false, Ok, map};
+ghost use Rattle.std.specs.Prelude.{◌≡◌, false, Ok};
 ghost use Rattle.llb_loader.specs.Graph.{IsVertexOf, Numbered};
 ghost use Rattle.llb_model.specs.Outcome.{next_outcome, outcomes};
 ghost use Rattle.llb_model.specs.Program.{has_cache};
@@ -11,9 +11,9 @@ ghost use Rattle.llb_plain.specs.Evaluation.{evaluate_of};
 
 use crate::cache::first_with_cache;
 use crate::fault::PlainFault;
-use crate::gathering::gathered;
 use crate::outcome::{Outcome, Outcomes};
 use crate::running::run;
+use llb_execution::gathered;
 use llb_loader::{Graph, Locals, Vertex, missing_local};
 use llb_wire::Text;
 use std::alloc::Global;
@@ -44,7 +44,7 @@ fn evaluate_all(alloc: Global, graph: &Graph, locals: &Locals) -> Result<Outcome
     graph.is_graph();
     let mut outcomes = Outcomes::new(alloc);
     for vertex in graph.vertices() {
-        let next = next(alloc, vertex, locals, outcomes.as_slice())?;
+        let next = next(alloc, vertex, locals, &outcomes)?;
         outcomes.push(next)?;
     }
     Ok(outcomes)
@@ -55,12 +55,12 @@ fn next(
     alloc: Global,
     vertex: &Vertex,
     locals: &Locals,
-    before: &[Outcome],
+    before: &Outcomes,
 ) -> Result<Outcome, PlainFault>
     requires kind { IsVertexOf vertex.now vertex.now.op.kind }
     requires cacheless { has_cache vertex.now ≡ false }
     ensures { (graph : Numbered)
-        → Gives outcome_of result (Ok (next_outcome (record { graph = graph; locals = locals.now }) (map outcome_of before.now) vertex.now)) }
+        → Gives outcome_of result (Ok (next_outcome (record { graph = graph; locals = locals.now }) before.now vertex.now)) }
 {
     match gathered(alloc, before, vertex.inputs.as_slice())? {
         Some(inputs) => run(alloc, vertex, locals, inputs),

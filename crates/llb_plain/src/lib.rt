@@ -16,7 +16,6 @@
 mod cache;
 mod evaluation;
 mod fault;
-mod gathering;
 mod outcome;
 mod running;
 

@@ -7,6 +7,8 @@ ghost use Rattle.llb_plain.specs.Faults.{is_memory};
 
 use crate::fault::PlainFault;
 use llb_events::VertexFault;
+use llb_execution::Outputs;
+use llb_loader::Edge;
 use llb_tree::Tree;
 use llb_wire::Many;
 use std::alloc::Global;
@@ -107,5 +109,15 @@ impl Outcomes {
         ensures { result ≡ (length self.now == 0) }
     {
         self.items.is_empty()
+    }
+}
+
+impl Outputs for Outcomes {
+    ghost use Rattle.llb_plain.specs.Endings.{ending_among};
+
+    ghost ending = { ending_among };
+
+    fn tree(&self, edge: Edge) -> Option<&Tree> {
+        self.get(edge.vertex)?.output(edge.index)
     }
 }

@@ -1,0 +1,49 @@
+//! The trees of a vertex's inputs, among the vertices that have ended, as copies that share them.
+
+ghost use Rattle.std.specs.Prelude.{◌≡◌, ℕ, Option, IfOk, option_map};
+ghost use Rattle.llb_model.specs.Outcome.{Ending, inputs_from, output_in};
+
+use crate::refusal::NoMemory;
+use llb_loader::Edge;
+use llb_tree::Tree;
+use llb_wire::Memory;
+use std::alloc::Global;
+
+/// Vertices by number, of which some are done.
+pub trait Outputs {
+    /// How each vertex ended; `None` if it has not.
+    ghost ending: { Self → ℕ → Option Ending };
+
+    /// Returns the output that an edge leads to, if its vertex is done and has it.
+    fn tree(&self, edge: Edge) -> Option<&Tree>
+        ensures { option_map (λ t. t.now) result ≡ output_in (ending self.now edge.vertex) edge.index };
+}
+
+/// Copies the trees that edges lead to, in their order; returns `None` if one of them is not there. Fails with 5 `Memory` alone.
+pub fn gathered<O: Outputs>(
+    alloc: Global,
+    outputs: &O,
+    edges: &[Edge],
+) -> Result<Option<Vec<Tree>>, Memory>
+    ensures { IfOk result (λ trees. option_map (λ v. v.items) trees ≡ inputs_from (O.ending outputs.now) edges.now) }
+{
+    Ok(all_at(alloc, outputs, edges)?)
+}
+
+// Copies the trees that edges lead to, if all are there.
+fn all_at<O: Outputs>(
+    alloc: Global,
+    outputs: &O,
+    edges: &[Edge],
+) -> Result<Option<Vec<Tree>>, NoMemory>
+    ensures { IfOk result (λ trees. option_map (λ v. v.items) trees ≡ inputs_from (O.ending outputs.now) edges.now) }
+{
+    let mut trees = Vec::with_capacity(alloc, edges.len())?;
+    for edge in edges {
+        match outputs.tree(*edge) {
+            Some(tree) => trees.push_reserved(tree.copy()?),
+            None => return Ok(None),
+        }
+    }
+    Ok(Some(trees))
+}
