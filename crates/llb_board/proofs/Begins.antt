@@ -84,7 +84,7 @@ pub supplied : (b : Build) (x : Vertex) (ws : List Wanted) (trees : List TreeMap
     → ◌≡◌ {A = Supplies}
     (record {
       outputs = p.outfit.outputs;
-      setting = p.outfit.setting;
+      steps = p.outfit.steps;
       mounts = mounts_in p.own;
       shown = shown_in p.own;
       keys = map (λ (q : Instance). q.key) p.places;
@@ -92,7 +92,7 @@ pub supplied : (b : Build) (x : Vertex) (ws : List Wanted) (trees : List TreeMap
     (supplies_for (Some x))
 supplied b x ws trees p wanted are = λ i. record {
   outputs = (sym are.outfit i).outputs;
-  setting = (sym are.outfit i).setting;
+  steps = (sym are.outfit i).steps;
   mounts = (ap mounts_in (sym are.own) ∙ mounts_on b.locals x x.op.kind trees) i;
   shown = (ap shown_in (sym are.own) ∙ shown_on b.locals x trees) i;
   keys = (ap (λ (t : Taking). map (λ (q : Instance). q.key) t.0) (sym are.taking) ∙ keys_found ws ∙ ap (λ (ns : List Need). map key_of ns) wanted) i;

@@ -10,8 +10,8 @@ use Rattle.llb_wire.proofs.many.Many.TheSendSync as many_crosses
 use Rattle.llb_tree.specs.contracts.tree.Tree as tree
 use Rattle.llb_execution.proofs.Crossing.{tree_send, trees_send, workspace_crosses}
 use Rattle.llb_execution.specs.contracts.workspace.Workspace as workspace
-use Rattle.llb_applet.proofs.setting.Setting.TheSendSync as setting_crosses
-use Rattle.llb_applet.specs.contracts.setting.Setting as setting
+use Rattle.llb_execution.proofs.steps.Steps.TheSendSync as steps_cross
+use Rattle.llb_execution.specs.contracts.steps.Steps as steps
 use Rattle.llb_cache.proofs.caches.Lease.TheSendSync as lease_crosses
 use Rattle.llb_cache.proofs.need.Instance.TheSendSync as place_crosses
 use Rattle.llb_cache.specs.contracts.need.Instance as place
@@ -36,8 +36,8 @@ use Rattle.llb_board.specs.contracts.history.History.TheInside as history_inside
 use Rattle.llb_board.specs.contracts.board.Board as board
 use Rattle.llb_board.specs.contracts.board.Board.TheInside as inside
 
-setting_send : IsSend setting.the_row
-setting_send = setting_crosses.the_send
+steps_send : IsSend steps.the_row
+steps_send = steps_cross.the_send
 
 places_send : IsSend (as_row (vec.the_field place.the_row heap.the_row ghosts))
 places_send = as_row_send (vec.the_field place.the_row heap.the_row ghosts) (Vec-send place.the_row place_crosses.the_send)
@@ -55,7 +55,7 @@ execution_send = declared_send execution.the_type (
           places_send,
           (
             as_row_send (vec.the_field tree.the_row heap.the_row ghosts) trees_send,
-            (setting_send, tt),
+            (as_row_send steps.the_field steps_send, tt),
           ),
         ),
       ),

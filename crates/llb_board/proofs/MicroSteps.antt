@@ -1,5 +1,5 @@
 -- A micro-step of what a worker runs, over the lists of instances, where the vertex and the micro-step are known.
-use Rattle.std.proofs.Common.{◌≡◌, ℕ, ◌+◌, ◌<◌, ◌^◌, List, length, Some, None, sym, ap, subst, ◌∙◌, arith}
+use Rattle.std.proofs.Common.{◌≡◌, ℕ, ◌+◌, ◌<◌, ◌^◌, List, length, Option, Some, None, sym, ap, subst, ◌∙◌, arith}
 use Rattle.std.specs.Prelude.{Result, Ok, is_ok, true, slice_get}
 use Rattle.std.specs.List.{All}
 use Rattle.std.proofs.lemmas.Option.{slice_get_within}
@@ -18,7 +18,7 @@ use Rattle.llb_model.specs.State.{Execution}
 use Rattle.llb_execution.specs.Parts.{work_with, mounts_in, shown_in, is_skipped}
 use Rattle.llb_events.specs.declared.refusal.StepFault.{StepFault}
 use Rattle.llb_events.specs.Faults.{step_memory}
-use Rattle.llb_board.specs.Supplies.{Supplies, supplies_of, supplies_for, setting_at, needs_at}
+use Rattle.llb_board.specs.Supplies.{Supplies, supplies_of, supplies_for, needs_at}
 use Rattle.llb_board.specs.WorkerRules.{worked, worked_to, written_by, worked_in}
 use Rattle.llb_board.specs.declared.workers.seat.Execution as own
 use Rattle.llb_model.proofs.Lists.{length_map}
@@ -71,8 +71,12 @@ module _ (b : Build) (x : own.Execution) (v : Vertex) (there : slice_get b.graph
   of_vertex : supplies_of x ≡ supplies_for (Some v)
   of_vertex = supplies ∙ ap supplies_for there
 
-  pub setting_is : x.setting ≡ setting_at (Some v)
-  setting_is = ap (λ (s : Supplies). s.setting) of_vertex
+  pub steps_are : x.steps ≡ (program_of v).steps
+  steps_are = ap (λ (s : Supplies). s.steps) of_vertex
+
+  -- a micro-step that the execution has is the vertex's
+  pub step_at : (m : MicroStep) → ◌≡◌ {A = Option MicroStep} (Some m) (slice_get x.steps x.done) → slice_get (program_of v).steps x.done ≡ Some m
+  step_at m at = ap (λ ss. slice_get ss x.done) (sym steps_are) ∙ sym at
 
   -- the mounts that show caches differ, and are among the view's
   pub shown_apart : Distinct (shown_in x.view)

@@ -1,22 +1,20 @@
 -- What a claim begins, in the code's types.
 use Rattle.std.specs.Prelude.{List, replicate}
-use Rattle.llb_applet.specs.declared.setting.Setting.{Setting}
 use Rattle.llb_loader.specs.declared.graph.Vertex.{Vertex}
 use Rattle.llb_tree.specs.Tree.{TreeMap, empty_tree}
 use Rattle.llb_model.specs.Program as model
-use Rattle.llb_execution.specs.Parts.{kind_setting}
 use Rattle.llb_board.specs.declared.workers.outfit.Outfit.{Outfit}
 
 -- what an execution has beside its view
 pub record Outfitted : Type 0 where
   pub program : model.Program
   pub outputs : List TreeMap
-  pub setting : Setting
+  pub steps : List model.MicroStep
 
 -- an outfit as contracts see it
 abbrev pub outfit_as : Outfit → Outfitted
-outfit_as o = record { program = o.program; outputs = o.outputs.items; setting = o.setting }
+outfit_as o = record { program = o.program; outputs = o.outputs.items; steps = o.steps }
 
 -- what an execution of a vertex is made with: its program, an empty tree for each output, and where its commands run
 abbrev pub outfit_of : Vertex → Outfitted
-outfit_of v = record { program = model.program_of v; outputs = replicate v.outputs empty_tree; setting = kind_setting v.op.kind }
+outfit_of v = record { program = model.program_of v; outputs = replicate v.outputs empty_tree; steps = (model.program_of v).steps }

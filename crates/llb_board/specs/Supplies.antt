@@ -1,15 +1,14 @@
 -- What each worker is supplied with: so no settle needs memory for its outputs, and commands run where their exec says and see the caches that it shows.
 use Rattle.std.specs.Prelude.{ℕ, List, [], map, replicate, length, Option, Some, None, slice_get}
 use Rattle.llb_tree.specs.Tree.{TreeMap, empty_tree}
-use Rattle.llb_applet.specs.declared.setting.Setting.{Setting}
 use Rattle.llb_loader.specs.declared.graph.Vertex.{Vertex}
 use Rattle.llb_cache.specs.declared.key.Key.{Key}
 use Rattle.llb_ops.specs.declared.exec.Mount.{Mount}
 use Rattle.llb_loader.specs.Rules.{kind_mounts}
 use Rattle.llb_model.specs.Caches.{Instance}
-use Rattle.llb_model.specs.Program.{Build, Need, key_of, mount_of, needs_of, program_at, setting_of}
+use Rattle.llb_model.specs.Program.{Build, Need, key_of, mount_of, needs_of, MicroStep, program_at}
 use Rattle.llb_model.specs.State.{WorkerStatus, Idle, Runs}
-use Rattle.llb_execution.specs.Parts.{kind_setting, mounts_in, shown_in}
+use Rattle.llb_execution.specs.Parts.{mounts_in, shown_in}
 use Rattle.llb_board.specs.declared.workers.seat.Seat.{Seat}
 use Rattle.llb_board.specs.declared.workers.seat.Execution as own
 use Rattle.llb_board.specs.declared.workers.seat.Seat.TheVariants as seat
@@ -18,7 +17,7 @@ use Rattle.llb_board.specs.declared.workers.seat.Seat.TheVariants as seat
 -- of these show caches, and the keys of those
 pub record Supplies : Type 0 where
   pub outputs : List TreeMap
-  pub setting : Setting
+  pub steps : List MicroStep
   pub mounts : ℕ
   pub shown : List ℕ
   pub keys : List Key
@@ -27,7 +26,7 @@ pub record Supplies : Type 0 where
 abbrev pub supplies_of : own.Execution → Supplies
 supplies_of x = record {
   outputs = x.outputs.items;
-  setting = x.setting;
+  steps = x.steps;
   mounts = mounts_in x.view;
   shown = shown_in x.view;
   keys = map (λ (p : Instance). p.key) x.places.items;
@@ -43,16 +42,11 @@ abbrev pub needs_at : Option Vertex → List Need
 needs_at (Some v) = needs_of v
 needs_at None = []
 
--- where the commands of a vertex run
-abbrev pub setting_at : Option Vertex → Setting
-setting_at (Some v) = kind_setting v.op.kind
-setting_at None = setting_of None
-
 -- the supplies that an execution of a vertex begins with
 abbrev pub supplies_for : Option Vertex → Supplies
 supplies_for o = record {
   outputs = replicate (program_at o).outputs empty_tree;
-  setting = setting_at o;
+  steps = (program_at o).steps;
   mounts = length (mounts_at o);
   shown = map mount_of (needs_at o);
   keys = map key_of (needs_at o);

@@ -146,7 +146,7 @@ impl Workers {
 
 // Makes the job and the execution of a vertex, before its first micro-step, with the caches that it wants, as they were
 // found: both have the trees of the inputs and the cache instances that a lease will give; the execution also has an
-// empty tree for each output, and where its commands run. Fails with 134 `NotReady` if an input is not there, with 141
+// empty tree for each output, and the micro-steps. Fails with 134 `NotReady` if an input is not there, with 141
 // `Memory`.
 fn begun_with(
     alloc: Global,
@@ -179,7 +179,7 @@ fn begun_with(
         view: own,
         places: taking.places,
         outputs: outfit.outputs,
-        setting: outfit.setting,
+        steps: outfit.steps,
     };
     Ok(Begun {
         job,

@@ -46,7 +46,7 @@ pub(crate) fn copied(alloc: Global, execution: &Execution) -> Result<Execution, 
         view: execution.view.copy()?,
         places: copied_places(alloc, &execution.places)?,
         outputs: copied_trees(alloc, &execution.outputs)?,
-        setting: execution.setting.copy()?,
+        steps: execution.steps.copy()?,
     })
 }
 

@@ -4,19 +4,18 @@ ghost use Rattle.std.specs.Prelude.{Ok};
 ghost use Rattle.llb_board.specs.Outfits.{outfit_as, outfit_of};
 ghost use Rattle.llb_events.specs.Faults.{GivesClaim};
 
-use llb_applet::Setting;
 use llb_events::ClaimFault;
-use llb_execution::{Program, empty_trees, setting_of};
+use llb_execution::{Program, Steps, empty_trees};
 use llb_loader::Vertex;
 use llb_tree::Tree;
 use std::alloc::Global;
 
-/// What a vertex's execution holds besides its view: the program, an empty tree for each output, and where its commands run.
+/// What a vertex's execution holds besides its view: the program, an empty tree for each output, and the micro-steps.
 #[derive(Drop)]
 pub(crate) struct Outfit {
     pub program: Program,
     pub outputs: Vec<Tree>,
-    pub setting: Setting,
+    pub steps: Steps,
 }
 
 /// Returns what the execution of a vertex begins with beside its view. Fails with 141 `Memory` alone.
@@ -25,10 +24,10 @@ pub(crate) fn outfit_for(alloc: Global, vertex: &Vertex) -> Result<Outfit, Claim
 {
     let program = Program::of(alloc, vertex)?;
     let outputs = empty_trees(alloc, vertex.outputs)?;
-    let setting = setting_of(alloc, vertex)?;
+    let steps = program.steps().copy()?;
     Ok(Outfit {
         program,
         outputs,
-        setting,
+        steps,
     })
 }

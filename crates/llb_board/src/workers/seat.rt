@@ -8,10 +8,9 @@ ghost use Rattle.llb_board.specs.Jobs.{seat_left};
 ghost use Rattle.llb_board.specs.Undoing.{seat_before};
 ghost use Rattle.llb_board.specs.Views.{IsRunning, execution_of, at_of, leased_by};
 
-use llb_applet::Setting;
 use llb_cache::{Instance, Lease};
 use llb_events::VertexFault;
-use llb_execution::{Mark, Workspace};
+use llb_execution::{Mark, Steps, Workspace};
 use llb_tree::Tree;
 use llb_wire::{Same, all_same};
 use std::alloc::{AllocError, Global};
@@ -27,7 +26,7 @@ pub(crate) enum Seat {
 }
 
 /// What a running worker holds: in `places` the cache instances that it has leased, in `outputs` an empty tree for each
-/// output of its vertex; its commands run in `setting`.
+/// output of its vertex; `steps` are the vertex's micro-steps.
 #[derive(Drop)]
 pub(crate) struct Execution {
     pub vertex: u32,
@@ -37,7 +36,7 @@ pub(crate) struct Execution {
     pub view: Workspace,
     pub places: Vec<Instance>,
     pub outputs: Vec<Tree>,
-    pub setting: Setting,
+    pub steps: Steps,
 }
 
 /// Returns this many workers, all idle. Fails for want of memory alone.

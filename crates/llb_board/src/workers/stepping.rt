@@ -21,7 +21,7 @@ use crate::workers::instances::{contents, write_back};
 use crate::workers::seat::{Execution, Seat};
 use llb_cache::{Caches, Lease};
 use llb_events::{StepFault, Stepped, VertexFault};
-use llb_execution::{MicroStep, step_of};
+use llb_execution::MicroStep;
 use std::alloc::Global;
 
 impl Workers {
@@ -75,11 +75,11 @@ fn micro_step(
     if execution.fault.is_some() {
         return Err(StepFault::NothingLeft);
     }
-    let Some(vertex) = vertices.vertex(execution.vertex) else {
+    let Some(_vertex) = vertices.vertex(execution.vertex) else {
         return Err(StepFault::NothingLeft);
     };
     let done = execution.done;
-    let Some(next) = step_of(vertex, &execution.setting, done) else {
+    let Some(next) = execution.steps.get(done) else {
         return Err(StepFault::NothingLeft);
     };
     if execution.view.skips(next) {

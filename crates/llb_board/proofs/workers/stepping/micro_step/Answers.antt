@@ -6,7 +6,7 @@ use Rattle.llb_model.specs.Bridge.{store_of}
 use Rattle.llb_execution.specs.Parts.{left_with, step_in}
 use Rattle.llb_board.specs.OptionalLeases.{leased_places}
 use Rattle.llb_board.specs.Views.{execution_of}
-use Rattle.llb_board.proofs.MicroSteps.{step_last, skipped_to, stepped_by, shown_apart, shown_within, few_places, few_done}
+use Rattle.llb_board.proofs.MicroSteps.{step_at, step_last, skipped_to, stepped_by, shown_apart, shown_within, few_places, few_done}
 use Rattle.llb_board.proofs.Stepping.{held_within, places_are, trees_count}
 use Rattle.llb_board.proofs.workers.stepping.micro_step.Goals as goal
 
@@ -19,11 +19,12 @@ returns-then-skips-clause-gives c =
     let b = c.args.vertices.now.build in
     let rows = c.args.caches.now.rows in
     let x = execution_of c.args.execution.now in
-    let v = c.in-Some.vertex.now in
-    let m = step_in c.in-Some-step_of.next in
+    let v = c.in-Some._vertex.now in
+    let m = step_in c.in-Some-get.next in
     let clean = none_of x.fault (sym c.is_some.ensures ∙ c.if-is_some.false) in
     let within = held_within rows c.args.caches.now.out (Some c.args.lease) x.places c.is_exclusive.ensures.there c.requires.leased in
-    skipped_to b rows x v m (sym c.in-Some.ensures.there) clean (sym c.in-Some-step_of.ensures)
+    skipped_to b rows x v m (sym c.in-Some.ensures.there) clean
+    (step_at b c.args.execution.now v (sym c.in-Some.ensures.there) c.requires.supplies (step_in c.in-Some-get.next) c.in-Some-get.ensures)
     (sym c.skips.ensures ∙ c.if-skips.true) within
 
 pub returns-in_err-trees-clause-last : goal.returns-in_err-trees-clause-last
@@ -31,23 +32,24 @@ returns-in_err-trees-clause-last c =
     let b = c.args.vertices.now.build in
     let rows = c.args.caches.now.rows in
     let x = execution_of c.args.execution.now in
-    let v = c.in-Some.vertex.now in
-    let m = step_in c.in-Some-step_of.next in
+    let v = c.in-Some._vertex.now in
+    let m = step_in c.in-Some-get.next in
     let clean = none_of x.fault (sym c.is_some.ensures ∙ c.if-is_some.false) in
-    step_last b rows x v m (sym c.in-Some.ensures.there) clean (sym c.in-Some-step_of.ensures) c.from_residual.result
+    step_last b rows x v m (sym c.in-Some.ensures.there) clean
+    (step_at b c.args.execution.now v (sym c.in-Some.ensures.there) c.requires.supplies (step_in c.in-Some-get.next) c.in-Some-get.ensures) c.from_residual.result
 
 pub step-requires-clause-apart : goal.step-requires-clause-apart
 step-requires-clause-apart c =
     let b = c.args.vertices.now.build in
     let x = c.args.execution.now in
-    let v = c.in-Some.vertex.now in
+    let v = c.in-Some._vertex.now in
     shown_apart b x v (sym c.in-Some.ensures.there) c.requires.supplies
 
 pub step-requires-clause-within : goal.step-requires-clause-within
 step-requires-clause-within c =
     let b = c.args.vertices.now.build in
     let x = c.args.execution.now in
-    let v = c.in-Some.vertex.now in
+    let v = c.in-Some._vertex.now in
     shown_within b x v (sym c.in-Some.ensures.there) c.requires.supplies
 
 pub returns-in_err-fault-clause-last : goal.returns-in_err-fault-clause-last
@@ -55,17 +57,19 @@ returns-in_err-fault-clause-last c =
     let b = c.args.vertices.now.build in
     let rows = c.args.caches.now.rows in
     let x = execution_of c.args.execution.now in
-    let v = c.in-Some.vertex.now in
-    let m = step_in c.in-Some-step_of.next in
+    let v = c.in-Some._vertex.now in
+    let m = step_in c.in-Some-get.next in
     let clean = none_of x.fault (sym c.is_some.ensures ∙ c.if-is_some.false) in
-    step_last b rows x v m (sym c.in-Some.ensures.there) clean (sym c.in-Some-step_of.ensures) c.from_residual-in_err-fault.result
+    step_last b rows x v m (sym c.in-Some.ensures.there) clean
+    (step_at b c.args.execution.now v (sym c.in-Some.ensures.there) c.requires.supplies (step_in c.in-Some-get.next) c.in-Some-get.ensures) c.from_residual-in_err-fault.result
 
 pub overflow_add-execution-2 : goal.overflow_add-execution-2
 overflow_add-execution-2 c =
     let b = c.args.vertices.now.build in
     let x = c.args.execution.now in
-    let v = c.in-Some.vertex.now in
-    let few = few_done b x v (sym c.in-Some.ensures.there) c.requires.supplies (step_in c.in-Some-step_of.next) (sym c.in-Some-step_of.ensures)
+    let v = c.in-Some._vertex.now in
+    let few = few_done b x v (sym c.in-Some.ensures.there) c.requires.supplies (step_in c.in-Some-get.next)
+    (step_at b c.args.execution.now v (sym c.in-Some.ensures.there) c.requires.supplies (step_in c.in-Some-get.next) c.in-Some-get.ensures)
     c.in-Some.ensures.few in
     omega (arith, few)
 
@@ -73,7 +77,7 @@ pub write_back-requires-clause-few : goal.write_back-requires-clause-few
 write_back-requires-clause-few c =
     let b = c.args.vertices.now.build in
     let x = c.args.execution.now in
-    let v = c.in-Some.vertex.now in
+    let v = c.in-Some._vertex.now in
     let few = few_places b x v (sym c.in-Some.ensures.there) c.requires.supplies c.in-Some.ensures.graph in
     let read = trees_count (store_of c.args.caches.now.rows) c.deref.result.now c.in_ok-trees.trees.items c.in_ok-trees.ensures.trees in
     omega (arith, few, read, ap length c.deref.ensures.value, c.in_ok-fault.ensures.count)
@@ -83,11 +87,12 @@ returns-clause-gives c =
     let b = c.args.vertices.now.build in
     let rows = c.args.caches.now.rows in
     let x = execution_of c.args.execution.now in
-    let v = c.in-Some.vertex.now in
-    let m = step_in c.in-Some-step_of.next in
+    let v = c.in-Some._vertex.now in
+    let m = step_in c.in-Some-get.next in
     let clean = none_of x.fault (sym c.is_some.ensures ∙ c.if-is_some.false) in
     let left = left_with c.step.new.self c.step.new.trees.items c.in_ok-fault.fault in
-    stepped_by b rows x v m (sym c.in-Some.ensures.there) clean (sym c.in-Some-step_of.ensures)
+    stepped_by b rows x v m (sym c.in-Some.ensures.there) clean
+    (step_at b c.args.execution.now v (sym c.in-Some.ensures.there) c.requires.supplies (step_in c.in-Some-get.next) c.in-Some-get.ensures)
     c.in_ok-trees.trees.items left (HasStepped c.told.result) c.write_back.new.caches.rows (leased_places c.args.caches.now.out c.args.lease)
     (c.in_ok-trees.ensures.trees ∙ ap (trees_at (store_of rows)) c.deref.ensures.value) c.in_ok-fault.ensures.left
     (c.told.ensures x.own left (sym c.skips.ensures ∙ c.if-skips.false) (sym c.last.ensures) refl) c.write_back.ensures.rows
