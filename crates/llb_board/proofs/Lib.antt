@@ -4,7 +4,6 @@ pub mod Linking
 pub mod Wanted
 pub mod Lists
 pub mod Needed
-pub mod Inputs
 pub mod Marked
 pub mod Steps
 pub mod Behind

@@ -9,7 +9,7 @@ use Rattle.llb_loader.specs.declared.graph.Edge.{Edge}
 use Rattle.llb_loader.specs.declared.graph.Vertex.{Vertex}
 use Rattle.llb_model.specs.State.{Status, Waiting, next_stopped, is_failed, ending_at, ending_of}
 use Rattle.llb_model.specs.ByNumber.{by_number}
-use Rattle.llb_board.proofs.Inputs.{edge_at}
+use Rattle.llb_execution.proofs.Inputs.{edge_at}
 
 abbrev pub marked_at : List Bool → Edge → Bool
 marked_at before e = unwrap_or (slice_get before e.vertex) false

@@ -25,6 +25,7 @@ use crate::links::Links;
 use crate::status::Status;
 use build::Build;
 use llb_events::ClaimFault;
+use llb_execution::{Outputs, gathered};
 use llb_loader::{Edge, Graph, Locals, Vertex};
 use llb_tree::Tree;
 use llb_wire::{Same, all_same};
@@ -253,7 +254,20 @@ impl Vertices {
     pub(crate) fn inputs(&self, alloc: Global, vertex: &Vertex) -> Result<Vec<Tree>, ClaimFault>
         ensures { GivesClaim (λ trees. trees.items) result (or_not_ready (inputs_from (ending_at self.now.statuses) vertex.now.inputs)) }
     {
-        gathered(alloc, &self.stages, vertex.inputs.as_slice())
+        match gathered(alloc, self, vertex.inputs.as_slice())? {
+            Some(trees) => Ok(trees),
+            None => Err(ClaimFault::NotReady),
+        }
+    }
+}
+
+impl Outputs for Vertices {
+    ghost use Rattle.llb_model.specs.State.{ending_at};
+
+    ghost ending = { λ s. ending_at s.statuses };
+
+    fn tree(&self, edge: Edge) -> Option<&Tree> {
+        self.output(edge.vertex, edge.index)
     }
 }
 
@@ -320,20 +334,6 @@ fn count(links: &mut Links, v: u32, was_done: bool, is_done: bool)
         (true, false) => links.count_up(v),
         _ => {}
     }
-}
-
-// Copies the trees that the edges lead to. Fails with 134 `NotReady` if one is not there, with 141 `Memory`.
-fn gathered(alloc: Global, stages: &[Stage], inputs: &[Edge]) -> Result<Vec<Tree>, ClaimFault>
-    ensures { GivesClaim (λ trees. trees.items) result (or_not_ready (inputs_from (ending_at (map status_of stages.now)) inputs.now)) }
-{
-    let mut trees = Vec::with_capacity(alloc, inputs.len())?;
-    for edge in inputs {
-        match output_at(stages, edge.vertex, edge.index) {
-            Some(tree) => trees.push_reserved(tree.copy()?),
-            None => return Err(ClaimFault::NotReady),
-        }
-    }
-    Ok(trees)
 }
 
 // Returns how a vertex looks, given its state, whether it has no open input, and whether it is marked.

@@ -1,9 +1,6 @@
 -- What the parts of an execution represent, in the words of the machine's definitions.
 use Rattle.std.specs.Prelude.{ℕ, Bool, false, not, Option, Some, None, List, [], ◌∷◌, length, map}
-use Rattle.llb_ops.specs.declared.op.Kind.{Kind}
-use Rattle.llb_ops.specs.declared.op.Kind.TheVariants as kind
 use Rattle.llb_tree.specs.Tree.{TreeMap}
-use Rattle.llb_applet.specs.declared.setting.Setting.{Setting}
 use Rattle.llb_model.specs.Program as model
 use Rattle.llb_events.specs.declared.fault.VertexFault.{VertexFault}
 use Rattle.llb_execution.specs.declared.micro_step.MicroStep.{MicroStep}
@@ -14,11 +11,6 @@ use Rattle.llb_execution.specs.declared.workspace.Own.{Own}
 use Rattle.llb_execution.specs.declared.workspace.Own.TheVariants as own
 
 -- ---- programs
-
--- where the commands of a kind run; only an exec has some
-abbrev pub kind_setting : Option Kind → Setting
-kind_setting (Some (kind.Exec x)) = model.setting_of x.meta
-kind_setting _ = model.setting_of None
 
 -- a micro-step that is borrowed from its program
 abbrev pub step_in : MicroStep → model.MicroStep

@@ -1,13 +1,11 @@
-//! One micro-step, which borrows from the micro-steps that it is one of, or from its vertex. Nothing here does one.
+//! One micro-step, which borrows from the micro-steps that it is one of. Nothing here does one.
 
 ghost use Rattle.std.specs.Prelude.{◌≡◌, ◌∷◌, [], map, option_map, slice_get, unwrap_or};
-ghost use Rattle.llb_model.specs.Program.{ReadLocal, Act, LayInput, runs_of, program_of};
-ghost use Rattle.llb_ops.specs.declared.merge.MergeInput as merge_input;
-ghost use Rattle.llb_execution.specs.Parts.{step_in, kind_setting};
+ghost use Rattle.llb_model.specs.Program.{ReadLocal, Act, LayInput, runs_of};
+ghost use Rattle.llb_execution.specs.Parts.{step_in};
 
 use llb_applet::{Joined, Script, Setting};
-use llb_loader::Vertex;
-use llb_ops::{Action, Kind, MergeInput};
+use llb_ops::Action;
 
 /// One micro-step of a vertex.
 #[derive(Clone, Copy)]
@@ -20,21 +18,6 @@ pub enum MicroStep<'a> {
     LayInput(i64),
     /// A command of an exec: where it runs, the command, and the commands after it.
     Run(&'a Setting, &'a Joined, &'a [Joined]),
-}
-
-/// Returns micro-step k, from 0, of a vertex whose commands run in this setting (`setting_of`); `None` if k is at least
-/// the number of its micro-steps. Does not allocate.
-pub fn step_of<'a>(vertex: &'a Vertex, setting: &'a Setting, k: u32) -> Option<MicroStep<'a>>
-    requires { setting.now ≡ kind_setting vertex.now.op.kind }
-    ensures { option_map step_in result ≡ slice_get (program_of vertex.now).steps k }
-{
-    match &vertex.op.kind {
-        Some(Kind::Source(_)) => read_at(k),
-        Some(Kind::File(file)) => act_at(file.actions.as_slice(), k),
-        Some(Kind::Merge(merge)) => laying_at(merge.inputs.as_slice(), k),
-        Some(Kind::Exec(_)) => run_at(setting, commands_of(&vertex.script), k),
-        _ => None,
-    }
 }
 
 // Returns the one micro-step of a source, for k = 0.
@@ -63,16 +46,6 @@ pub(crate) fn lay_at<'a>(numbers: &[i64], k: u32) -> Option<MicroStep<'a>>
 {
     match numbers.get(k as usize) {
         Some(number) => Some(MicroStep::LayInput(*number)),
-        None => None,
-    }
-}
-
-// Returns the laying of the input at index k.
-fn laying_at<'a>(inputs: &'a [MergeInput], k: u32) -> Option<MicroStep<'a>>
-    ensures { option_map step_in result ≡ slice_get (map (λ (i : merge_input.MergeInput). LayInput i.input) inputs.now) k }
-{
-    match inputs.get(k as usize) {
-        Some(input) => Some(MicroStep::LayInput(input.input)),
         None => None,
     }
 }

@@ -5,27 +5,15 @@ ghost use Rattle.std.specs.Prelude.{◌≡◌, IfOk, map, option_map, unwrap_or}
 ghost use Rattle.llb_tree.specs.Tree.{empty_tree};
 ghost use Rattle.llb_mount.specs.View.{IsView};
 ghost use Rattle.llb_model.specs.Program.{has_cache, path_in, setting_of, selector_of, tree_shown, shown_of, base_in};
-ghost use Rattle.llb_execution.specs.Parts.{kind_setting};
 
 use crate::refusal::NoMemory;
 use llb_applet::Setting;
 use llb_loader::{MountType, Vertex, mounts_of};
 use llb_mount::{Shown, View};
-use llb_ops::{Kind, Meta, Mount};
+use llb_ops::{Meta, Mount};
 use llb_tree::{Path, Tree, TreeFault};
-use llb_wire::{Many, Memory, Text};
+use llb_wire::{Many, Text};
 use std::alloc::Global;
-
-/// Returns where the commands of a vertex run: an exec's cwd and env; for any other vertex, which has no commands, the
-/// root and no env. Fails with 5 `Memory` alone.
-pub fn setting_of(alloc: Global, vertex: &Vertex) -> Result<Setting, Memory>
-    ensures { IfOk result (λ s. s ≡ kind_setting vertex.now.op.kind) }
-{
-    match &vertex.op.kind {
-        Some(Kind::Exec(exec)) => Ok(setting_with(alloc, &exec.get().meta)?),
-        _ => Ok(setting_with(alloc, &None)?),
-    }
-}
 
 /// Returns where commands run that have this meta.
 pub(crate) fn setting_with(alloc: Global, meta: &Option<Meta>) -> Result<Setting, NoMemory>

@@ -1,14 +1,14 @@
 //! Finds the vertices that have no cache mount at or before them. This is done once, before the threads start.
 
 ghost use Rattle.std.specs.Prelude.{◌≡◌, false, unwrap_or, slice_get, IfSome};
-ghost use Rattle.std.specs.List.{list_all, list_any};
+ghost use Rattle.std.specs.List.{list_all};
 ghost use Rattle.llb_loader.specs.declared.graph.Edge as edge;
 ghost use Rattle.llb_model.specs.Outcome.{next_plain};
-ghost use Rattle.llb_model.specs.Program.{has_cache};
 ghost use Rattle.llb_work.specs.Supplies.{ArePlain};
 
 use llb_board::Board;
-use llb_loader::{Edge, MountType, Vertex, mounts_of};
+use llb_execution::mounts_cache;
+use llb_loader::{Edge, Vertex};
 use std::alloc::Global;
 
 /// Returns for each vertex, by number, whether no cache mount is at or before it; `None` if memory is refused.
@@ -28,7 +28,7 @@ pub(crate) fn plain_marks(alloc: Global, board: &Board) -> Option<Vec<bool>>
 fn is_plain(vertex: &Vertex, marks: &[bool]) -> bool
     ensures { result ≡ next_plain marks.now vertex.now }
 {
-    !has_cache(vertex) && all_marked(marks, vertex.inputs.as_slice())
+    !mounts_cache(vertex) && all_marked(marks, vertex.inputs.as_slice())
 }
 
 fn all_marked(marks: &[bool], inputs: &[Edge]) -> bool
@@ -40,18 +40,6 @@ fn all_marked(marks: &[bool], inputs: &[Edge]) -> bool
         }
     }
     true
-}
-
-// Returns whether a vertex mounts a cache.
-fn has_cache(vertex: &Vertex) -> bool
-    ensures { result ≡ has_cache vertex.now }
-{
-    for mount in mounts_of(&vertex.op.kind) {
-        if MountType::Cache.is_of(mount) {
-            return true;
-        }
-    }
-    false
 }
 
 /// Returns whether a vertex is marked; one past the marks is not.
