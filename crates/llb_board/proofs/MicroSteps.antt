@@ -1,24 +1,23 @@
--- A micro-step of what a worker runs, over the lists of instances, where the vertex and the micro-step are known.
-use Rattle.std.proofs.Common.{◌≡◌, ℕ, ◌+◌, ◌<◌, ◌^◌, List, length, Option, Some, None, sym, ap, subst, ◌∙◌, arith}
+-- A micro-step of what a worker runs, over the lists of instances, where the micro-step is known.
+use Rattle.std.proofs.Common.{◌≡◌, ℕ, ◌+◌, ◌<◌, ◌^◌, List, length, map, Option, Some, None, sym, ap, subst, ◌∙◌, arith}
 use Rattle.std.specs.Prelude.{Result, Ok, is_ok, true, slice_get}
 use Rattle.std.specs.List.{All}
 use Rattle.std.proofs.lemmas.Option.{slice_get_within}
 use Rattle.llb_wire.specs.Answer.{MemoryLast}
 use Rattle.llb_cache.specs.Caches.{Row, trees_of}
 use Rattle.llb_loader.specs.Graph.{IsGraph}
-use Rattle.llb_loader.specs.Rules.{kind_mounts}
 use Rattle.llb_loader.specs.declared.graph.Vertex.{Vertex}
 use Rattle.llb_tree.specs.Tree.{TreeMap}
 use Rattle.llb_events.specs.declared.event.Stepped.TheVariants as did
 use Rattle.llb_model.specs.Table.{HasStepped, Reply, with_step, step_reply}
 use Rattle.llb_model.specs.Caches.{Instance, Has, Distinct, trees_at}
 use Rattle.llb_model.specs.Bridge.{store_of, put_each}
-use Rattle.llb_model.specs.Program.{Build, MicroStep, Left, key_of, mount_of, needs_of, program_of, program_at, step_on}
-use Rattle.llb_model.specs.State.{Execution}
+use Rattle.llb_model.specs.Program.{Build, MicroStep, Left, key_of, mount_of, program_at, step_on}
+use Rattle.llb_model.specs.State.{Execution, program_in}
 use Rattle.llb_execution.specs.Parts.{work_with, mounts_in, shown_in, is_skipped}
 use Rattle.llb_events.specs.declared.refusal.StepFault.{StepFault}
 use Rattle.llb_events.specs.Faults.{step_memory}
-use Rattle.llb_board.specs.Supplies.{Supplies, supplies_of, supplies_for, needs_at}
+use Rattle.llb_board.specs.Supplies.{Supplies, supplies_of, supplies_for, mounts_at, needs_at}
 use Rattle.llb_board.specs.WorkerRules.{worked, worked_to, written_by, worked_in}
 use Rattle.llb_board.specs.declared.workers.seat.Execution as own
 use Rattle.llb_model.proofs.Lists.{length_map}
@@ -28,18 +27,15 @@ use Rattle.llb_board.proofs.Stepping.{last_of}
 use Rattle.llb_board.proofs.Steps.{goes_to}
 use Rattle.llb_board.proofs.Wanting.{needs_apart, needs_within}
 
--- the vertex is there, it has the micro-step at the number of those done, and none has faulted
-module _ (b : Build) (rows : List Row) (x : Execution) (v : Vertex) (m : MicroStep) (there : slice_get b.graph.vertices x.vertex ≡ Some v)
-    (clean : x.fault ≡ None) (at : slice_get (program_of v).steps x.done ≡ Some m) where
+-- the vertex has the micro-step at the number of those done, and none has faulted
+module _ (b : Build) (rows : List Row) (x : Execution) (m : MicroStep) (clean : x.fault ≡ None)
+    (at : slice_get (program_in b x).steps x.done ≡ Some m) where
   abbrev held : List TreeMap
   held = trees_at (store_of rows) x.places
 
-  by_vertex : worked_in b rows x ≡ written_by rows x.places (worked (program_of v).steps x held)
-  by_vertex = ap (λ o. written_by rows x.places (worked (program_at o).steps x held)) there
-
   -- the micro-step is done on the trees of the instances
   stepped_to : worked_in b rows x ≡ written_by rows x.places (Ok (worked_to x m (step_on x.done (Some m) (work_with x.own held))))
-  stepped_to = by_vertex ∙ ap (written_by rows x.places) (goes_to (program_of v).steps x held m clean at)
+  stepped_to = ap (written_by rows x.places) (goes_to (program_in b x).steps x held m clean at)
 
   -- so only memory can refuse it
   pub step_last : {A : Type 0} (r : Result A StepFault) → MemoryLast step_memory r (worked_in b rows x)
@@ -49,7 +45,7 @@ module _ (b : Build) (rows : List Row) (x : Execution) (v : Vertex) (m : MicroSt
   pub skipped_to : is_skipped m x.own ≡ true → ((p : Instance) → Has x.places p → p.number < length (trees_of rows p.key))
       → worked_in b rows x ≡ Ok (record x { done = x.done + 1 }, rows, HasStepped (did.Skipped x.done))
   skipped_to skips within =
-      by_vertex ∙ ap (written_by rows x.places) (skip_to (program_of v).steps x held m clean at skips)
+      ap (written_by rows x.places) (skip_to (program_in b x).steps x held m clean at skips)
       ∙ ap (λ (rs : List Row). Ok (record x { done = x.done + 1 }, rs, HasStepped (did.Skipped x.done))) (put_each_same rows x.places within)
 
   -- else the execution, the lists of instances and the reply are as what it leaves says
@@ -66,32 +62,40 @@ module _ (b : Build) (rows : List Row) (x : Execution) (v : Vertex) (m : MicroSt
 
 -- ---- what an execution is supplied with
 
-module _ (b : Build) (x : own.Execution) (v : Vertex) (there : slice_get b.graph.vertices x.vertex ≡ Some v)
-    (supplies : supplies_of x ≡ supplies_for (slice_get b.graph.vertices x.vertex)) where
-  of_vertex : supplies_of x ≡ supplies_for (Some v)
-  of_vertex = supplies ∙ ap supplies_for there
+-- the mounts that show caches differ, and are among the mounts
+apart_at : (o : Option Vertex) → Distinct (map mount_of (needs_at o))
+apart_at None = tt
+apart_at (Some v) = needs_apart v
 
-  pub steps_are : x.steps ≡ (program_of v).steps
-  steps_are = ap (λ (s : Supplies). s.steps) of_vertex
+within_at : (o : Option Vertex) → All (λ m. m < length (mounts_at o)) (map mount_of (needs_at o))
+within_at None = λ k d below. absurd (omega (arith, below))
+within_at (Some v) = needs_within v
+
+module _ (b : Build) (x : own.Execution) (supplies : supplies_of x ≡ supplies_for (slice_get b.graph.vertices x.vertex)) where
+  abbrev vertex : Option Vertex
+  vertex = slice_get b.graph.vertices x.vertex
+
+  pub steps_are : x.steps ≡ (program_at vertex).steps
+  steps_are = ap (λ (s : Supplies). s.steps) supplies
 
   -- a micro-step that the execution has is the vertex's
-  pub step_at : (m : MicroStep) → ◌≡◌ {A = Option MicroStep} (Some m) (slice_get x.steps x.done) → slice_get (program_of v).steps x.done ≡ Some m
+  pub step_at : (m : MicroStep) → ◌≡◌ {A = Option MicroStep} (Some m) (slice_get x.steps x.done) → slice_get (program_at vertex).steps x.done ≡ Some m
   step_at m at = ap (λ ss. slice_get ss x.done) (sym steps_are) ∙ sym at
 
   -- the mounts that show caches differ, and are among the view's
   pub shown_apart : Distinct (shown_in x.view)
-  shown_apart = subst Distinct (sym (ap (λ (s : Supplies). s.shown) of_vertex)) (needs_apart v)
+  shown_apart = subst Distinct (sym (ap (λ (s : Supplies). s.shown) supplies)) (apart_at vertex)
 
   pub shown_within : All (λ m. m < mounts_in x.view) (shown_in x.view)
   shown_within =
-      subst (λ (n : ℕ). All (λ m. m < n) (shown_in x.view)) (sym (ap (λ (s : Supplies). s.mounts) of_vertex))
-      (subst (λ (ms : List ℕ). All (λ m. m < length (kind_mounts v.op.kind)) ms) (sym (ap (λ (s : Supplies). s.shown) of_vertex)) (needs_within v))
+      subst (λ (n : ℕ). All (λ m. m < n) (shown_in x.view)) (sym (ap (λ (s : Supplies). s.mounts) supplies))
+      (subst (λ (ms : List ℕ). All (λ m. m < length (mounts_at vertex)) ms) (sym (ap (λ (s : Supplies). s.shown) supplies)) (within_at vertex))
 
   -- an instance for each of them
   pub places_shown : length x.places.items ≡ length (shown_in x.view)
   places_shown =
-      sym (length_map (λ (p : Instance). p.key) x.places.items) ∙ ap (λ (s : Supplies). length s.keys) of_vertex
-      ∙ length_map key_of (needs_of v) ∙ sym (length_map mount_of (needs_of v)) ∙ sym (ap (λ (s : Supplies). length s.shown) of_vertex)
+      sym (length_map (λ (p : Instance). p.key) x.places.items) ∙ ap (λ (s : Supplies). length s.keys) supplies
+      ∙ length_map key_of (needs_at vertex) ∙ sym (length_map mount_of (needs_at vertex)) ∙ sym (ap (λ (s : Supplies). length s.shown) supplies)
 
   pub few_places : IsGraph b.graph → length x.places.items < 2 ^ 32
   few_places graph =
@@ -101,10 +105,5 @@ module _ (b : Build) (x : own.Execution) (v : Vertex) (there : slice_get b.graph
       omega (arith, keys, few_needs b.graph x.vertex graph)
 
   -- the micro-steps that are done can be counted on
-  pub few_done : (m : MicroStep) → slice_get (program_of v).steps x.done ≡ Some m
-      → length (program_at (slice_get b.graph.vertices x.vertex)).steps < 2 ^ 25 → x.done + 1 < 2 ^ 32
-  few_done m at few =
-      let same : length (program_at (slice_get b.graph.vertices x.vertex)).steps ≡ length (program_of v).steps
-      = ap (λ o. length (program_at o).steps) there in
-      let low = slice_get_within (program_of v).steps x.done m at in
-      omega (arith, same, low, few)
+  pub few_done : (m : MicroStep) → slice_get (program_at vertex).steps x.done ≡ Some m → length (program_at vertex).steps < 2 ^ 25 → x.done + 1 < 2 ^ 32
+  few_done m at few = let low = slice_get_within (program_at vertex).steps x.done m at in omega (arith, low, few)

@@ -39,13 +39,9 @@ pub laid_by : (inputs : List MergeInput) → map LayInput (map (λ (i : MergeInp
 laid_by [] = refl
 laid_by (i ∷ inputs) = ap (λ steps. LayInput i.input ∷ steps) (laid_by inputs)
 
--- numbers are those of a merge's inputs exactly where the layings of both are the same
-pub layings_same : (numbers : List ℤ) (inputs : List MergeInput)
-    → (numbers ≡ map (λ (i : MergeInput). i.input) inputs) ↔ (map LayInput numbers ≡ map (λ (i : MergeInput). LayInput i.input) inputs)
-layings_same numbers inputs = (
-  λ e. ap (map LayInput) e ∙ laid_by inputs,
-  λ e. same_made LayInput (λ x y e. cc) numbers (map (λ (i : MergeInput). i.input) inputs) (e ∙ sym (laid_by inputs)),
-)
+-- numbers of inputs whose layings are the same are the same
+pub laid_same : (xs ys : List ℤ) → map LayInput xs ≡ map LayInput ys → xs ≡ ys
+laid_same = same_made LayInput (λ x y e. cc)
 
 -- commands run in the same setting
 runs_alike : (s t : Setting) (xs ys : List Joined) → runs_of s xs ≡ runs_of t ys → xs ≡ ys

@@ -1,10 +1,10 @@
 //! One micro-step, which borrows from the micro-steps that it is one of. Nothing here does one.
 
-ghost use Rattle.std.specs.Prelude.{◌≡◌, ◌∷◌, [], map, option_map, slice_get, unwrap_or};
+ghost use Rattle.std.specs.Prelude.{◌≡◌, ◌∷◌, [], map, option_map, slice_get};
 ghost use Rattle.llb_model.specs.Program.{ReadLocal, Act, LayInput, runs_of};
 ghost use Rattle.llb_execution.specs.Parts.{step_in};
 
-use llb_applet::{Joined, Script, Setting};
+use llb_applet::{Joined, Setting};
 use llb_ops::Action;
 
 /// One micro-step of a vertex.
@@ -65,15 +65,5 @@ pub(crate) fn run_at<'a>(
     match rest.split_first() {
         Some((command, later)) => Some(MicroStep::Run(setting, command, later)),
         None => None,
-    }
-}
-
-// Returns the commands of a script, none if there is no script.
-pub(crate) fn commands_of(script: &Option<Script>) -> &[Joined]
-    ensures { result.now ≡ unwrap_or script.now [] }
-{
-    match script {
-        Some(script) => script.commands(),
-        None => &[],
     }
 }

@@ -1,21 +1,18 @@
-//! Whether two workspaces are the same by value, and whether a program is that of a vertex. Nothing here allocates: the
-//! vertex's own program is not made, but each part of the given one is compared with what the vertex says.
+//! Whether two workspaces are the same by value, or the micro-steps of two vertices, and whether a program is that of a vertex.
+//! Nothing here allocates: micro-steps are compared with those that are made, and the outputs with what the vertex says.
 
 ghost use Rattle.std.specs.Prelude.{◌≡◌, ◌↔◌, IsTrue, [], ◌∷◌, map};
 ghost use Rattle.llb_loader.specs.Rules.{mount_outputs};
-ghost use Rattle.llb_model.specs.Program.{ReadLocal, Act, LayInput, runs_of, program_of, steps_of, setting_of, path_in};
-ghost use Rattle.llb_ops.specs.declared.merge.MergeInput as merge_input;
+ghost use Rattle.llb_model.specs.Program.{ReadLocal, Act, LayInput, runs_of, program_of};
 ghost use Rattle.llb_execution.specs.Parts.{steps_in, own_of};
 
-use crate::micro_step::commands_of;
 use crate::program::Program;
-use crate::steps::ByKind;
+use crate::steps::{ByKind, Steps};
 use crate::workspace::{Own, Workspace};
-use llb_applet::{Joined, Script, Setting};
+use llb_applet::{Joined, Setting};
 use llb_loader::{Vertex, mounts_of};
-use llb_ops::{Action, Kind, MergeInput, Meta, Mount};
-use llb_tree::Path;
-use llb_wire::{Same, Text, all_same};
+use llb_ops::{Action, Mount};
+use llb_wire::{Same, all_same};
 
 impl Same for Workspace {
     fn same(&self, other: &Workspace) -> bool {
@@ -44,13 +41,13 @@ fn same_own(own: &Own, other: &Own) -> bool
 }
 
 impl Program {
-    /// Returns whether this is the program of a vertex, as `of` makes it. Does not allocate.
-    pub fn is_of(&self, vertex: &Vertex) -> bool
-        ensures { IsTrue result ↔ (self.now ≡ program_of vertex.now) }
+    /// Returns whether this is a vertex's program, but with these micro-steps; they are to be the vertex's. Does not allocate.
+    pub fn is_of(&self, vertex: &Vertex, steps: &Steps) -> bool
+        ensures { IsTrue result ↔ (self.now ≡ record (program_of vertex.now) { steps = steps.now }) }
     {
         self.outputs == vertex.outputs
             && are_outputs(self.output_numbers.as_slice(), mounts_of(&vertex.op.kind))
-            && are_steps(&self.steps.by, &vertex.op.kind, &vertex.script)
+            && self.steps.same(steps)
     }
 }
 
@@ -69,31 +66,22 @@ fn are_outputs(numbers: &[i64], mounts: &[Mount]) -> bool
     true
 }
 
-// Returns whether these are the numbers of a merge's inputs.
-fn are_inputs(numbers: &[i64], inputs: &[MergeInput]) -> bool
-    ensures { IsTrue result ↔ (numbers.now ≡ map (λ (i : merge_input.MergeInput). i.input) inputs.now) }
-{
-    if numbers.len() != inputs.len() {
-        return false;
+impl Same for Steps {
+    fn same(&self, other: &Steps) -> bool {
+        are_steps(&self.by, &other.by)
     }
-    for i in 0..numbers.len() {
-        if numbers[i] != inputs[i].input {
-            return false;
-        }
-    }
-    true
 }
 
-// Returns whether these are the micro-steps of an op's kind; those of an exec are the commands of its script.
-fn are_steps(steps: &ByKind, kind: &Option<Kind>, script: &Option<Script>) -> bool
-    ensures { IsTrue result ↔ (steps_in steps.now ≡ steps_of kind.now script.now) }
+// Returns whether both are the same micro-steps; those of two kinds are, where there are none.
+fn are_steps(steps: &ByKind, other: &ByKind) -> bool
+    ensures { IsTrue result ↔ (steps_in steps.now ≡ steps_in other.now) }
 {
-    match kind {
-        Some(Kind::Source(_)) => are_reads(steps),
-        Some(Kind::File(file)) => are_actions(steps, file.actions.as_slice()),
-        Some(Kind::Merge(merge)) => are_layings(steps, merge.inputs.as_slice()),
-        Some(Kind::Exec(exec)) => are_runs(steps, &exec.get().meta, commands_of(script)),
-        _ => are_none(steps),
+    match other {
+        ByKind::Nothing => are_none(steps),
+        ByKind::Read => are_reads(steps),
+        ByKind::Actions(actions) => are_actions(steps, actions.as_slice()),
+        ByKind::Inputs(numbers) => are_layings(steps, numbers.as_slice()),
+        ByKind::Commands(setting, script) => are_runs(steps, setting, script.commands()),
     }
 }
 
@@ -139,25 +127,25 @@ fn are_actions(steps: &ByKind, actions: &[Action]) -> bool
     }
 }
 
-// Returns whether the micro-steps are the layings of these inputs.
-fn are_layings(steps: &ByKind, inputs: &[MergeInput]) -> bool
-    ensures { IsTrue result ↔ (steps_in steps.now ≡ map (λ (i : merge_input.MergeInput). LayInput i.input) inputs.now) }
+// Returns whether the micro-steps are the layings of the inputs of these numbers.
+fn are_layings(steps: &ByKind, numbers: &[i64]) -> bool
+    ensures { IsTrue result ↔ (steps_in steps.now ≡ map LayInput numbers.now) }
 {
-    if inputs.is_empty() {
+    if numbers.is_empty() {
         return are_none(steps);
     }
     match steps {
         ByKind::Nothing => false,
         ByKind::Read => false,
         ByKind::Actions(_) => false,
-        ByKind::Inputs(numbers) => are_inputs(numbers.as_slice(), inputs),
+        ByKind::Inputs(own) => all_same(own.as_slice(), numbers),
         ByKind::Commands(_, _) => false,
     }
 }
 
-// Returns whether the micro-steps are these commands, run where an exec of that meta runs them.
-fn are_runs(steps: &ByKind, meta: &Option<Meta>, commands: &[Joined]) -> bool
-    ensures { IsTrue result ↔ (steps_in steps.now ≡ runs_of (setting_of meta.now) commands.now) }
+// Returns whether the micro-steps are these commands, run in this setting.
+fn are_runs(steps: &ByKind, setting: &Setting, commands: &[Joined]) -> bool
+    ensures { IsTrue result ↔ (steps_in steps.now ≡ runs_of setting.now commands.now) }
 {
     if commands.is_empty() {
         return are_none(steps);
@@ -167,28 +155,8 @@ fn are_runs(steps: &ByKind, meta: &Option<Meta>, commands: &[Joined]) -> bool
         ByKind::Read => false,
         ByKind::Actions(_) => false,
         ByKind::Inputs(_) => false,
-        ByKind::Commands(setting, script) => {
-            is_setting(setting, meta) && all_same(script.commands(), commands)
+        ByKind::Commands(own, script) => {
+            own.same(setting) && all_same(script.commands(), commands)
         }
-    }
-}
-
-// Returns whether commands of that meta run in this setting.
-fn is_setting(setting: &Setting, meta: &Option<Meta>) -> bool
-    ensures { IsTrue result ↔ (setting.now ≡ setting_of meta.now) }
-{
-    match meta {
-        Some(meta) => is_path(&setting.cwd, &meta.cwd) && setting.env.same(&meta.env),
-        None => setting.cwd.is_root() && setting.env.is_empty(),
-    }
-}
-
-// Returns whether this is the path that a text reads as, or the root if the text reads as none.
-fn is_path(path: &Path, text: &Text) -> bool
-    ensures { IsTrue result ↔ (path.now ≡ path_in text.now) }
-{
-    match path.is_read_of(text.as_str()) {
-        Ok(is) => is,
-        Err(_) => path.is_root(),
     }
 }

@@ -11,6 +11,7 @@ ghost use Rattle.llb_model.specs.Program.{program_at};
 ghost use Rattle.llb_model.specs.State as machine;
 ghost use Rattle.llb_model.specs.State.{Runs, places_at};
 ghost use Rattle.llb_board.specs.Jobs.{IsRunOf};
+ghost use Rattle.llb_board.specs.Supplies.{supplies_of, supplies_for};
 ghost use Rattle.llb_board.specs.Views.{execution_of};
 ghost use Rattle.llb_board.specs.Workers.{Fits, RunsJob, steps_left};
 
@@ -28,6 +29,7 @@ impl Workers {
     pub(crate) fn is_run_of(&self, vertices: &Vertices, w: u32, job: &Job) -> bool
         requires there { (x : machine.Execution) → slice_get self.now.workers w ≡ Some (Runs x)
             → is_some (slice_get vertices.now.build.graph.vertices x.vertex) ≡ true }
+        requires fits { Fits vertices.now.build self.now }
         ensures yes { OnTrue result (RunsJob vertices.now self.now w job.now) }
         ensures no { OnFalse result (RunsJob vertices.now self.now w job.now → ⊥) }
     {
@@ -58,23 +60,25 @@ impl Workers {
 // Returns whether a job is what an execution still has to do, with the caches as they are now.
 fn is_left(vertices: &Vertices, caches: &Caches, w: u32, execution: &Execution, job: &Job) -> bool
     requires vertex { is_some (slice_get vertices.now.build.graph.vertices execution.now.vertex) ≡ true }
+    requires supplies { supplies_of execution.now ≡ supplies_for (slice_get vertices.now.build.graph.vertices execution.now.vertex) }
     requires within { (p : model.Instance) → Has execution.now.places.items p → p.number < length (trees_of caches.now.rows p.key) }
     ensures { IsTrue result ↔ IsRunOf vertices.now.build (store_of caches.now.rows) w (execution_of execution.now) job.now }
 {
     is_begun(w, execution, job)
-        && has_program(vertices, execution.vertex, job.program())
+        && has_program(vertices, execution, job.program())
         && job.workspace().same(&execution.view)
         && has_trees(caches, &execution.places, job.trees())
         && has_numbers(&execution.places, job.instances())
 }
 
-// Returns whether a program is that of a vertex of the graph.
-fn has_program(vertices: &Vertices, v: u32, program: &Program) -> bool
-    requires { is_some (slice_get vertices.now.build.graph.vertices v) ≡ true }
-    ensures { IsTrue result ↔ (program.now ≡ program_at (slice_get vertices.now.build.graph.vertices v)) }
+// Returns whether a program is that of the vertex of an execution.
+fn has_program(vertices: &Vertices, execution: &Execution, program: &Program) -> bool
+    requires vertex { is_some (slice_get vertices.now.build.graph.vertices execution.now.vertex) ≡ true }
+    requires supplies { supplies_of execution.now ≡ supplies_for (slice_get vertices.now.build.graph.vertices execution.now.vertex) }
+    ensures { IsTrue result ↔ (program.now ≡ program_at (slice_get vertices.now.build.graph.vertices execution.now.vertex)) }
 {
-    match vertices.vertex(v) {
-        Some(vertex) => program.is_of(vertex),
+    match vertices.vertex(execution.vertex) {
+        Some(vertex) => program.is_of(vertex, &execution.steps),
         None => false,
     }
 }

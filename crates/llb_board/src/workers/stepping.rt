@@ -75,9 +75,7 @@ fn micro_step(
     if execution.fault.is_some() {
         return Err(StepFault::NothingLeft);
     }
-    let Some(_vertex) = vertices.vertex(execution.vertex) else {
-        return Err(StepFault::NothingLeft);
-    };
+    let _ = vertices.vertex(execution.vertex);
     let done = execution.done;
     let Some(next) = execution.steps.get(done) else {
         return Err(StepFault::NothingLeft);

@@ -13,7 +13,10 @@ use Rattle.llb_board.proofs.board.Board.can_land.Goals as goal
 pub is_run_of-requires : goal.is_run_of-requires
 is_run_of-requires c =
     let b = c.self.inside in
-    record { there = runs_vertex (seen b.vertices b.start.rows b.workers b.history.list) c.self.invariant.replays c.args.w }
+    record {
+      there = runs_vertex (seen b.vertices b.start.rows b.workers b.history.list) c.self.invariant.replays c.args.w;
+      fits = c.self.invariant.fits;
+    }
 
 pub returns-then-has_shared-clause-err : goal.returns-then-has_shared-clause-err
 returns-then-has_shared-clause-err c =

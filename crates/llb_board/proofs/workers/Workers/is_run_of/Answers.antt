@@ -3,8 +3,10 @@ use Rattle.std.specs.Prelude.{Some, slice_get}
 use Rattle.std.specs.Bool.{OnTrue, OnFalse}
 use Rattle.llb_model.specs.State.{Runs}
 use Rattle.llb_board.specs.Views.{at_of, leased_by, execution_of}
-use Rattle.llb_board.specs.Workers.{WorkersValue, RunsJob}
+use Rattle.llb_board.specs.Workers.{WorkersValue, Fits, RunsJob}
 use Rattle.llb_board.specs.declared.workers.seat.Seat.{Seat}
+use Rattle.llb_board.specs.declared.workers.seat.Seat.TheVariants as seat
+use Rattle.llb_board.proofs.Supplied.{made_enough}
 use Rattle.llb_board.proofs.Landings.{run_yes, run_no}
 use Rattle.llb_board.proofs.Stepping.{held_within}
 use Rattle.llb_board.proofs.Worked.{seen_of}
@@ -18,6 +20,15 @@ is_left-requires-clause-vertex c =
     = ap (λ (ds : List Seat). slice_get (map at_of ds) c.args.w) (sym c.deref.ensures.value) ∙ sym c.in-Some-Runs.ensures.does
     ∙ ap (λ d. Some (at_of d)) c.in-Some-Runs.field-0-is in
     c.requires.there x (ap (λ (v : WorkersValue). slice_get v.workers c.args.w) (sym c.self.view_is) ∙ runs)
+
+pub is_left-requires-clause-supplies : goal.is_left-requires-clause-supplies
+is_left-requires-clause-supplies c =
+    let ds = c.self.inside.seats.items in
+    let at : slice_get ds c.args.w ≡ Some (seat.Runs c.in-Some-Runs.field-0-0 c.in-Some-Runs.execution)
+    = ap (λ (ds : List Seat). slice_get ds c.args.w) (sym c.deref.ensures.value) ∙ sym c.in-Some-Runs.ensures.seat
+    ∙ ap (λ d. Some d) c.in-Some-Runs.field-0-is in
+    made_enough c.args.vertices.now.build ds c.args.w c.in-Some-Runs.field-0-0 c.in-Some-Runs.execution
+    (subst (Fits c.args.vertices.now.build) (sym c.self.view_is) c.requires.fits) at
 
 pub is_left-requires-clause-within : goal.is_left-requires-clause-within
 is_left-requires-clause-within c =
