@@ -15,6 +15,6 @@ pub record Outfitted : Type 0 where
 abbrev pub outfit_as : Outfit → Outfitted
 outfit_as o = record { program = o.program; outputs = o.outputs.items; steps = o.steps }
 
--- what an execution of a vertex is made with: its program, an empty tree for each output, and where its commands run
+-- what an execution of a vertex is made with: its program, an empty tree for each output, and its micro-steps
 abbrev pub outfit_of : Vertex → Outfitted
 outfit_of v = record { program = model.program_of v; outputs = replicate v.outputs empty_tree; steps = (model.program_of v).steps }

@@ -1,4 +1,4 @@
--- What each worker is supplied with: so no settle needs memory for its outputs, and commands run where their exec says and see the caches that it shows.
+-- What each worker is supplied with: so no settle needs memory for its outputs, each step is the vertex's, and commands see its caches.
 use Rattle.std.specs.Prelude.{ℕ, List, [], map, replicate, length, Option, Some, None, slice_get}
 use Rattle.llb_tree.specs.Tree.{TreeMap, empty_tree}
 use Rattle.llb_loader.specs.declared.graph.Vertex.{Vertex}
@@ -13,7 +13,7 @@ use Rattle.llb_board.specs.declared.workers.seat.Seat.{Seat}
 use Rattle.llb_board.specs.declared.workers.seat.Execution as own
 use Rattle.llb_board.specs.declared.workers.seat.Seat.TheVariants as seat
 
--- what a worker has from its claim on: an empty tree for each output of its vertex, where its commands run, how many mounts they see, which
+-- what a worker has from its claim on: an empty tree for each output of its vertex, the vertex's micro-steps, how many mounts commands see, which
 -- of these show caches, and the keys of those
 pub record Supplies : Type 0 where
   pub outputs : List TreeMap

@@ -51,4 +51,4 @@ returns c =
     c.do_further.new.workspace c.new-trees.result.items c.do_further.new.trees.items c.in_ok-further.further.fault c.in_ok-further.further.count
     c.in_ok-steps.ensures.steps c.in_ok-workspace.ensures c.new-trees.ensures.items f.all f.left in
     λ graph. ap (λ e. Ok (Ended e))
-    (ends ∙ ap (ended p c.do_further.new.workspace) c.in_default.is ∙ ap Done (sym c.into_outputs.ensures))
+    (ends ∙ ap (ended p c.do_further.new.workspace) c.in_default.is ∙ ap Done (sym (c.new-2.ensures ∙ c.into_outputs-outputs.ensures)))
