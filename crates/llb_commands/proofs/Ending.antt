@@ -10,8 +10,8 @@ use Rattle.llb_tree.specs.Tree.{TreeMap}
 use Rattle.llb_model.specs.Caches.{no_instances}
 use Rattle.llb_model.specs.Bridge.{store_of}
 use Rattle.llb_model.specs.Program.{Build}
-use Rattle.llb_model.specs.Outcome.{Ending, Done, Failed, Outcome, ending_in, outcome, output_in}
-use Rattle.llb_model.specs.State.{Status, Waiting, Running, Settled, State, Opening, opening, ending_of, ending_at, is_done, is_failed, is_stopped}
+use Rattle.llb_model.specs.Outcome.{Done, Failed, Outcome, ending_in, outcome, output_in}
+use Rattle.llb_model.specs.State.{Status, Waiting, Running, Settled, State, Opening, opening, ending_of, ending_at, is_done, is_stopped}
 use Rattle.llb_events.specs.declared.event.Event.{Event}
 use Rattle.llb_model.specs.Table.{Reply, table}
 use Rattle.llb_model.specs.Run.{run, chosen, is_complete, StandsPlainly}

@@ -10,7 +10,7 @@ use Rattle.llb_mount.specs.declared.shown.Shown.{Shown}
 use Rattle.llb_mount.specs.View.{mount_at, with_tree_of, no_mount}
 use Rattle.llb_model.specs.Caches.{Has, Distinct}
 use Rattle.llb_model.specs.Program.{filled, taken, blanked}
-use Rattle.llb_model.proofs.Views.{parts_meet, parts_count, swap, again, past}
+use Rattle.llb_model.proofs.Views.{parts_meet, parts_count, again, past}
 
 -- ---- one mount
 

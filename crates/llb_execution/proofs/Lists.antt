@@ -1,7 +1,7 @@
--- A list that is made of another one, item after item, and a list of equal items.
+-- A list that is made of another one, item after item.
 use Rattle.std.proofs.Common.{◌≡◌, ℕ, ◌+◌, ◌≤◌, List, [], ◌∷◌, ◌++◌, map, take, length, sym, ap, ◌∙◌}
-use Rattle.std.specs.Prelude.{Some, replicate, slice_get}
-use Rattle.std.proofs.lemmas.List.{map_more, take_all, replicate-append-replicate}
+use Rattle.std.specs.Prelude.{Some, slice_get}
+use Rattle.std.proofs.lemmas.List.{map_more, take_all}
 use Rattle.std.proofs.lemmas.Option.{slice_get_within, get_or_from_slice_get}
 
 -- a list so far of what a function makes of each item

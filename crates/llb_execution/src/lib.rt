@@ -2,7 +2,7 @@
 //! a gate. It keeps no caches. It is built on `llb_model`.
 //!
 //! Types: `Program`, `Steps`, `MicroStep`, `Workspace` (what a program works on), `Job` (a program with its workspace and cache trees), `Outcome`,
-//! `Gate`, `WorkFault`.
+//! `Outputs` (vertices that are done, among which inputs are gathered), `Gate`, `WorkFault`.
 //! Promise: `Workspace::step` (`left`, `err`) leaves exactly what the machine's micro-step leaves; where memory is refused, all is as it was.
 //! `work` (`job`, `stopped`) does all micro-steps that a job has left, and is stopped (143) only where the gate's type allows it.
 //!

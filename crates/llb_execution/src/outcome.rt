@@ -112,7 +112,13 @@ fn worked(alloc: Global, job: Job) -> Result<Outcome, Memory>
 {
     let mut workspace = job.workspace.copy()?;
     let mut trees = tree_copies(alloc, job.trees.as_slice())?;
-    let further = do_further(alloc, job.program.steps(), job.done, &mut workspace, &mut trees)?;
+    let further = do_further(
+        alloc,
+        job.program.steps(),
+        job.done,
+        &mut workspace,
+        &mut trees,
+    )?;
     let Further { count, fault } = further;
     Ok(Outcome {
         job,
