@@ -1,6 +1,6 @@
 -- What a claim begins, put together from its parts.
 use Rattle.std.proofs.Common.{◌≡◌, ℕ, ◌<◌, ◌^◌, List, length, map, Option, Some, None, sym, ap, subst, ◌∙◌}
-use Rattle.std.specs.Prelude.{Result, Ok}
+use Rattle.std.specs.Prelude.{Ok}
 use Rattle.std.specs.List.{All}
 use Rattle.llb_cache.specs.declared.need.Need as cache_need
 use Rattle.llb_cache.specs.Caches.{CachesValue}
@@ -17,7 +17,6 @@ use Rattle.llb_execution.specs.Parts.{work_with, mounts_in, shown_in}
 use Rattle.llb_board.specs.Supplies.{Supplies, supplies_for}
 use Rattle.llb_board.specs.WorkerRules.{Begun, begun}
 use Rattle.llb_board.specs.Outfits.{Outfitted, outfit_of}
-use Rattle.llb_events.specs.declared.refusal.ClaimFault.{ClaimFault}
 use Rattle.llb_model.proofs.Lists.{length_map}
 use Rattle.llb_board.proofs.Needed.{mounts_on, shown_on}
 use Rattle.llb_board.proofs.Wanted.{keys_found, taken_as}

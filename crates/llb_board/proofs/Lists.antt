@@ -6,7 +6,6 @@ use Rattle.std.proofs.lemmas.List.{map-append, length-take-le}
 use Rattle.llb_model.specs.Caches.{Has}
 use Rattle.std.specs.Prelude.{Some, replicate, slice_get, slice_set, option_map}
 use Rattle.std.proofs.lemmas.Option.{slice_get-map, slice_get_within, get_or_from_slice_get}
-use Rattle.std.proofs.lemmas.List.{replicate-append-replicate}
 use Rattle.llb_model.proofs.Lists.{length_map}
 
 -- n equal items, and room for more

@@ -18,7 +18,7 @@ use Rattle.llb_execution.specs.Parts.{work_with, mounts_in, shown_in, is_skipped
 use Rattle.llb_events.specs.declared.refusal.StepFault.{StepFault}
 use Rattle.llb_events.specs.Faults.{step_memory}
 use Rattle.llb_board.specs.Supplies.{Supplies, supplies_of, supplies_for, mounts_at, needs_at}
-use Rattle.llb_board.specs.WorkerRules.{worked, worked_to, written_by, worked_in}
+use Rattle.llb_board.specs.WorkerRules.{worked_to, written_by, worked_in}
 use Rattle.llb_board.specs.declared.workers.seat.Execution as own
 use Rattle.llb_model.proofs.Lists.{length_map}
 use Rattle.llb_board.proofs.Needed.{few_needs}

@@ -5,7 +5,6 @@ use Rattle.llb_ops.specs.declared.op.Input.{Input}
 use Rattle.llb_ops.specs.declared.op.Kind.{Kind}
 use Rattle.llb_ops.specs.declared.op.Kind.TheVariants as kind
 use Rattle.llb_ops.specs.declared.exec.Mount.{Mount}
-use Rattle.llb_cache.specs.Caches.{Leases}
 use Rattle.llb_loader.specs.declared.graph.Vertex.{Vertex}
 use Rattle.llb_loader.specs.Graph.{Numbered, IsGraph, IsVertexOf}
 use Rattle.llb_loader.specs.Rules.{kind_mounts}
@@ -13,9 +12,7 @@ use Rattle.llb_loader.specs.Locals.{Local}
 use Rattle.llb_loader.specs.Mounts as mounts
 use Rattle.llb_loader.specs.Mounts.{CacheKey}
 use Rattle.llb_tree.specs.Tree.{TreeMap}
-use Rattle.llb_model.specs.Caches.{Instance}
-use Rattle.llb_model.specs.Program.{Need, key_of, mount_of, with_need, needs_from, needs_of, shown_of, workspace_on}
-use Rattle.llb_model.specs.Bridge.{places_taken}
+use Rattle.llb_model.specs.Program.{key_of, mount_of, with_need, needs_from, needs_of, shown_of, workspace_on}
 use Rattle.llb_execution.specs.Parts.{mounts_in, shown_in}
 use Rattle.llb_board.specs.Supplies.{needs_at}
 use Rattle.llb_model.proofs.Lists.{length_map}

@@ -1,5 +1,5 @@
 -- What the parts of an execution represent, in the words of the machine's definitions.
-use Rattle.std.specs.Prelude.{ℕ, Bool, false, not, Option, Some, None, List, [], ◌∷◌, length, map}
+use Rattle.std.specs.Prelude.{ℕ, Bool, false, not, Option, List, [], ◌∷◌, length, map}
 use Rattle.llb_tree.specs.Tree.{TreeMap}
 use Rattle.llb_model.specs.Program as model
 use Rattle.llb_events.specs.declared.fault.VertexFault.{VertexFault}

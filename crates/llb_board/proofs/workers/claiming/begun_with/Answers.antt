@@ -1,5 +1,5 @@
 use Rattle.std.proofs.Common.{◌≡◌, List, sym, ap, ◌∙◌}
-use Rattle.std.specs.Prelude.{Result, Ok}
+use Rattle.std.specs.Prelude.{Ok}
 use Rattle.llb_tree.specs.Tree.{TreeMap}
 use Rattle.llb_model.specs.Outcome.{inputs_from}
 use Rattle.llb_model.specs.Program.{workspace_on}
@@ -7,7 +7,6 @@ use Rattle.llb_model.specs.State.{ending_at}
 use Rattle.llb_model.specs.Table.{Job, Claimed}
 use Rattle.llb_board.specs.Needs.{taken_by}
 use Rattle.llb_board.specs.Outfits.{outfit_as}
-use Rattle.llb_events.specs.declared.refusal.ClaimFault.{ClaimFault}
 use Rattle.llb_board.proofs.Begins.{Parts, AreParts, put_together, begun_of, supplied, workable}
 use Rattle.llb_board.proofs.workers.claiming.begun_with.Goals as goal
 use Rattle.llb_board.proofs.workers.claiming.begun_with.Goals.{After-new-instances}
