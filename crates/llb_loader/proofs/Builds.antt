@@ -27,6 +27,16 @@ built_push rows ops links ranks order vs v n len old new =
     (subst (λ (x : Vertex). IsBuilt (row_at rows (get_or order n 0)).digest (op_at ops (get_or order n 0)) (inputs links (get_or order n 0)) ranks x)
     (sym (get_or_push vs v no_vertex n len)) new)
 
+-- a row is moved out of its list, and later rows stay, as no row is twice in the order
+pub rows_kept_step : (first rows : List Row) (order : List ℕ) (n : ℕ) (moved : Row)
+    → ((i j : ℕ) → i < length order → j < i → get_or order j 0 ≢ get_or order i 0)
+    → ((i : ℕ) → n ≤ i → i < length order → row_at rows (get_or order i 0) ≡ row_at first (get_or order i 0))
+    → (i : ℕ) → n + 1 ≤ i → i < length order → row_at (set rows (get_or order n 0) moved) (get_or order i 0) ≡ row_at first (get_or order i 0)
+rows_kept_step first rows order n moved once kept i l h =
+    get_or-set_other rows (get_or order n 0) (get_or order i 0) moved (record { digest = []; bytes = [] })
+    (λ e. once i n h (omega (arith, l)) (sym e))
+    ∙ kept i (omega (arith, l)) h
+
 -- an op is moved out of its list, and the ops of later rows stay, as no row is twice in the order
 pub kept_step : (first ops : List Op) (order : List ℕ) (n : ℕ) (moved : Op) → ((i j : ℕ) → i < length order → j < i → get_or order j 0 ≢ get_or order i 0)
     → ((i : ℕ) → n ≤ i → i < length order → op_at ops (get_or order i 0) ≡ op_at first (get_or order i 0))

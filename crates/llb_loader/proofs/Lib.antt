@@ -16,6 +16,8 @@ pub mod Builds
 pub mod Trees
 pub mod Whole
 pub mod Stages
+pub mod Bare
+pub mod Transfers
 pub mod Single
 pub mod Lengths
 pub mod Executions

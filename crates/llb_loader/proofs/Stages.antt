@@ -24,7 +24,7 @@ use Rattle.llb_loader.specs.Linking.{Plan, plan, numbered_of, op_at, input_at, l
 use Rattle.llb_loader.specs.Linking.{IsApart, IsStarted, IsNamed, IsPlanOf, ReachedRow, IsOrdered, IsSupported, IsValid, IsWhole}
 use Rattle.llb_loader.specs.Checks.{NamesAll, RefusesStart, RefusesUnknown, RefusesFeature, RefusesRule, RefusesIndex, FitsAll, asked_of}
 use Rattle.llb_loader.specs.Building.{IsBuildable, AreBuilt, edge_to}
-use Rattle.llb_loader.specs.Stages.{plan_in, IsLinked, IsLinkedFrom}
+use Rattle.llb_loader.specs.Stages.{plan_in, IsLinked}
 use Rattle.llb_loader.proofs.Parts.{op_read}
 use Rattle.llb_loader.proofs.Plans.{in_range}
 use Rattle.llb_loader.proofs.Refusals.{started_below, planned, unplanned, refused_by, refuses_unknown, all_named}
@@ -63,7 +63,7 @@ module _ (l : Linked) (is : IsLinked l) (ops : List Op) (links : List (Vec ℕ))
   -- there is a list of links, a mark and an op for each row, and they are few
   pub lens : (length links ≡ length ops) × (length seen ≡ length ops) × (length ops ≤ 65_536)
   lens =
-      let a = graph_len l.rows.now l.ops.items l.terminal l.links.items is.len is.links in
+      let a = graph_len l.rows.items l.ops.items l.terminal l.links.items is.len is.links in
       let b = ap (λ (xs : List Op). length xs) same_ops in
       let d = ap (λ (xs : List (Vec ℕ)). length xs) same_links in
       let e = ap (λ (xs : List Bool). length xs) same_seen in
@@ -74,7 +74,7 @@ module _ (l : Linked) (is : IsLinked l) (ops : List Op) (links : List (Vec ℕ))
 
   -- each link leads to a row
   pub below : (n : ℕ) → length ops ≡ n → InRange (lists links) n
-  below n h = subst (λ (xs : List (Vec ℕ)). InRange (lists xs) n) (sym same_links) (graph_below l.rows.now l.ops.items l.terminal l.links.items is.links n
+  below n h = subst (λ (xs : List (Vec ℕ)). InRange (lists xs) n) (sym same_links) (graph_below l.rows.items l.ops.items l.terminal l.links.items is.links n
       (let a = ap (λ (xs : List Op). length xs) same_ops in let b = is.len in omega (arith, a, b, h)))
 
   -- the ops are within the limits
@@ -93,8 +93,8 @@ module _ (l : Linked) (is : IsLinked l) (ops : List Op) (links : List (Vec ℕ))
       (asked_there (plan_in l) seen exact is.named.started.result k)
 
   -- a cycle refuses the rows
-  pub cyclic : (found : Option (Vec ℕ)) → found ≡ None → IfNone found (HasCycle (lists links) l.start) → Refused l.rows.now l.ops.items Cycle
-  cyclic found none h = refused_by l.rows.now l.ops.items (plan_in l) Cycle is.planned (
+  pub cyclic : (found : Option (Vec ℕ)) → found ≡ None → IfNone found (HasCycle (lists links) l.start) → Refused l.rows.items l.ops.items Cycle
+  cyclic found none h = refused_by l.rows.items l.ops.items (plan_in l) Cycle is.planned (
     is.named,
     subst (λ (g : List (List ℕ)). HasCycle g l.start) planned_links
         (subst (λ (o : Option (Vec ℕ)). IfNone o (HasCycle (lists links) l.start)) none h),
@@ -110,8 +110,8 @@ module _ (l : Linked) (is : IsLinked l) (ops : List Op) (links : List (Vec ℕ))
     }
 
     -- the first feature among the marked rows refuses the rows
-    pub unsupported : (e : LoadFault) → RefusesFeature ops (IsMarked seen) e → Refused l.rows.now l.ops.items e
-    unsupported e r = refused_by l.rows.now l.ops.items (plan_in l) e is.planned (refuses_feature (plan_in l) order.items (IsMarked seen) ordered exact e
+    pub unsupported : (e : LoadFault) → RefusesFeature ops (IsMarked seen) e → Refused l.rows.items l.ops.items e
+    unsupported e r = refused_by l.rows.items l.ops.items (plan_in l) e is.planned (refuses_feature (plan_in l) order.items (IsMarked seen) ordered exact e
         (subst (λ (xs : List Op). RefusesFeature xs (IsMarked seen) e) same_ops r))
 
     module _ (free : (k : ℕ) → IsMarked seen k → feature_of (op_at ops k) ≡ None) where
@@ -122,8 +122,8 @@ module _ (l : Linked) (is : IsLinked l) (ops : List Op) (links : List (Vec ℕ))
       }
 
       -- the first rule that a marked row breaks refuses the rows
-      pub invalid : (e : LoadFault) → RefusesRule ops (IsMarked seen) e → Refused l.rows.now l.ops.items e
-      invalid e r = refused_by l.rows.now l.ops.items (plan_in l) e is.planned (refuses_rule (plan_in l) order.items (IsMarked seen) supported exact e
+      pub invalid : (e : LoadFault) → RefusesRule ops (IsMarked seen) e → Refused l.rows.items l.ops.items e
+      invalid e r = refused_by l.rows.items l.ops.items (plan_in l) e is.planned (refuses_rule (plan_in l) order.items (IsMarked seen) supported exact e
           (subst (λ (xs : List Op). RefusesRule xs (IsMarked seen) e) same_ops r))
 
       module _ (met : (k : ℕ) → IsMarked seen k → MeetsRules (op_at ops k)) (counts : List ℕ) (same_counts : counts ≡ map output_count ops) where
@@ -134,8 +134,8 @@ module _ (l : Linked) (is : IsLinked l) (ops : List Op) (links : List (Vec ℕ))
         }
 
         -- the first index that is no output's refuses the rows
-        pub bad_index : (e : LoadFault) → RefusesIndex ops (lists links) counts seen l.terminal e → Refused l.rows.now l.ops.items e
-        bad_index e r = refused_by l.rows.now l.ops.items (plan_in l) e is.planned (refuses_index (plan_in l) order.items seen valid is.len exact e
+        pub bad_index : (e : LoadFault) → RefusesIndex ops (lists links) counts seen l.terminal e → Refused l.rows.items l.ops.items e
+        bad_index e r = refused_by l.rows.items l.ops.items (plan_in l) e is.planned (refuses_index (plan_in l) order.items seen valid is.len exact e
             (subst (λ (xs : List Op). RefusesIndex xs (links_in (plan_in l)) (map output_count xs) seen l.terminal e) same_ops
             (subst (λ (g : List (List ℕ)). RefusesIndex ops g (map output_count ops) seen l.terminal e) planned_links
             (subst (λ (ns : List ℕ). RefusesIndex ops (lists links) ns seen l.terminal e) same_counts r))))
@@ -154,24 +154,7 @@ module _ (l : Linked) (is : IsLinked l) (ops : List Op) (links : List (Vec ℕ))
               (asked_of ops seen l.terminal k)) same_counts fits)));
         }
 
--- what refuses linked rows refuses those that they are linked from
-pub refused_from : (rows : List Row) (ops : List Op) (l : Linked) (e : LoadFault) → IsLinkedFrom rows ops l
-    → Refused l.rows.now l.ops.items e → Refused rows ops e
-refused_from rows ops l e from r = subst (λ (xs : List Row). Refused xs ops e) from.same_rows
-    (subst (λ (xs : List Op). Refused l.rows.now xs e) from.same_ops r)
-
--- the graph of linked rows is that of the rows that they are linked from
-pub graph_from : (rows : List Row) (ops : List Op) (l : Linked) (g : Numbered) → IsLinkedFrom rows ops l
-    → GraphOf l.rows.now l.ops.items g → GraphOf rows ops g
-graph_from rows ops l g from r = subst (λ (xs : List Row). GraphOf xs ops g) from.same_rows
-    (subst (λ (xs : List Op). GraphOf l.rows.now xs g) from.same_ops r)
-
 -- ---- the names in the rows
-
--- the links that are shown are those of the ops, which were read as they are
-pub links_are : (rows : List Row) (t : ℕ) (ops read : List Op) (links shown : List (Vec ℕ)) → shown ≡ links → lists links ≡ graph_of rows t read → read ≡ ops
-    → lists shown ≡ graph_of rows t ops
-links_are rows t ops read links shown e f g = ap (λ (xs : List (Vec ℕ)). lists xs) e ∙ f ∙ ap (graph_of rows t) g
 
 module _ (rows : List Row) (ops : List Op) (t : ℕ) (several : AllSame rows → IsTrue false) (apart : (k : ℕ) → ¬ Collides rows k)
     (terminal : IsTerminal rows t) (found : t ≡ terminal_in rows) (len : length ops ≡ length rows) (op : Op) (at : op ≡ get_or ops t op) where
@@ -238,16 +221,16 @@ pub terminal_there : (l : Linked) → IsLinked l → l.terminal < length l.ops.i
 terminal_there l is = let t = is.named.started.result.terminal.holds.0 in let n = is.len in omega (arith, t, n)
 
 -- there is a list of links for each row
-pub links_there : (l : Linked) → IsLinked l → length l.links.items ≡ length l.rows.now
-links_there l is = graph_len l.rows.now l.ops.items l.terminal l.links.items is.len is.links
+pub links_there : (l : Linked) → IsLinked l → length l.links.items ≡ length l.rows.items
+links_there l is = graph_len l.rows.items l.ops.items l.terminal l.links.items is.len is.links
 
 -- the result's row is one of the rows
-pub start_there : (l : Linked) → IsLinked l → l.start < length l.rows.now
+pub start_there : (l : Linked) → IsLinked l → l.start < length l.rows.items
 start_there l is = started_below (plan_in l) is.named.started
 
-module _ (l : Linked) (is : IsLinked l) (order : List ℕ) (whole : IsWhole (plan_in l) order) (short : length order ≤ length l.rows.now) where
+module _ (l : Linked) (is : IsLinked l) (order : List ℕ) (whole : IsWhole (plan_in l) order) (short : length order ≤ length l.rows.items) where
   -- each row of the order is one of the rows
-  pub order_below : (n : ℕ) → length l.rows.now ≡ n → All (λ k. k < n) order
+  pub order_below : (n : ℕ) → length l.rows.items ≡ n → All (λ k. k < n) order
   order_below n same k d h =
       let b = in_ops (plan_in l) order whole is.len is.within (get_or order k 0) (row_reached (plan_in l) order whole is.len is.within k h) in
       let e = get_or_default order k d 0 h in
@@ -265,17 +248,17 @@ module _ (l : Linked) (is : IsLinked l) (order : List ℕ) (whole : IsWhole (pla
       (sym is.links) (buildable (plan_in l) order whole is.len is.within i h)
 
   module _ (ranks : List ℕ) (inverse : (i : ℕ) → i < length order → get_or ranks (get_or order i 0) 0 ≡ i) (vs : List Vertex)
-      (vs_len : length vs ≡ length order) (built : AreBuilt l.rows.now l.ops.items (lists l.links.items) ranks order vs (length order))
+      (vs_len : length vs ≡ length order) (built : AreBuilt l.rows.items l.ops.items (lists l.links.items) ranks order vs (length order))
       (x : Edge) (result : x ≡ edge_to (get_or ranks l.start 0) (input_at (op_at l.ops.items l.terminal) 0)) where
-    built_in : AreBuilt l.rows.now l.ops.items (links_in (plan_in l)) ranks order vs (length order)
-    built_in = subst (λ (g : List (List ℕ)). AreBuilt l.rows.now l.ops.items g ranks order vs (length order)) is.links built
+    built_in : AreBuilt l.rows.items l.ops.items (links_in (plan_in l)) ranks order vs (length order)
+    built_in = subst (λ (g : List (List ℕ)). AreBuilt l.rows.items l.ops.items g ranks order vs (length order)) is.links built
 
     -- the vertices and the result are a graph
     pub is_numbered : IsGraph (record { vertices = vs; result = x })
     is_numbered = is_graph (plan_in l) order whole is.len is.within ranks inverse vs vs_len built_in x result is.few short
 
     -- they are the graph of the rows
-    pub graph_of_rows : (g : Numbered) → g ≡ record { vertices = vs; result = x } → GraphOf l.rows.now l.ops.items g
+    pub graph_of_rows : (g : Numbered) → g ≡ record { vertices = vs; result = x } → GraphOf l.rows.items l.ops.items g
     graph_of_rows g same = record {
       order = order;
       whole = subst (λ (q : Plan). IsWhole q order) is.planned.same whole;

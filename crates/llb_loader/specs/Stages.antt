@@ -5,27 +5,41 @@ use Rattle.llb_ops.specs.Within.{IsWithinLimits}
 use Rattle.llb_ops.specs.declared.op.Op.{Op}
 use Rattle.llb_loader.specs.declared.row.Row.{Row}
 use Rattle.llb_loader.specs.declared.linking.Linked.{Linked}
+use Rattle.llb_loader.specs.declared.linking.Names.{Names}
+use Rattle.llb_loader.specs.RowLookup.{row_at}
+use Rattle.llb_loader.specs.Reading.{AreOps}
 use Rattle.llb_loader.specs.Rows.{lists}
 use Rattle.llb_loader.specs.Placing.{IsMarked}
-use Rattle.llb_loader.specs.Linking.{Plan, plan, IsPlanOf, IsNamed, ReachedRow, links_in}
+use Rattle.llb_loader.specs.Linking.{Plan, plan, IsPlanOf, IsApart, IsNamed, ReachedRow, links_in}
 
 -- the plan of linked rows
 abbrev pub plan_in : Linked → Plan
-plan_in l = plan l.rows.now l.ops.items l.terminal l.start
+plan_in l = plan l.rows.items l.ops.items l.terminal l.start
 
 -- The rows have the plan that they are to have, each input of a reached row names a row, and the reached rows are marked.
 pub record IsLinked (l : Linked) : Type 0 where
-  pub few : length l.rows.now ≤ 65_536
-  pub len : length l.ops.items ≡ length l.rows.now
+  pub few : length l.rows.items ≤ 65_536
+  pub len : length l.ops.items ≡ length l.rows.items
   pub within : All IsWithinLimits l.ops.items
-  pub planned : IsPlanOf l.rows.now l.ops.items (plan_in l)
+  pub planned : IsPlanOf l.rows.items l.ops.items (plan_in l)
   pub named : IsNamed (plan_in l)
   pub links : lists l.links.items ≡ links_in (plan_in l)
-  pub seen : length l.seen.items ≡ length l.rows.now
+  pub seen : length l.seen.items ≡ length l.rows.items
   pub exact : (k : ℕ) → IsMarked l.seen.items k ↔ ReachedRow (plan_in l) k
 
--- these rows, read as these ops, are linked
-pub record IsLinkedFrom (rows : List Row) (ops : List Op) (l : Linked) : Type 0 where
-  pub same_rows : l.rows.now ≡ rows
-  pub same_ops : l.ops.items ≡ ops
+-- The names in rows, which are read as these ops, have led to this: the plan is the one that the rows are to have, each input of a reached row names a
+-- row, and the reached rows are marked.
+pub record AreNames (rows : List Row) (ops : List Op) (n : Names) : Type 0 where
+  pub planned : IsPlanOf rows ops (plan rows ops n.terminal n.start)
+  pub named : IsNamed (plan rows ops n.terminal n.start)
+  pub links : lists n.links.items ≡ links_in (plan rows ops n.terminal n.start)
+  pub seen : length n.seen.items ≡ length rows
+  pub exact : (k : ℕ) → IsMarked n.seen.items k ↔ ReachedRow (plan rows ops n.terminal n.start) k
+
+-- These rows, read as the ops, are linked under their digest texts.
+pub record IsLinkedFrom (rows : List Row) (l : Linked) : Type 0 where
+  pub ops : AreOps rows l.ops.items
+  pub len : length l.rows.items ≡ length rows
+  pub digests : (k : ℕ) → (row_at l.rows.items k).digest ≡ (row_at rows k).digest
+  pub apart : IsApart rows
   pub linked : IsLinked l

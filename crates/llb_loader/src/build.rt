@@ -1,4 +1,4 @@
-//! The vertices of the numbered rows: ops are moved out of the rows' list, digests are copied.
+//! The vertices of the numbered rows: ops and digest texts are moved out of their lists.
 
 ghost use Rattle.std.specs.Prelude.{◌≡◌, ◌≢◌, ◌<◌, ℕ, length, slice_index, IfOk};
 ghost use Rattle.std.specs.List.{All};
@@ -20,27 +20,34 @@ use std::mem;
 /// Returns the vertices of the numbered rows, in the order of their numbers.
 pub(crate) fn vertices_of(
     alloc: Global,
-    rows: &[Row],
+    mut rows: Vec<Row>,
     mut ops: Vec<Op>,
     links: &[Vec<usize>],
     order: &[usize],
     ranks: &[usize],
 ) -> Result<Vec<Vertex>, Memory>
-    requires ops { length ops.items ≡ length rows.now }
-    requires links { length links.now ≡ length rows.now }
+    requires ops { length ops.items ≡ length rows.items }
+    requires links { length links.now ≡ length rows.items }
     requires range { InRange (lists links.now) (length ranks.now) }
-    requires below { All (λ k. k < length rows.now) order.now }
+    requires below { All (λ k. k < length rows.items) order.now }
     requires once { (i j : ℕ) → i < length order.now → j < i → slice_index order.now j ≢ slice_index order.now i }
     requires small { All (λ r. r < 65_536) ranks.now }
     requires buildable { (i : ℕ) → i < length order.now → IsBuildable (op_at ops.items (slice_index order.now i))
         (inputs (lists links.now) (slice_index order.now i)) }
     ensures len { IfOk result (λ vertices. length vertices.items ≡ length order.now) }
-    ensures built { IfOk result (λ vertices. AreBuilt rows.now ops.items (lists links.now) ranks.now order.now vertices.items (length order.now)) }
+    ensures built { IfOk result (λ vertices. AreBuilt rows.items ops.items (lists links.now) ranks.now order.now vertices.items (length order.now)) }
 {
     let mut vertices = Vec::with_capacity(alloc, order.len())?;
     for row in order {
+        let title = mem::replace(&mut rows[*row], no_row(alloc));
         let op = mem::replace(&mut ops[*row], no_op(alloc));
-        let vertex = vertex_of(alloc, &rows[*row].digest, op, links[*row].as_slice(), ranks)?;
+        let vertex = vertex_of(
+            alloc,
+            title.into_digest(),
+            op,
+            links[*row].as_slice(),
+            ranks,
+        )?;
         vertices.push(vertex)?;
     }
     Ok(vertices)
@@ -56,11 +63,17 @@ fn no_op(alloc: Global) -> Op {
     }
 }
 
+// Returns an empty row, to leave in the place of one that is taken out.
+
+fn no_row(alloc: Global) -> Row {
+    Row::bare(alloc, Text::new(String::new(alloc)))
+}
+
 // Makes the vertex of an op whose inputs name these rows, under the numbers of the rows.
 
 fn vertex_of(
     alloc: Global,
-    digest: &Text,
+    digest: Text,
     op: Op,
     named: &[usize],
     ranks: &[usize],
@@ -68,13 +81,12 @@ fn vertex_of(
     requires buildable { IsBuildable op named.now }
     requires range { All (λ b. b < length ranks.now) named.now }
     requires small { All (λ r. r < 65_536) ranks.now }
-    ensures { IfOk result (λ v. IsBuilt digest.now op named.now ranks.now v) }
+    ensures { IfOk result (λ v. IsBuilt digest op named.now ranks.now v) }
 {
     let inputs = edges_of(alloc, &op, named, ranks)?;
     let script = script_in(alloc, &op)?;
     let steps = steps_of(&op, &script) as u32;
     let outputs = count_of(&op) as u32;
-    let digest = digest.copy()?;
     Ok(Vertex {
         digest,
         op,

@@ -5,7 +5,7 @@ ghost use Rattle.std.specs.List.{All};
 ghost use Rattle.llb_ops.specs.Within.{IsWithinLimits};
 ghost use Rattle.llb_loader.specs.Faults.{is_memory};
 ghost use Rattle.llb_loader.specs.Placing.{IsMarked};
-ghost use Rattle.llb_loader.specs.RowLookup.{IsIndex};
+ghost use Rattle.llb_loader.specs.RowLookup.{IsIndex, graph_of, rows_named};
 ghost use Rattle.llb_loader.specs.Rows.{lists, InRange, inputs};
 ghost use Rattle.llb_loader.specs.Linking.{op_at};
 ghost use Rattle.llb_loader.specs.Features.{feature_of};
@@ -28,9 +28,11 @@ pub(crate) fn check_names(
     index: &BTreeMap<&str, usize>,
     terminal: usize,
     ops: &[Op],
+    links: &[Vec<usize>],
     seen: &[bool],
 ) -> Result<(), LoadFault>
     requires index { IsIndex rows.now index.now }
+    requires links { lists links.now ≡ graph_of rows.now terminal ops.now }
     requires len { length seen.now ≡ length ops.now }
     requires few { length ops.now ≤ 65_536 }
     requires within { All IsWithinLimits ops.now }
@@ -41,12 +43,31 @@ pub(crate) fn check_names(
         if !seen[k] {
             continue;
         }
-        let Some(i) = first_unknown(rows, index, terminal, &ops[k]) else {
+        let Some(i) = unnamed_in(rows, index, terminal, &ops[k], links[k].as_slice()) else {
             continue;
         };
         return Err(LoadFault::UnknownDigest(k as u32, i as u32));
     }
     Ok(())
+}
+
+// Returns the index of the first input that names no row, given the rows that the inputs name. It looks no input up if
+// there is a row for each.
+fn unnamed_in(
+    rows: &[Row],
+    index: &BTreeMap<&str, usize>,
+    terminal: usize,
+    op: &Op,
+    named: &[usize],
+) -> Option<usize>
+    requires index { IsIndex rows.now index.now }
+    requires named { named.now ≡ rows_named rows.now terminal op.now }
+    ensures { MatchOption result (NamesAll rows.now terminal op.now (length op.now.inputs)) (FirstUnknown rows.now terminal op.now) }
+{
+    if named.len() == op.inputs.len() {
+        return None;
+    }
+    first_unknown(rows, index, terminal, op)
 }
 
 // Returns the index of the first input that names no row.

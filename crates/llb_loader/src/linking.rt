@@ -1,12 +1,14 @@
 //! Rows are linked: each refusal in its order, then the graph. Nothing here recurses on the graph's depth.
 
-ghost use Rattle.std.specs.Prelude.{◌≡◌, ◌≤◌, true, false, length, IfOk, IfErr};
+ghost use Rattle.std.specs.Prelude.{◌≡◌, ◌<◌, ◌≤◌, true, false, length, IfOk, IfErr};
 ghost use Rattle.std.specs.List.{All};
 ghost use Rattle.llb_ops.specs.Within.{IsWithinLimits};
 ghost use Rattle.llb_loader.specs.Faults.{is_memory};
-ghost use Rattle.llb_loader.specs.Linking.{IsWhole, Refused, GraphOf};
+ghost use Rattle.llb_loader.specs.RowLookup.{IsIndex};
+ghost use Rattle.llb_loader.specs.Bare.{AreBare, bared, bytes_of, with_bytes};
+ghost use Rattle.llb_loader.specs.Linking.{IsApart, IsWhole, Refused, GraphOf};
 ghost use Rattle.llb_loader.specs.Link.{IsGraphOf, IsRefusalOf};
-ghost use Rattle.llb_loader.specs.Stages.{IsLinked, IsLinkedFrom, plan_in};
+ghost use Rattle.llb_loader.specs.Stages.{AreNames, IsLinked, IsLinkedFrom, plan_in};
 
 use crate::build::{first_edge, vertices_of};
 use crate::checks::{check_features, check_indexes, check_names, check_rules, counts_of};
@@ -19,11 +21,13 @@ use crate::reading::ops_of;
 use crate::row::Row;
 use crate::row_lookup::{all_same, index_of, links_of, start_of, terminal_of};
 use llb_ops::Op;
+use llb_wire::{Bytes, Memory};
 use std::alloc::Global;
+use std::collections::BTreeMap;
 
-// Rows that are read as ops, whose names are resolved: each input of a reached row names a row.
-struct Linked<'a> {
-    rows: &'a [Row],
+// Rows that are read as ops, whose names are resolved: each input of a reached row names a row. The rows are bare.
+struct Linked {
+    rows: Vec<Row>,
     ops: Vec<Op>,
     terminal: usize,
     // The row that the terminal's first input names.
@@ -34,7 +38,7 @@ struct Linked<'a> {
 }
 
 // Written out, so that what owns one drops it by this one function.
-impl Drop for Linked<'_> {
+impl Drop for Linked {
     fn drop(self) {
         let Linked {
             rows: _,
@@ -47,6 +51,15 @@ impl Drop for Linked<'_> {
     }
 }
 
+// What the names in rows lead to: the parts of `Linked` beside the rows and the ops.
+#[derive(Drop)]
+struct Names {
+    terminal: usize,
+    start: usize,
+    links: Vec<Vec<usize>>,
+    seen: Vec<bool>,
+}
+
 /// Returns the graph of the rows. The last row given is the terminal; its first input is the result.
 ///
 /// Fails with the first fault, of the least row and its least input: 82 `Entry`, 83 `TooFew`, 84 `Collision`, 85
@@ -57,38 +70,112 @@ pub fn link(alloc: Global, rows: &[Row]) -> Result<Graph, LoadFault>
     ensures graph { IfOk result (λ g. IsGraphOf rows.now g) }
     ensures refused { IfErr result (λ e. is_memory e ≡ false → IsRefusalOf rows.now e) }
 {
-    let ops = ops_of(alloc, rows)?;
-    let linked = Linked::of(alloc, rows, ops)?;
+    let bare = bared(alloc, rows)?;
+    let entries = bytes_of(alloc, rows)?;
+    link_entries(alloc, bare, entries)
+}
+
+// Copies the rows without their bytes.
+fn bared(alloc: Global, rows: &[Row]) -> Result<Vec<Row>, Memory>
+    ensures { IfOk result (λ bare. bare.items ≡ bared rows.now) }
+{
+    let mut bare = Vec::with_capacity(alloc, rows.len())?;
+    for row in rows {
+        let digest = row.digest.copy()?;
+        bare.push(Row::bare(alloc, digest))?;
+    }
+    Ok(bare)
+}
+
+// Copies the bytes of the rows.
+fn bytes_of(alloc: Global, rows: &[Row]) -> Result<Vec<Bytes>, Memory>
+    ensures { IfOk result (λ entries. entries.items ≡ bytes_of rows.now) }
+{
+    let mut entries = Vec::with_capacity(alloc, rows.len())?;
+    for row in rows {
+        let bytes = row.bytes.copy()?;
+        entries.push(bytes)?;
+    }
+    Ok(entries)
+}
+
+// Links bare rows whose bytes are the entries. Fails as `link` does.
+pub(crate) fn link_entries(
+    alloc: Global,
+    rows: Vec<Row>,
+    entries: Vec<Bytes>,
+) -> Result<Graph, LoadFault>
+    requires few { length rows.items ≤ 65_536 }
+    requires len { length entries.items ≡ length rows.items }
+    requires bare { AreBare rows.items }
+    ensures graph { IfOk result (λ g. IsGraphOf (with_bytes rows.items entries.items) g) }
+    ensures refused { IfErr result (λ e. is_memory e ≡ false → IsRefusalOf (with_bytes rows.items entries.items) e) }
+{
+    let linked = Linked::of(alloc, rows, entries)?;
     let order = linked.order(alloc)?;
     linked.into_graph(alloc, &order)
 }
 
-impl<'a> Linked<'a> {
-    // Resolves the names in the rows, given their ops. Fails with 83 `TooFew`, 84 `Collision`, 85 `NoResult` or 86
-    // `UnknownDigest`, or with 91 `Memory`.
-    fn of(alloc: Global, rows: &'a [Row], ops: Vec<Op>) -> Result<Linked<'a>, LoadFault>
+impl Names {
+    // Resolves the names in the rows, given their ops. Fails with 85 `NoResult` or 86 `UnknownDigest`, or with 91
+    // `Memory`.
+    fn of(
+        alloc: Global,
+        rows: &[Row],
+        index: &BTreeMap<&str, usize>,
+        ops: &[Op],
+    ) -> Result<Names, LoadFault>
         requires few { length rows.now ≤ 65_536 }
-        requires len { length ops.items ≡ length rows.now }
-        requires within { All IsWithinLimits ops.items }
-        ensures linked { IfOk result (λ linked. IsLinkedFrom rows.now ops.items linked) }
-        ensures refused { IfErr result (λ e. is_memory e ≡ false → Refused rows.now ops.items e) }
+        requires len { length ops.now ≡ length rows.now }
+        requires within { All IsWithinLimits ops.now }
+        requires index { IsIndex rows.now index.now }
+        requires apart { IsApart rows.now }
+        requires some { 0 < length rows.now }
+        ensures names { IfOk result (λ names. AreNames rows.now ops.now names) }
+        ensures refused { IfErr result (λ e. is_memory e ≡ false → Refused rows.now ops.now e) }
     {
-        if all_same(rows) {
-            return Err(LoadFault::TooFew);
-        }
-        let index = index_of(alloc, rows)?;
-        let terminal = terminal_of(rows, &index);
-        let start = start_of(rows, &index, terminal, &ops[terminal])?;
-        let links = links_of(alloc, rows, &index, terminal, &ops)?;
+        let terminal = terminal_of(rows, index);
+        let start = start_of(rows, index, terminal, &ops[terminal])?;
+        let links = links_of(alloc, rows, index, terminal, ops)?;
         let seen = reached(alloc, &links, start)?;
-        check_names(rows, &index, terminal, &ops, &seen)?;
-        Ok(Linked {
-            rows,
-            ops,
+        check_names(rows, index, terminal, ops, &links, &seen)?;
+        Ok(Names {
             terminal,
             start,
             links,
             seen,
+        })
+    }
+}
+
+impl Linked {
+    // Reads the entries of bare rows, drops them and resolves the names. Fails with 82 `Entry`, 83 `TooFew`, 84
+    // `Collision`, 85 `NoResult` or 86 `UnknownDigest`, or with 91 `Memory`. The rows are compared before any is read,
+    // since an entry goes once it is read; what is found is told after.
+    fn of(alloc: Global, rows: Vec<Row>, entries: Vec<Bytes>) -> Result<Linked, LoadFault>
+        requires few { length rows.items ≤ 65_536 }
+        requires len { length entries.items ≡ length rows.items }
+        requires bare { AreBare rows.items }
+        ensures linked { IfOk result (λ linked. IsLinkedFrom (with_bytes rows.items entries.items) linked) }
+        ensures refused { IfErr result (λ e. is_memory e ≡ false → IsRefusalOf (with_bytes rows.items entries.items) e) }
+    {
+        let titles = rows.as_slice();
+        let few = all_same(titles, entries.as_slice());
+        let found = index_of(alloc, titles, entries.as_slice());
+        let ops = ops_of(alloc, entries)?;
+        if few {
+            return Err(LoadFault::TooFew);
+        }
+        let index = found?;
+        let names = Names::of(alloc, titles, &index, ops.as_slice())?;
+        drop(index);
+        Ok(Linked {
+            rows,
+            ops,
+            terminal: names.terminal,
+            start: names.start,
+            links: names.links,
+            seen: names.seen,
         })
     }
 
@@ -97,8 +184,8 @@ impl<'a> Linked<'a> {
     fn order(&self, alloc: Global) -> Result<Vec<usize>, LoadFault>
         requires { IsLinked self.now }
         ensures whole { IfOk result (λ order. IsWhole (plan_in self.now) order.items) }
-        ensures few { IfOk result (λ order. length order.items ≤ length self.now.rows.now) }
-        ensures refused { IfErr result (λ e. is_memory e ≡ false → Refused self.now.rows.now self.now.ops.items e) }
+        ensures few { IfOk result (λ order. length order.items ≤ length self.now.rows.items) }
+        ensures refused { IfErr result (λ e. is_memory e ≡ false → Refused self.now.rows.items self.now.ops.items e) }
     {
         let ops = self.ops.as_slice();
         let links = self.links.as_slice();
@@ -117,8 +204,8 @@ impl<'a> Linked<'a> {
     fn into_graph(self, alloc: Global, order: &[usize]) -> Result<Graph, LoadFault>
         requires linked { IsLinked self }
         requires whole { IsWhole (plan_in self) order.now }
-        requires short { length order.now ≤ length self.rows.now }
-        ensures graph { IfOk result (λ g. GraphOf self.entry.rows.now self.entry.ops.items g) }
+        requires short { length order.now ≤ length self.rows.items }
+        ensures graph { IfOk result (λ g. GraphOf self.rows.items self.ops.items g) }
         ensures refused { IfErr result (λ e. is_memory e ≡ true) }
     {
         let Linked {

@@ -1,17 +1,18 @@
-//! A definition is loaded: its entries are rows under their own digest texts.
+//! A definition is loaded: its entries are rows under their own digest texts. Entries are dropped one by one, once they are read as ops.
 
 ghost use Rattle.std.specs.Prelude.{◌≡◌, ◌≤◌, false, length, IfOk, IfErr};
 ghost use Rattle.llb_loader.specs.Faults.{is_memory};
 ghost use Rattle.llb_loader.specs.Link.{IsGraphOf, IsRefusalOf};
 ghost use Rattle.llb_loader.specs.Load.{IsGraphIn, IsRefusalIn, rows_from};
+ghost use Rattle.llb_loader.specs.Bare.{titles_from};
 
 use crate::digest::digest_of;
 use crate::fault::LoadFault;
 use crate::graph::Graph;
-use crate::linking::link;
+use crate::linking::link_entries;
 use crate::row::Row;
 use llb_ops::{Entries, read_definition};
-use llb_wire::Memory;
+use llb_wire::{Bytes, Memory};
 use std::alloc::Global;
 
 /// Returns the graph of a definition's entries under their own digest texts.
@@ -43,18 +44,18 @@ fn linked(alloc: Global, entries: Entries) -> Result<Graph, LoadFault>
     ensures graph { IfOk result (λ g. IsGraphOf (rows_from entries) g) }
     ensures refused { IfErr result (λ e. is_memory e ≡ false → IsRefusalOf (rows_from entries) e) }
 {
-    let rows = rows_of(alloc, entries)?;
-    link(alloc, &rows)
+    let rows = titles_of(alloc, entries.as_slice())?;
+    link_entries(alloc, rows, entries.into_vec())
 }
 
-// Returns the entries as rows under their digest texts.
-fn rows_of(alloc: Global, entries: Entries) -> Result<Vec<Row>, Memory>
-    ensures { IfOk result (λ rows. rows.items ≡ rows_from entries) }
+// Returns bare rows under the digest texts of the entries.
+fn titles_of(alloc: Global, entries: &[Bytes]) -> Result<Vec<Row>, Memory>
+    ensures { IfOk result (λ rows. rows.items ≡ titles_from entries.now) }
 {
     let mut rows = Vec::with_capacity(alloc, entries.len())?;
-    for bytes in entries.into_vec() {
+    for bytes in entries {
         let digest = digest_of(alloc, bytes.as_slice())?;
-        rows.push(Row { digest, bytes })?;
+        rows.push(Row::bare(alloc, digest))?;
     }
     Ok(rows)
 }

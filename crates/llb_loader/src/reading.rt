@@ -1,27 +1,28 @@
-//! The ops that rows spell, each by its own bytes.
+//! The ops that entries spell, each by its own bytes.
 
 ghost use Rattle.std.specs.Prelude.{◌≡◌, ◌≤◌, false, length, IfOk, IfErr};
 ghost use Rattle.std.specs.List.{All};
 ghost use Rattle.llb_ops.specs.Within.{IsWithinLimits};
 ghost use Rattle.llb_loader.specs.Faults.{is_memory, row_fault};
-ghost use Rattle.llb_loader.specs.Reading.{AreOps, RefusesRow};
+ghost use Rattle.llb_loader.specs.Bare.{AreRead, RefusesEntry};
 
 use crate::fault::LoadFault;
-use crate::row::Row;
-use llb_ops::{Op, OpFault, read_op};
+use llb_ops::{Bytes, Op, OpFault, read_op};
 use std::alloc::Global;
+use std::mem;
 
-// Reads the op of each row. Fails with 82 `Entry` at the first row that spells none, or with 91 `Memory`.
-pub(crate) fn ops_of(alloc: Global, rows: &[Row]) -> Result<Vec<Op>, LoadFault>
-    requires { length rows.now ≤ 65_536 }
-    ensures read { IfOk result (λ ops. AreOps rows.now ops.items) }
+// Reads the op of each entry, and drops the entry. Fails with 82 `Entry` at the first one that spells none, or with 91
+// `Memory`.
+pub(crate) fn ops_of(alloc: Global, mut entries: Vec<Bytes>) -> Result<Vec<Op>, LoadFault>
+    requires { length entries.items ≤ 65_536 }
+    ensures read { IfOk result (λ ops. AreRead entries.items ops.items) }
     ensures within { IfOk result (λ ops. All IsWithinLimits ops.items) }
-    ensures refused { IfErr result (λ e. is_memory e ≡ false → RefusesRow rows.now e) }
+    ensures refused { IfErr result (λ e. is_memory e ≡ false → RefusesEntry entries.items e) }
 {
-    let mut ops = Vec::with_capacity(alloc, rows.len())?;
-    for (k, row) in rows.iter().enumerate() {
-        let op = read_op(alloc, row.bytes.as_slice());
-        match op {
+    let mut ops = Vec::with_capacity(alloc, entries.len())?;
+    for k in 0..entries.len() {
+        let bytes = mem::replace(&mut entries[k], Bytes::new(Vec::new(alloc)));
+        match read_op(alloc, bytes.as_slice()) {
             Ok(op) => ops.push(op)?,
             Err(fault) => return Err(at_row(k as u32, fault)),
         }

@@ -1,6 +1,9 @@
 //! A row: an entry and its digest text.
 
+ghost use Rattle.std.specs.Prelude.{◌≡◌, []};
+
 use llb_wire::{Bytes, Text};
+use std::alloc::Global;
 
 /// An entry of a definition, and the digest text by which inputs name it.
 pub struct Row {
@@ -15,5 +18,23 @@ impl Drop for Row {
             digest: _,
             bytes: _,
         } = self;
+    }
+}
+
+impl Row {
+    // Makes a row of this digest text that has no bytes.
+    pub(crate) fn bare(alloc: Global, digest: Text) -> Row
+        ensures { result ≡ record { digest = digest; bytes = [] } }
+    {
+        let bytes = Bytes::new(Vec::new(alloc));
+        Row { digest, bytes }
+    }
+
+    // Returns the digest text, without a copy.
+    pub(crate) fn into_digest(self) -> Text
+        ensures { result ≡ self.digest }
+    {
+        let Row { digest, bytes: _ } = self;
+        digest
     }
 }

@@ -5,6 +5,7 @@ ghost use Rattle.std.specs.Prelude.{◌≡◌, ◌<◌, ◌≤◌, ◌↔◌, �
 ghost use Rattle.std.specs.List.{filter_map};
 ghost use Rattle.llb_loader.specs.Faults.{is_memory};
 ghost use Rattle.llb_loader.specs.RowLookup.{AllSame, Collides, IsIndex, IsTerminal, terminal_in, row_named, rows_named, graph_of, RefusesCollision};
+ghost use Rattle.llb_loader.specs.Bare.{with_bytes};
 ghost use Rattle.llb_loader.specs.Rows.{lists};
 ghost use Rattle.llb_loader.specs.Linking.{input_at};
 ghost use Rattle.llb_loader.specs.Checks.{RefusesStart};
@@ -12,16 +13,17 @@ ghost use Rattle.llb_loader.specs.Checks.{RefusesStart};
 use crate::fault::LoadFault;
 use crate::row::Row;
 use llb_ops::Op;
-use llb_wire::{Same, Text};
+use llb_wire::{Bytes, Same, Text};
 use std::alloc::{AllocError, Global};
 use std::collections::BTreeMap;
 
-/// Returns whether there are fewer than two distinct rows.
-pub(crate) fn all_same(rows: &[Row]) -> bool
-    ensures { IsTrue result ↔ AllSame rows.now }
+/// Returns whether there are fewer than two distinct rows, whose bytes are the entries.
+pub(crate) fn all_same(rows: &[Row], entries: &[Bytes]) -> bool
+    requires { length entries.now ≡ length rows.now }
+    ensures { IsTrue result ↔ AllSame (with_bytes rows.now entries.now) }
 {
-    for row in rows {
-        if !same(row, &rows[0]) {
+    for k in 0..rows.len() {
+        if !same(&rows[k].digest, &rows[0].digest, &entries[k], &entries[0]) {
             return false;
         }
     }
@@ -29,33 +31,36 @@ pub(crate) fn all_same(rows: &[Row]) -> bool
 }
 
 // Returns whether two rows have the same digest and the same bytes.
-fn same(row: &Row, other: &Row) -> bool
-    ensures { IsTrue result ↔ (row.now ≡ other.now) }
+fn same(digest: &Text, other: &Text, bytes: &Bytes, others: &Bytes) -> bool
+    ensures { IsTrue result ↔ ((digest.now ≡ other.now) × (bytes.now ≡ others.now)) }
 {
-    row.digest.same(&other.digest) && row.bytes.same(&other.bytes)
+    digest.same(other) && bytes.same(others)
 }
 
 // Returns the first row of each digest text. Fails with 84 `Collision` at the first row that has an earlier row's
-// digest and other bytes, or with 91 `Memory`.
+// digest and another entry, or with 91 `Memory`.
 pub(crate) fn index_of<'a>(
     alloc: Global,
     rows: &'a [Row],
+    entries: &[Bytes],
 ) -> Result<BTreeMap<&'a str, usize>, LoadFault>
-    requires { length rows.now ≤ 65_536 }
+    requires few { length rows.now ≤ 65_536 }
+    requires len { length entries.now ≡ length rows.now }
     ensures index { IfOk result (λ index. IsIndex rows.now index) }
-    ensures apart { IfOk result (λ index. (k : ℕ) → ¬ Collides rows.now k) }
-    ensures refused { IfErr result (λ e. is_memory e ≡ false → RefusesCollision rows.now e) }
+    ensures apart { IfOk result (λ index. (k : ℕ) → ¬ Collides (with_bytes rows.now entries.now) k) }
+    ensures refused { IfErr result (λ e. is_memory e ≡ false → RefusesCollision (with_bytes rows.now entries.now) e) }
 {
     let mut index: BTreeMap<&'a str, usize> = BTreeMap::new(alloc);
-    for (k, row) in rows.iter().enumerate() {
-        let digest = row.digest.as_str();
-        let Some(first) = index.get(digest) else {
-            index.insert(digest, k)?;
+    for k in 0..rows.len() {
+        let digest = rows[k].digest.as_str();
+        let Some(first) = index.insert(digest, k)? else {
             continue;
         };
-        if !rows[*first].bytes.same(&row.bytes) {
+        if !entries[first].same(&entries[k]) {
             return Err(LoadFault::Collision(k as u32));
         }
+        // Puts back what was there.
+        index.insert(digest, first)?;
     }
     Ok(index)
 }

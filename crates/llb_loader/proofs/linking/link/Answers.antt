@@ -1,28 +1,40 @@
-use Rattle.std.proofs.Common.{inr}
-use Rattle.std.proofs.lemmas.Result.{err_from_is_err_and, MatchResult-weaker}
-use Rattle.llb_loader.proofs.Stages.{refused_from, graph_from}
+use Rattle.std.proofs.Common.{◌≡◌, ℕ, List, length, sym, ◌∙◌, ap, subst, arith}
+use Rattle.std.proofs.lemmas.Result.{MatchResult-weaker}
+use Rattle.llb_loader.specs.declared.row.Row.{Row}
+use Rattle.llb_loader.specs.Bare.{with_bytes, AreBare, bared}
+use Rattle.llb_loader.specs.Link.{IsGraphOf, IsRefusalOf}
+use Rattle.llb_loader.proofs.Bare.{bared_with, bared_bare, bared_len, bytes_len}
 use Rattle.llb_loader.proofs.linking.link.Goals as goal
 
-pub returns-in_err-linked-clause-refused : goal.returns-in_err-linked-clause-refused
-returns-in_err-linked-clause-refused c =
-    let p = err_from_is_err_and c.from_residual-in_err-linked.result c.from_residual-in_err-linked.ensures.1 in
-    rw (p.1, p.2) (λ m. inr (c.in_ok-ops.ops.items, c.in_ok-ops.ensures.read, c.in_err-linked.ensures.refused m))
+pub link_entries-requires-clause-few : goal.link_entries-requires-clause-few
+link_entries-requires-clause-few c =
+    let a = ap (λ (xs : List Row). length xs) c.in_ok-bare.ensures in
+    let b = bared_len c.args.rows.now in
+    let h = c.requires in
+    omega (arith, a, b, h)
 
-pub returns-in_err-order-clause-refused : goal.returns-in_err-order-clause-refused
-returns-in_err-order-clause-refused c =
-    let p = err_from_is_err_and c.from_residual-in_err-order.result c.from_residual-in_err-order.ensures.1 in
-    rw (p.1, p.2) (λ m. inr (
-      c.in_ok-ops.ops.items,
-      c.in_ok-ops.ensures.read,
-      refused_from c.args.rows.now c.in_ok-ops.ops.items c.in_ok-linked.linked
-          c.in_err-order.field-0.0 c.in_ok-linked.ensures.linked (c.in_err-order.ensures.refused m),
-    ))
+pub link_entries-requires-clause-len : goal.link_entries-requires-clause-len
+link_entries-requires-clause-len c =
+    let a = ap (λ (xs : List Row). length xs) c.in_ok-bare.ensures in
+    let b = bared_len c.args.rows.now in
+    let d = ap (λ (xs : List (List ℕ)). length xs) c.in_ok-entries.ensures in
+    let e = bytes_len c.args.rows.now in
+    omega (arith, a, b, d, e)
+
+pub link_entries-requires-clause-bare : goal.link_entries-requires-clause-bare
+link_entries-requires-clause-bare c = subst (λ (xs : List Row). AreBare xs) (sym c.in_ok-bare.ensures) (bared_bare c.args.rows.now)
 
 pub returns-clause-graph : goal.returns-clause-graph
-returns-clause-graph c = MatchResult-weaker c.into_graph.result c.into_graph.ensures.graph
-    (λ g x. (
-      c.in_ok-ops.ops.items,
-      c.in_ok-ops.ensures.read,
-      graph_from c.args.rows.now c.in_ok-ops.ops.items c.in_ok-linked.linked g c.in_ok-linked.ensures.linked x,
-    ))
-    (λ e t. t)
+returns-clause-graph c =
+    let same : with_bytes c.in_ok-bare.bare.items c.in_ok-entries.entries.items ≡ c.args.rows.now =
+    ap (λ (xs : List Row). with_bytes xs c.in_ok-entries.entries.items) c.in_ok-bare.ensures
+    ∙ ap (λ (es : List (List ℕ)). with_bytes (bared c.args.rows.now) es) c.in_ok-entries.ensures ∙ bared_with c.args.rows.now in
+    MatchResult-weaker c.link_entries.result c.link_entries.ensures.graph (λ g x. subst (λ (rows : List Row). IsGraphOf rows g) same x) (λ e t. t)
+
+pub returns-clause-refused : goal.returns-clause-refused
+returns-clause-refused c =
+    let same : with_bytes c.in_ok-bare.bare.items c.in_ok-entries.entries.items ≡ c.args.rows.now =
+    ap (λ (xs : List Row). with_bytes xs c.in_ok-entries.entries.items) c.in_ok-bare.ensures
+    ∙ ap (λ (es : List (List ℕ)). with_bytes (bared c.args.rows.now) es) c.in_ok-entries.ensures ∙ bared_with c.args.rows.now in
+    MatchResult-weaker c.link_entries.result c.link_entries.ensures.refused (λ g t. t)
+    (λ e f m. subst (λ (rows : List Row). IsRefusalOf rows e) same (f m))

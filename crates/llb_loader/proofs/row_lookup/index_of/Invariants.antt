@@ -3,11 +3,12 @@ use Rattle.std.specs.BTreeMap.{get_by}
 use Rattle.std.specs.Cmp.Lexicographic.{slice_cmp}
 use Rattle.std.specs.Ordering.{nat_cmp}
 use Rattle.llb_loader.specs.RowLookup.{Collides}
+use Rattle.llb_loader.specs.Bare.{with_bytes}
 use Rattle.llb_loader.proofs.Firsts.{IsFirst}
 use Rattle.llb_loader.proofs.row_lookup.index_of.Given as goal
 
 abbrev pub invariant-loop-k : goal.invariant-loop-k
 invariant-loop-k l = record {
   found : (d : List ℕ) → IsFirst l.rows l.k d (get_by (λ q. slice_cmp nat_cmp d q.now) l.index);
-  apart : (j : ℕ) → j < l.k → ¬ Collides l.rows j;
+  apart : (j : ℕ) → j < l.k → ¬ Collides (with_bytes l.rows l.entries) j;
 }

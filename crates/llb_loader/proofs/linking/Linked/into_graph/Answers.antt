@@ -57,14 +57,14 @@ vertices_of-requires-clause-links c =
 
 pub vertices_of-requires-clause-range : goal.vertices_of-requires-clause-range
 vertices_of-requires-clause-range c = subst (λ (xs : List (Vec ℕ)). InRange (lists xs) (length c.deref-3.result.now)) (sym c.deref-2.ensures.value)
-    (graph_below c.args.self.rows.now c.args.self.ops.items c.args.self.terminal c.args.self.links.items c.requires.linked.links (length c.deref-3.result.now)
+    (graph_below c.args.self.rows.items c.args.self.ops.items c.args.self.terminal c.args.self.links.items c.requires.linked.links (length c.deref-3.result.now)
     (let a = links_there c.args.self c.requires.linked in
     let b = c.in_ok-ranks.ensures.len in let d = ap (λ (xs : List ℕ). length xs) c.deref-3.ensures.value in
     let e = ap (λ (xs : List (Vec ℕ)). length xs) c.deref.ensures.value in omega (arith, a, b, d, e)))
 
 pub vertices_of-requires-clause-below : goal.vertices_of-requires-clause-below
 vertices_of-requires-clause-below c =
-    order_below c.args.self c.requires.linked c.args.order.now c.requires.whole c.requires.short (length c.args.self.rows.now) refl
+    order_below c.args.self c.requires.linked c.args.order.now c.requires.whole c.requires.short (length c.args.self.rows.items) refl
 
 pub vertices_of-requires-clause-small : goal.vertices_of-requires-clause-small
 vertices_of-requires-clause-small c = subst (λ (xs : List ℕ). All (λ r. r < 65_536) xs) (sym c.deref-3.ensures.value)

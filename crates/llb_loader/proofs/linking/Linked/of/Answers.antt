@@ -1,101 +1,120 @@
-use Rattle.std.proofs.Common.{◌≡◌, List, Bool, true, false, IsTrue, length, refl, sym, ◌∙◌, ap, subst, arith}
+use Rattle.std.proofs.Common.{◌≡◌, ℕ, List, true, false, IsTrue, inl, inr, refl, sym, subst, arith}
 use Rattle.std.proofs.lemmas.Result.{err_from_is_err_and}
 use Rattle.llb_ops.specs.declared.op.Op.{Op}
+use Rattle.llb_loader.specs.declared.row.Row.{Row}
 use Rattle.llb_loader.specs.declared.fault.LoadFault.{LoadFault}
-use Rattle.llb_loader.specs.RowLookup.{AllSame, graph_of}
-use Rattle.llb_loader.specs.Linking.{Refused}
-use Rattle.llb_loader.proofs.Plans.{named_below}
-use Rattle.llb_loader.proofs.Stages.{graph_len, graph_below, links_are, refused_start, refused_unknown, resolved}
+use Rattle.llb_loader.specs.RowLookup.{AllSame, Collides, RefusesCollision}
+use Rattle.llb_loader.specs.Linking.{IsApart, Refused}
+use Rattle.llb_loader.specs.Stages.{AreNames}
+use Rattle.llb_loader.specs.Bare.{with_bytes}
+use Rattle.llb_loader.proofs.Bare.{ops_with, refuses_with, both_apart, with_len, with_digest}
+use Rattle.llb_loader.proofs.Transfers.{refused_rows}
 use Rattle.llb_loader.proofs.linking.Linked.of.Goals as goal
+
+pub returns-in_err-ops-clause-refused : goal.returns-in_err-ops-clause-refused
+returns-in_err-ops-clause-refused c =
+    let p = err_from_is_err_and c.from_residual.result c.from_residual.ensures.1 in
+    rw (p.1, p.2) (λ m. inl (refuses_with c.args.rows.items c.args.entries.items c.in_err-ops.field-0.0 c.requires.len (c.in_err-ops.ensures.refused m)))
+
+pub returns-then-few-clause-refused : goal.returns-then-few-clause-refused
+returns-then-few-clause-refused c = λ _. inr (
+  c.in_ok-ops.ops.items,
+  ops_with c.args.rows.items c.args.entries.items c.in_ok-ops.ops.items c.requires.len c.in_ok-ops.ensures.read,
+  subst (λ (xs : List Row). AllSame (with_bytes xs c.args.entries.items)) c.as_slice-titles.ensures.value
+      (subst (λ (bs : List (List ℕ)). AllSame (with_bytes c.as_slice-titles.result.now bs)) c.as_slice.ensures.value (c.if-few.ensures.0 refl)),
+)
 
 pub returns-in_err-index-clause-refused : goal.returns-in_err-index-clause-refused
 returns-in_err-index-clause-refused c =
-    let p = err_from_is_err_and c.from_residual.result c.from_residual.ensures.1 in
-    let several : ¬ AllSame c.args.rows.now = λ a. (let t : IsTrue false = c.if-all_same.ensures.1 a in let x : false ≡ true = t in cc) in
+    let p = err_from_is_err_and c.from_residual-in_err-index.result c.from_residual-in_err-index.ensures.1 in
+    let rows = c.args.rows.items in
+    let es = c.args.entries.items in
+    let ops = c.in_ok-ops.ops.items in
+    let with_ops = ops_with rows es ops c.requires.len c.in_ok-ops.ensures.read in
+    let several : ¬ AllSame (with_bytes c.args.rows.items c.args.entries.items) = λ a. (let t : IsTrue false = c.if-few.ensures.1
+    (subst (λ (xs : List Row). AllSame (with_bytes xs c.as_slice.result.now)) (sym c.as_slice-titles.ensures.value)
+    (subst (λ (bs : List (List ℕ)). AllSame (with_bytes c.args.rows.items bs)) (sym c.as_slice.ensures.value) a)) in let x : false ≡ true = t in cc) in
     rw (p.1, p.2) (λ m.
-    let r = c.in_err-index.ensures.refused m in
-    subst (λ (e : LoadFault). Refused c.args.rows.now c.args.ops.items e) (sym r.1) (several, r.2))
+    let r = subst (λ (xs : List Row). RefusesCollision (with_bytes xs c.args.entries.items) c.in_err-index.field-0.0) c.as_slice-titles.ensures.value
+    (subst (λ (bs : List (List ℕ)). RefusesCollision (with_bytes c.as_slice-titles.result.now bs) c.in_err-index.field-0.0) c.as_slice-2.ensures.value
+    (c.in_err-index.ensures.refused m)) in
+    inr (
+      ops,
+      with_ops,
+      subst (λ (e : LoadFault). Refused (with_bytes c.args.rows.items c.args.entries.items) c.in_ok-ops.ops.items e) (sym r.1)
+          (several, r.2),
+    ))
 
-pub returns-in_err-start-clause-refused : goal.returns-in_err-start-clause-refused
-returns-in_err-start-clause-refused c =
-    let rows = c.args.rows.now in
-    let ops = c.args.ops.items in
-    let t = c.terminal_of-terminal.result in
-    let p = err_from_is_err_and c.from_residual-in_err-start.result c.from_residual-in_err-start.ensures.1 in
-    rw (p.1, p.2) (λ _. refused_start rows ops t c.if-all_same.ensures.1 c.in_ok-index.ensures.apart c.terminal_of-terminal.ensures.terminal
-    c.terminal_of-terminal.ensures.found c.requires.len c.index.result.now c.index.ensures c.in_err-start.field-0.0 c.in_err-start.ensures.refused)
+pub of-requires-clause-apart : goal.of-requires-clause-apart
+of-requires-clause-apart c =
+    let rows = c.args.rows.items in
+    let es = c.args.entries.items in
+    let ops = c.in_ok-ops.ops.items in
+    let with_ops = ops_with rows es ops c.requires.len c.in_ok-ops.ensures.read in
+    let several : ¬ AllSame (with_bytes c.args.rows.items c.args.entries.items) = λ a. (let t : IsTrue false = c.if-few.ensures.1
+    (subst (λ (xs : List Row). AllSame (with_bytes xs c.as_slice.result.now)) (sym c.as_slice-titles.ensures.value)
+    (subst (λ (bs : List (List ℕ)). AllSame (with_bytes c.args.rows.items bs)) (sym c.as_slice.ensures.value) a)) in let x : false ≡ true = t in cc) in
+    let apart : (k : ℕ) → ¬ Collides (with_bytes c.args.rows.items c.args.entries.items) k =
+    subst (λ (xs : List Row). (k : ℕ) → ¬ Collides (with_bytes xs c.args.entries.items) k) c.as_slice-titles.ensures.value
+    (subst (λ (bs : List (List ℕ)). (k : ℕ) → ¬ Collides (with_bytes c.as_slice-titles.result.now bs) k) c.as_slice-2.ensures.value
+    c.in_ok-index.ensures.apart) in
+    let both = both_apart rows es c.requires.len c.requires.bare several apart in
+    subst (λ (xs : List Row). IsApart xs) (sym c.as_slice-titles.ensures.value) both.1
 
-pub reached-requires-clause-rows : goal.reached-requires-clause-rows
-reached-requires-clause-rows c =
-    let rows = c.args.rows.now in
-    let ops = c.args.ops.items in
-    let t = c.terminal_of-terminal.result in
-    let links = links_are rows t ops c.deref.result.now c.in_ok-links.links.items c.deref-2.result.now c.deref-2.ensures.value c.in_ok-links.ensures
-    c.deref.ensures.value in
-    graph_below rows ops t c.deref-2.result.now links _ (sym (graph_len rows ops t c.deref-2.result.now c.requires.len links))
-
-pub reached-requires-clause-start : goal.reached-requires-clause-start
-reached-requires-clause-start c =
-    let rows = c.args.rows.now in
-    let ops = c.args.ops.items in
-    let t = c.terminal_of-terminal.result in
-    let links = links_are rows t ops c.deref.result.now c.in_ok-links.links.items c.deref-2.result.now c.deref-2.ensures.value c.in_ok-links.ensures
-    c.deref.ensures.value in
-    let n = graph_len rows ops t c.deref-2.result.now c.requires.len links in
-    let h = named_below rows t _ c.in_ok-start.start c.in_ok-start.ensures.start in
-    omega (arith, h, n)
-
-pub check_names-requires-clause-len : goal.check_names-requires-clause-len
-check_names-requires-clause-len c =
-    let rows = c.args.rows.now in
-    let ops = c.args.ops.items in
-    let t = c.terminal_of-terminal.result in
-    let links = links_are rows t ops c.deref.result.now c.in_ok-links.links.items c.deref-2.result.now c.deref-2.ensures.value c.in_ok-links.ensures
-    c.deref.ensures.value in
-    let n = graph_len rows ops t c.deref-2.result.now c.requires.len links in
-    let a = ap (λ (xs : List Op). length xs) c.deref-3.ensures.value in
-    let b = ap (λ (xs : List Bool). length xs) c.deref-4.ensures.value in
-    let d = c.in_ok-seen.ensures.len in
-    let e = c.requires.len in
-    omega (arith, n, a, b, d, e)
-
-pub returns-in_err-check_names-clause-refused : goal.returns-in_err-check_names-clause-refused
-returns-in_err-check_names-clause-refused c =
-    let rows = c.args.rows.now in
-    let ops = c.args.ops.items in
-    let t = c.terminal_of-terminal.result in
-    let links = links_are rows t ops c.deref.result.now c.in_ok-links.links.items c.deref-2.result.now c.deref-2.ensures.value c.in_ok-links.ensures
-    c.deref.ensures.value in
-    let p = err_from_is_err_and c.from_residual-in_err-check_names.result c.from_residual-in_err-check_names.ensures.1 in
-    rw (p.1, p.2) (λ _. refused_unknown rows ops t c.if-all_same.ensures.1 c.in_ok-index.ensures.apart c.terminal_of-terminal.ensures.terminal
-    c.terminal_of-terminal.ensures.found c.requires.len c.index.result.now c.index.ensures
-    c.in_ok-start.start c.in_ok-start.ensures.some c.in_ok-start.ensures.start c.deref-2.result.now links
-    c.in_ok-seen.seen.items c.in_ok-seen.ensures.exact c.deref-3.result.now c.deref-3.ensures.value c.deref-4.result.now c.deref-4.ensures.value
-    c.in_err-check_names.field-0.0 c.in_err-check_names.ensures.refused)
+pub returns-in_err-names-clause-refused : goal.returns-in_err-names-clause-refused
+returns-in_err-names-clause-refused c =
+    let p = err_from_is_err_and c.from_residual-in_err-names.result c.from_residual-in_err-names.ensures.1 in
+    let rows = c.args.rows.items in
+    let es = c.args.entries.items in
+    let ops = c.in_ok-ops.ops.items in
+    let with_ops = ops_with rows es ops c.requires.len c.in_ok-ops.ensures.read in
+    let several : ¬ AllSame (with_bytes c.args.rows.items c.args.entries.items) = λ a. (let t : IsTrue false = c.if-few.ensures.1
+    (subst (λ (xs : List Row). AllSame (with_bytes xs c.as_slice.result.now)) (sym c.as_slice-titles.ensures.value)
+    (subst (λ (bs : List (List ℕ)). AllSame (with_bytes c.args.rows.items bs)) (sym c.as_slice.ensures.value) a)) in let x : false ≡ true = t in cc) in
+    let apart : (k : ℕ) → ¬ Collides (with_bytes c.args.rows.items c.args.entries.items) k =
+    subst (λ (xs : List Row). (k : ℕ) → ¬ Collides (with_bytes xs c.args.entries.items) k) c.as_slice-titles.ensures.value
+    (subst (λ (bs : List (List ℕ)). (k : ℕ) → ¬ Collides (with_bytes c.as_slice-titles.result.now bs) k) c.as_slice-2.ensures.value
+    c.in_ok-index.ensures.apart) in
+    let both = both_apart rows es c.requires.len c.requires.bare several apart in
+    rw (p.1, p.2) (λ m. inr (
+      ops,
+      with_ops,
+      refused_rows rows (with_bytes rows es) ops (sym (with_len rows es c.requires.len))
+          (λ k. with_digest rows es k c.requires.len) both.1 both.0 c.in_err-names.field-0.0
+          (subst (λ (xs : List Row). Refused xs c.in_ok-ops.ops.items c.in_err-names.field-0.0) c.as_slice-titles.ensures.value
+          (subst (λ (os : List Op). Refused c.as_slice-titles.result.now os c.in_err-names.field-0.0) c.as_slice-3.ensures.value
+          (c.in_err-names.ensures.refused m))),
+    ))
 
 pub returns-clause-linked : goal.returns-clause-linked
 returns-clause-linked c =
-    let rows = c.args.rows.now in
-    let ops = c.args.ops.items in
-    let t = c.terminal_of-terminal.result in
-    let links = links_are rows t ops c.deref.result.now c.in_ok-links.links.items c.deref-2.result.now c.deref-2.ensures.value c.in_ok-links.ensures
-    c.deref.ensures.value in
-    let (planned, named, exact) = resolved rows ops t c.if-all_same.ensures.1 c.in_ok-index.ensures.apart c.terminal_of-terminal.ensures.terminal
-    c.terminal_of-terminal.ensures.found c.requires.len c.index.result.now c.index.ensures
-    c.in_ok-start.start c.in_ok-start.ensures.some c.in_ok-start.ensures.start c.deref-2.result.now links
-    c.in_ok-seen.seen.items c.in_ok-seen.ensures.exact c.deref-3.result.now c.deref-3.ensures.value c.deref-4.result.now c.deref-4.ensures.value
-    c.in_ok-check_names.ensures.named in
+    let rows = c.args.rows.items in
+    let es = c.args.entries.items in
+    let ops = c.in_ok-ops.ops.items in
+    let with_ops = ops_with rows es ops c.requires.len c.in_ok-ops.ensures.read in
+    let several : ¬ AllSame (with_bytes c.args.rows.items c.args.entries.items) = λ a. (let t : IsTrue false = c.if-few.ensures.1
+    (subst (λ (xs : List Row). AllSame (with_bytes xs c.as_slice.result.now)) (sym c.as_slice-titles.ensures.value)
+    (subst (λ (bs : List (List ℕ)). AllSame (with_bytes c.args.rows.items bs)) (sym c.as_slice.ensures.value) a)) in let x : false ≡ true = t in cc) in
+    let apart : (k : ℕ) → ¬ Collides (with_bytes c.args.rows.items c.args.entries.items) k =
+    subst (λ (xs : List Row). (k : ℕ) → ¬ Collides (with_bytes xs c.args.entries.items) k) c.as_slice-titles.ensures.value
+    (subst (λ (bs : List (List ℕ)). (k : ℕ) → ¬ Collides (with_bytes c.as_slice-titles.result.now bs) k) c.as_slice-2.ensures.value
+    c.in_ok-index.ensures.apart) in
+    let both = both_apart rows es c.requires.len c.requires.bare several apart in
+    let names = subst (λ (xs : List Row). AreNames xs c.in_ok-ops.ops.items c.in_ok-names.names) c.as_slice-titles.ensures.value
+    (subst (λ (os : List Op). AreNames c.as_slice-titles.result.now os c.in_ok-names.names) c.as_slice-3.ensures.value c.in_ok-names.ensures.names) in
     record {
-      same_rows = refl;
-      same_ops = refl;
+      ops = with_ops;
+      len = sym (with_len rows es c.requires.len);
+      digests = λ k. with_digest rows es k c.requires.len;
+      apart = both.0;
       linked = record {
         few = c.requires.few;
-        len = c.requires.len;
-        within = c.requires.within;
-        planned = planned;
-        named = named;
-        links = c.in_ok-links.ensures ∙ ap (graph_of rows t) c.deref.ensures.value;
-        seen = (let n = graph_len rows ops t c.deref-2.result.now c.requires.len links in let d = c.in_ok-seen.ensures.len in omega (arith, n, d));
-        exact = exact;
+        len = (let a = c.in_ok-ops.ensures.read.len in let b = c.requires.len in omega (arith, a, b));
+        within = c.in_ok-ops.ensures.within;
+        planned = names.planned;
+        named = names.named;
+        links = names.links;
+        seen = names.seen;
+        exact = names.exact;
       };
     }

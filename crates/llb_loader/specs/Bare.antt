@@ -1,0 +1,48 @@
+-- Rows whose bytes are kept apart from their digest texts, as a list of entries.
+use Rattle.std.specs.Prelude.{◌≡◌, ℕ, ◌<◌, List, [], ◌∷◌, length, map, slice_index_or, Ok, Err, IsOk}
+use Rattle.llb_ops.specs.declared.op.Op.{Op}
+use Rattle.llb_ops.specs.declared.fault.OpFault.{OpFault}
+use Rattle.llb_ops.specs.Messages.{op_of}
+use Rattle.llb_wire.specs.Digest.{digest_text}
+use Rattle.llb_loader.specs.declared.row.Row.{Row}
+use Rattle.llb_loader.specs.declared.fault.LoadFault.{LoadFault}
+use Rattle.llb_loader.specs.declared.fault.LoadFault.TheVariants.{Entry}
+use Rattle.llb_loader.specs.RowLookup.{row_at}
+use Rattle.llb_loader.specs.Linking.{op_at}
+
+-- the rows with these entries as their bytes
+abbrev pub with_bytes : List Row → List (List ℕ) → List Row
+with_bytes [] entries = []
+with_bytes (r ∷ rows) [] = []
+with_bytes (r ∷ rows) (b ∷ entries) = record { digest = r.digest; bytes = b } ∷ with_bytes rows entries
+
+-- no row has bytes
+abbrev pub AreBare : List Row → Type 0
+AreBare rows = (k : ℕ) → (row_at rows k).bytes ≡ []
+
+-- the bare rows of rows
+abbrev pub bared : List Row → List Row
+bared rows = map (λ r. record { digest = r.digest; bytes = [] }) rows
+
+-- the bytes of rows
+abbrev pub bytes_of : List Row → List (List ℕ)
+bytes_of rows = map (λ r. r.bytes) rows
+
+-- the bare rows of entries: the digest text of each
+abbrev pub titles_from : List (List ℕ) → List Row
+titles_from entries = map (λ bytes. record { digest = digest_text bytes; bytes = [] }) entries
+
+-- each entry is read as the op with its number
+pub record AreRead (entries : List (List ℕ)) (ops : List Op) : Type 0 where
+  pub len : length ops ≡ length entries
+  pub each : (k : ℕ) → k < length entries → op_of (slice_index_or entries k []) ≡ Ok (op_at ops k)
+
+-- the first entry that spells no op, and why
+pub record IsUnreadEntry (entries : List (List ℕ)) (k : ℕ) (f : OpFault) : Type 0 where
+  pub here : k < length entries
+  pub fault : op_of (slice_index_or entries k []) ≡ Err f
+  pub before : (j : ℕ) → j < k → IsOk (op_of (slice_index_or entries j []))
+
+-- e says what is wrong with the first entry that cannot be read
+abbrev pub RefusesEntry : List (List ℕ) → LoadFault → Type 0
+RefusesEntry entries e = (k : ℕ) × (f : OpFault) × (e ≡ Entry k f) × IsUnreadEntry entries k f
