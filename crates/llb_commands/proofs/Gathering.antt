@@ -7,6 +7,7 @@ use Rattle.llb_loader.specs.Locals as given
 use Rattle.llb_loader.specs.Locals.{with_local}
 use Rattle.llb_commands.specs.declared.words.Local.{Local}
 use Rattle.llb_commands.specs.declared.sources.SourceFault.{SourceFault}
+use Rattle.llb_commands.specs.declared.sources.SourceFault.TheVariants.{Adding}
 use Rattle.llb_treetext.specs.declared.fault.TextFault.{TextFault}
 use Rattle.llb_treetext.specs.Reading.{Answers, MemoryIsLast}
 use Rattle.llb_commands.specs.Sources.{limit, told, Reads, Gathers}
@@ -19,6 +20,11 @@ reads_told None bytes r same few answers last = tt
 reads_told (Some xs) bytes (Ok t) same few answers last = (subst (λ ys. length ys ≤ limit) same few, subst (λ ys. Answers ys (Ok t)) same answers)
 reads_told (Some xs) bytes (Err e) same few answers last =
     (subst (λ ys. length ys ≤ limit) same few, subst (λ ys. Answers ys (Err e)) same answers, subst (λ ys. MemoryIsLast ys (Err e)) same last)
+
+-- memory may be refused for a tree that was read
+pub reads_adding : (known : Option (List ℕ)) (t : TreeMap) → Reads known (Ok t) → Reads known (Err Adding)
+reads_adding None t reads = tt
+reads_adding (Some xs) t (few, answers) = (few, t, answers)
 
 -- the next source's file is read, and the other files are read over the trees with its own
 pub gathers_more : (files : List ℕ → Option (List ℕ)) (ls : List Local) (i : ℕ) (d : Local) (trees : List given.Local) (t : TreeMap)

@@ -19,15 +19,15 @@ limit = 67108864
 abbrev pub most_reads : ℕ
 most_reads = 134217728
 
--- The result of reading bytes: the tree whose text they are, or why they are no tree's. A device or memory may fail at any bytes, but the reading of the
--- text needs memory only if the bytes are a tree's.
+-- The result of reading bytes: the tree whose text they are, or why there is none. A device, or memory for the bytes, may fail at any bytes; memory for the
+-- tree is refused only if the bytes are a tree's.
 abbrev pub ReadsTree : List ℕ → Result TreeMap SourceFault → Type 0
 ReadsTree bytes (Ok t) = (length bytes ≤ limit) × Answers bytes (Ok t)
 ReadsTree bytes (Err TooLong) = limit < length bytes
 ReadsTree bytes (Err (Text e)) = (length bytes ≤ limit) × Answers bytes (Err e) × MemoryIsLast bytes (Err e)
 ReadsTree bytes (Err Read) = Unit {0}
 ReadsTree bytes (Err Reading) = Unit {0}
-ReadsTree bytes (Err Adding) = Unit {0}
+ReadsTree bytes (Err Adding) = (length bytes ≤ limit) × ((t : TreeMap) × Answers bytes (Ok t))
 
 -- the reading of a text, as that of a source
 abbrev pub told : Result TreeMap TextFault → Result TreeMap SourceFault

@@ -81,7 +81,8 @@ fn told(read: Result<Tree, TextFault>) -> Result<Tree, SourceFault>
 }
 
 /// Reads a text to its end as a tree, and adds it as the local tree of this name; of two under one name, the later holds. Fails with 181 if a
-/// read fails, or the end is not met in 2^27 reads; with 185 past 67,108,864 bytes; with 31 to 34, 92 and 184. No tree is added then.
+/// read fails, or the end is not met in 2^27 reads; with 185 past 67,108,864 bytes; with 31 to 34 and 184; with 92 only if the text is a tree's.
+/// No tree is added then.
 pub fn add_local<R: Read>(
     alloc: Global,
     name: &str,

@@ -44,6 +44,5 @@ are_recorded b here = record {
   step = λ w t r is. granted b here (Step w) (step_grant b.build b.state w) t r refl is;
   settle = λ w t r is. granted b here (Settle w) (settle_grant b.build b.state w) t r refl is;
   cancel = λ w t r is. granted b here (Cancel w) (cancel_grant b.state w) t r refl is;
-  land = λ w o t r lands.
-      ap replies_in lands.recorded ∙ after_block b here t.state t.rows (landing w o.count) (lands.replies ++ r ∷ []) lands.runs;
+  land = λ w n t rs runs recorded. ap replies_in recorded ∙ after_block b here t.state t.rows (landing w n) rs runs;
 }

@@ -1,16 +1,17 @@
 -- The replies that calls on a board hand out, and those of its record.
-use Rattle.std.specs.Prelude.{◌≡◌, ℕ, [], ◌∷◌, ◌++◌, Ok}
+use Rattle.std.specs.Prelude.{◌≡◌, ℕ, List, [], ◌∷◌, ◌++◌, Some, Ok}
 use Rattle.llb_model.specs.Table.{Reply}
-use Rattle.llb_execution.specs.Jobs.{OutcomeValue}
+use Rattle.llb_model.specs.Landing.{landing}
+use Rattle.llb_model.specs.Run.{run}
 use Rattle.llb_board.specs.Seen.{BoardValue, replies_in}
 use Rattle.llb_board.specs.Rules.{claim_of, step_of, settle_of, cancel_of}
-use Rattle.llb_board.specs.Landing.{Lands}
 
--- For each call that does an event on board b: the reply that the call returns is the last of the replies of the record of the board after it. A landing has
--- the replies of its steps before it.
+-- For each call that does an event on board b: the reply that the call returns is the last of the replies of the record of the board after it. A call that
+-- lands records n steps of worker w and its settle, which lead to board t: their replies are the last ones of the record.
 pub record RepliesAreRecorded (b : BoardValue) : Type 0 where
   pub claim : (w v : ℕ) (t : BoardValue) (r : Reply) → claim_of b w v ≡ Ok (t, r) → replies_in t ≡ replies_in b ++ r ∷ []
   pub step : (w : ℕ) (t : BoardValue) (r : Reply) → step_of b w ≡ Ok (t, r) → replies_in t ≡ replies_in b ++ r ∷ []
   pub settle : (w : ℕ) (t : BoardValue) (r : Reply) → settle_of b w ≡ Ok (t, r) → replies_in t ≡ replies_in b ++ r ∷ []
   pub cancel : (w : ℕ) (t : BoardValue) (r : Reply) → cancel_of b w ≡ Ok (t, r) → replies_in t ≡ replies_in b ++ r ∷ []
-  pub land : (w : ℕ) (o : OutcomeValue) (t : BoardValue) (r : Reply) (lands : Lands b w o t r) → replies_in t ≡ replies_in b ++ (lands.replies ++ r ∷ [])
+  pub land : (w n : ℕ) (t : BoardValue) (rs : List Reply) → run b.build b.state (landing w n) ≡ Some (t.state, rs)
+      → t ≡ record b { state = t.state; rows = t.rows; events = b.events ++ landing w n } → replies_in t ≡ replies_in b ++ rs
