@@ -211,3 +211,10 @@ class Go(Measured):
         self.assertEqual((done.returncode, done.stderr), (0, b"measuring chain-go\n"))
         cells = [cell.strip() for cell in done.stdout.decode().splitlines()[-1].strip("|").split("|")]
         self.assertEqual((cells[1], cells[5]), ("`show` of `chain 7`", "`show` in Go of `chain 7`"))
+
+    def test_a_command_that_fails_ends_the_measurement(self):
+        self.skip_without_go()
+        os.chmod(self.file(b"protoc", b"#!/bin/sh\nexit 3\n"), 0o755)
+        done = self.measure(env={**os.environ, "PATH": f"{os.fsdecode(self.folder)}:{os.environ['PATH']}"})
+        self.assertEqual((done.returncode, done.stdout), (1, b""))
+        self.assertRegex(done.stderr.decode(), r"^measuring chain-go\nprotoc .* ops\.proto: status 3\n$")
