@@ -4,14 +4,16 @@ In: the measurements in the table in this file, or only those named NAME .. . Th
 crates/llbm/out/llbm of the repository, or else its out/llbm-unproved, which is named on standard error as not proved
 (it is much slower). Inputs are made by `bigdef` and `bigtree`, in a temporary folder that is removed
 at the end. Each pair runs --runs N times (5 by default), the two runs one after the other; --part N makes all counts N
-times smaller, for a quick look or a slow machine. --list prints the names and runs nothing.
+times smaller, for a quick look or a slow machine. --list prints the names and runs nothing. The pairs chain-go,
+pairs-go and fan-go compare `show` with a program in Go, which `go_show` builds; where it can't, they are skipped.
 
-Out: a line on standard error as each pair begins, and then on standard output a table in Markdown: for each pair both
-runs, the medians of their seconds on the clock and of the processor, the most memory of all runs, and the ratio of the
-medians. Ratios can be compared with those of another day; seconds cannot.
+Out: a line on standard error as each pair begins, or is skipped, and then on standard output a table in Markdown: for
+each pair both runs, the medians of their seconds on the clock and of the processor, the most memory of all runs, and
+the ratios of these. Ratios can be compared with those of another day; seconds cannot. The system counts the memory of
+this tool, some 15 MB, for each run that takes less.
 
-Exit status: 0 the table is written; 1 a run did not end with status 0; 2 the command line is refused, or the program
-does not exist; 3 a read or a write failed.
+Exit status: 0 the table is written; 1 a run did not end with status 0, or the program in Go was not built; 2 the
+command line is refused, or the program does not exist; 3 a read or a write failed.
 """
 
 import argparse
@@ -24,6 +26,7 @@ import tempfile
 import time
 from typing import NamedTuple
 
+from llbm_tools import go_show
 from llbm_tools.common import check_open, discard_output, os_error_text, say
 from llbm_tools.paths import TOOLS
 from llbm_tools.streams import Refused, program_at
@@ -34,13 +37,14 @@ RUNS = 5
 class Side(NamedTuple):
     """One of two runs: arguments of `bigdef`, the program's words, and arguments of `bigtree` for each local source.
 
-    Numbers that --part makes smaller are in braces.
+    Numbers that --part makes smaller are in braces. With `in_go` the program in Go runs in place of llbm.
     """
 
     definition: str
     words: str = "run"
     p: str = ""
     q: str = ""
+    in_go: bool = False
 
 
 class Pair(NamedTuple):
@@ -74,6 +78,9 @@ ONE_FILE = "1 1 {8388608}"
 PAIRS = [
     Pair("chain", Side("chain {65535}"), Side("chain {32768}")),
     Pair("chain-show", Side("chain {65535}", "show"), Side("chain {32768}", "show")),
+    Pair("chain-go", Side("chain {65535}", "show"), Side("chain {65535}", "show", in_go=True)),
+    Pair("pairs-go", Side("pairs {65535}", "show"), Side("pairs {65535}", "show", in_go=True)),
+    Pair("fan-go", Side("fan {30000}", "show"), Side("fan {30000}", "show", in_go=True)),
     Pair("chain-dis", Side("chain {65535}", "dis"), Side("chain {32768}", "dis")),
     Pair("chain-workers", Side("chain {65535}", "run --workers 4"), Side("chain {65535}")),
     Pair("chain-crowd", Side("chain {65535}", "run --workers 64"), Side("chain {65535}")),
@@ -118,11 +125,12 @@ PAIRS = [
 
 
 class Inputs:
-    """The input files of the runs, each made once."""
+    """The programs and the input files of the runs, each made once."""
 
-    def __init__(self, folder: pathlib.Path, part: int) -> None:
+    def __init__(self, folder: pathlib.Path, options: argparse.Namespace) -> None:
         self.folder = folder
-        self.part = part
+        self.llbm: str = options.llbm
+        self.part: int = options.part
         self.made: dict[str, pathlib.Path] = {}
 
     def smaller(self, text: str) -> list[str]:
@@ -144,6 +152,18 @@ class Inputs:
         """Returns the words for the local sources of a run."""
         given = [("p", side.p), ("q", side.q)]
         return [f"{name}={self.file('bigtree', text)}" for name, text in given if text]
+
+    def program_in_go(self) -> pathlib.Path:
+        """Returns the program in Go."""
+        if "go" not in self.made:
+            self.made["go"] = go_show.built(self.folder / "go")
+        return self.made["go"]
+
+    def command(self, side: Side) -> list[str]:
+        """Returns the words of a run."""
+        if side.in_go:
+            return [str(self.program_in_go())]
+        return [self.llbm, *side.words.split(" "), *self.sources(side)]
 
 
 def cost_of(command: list[str], given: pathlib.Path) -> Cost:
@@ -175,29 +195,28 @@ def text_of(side: Side, inputs: Inputs) -> str:
     """Returns a run as a cell."""
     trees = [f"{name}: {' '.join(inputs.smaller(text))}" for name, text in (("p", side.p), ("q", side.q)) if text]
     definition = " ".join(inputs.smaller(side.definition))
-    return f"`{side.words}` of `{definition}`" + (f" ({', '.join(trees)})" if trees else "")
+    words = f"`{side.words}` in Go" if side.in_go else f"`{side.words}`"
+    return f"{words} of `{definition}`" + (f" ({', '.join(trees)})" if trees else "")
 
 
-def row_of(pair: Pair, inputs: Inputs, options: argparse.Namespace) -> str:
+def row_of(pair: Pair, inputs: Inputs, runs: int) -> str:
     """Measures a pair, and returns its row."""
-    commands = []
-    for side in (pair.side, pair.other):
-        command = [options.llbm, *side.words.split(" "), *inputs.sources(side)]
-        commands.append((command, inputs.file("bigdef", side.definition)))
+    sides = (pair.side, pair.other)
+    commands = [(inputs.command(side), inputs.file("bigdef", side.definition)) for side in sides]
     costs: list[list[Cost]] = [[], []]
-    for _ in range(options.runs):
+    for _ in range(runs):
         for found, (command, given) in zip(costs, commands):
             found.append(cost_of(command, given))
     one, other = map(middle, costs)
     cells = [pair.name]
     for side, cost in ((pair.side, one), (pair.other, other)):
         cells += [text_of(side, inputs), f"{cost.clock:.2f} s", f"{cost.processor:.2f} s", f"{cost.memory:.0f} MB"]
-    cells += [ratio(one.clock, other.clock), ratio(one.processor, other.processor)]
+    cells += [ratio(cost, against) for cost, against in zip(one, other)]
     return "| " + " | ".join(cells) + " |"
 
 
 COSTS = ["Clock", "Processor", "Memory"]
-HEAD = ["Name", "Run", *COSTS, "Against", *COSTS, "Ratio", "of processor"]
+HEAD = ["Name", "Run", *COSTS, "Against", *COSTS, "Ratio", "of processor", "of memory"]
 
 
 def measure(options: argparse.Namespace) -> int:
@@ -208,12 +227,16 @@ def measure(options: argparse.Namespace) -> int:
         print("\n".join(pair.name for pair in pairs))
         return 0
     with tempfile.TemporaryDirectory(prefix="llbm-measure-") as folder:
-        inputs = Inputs(pathlib.Path(folder), options.part)
+        inputs = Inputs(pathlib.Path(folder), options)
         rows = []
         for pair in pairs:
+            missing = go_show.missing() if pair.other.in_go else []
+            if missing:
+                say(f"{pair.name} is skipped, since there is no {', no '.join(missing)}")
+                continue
             say(f"measuring {pair.name}")
-            rows.append(row_of(pair, inputs, options))
-    print("| " + " | ".join(HEAD) + " |\n" + "|---" * len(HEAD) + "|\n" + "\n".join(rows))
+            rows.append(row_of(pair, inputs, options.runs))
+    print("\n".join(["| " + " | ".join(HEAD) + " |", "|---" * len(HEAD) + "|", *rows]))
     sys.stdout.flush()
     return 0
 
@@ -253,7 +276,7 @@ def main() -> int:
     """Runs the tool, and returns its exit status."""
     try:
         return measure(parse_options())
-    except Failed as fault:
+    except (Failed, go_show.NotBuilt) as fault:
         say(str(fault))
         return 1
     except OSError as fault:

@@ -1,9 +1,10 @@
 """Tests of `bigtree`, `bigdef` and `measure`."""
 
 import os
+import pathlib
 import subprocess
 
-from llbm_tools import definition
+from llbm_tools import definition, go_show
 from llbm_tools.fuzz_checks import tree_fault
 from tests import base
 from tests.base import Folder, digest, number, part, run, run_closed, source
@@ -123,14 +124,18 @@ class Definitions(Folder):
         self.assertEqual(run_closed(1, "bigdef", "chain", "1").returncode, 3)
 
 
-class Measure(Folder):
-    """The table of measurements."""
+class Measured(Folder):
+    """What the tests of `measure` share."""
 
     def program(self, line):
         """Writes a shell program with this line."""
         place = self.file(b"program", f"{base.FAKE_SHELL}cat > /dev/null\n{line}\n".encode())
         os.chmod(place, 0o755)
         return os.fsdecode(place)
+
+
+class Measure(Measured):
+    """The table of measurements."""
 
     def test_the_table_has_a_row_for_each_pair(self):
         names = run("measure", "--list").stdout.decode().split()
@@ -140,11 +145,12 @@ class Measure(Folder):
         done = run("measure", *words, "chain", "reads-workers")
         self.assertEqual((done.returncode, done.stderr), (0, b"measuring chain\nmeasuring reads-workers\n"))
         rows = [[cell.strip() for cell in line.strip("|").split("|")] for line in done.stdout.decode().splitlines()]
-        self.assertEqual({len(row) for row in rows}, {11})
+        self.assertEqual({len(row) for row in rows}, {12})
         self.assertEqual([row[0] for row in rows], ["Name", "---", "chain", "reads-workers"])
         self.assertEqual((rows[2][1], rows[2][5]), ("`run` of `chain 13`", "`run` of `chain 6`"))
         self.assertEqual(rows[3][1], "`run --workers 2` of `reads 1` (p: 20 2)")
-        self.assertRegex(rows[2][9], r"^[0-9]+\.[0-9]{2}$")
+        for cell in (rows[2][9], rows[2][11]):
+            self.assertRegex(cell, r"^[0-9]+\.[0-9]{2}$")
 
     def test_a_run_that_fails_ends_the_measurement(self):
         done = run("measure", "--llbm", self.program("exit 3"), "--runs", "1", "--part", "9000", "chain")
@@ -155,3 +161,60 @@ class Measure(Folder):
         for words in [("nosuch",), ("--llbm", "/none", "chain"), ("--runs", "0", "chain"), ("--part", "x", "chain")]:
             done = run("measure", *words)
             self.assertEqual((done.returncode, done.stdout), (2, b""), words)
+
+
+class Go(Measured):
+    """The program in Go that is measured beside `show`."""
+
+    def skip_without_go(self):
+        """Skips a test where the program can't be built."""
+        if go_show.missing():
+            self.skipTest("Go and the generator of BuildKit's messages are needed")
+
+    def measure(self, **settings):
+        """Measures small runs of the pair, with a shell program in place of llbm."""
+        words = ["--llbm", self.program("exit 0"), "--runs", "1", "--part", "9000"]
+        return run("measure", *words, "chain-go", **settings)
+
+    def test_without_go_the_pair_is_skipped_in_one_line(self):
+        done = self.measure(env={**os.environ, "PATH": os.fsdecode(self.folder)})
+        self.assertEqual(done.returncode, 0)
+        self.assertEqual(done.stdout.count(b"\n"), 2)
+        words = "chain-go is skipped, since there is no go, no protoc, no protoc-gen-gogofaster"
+        self.assertRegex(done.stderr.decode(), f"^{words}(, no /[^ ]*)?\n$")
+
+    def test_the_messages_are_those_that_are_read(self):
+        lines = go_show.messages_text().splitlines()
+        self.assertEqual(sum(line.startswith("message ") for line in lines), 19)
+        self.assertIn("  repeated bytes def = 1;", lines)
+        self.assertIn("  map<string, string> attrs = 2;", lines)
+        at = lines.index("  oneof action {")
+        members = ["FileActionCopy copy = 4", "FileActionMkFile mkfile = 5", "FileActionMkDir mkdir = 6"]
+        self.assertEqual(lines[at + 1 : at + 6], [f"    {one};" for one in [*members, "FileActionRm rm = 7"]] + ["  }"])
+
+    def test_the_program_prints_the_edges_of_each_row(self):
+        self.skip_without_go()
+        program = go_show.built(pathlib.Path(os.fsdecode(self.folder), "go"))
+        for kind, count in [("chain", 9), ("pairs", 9), ("fan", 1500), ("caches", 4), ("files", 600)]:
+            given = run("bigdef", kind, str(count)).stdout
+            graph = definition.graph_of(definition.entries_of(given))
+            edges = [*graph.inputs, [graph.result]]
+            lines = [f"{row} inputs" + "".join(f" {v}.{i}" for v, i in named) for row, named in enumerate(edges)]
+            done = subprocess.run([program], input=given, capture_output=True, timeout=120)
+            self.check_success(done, self.text(lines))
+        done = subprocess.run([program], input=part(1, part(1, part(1, digest(b"")))), capture_output=True, timeout=120)
+        self.check_run(done, 1, b"", b"row 0: an input names no row\n")
+
+    def test_the_pair_has_its_row(self):
+        self.skip_without_go()
+        done = self.measure()
+        self.assertEqual((done.returncode, done.stderr), (0, b"measuring chain-go\n"))
+        cells = [cell.strip() for cell in done.stdout.decode().splitlines()[-1].strip("|").split("|")]
+        self.assertEqual((cells[1], cells[5]), ("`show` of `chain 7`", "`show` in Go of `chain 7`"))
+
+    def test_a_command_that_fails_ends_the_measurement(self):
+        self.skip_without_go()
+        os.chmod(self.file(b"protoc", b"#!/bin/sh\nexit 3\n"), 0o755)
+        done = self.measure(env={**os.environ, "PATH": f"{os.fsdecode(self.folder)}:{os.environ['PATH']}"})
+        self.assertEqual((done.returncode, done.stdout), (1, b""))
+        self.assertRegex(done.stderr.decode(), r"^measuring chain-go\nprotoc .* ops\.proto: status 3\n$")
