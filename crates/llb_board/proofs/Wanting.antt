@@ -8,7 +8,7 @@ use Rattle.std.proofs.lemmas.List.Elements.{All-get_or}
 use Rattle.llb_cache.specs.declared.need.Need as cache_need
 use Rattle.llb_cache.specs.Caches as cache
 use Rattle.llb_cache.specs.Caches.{Leases}
-use Rattle.llb_cache.specs.Members.{In, pairs_cons}
+use Rattle.llb_cache.proofs.Members.{In, pairs_cons}
 use Rattle.llb_ops.specs.declared.exec.Mount.{Mount}
 use Rattle.llb_ops.specs.declared.op.Input.{Input}
 use Rattle.llb_loader.specs.declared.graph.Edge.{Edge}

@@ -9,7 +9,7 @@ use Rattle.llb_cache.specs.declared.key.Mode.TheVariants.{Shared, Private, Locke
 use Rattle.llb_cache.specs.Key.{same_key}
 use Rattle.llb_cache.specs.Caches.{CachesValue, Row, place, trees_of, is_held, is_locked, number_for, IsExclusive}
 use Rattle.llb_cache.specs.Marks.{IsMarked}
-use Rattle.llb_cache.specs.Numbers.{first_unheld}
+use Rattle.llb_cache.proofs.Numbers.{first_unheld}
 use Rattle.llb_cache.proofs.Marked.{mark_at, mark_there, no_mark}
 
 -- ---- the trees of a key

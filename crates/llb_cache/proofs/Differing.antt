@@ -9,7 +9,7 @@ use Rattle.llb_cache.specs.declared.key.Key.{Key}
 use Rattle.llb_cache.specs.declared.need.Need.{Need}
 use Rattle.llb_cache.specs.Key.{same_key}
 use Rattle.llb_cache.specs.LawsOfKeys.{same_keys, key_itself}
-use Rattle.llb_cache.specs.Members.{In, in_contained, contained_in}
+use Rattle.llb_cache.proofs.Members.{In, in_contained, contained_in}
 
 abbrev pub Differ : List Need → Type 0
 Differ needs = AllPairs (λ n m. n.key ≢ m.key) needs

@@ -6,7 +6,7 @@ use Rattle.llb_cache.specs.declared.growing.Ready.{Ready}
 use Rattle.llb_cache.specs.Growing.{shown}
 use Rattle.llb_cache.specs.Caches.{CachesValue, Row, Leases, Taken, taken, made_all, is_locked_and_held, free_lease, with_lease, granted, lease_by}
 use Rattle.llb_cache.specs.Caches.{lease_of, places_of, place_for}
-use Rattle.llb_cache.specs.Leased.{lease_has}
+use Rattle.llb_cache.proofs.Leased.{lease_has}
 
 pub places_shown : (readies : List Ready) → map (λ (r : Ready). r.place) readies ≡ map (λ (t : Taken). t.0) (map shown readies)
 places_shown [] = refl

@@ -1,7 +1,9 @@
 -- The marks of locked and private keys are exact after each call.
 use Rattle.std.proofs.Common.{◌≡◌, ◌≢◌, ℕ, zero, suc, ◌+◌, ◌<◌, Bool, true, false, cond, List, [], ◌∷◌, ◌++◌, length, map, Option, Some, None, refl, sym, ap}
 use Rattle.std.proofs.Common.{◌∙◌, subst, arith, true≢false, find, slice_get, slice_set, unwrap_or, nat_lt, inl, inr}
+use Rattle.std.specs.Cmp.{both_ways}
 use Rattle.std.specs.List.{AllPairs}
+use Rattle.std.proofs.lemmas.Bool.{false_from_ne_true}
 use Rattle.std.specs.Map.{keys_of}
 use Rattle.llb_tree.specs.Tree.{TreeMap}
 use Rattle.llb_cache.specs.declared.need.Need.{Need}
@@ -9,9 +11,9 @@ use Rattle.llb_cache.specs.declared.need.Instance.{Instance}
 use Rattle.llb_cache.specs.Caches.{CachesValue, Row, Leases, taken, is_locked_and_held, is_held, leases, granted, with_lease, free_lease, put, given_back}
 use Rattle.llb_cache.specs.Caches.{trimmed, before}
 use Rattle.llb_cache.specs.Caches.{places_of, IsCaches, IsExclusive, Has}
-use Rattle.llb_cache.specs.LawsOfFirstRows.{keys_long}
-use Rattle.llb_cache.specs.Members.{In, contained_in}
-use Rattle.llb_cache.specs.Leased.{held_by, holder, in_any, in_place, lease_cases, lease_has, back_cases, trimmed_has}
+use Rattle.llb_cache.proofs.FirstRows.{keys_long}
+use Rattle.llb_cache.proofs.Members.{In, contained_in}
+use Rattle.llb_cache.proofs.Leased.{held_by, holder, in_any, in_place, lease_cases, lease_has, back_cases, trimmed_has}
 use Rattle.llb_cache.specs.Marks.{marked, Remarks, is_one_of, IsMarked}
 use Rattle.llb_cache.proofs.Kept.{nothing_kept, lease_keeps, put_keeps, back_keeps}
 
@@ -30,15 +32,6 @@ put_marked c p tree marks rows written keys is = record {
 }
 
 -- ---- who has an instance after a lease, and after its end
-
-pub by_cases : (b c : Bool) → (b ≡ true → c ≡ true) → (c ≡ true → b ≡ true) → b ≡ c
-by_cases true c f g = sym (f refl)
-by_cases false true f g = g refl
-by_cases false false f g = refl
-
-pub never : (b : Bool) → (b ≡ true → ⊥) → b ≡ false
-never true none = absurd (none refl)
-never false none = refl
 
 set_other : (out : Leases) (n a : ℕ) (x : Option (List Instance)) (qs : List Instance) → a ≢ n → Has out a qs → Has (slice_set out n x) a qs
 set_other [] n a x qs other at = at
@@ -60,7 +53,7 @@ not_free (Some ps ∷ out) zero qs at e = let first : free_lease (Some ps ∷ ou
 not_free (Some ps ∷ out) (suc a) qs at e =
     let first : free_lease (Some ps ∷ out) ≡ 1 + free_lease out = refl in not_free out a qs at (omega (arith, e, first))
 
-pub still_out : (out : Leases) (ps : List Instance) (a : ℕ) (qs : List Instance) → Has out a qs → Has (with_lease out (free_lease out) ps) a qs
+still_out : (out : Leases) (ps : List Instance) (a : ℕ) (qs : List Instance) → Has out a qs → Has (with_lease out (free_lease out) ps) a qs
 still_out out ps a qs at = go (nat_lt (free_lease out) (length out))
   where
     go : (b : Bool) → Has (cond b (slice_set out (free_lease out) (Some ps)) (out ++ Some ps ∷ [])) a qs
@@ -85,9 +78,6 @@ set_none [] n qs at = let h = at in cc
 set_none (o ∷ out) zero qs at = let h = at in cc
 set_none (o ∷ out) (suc n) qs at = set_none out n qs at
 
-same_has : (out : Leases) (a : ℕ) (ps qs : List Instance) → Has out a ps → Has out a qs → ps ≡ qs
-same_has out a ps qs at also = ap (λ o. unwrap_or (unwrap_or o None) ps) (sym at ∙ also)
-
 -- what a lease has is had under its number
 places_had : (out : Leases) (n : ℕ) (p : Instance) → In (places_of out n) p → Has out n (places_of out n)
 places_had out n p h = go (slice_get out n) refl h
@@ -106,6 +96,23 @@ not_given out lease qs at = set_none out lease qs (trimmed_has (slice_set out le
 
 -- ---- a lease
 
+-- after a lease, its instances are held, and those that were held before
+pub later_held : (out : Leases) (ps : List Instance) (p : Instance)
+    → cond (is_one_of ps p) true (is_held out p) ≡ is_held (with_lease out (free_lease out) ps) p
+later_held out ps p = go (is_one_of ps p) refl
+  where
+    later : Leases
+    later = with_lease out (free_lease out) ps
+
+    go : (b : Bool) → is_one_of ps p ≡ b → cond b true (is_held out p) ≡ is_held later p
+    go true mark = sym (held_by later (free_lease out) ps p (lease_has out ps) (in_place p ps mark))
+    go false other = both_ways (is_held out p) (is_held later p)
+        (λ held. let h = holder out p held in held_by later h.0 h.1 p (still_out out ps h.0 h.1 h.2) h.3)
+        (λ held. let h = holder later p held in elim (lease_cases out ps h.0 h.1 h.2) [
+          | inl now ↦ absurd (true≢false (sym (in_any p ps (subst (λ qs. In qs p) (sym now.1) h.3)) ∙ other))
+          | inr old ↦ held_by out h.0 h.1 p old h.3
+        ])
+
 pub lease_marked : (c : CachesValue) (needs : List Need) (marks new : List (List Bool)) → IsMarked c marks → leases c.out < 65536
     → AllPairs (λ n m. n.key ≢ m.key) needs → find (is_locked_and_held c.out) needs ≡ None
     → Remarks (keys_of c.rows) marks (keys_of (granted c needs).1.rows) new (is_one_of (map (λ t. t.0) (taken c.out needs))) true
@@ -113,28 +120,11 @@ pub lease_marked : (c : CachesValue) (needs : List Need) (marks new : List (List
 lease_marked c needs marks new is few differ none remarks each = record {
   caches = lease_keeps c needs is.caches few differ none;
   each = each;
-  exact = λ p alone. remarks p ∙ go p alone (is_one_of mine p) refl;
+  exact = λ p alone. remarks p ∙ ap (λ b. cond (is_one_of mine p) true b) (is.exact p alone) ∙ later_held c.out mine p;
 }
   where
     mine : List Instance
     mine = map (λ t. t.0) (taken c.out needs)
-
-    later : Leases
-    later = with_lease c.out (free_lease c.out) mine
-
-    go : (p : Instance) → IsExclusive p.key.mode → (b : Bool) → is_one_of mine p ≡ b
-        → cond (is_one_of mine p) true (marked (keys_of c.rows) marks p) ≡ is_held later p
-    go p alone true mark =
-        ap (λ b. cond b true (marked (keys_of c.rows) marks p)) mark
-        ∙ sym (held_by later (free_lease c.out) mine p (lease_has c.out mine) (in_place p mine mark))
-    go p alone false other =
-        ap (λ b. cond b true (marked (keys_of c.rows) marks p)) other ∙ is.exact p alone
-        ∙ by_cases (is_held c.out p) (is_held later p)
-        (λ held. let h = holder c.out p held in held_by later h.0 h.1 p (still_out c.out mine h.0 h.1 h.2) h.3)
-        (λ held. let h = holder later p held in elim (lease_cases c.out mine h.0 h.1 h.2) [
-          | inl now ↦ absurd (true≢false (sym (in_any p mine (subst (λ ps. In ps p) (sym now.1) h.3)) ∙ other))
-          | inr old ↦ held_by c.out h.0 h.1 p old h.3
-        ])
 
 -- ---- its end
 
@@ -160,14 +150,14 @@ back_marked c lease marks new is remarks each = record {
         → cond (is_one_of mine p) false (marked (keys_of c.rows) marks p) ≡ is_held later p
     go p alone true mark =
         ap (λ b. cond b false (marked (keys_of c.rows) marks p)) mark
-        ∙ sym (never (is_held later p) (λ held.
+        ∙ sym (false_from_ne_true (is_held later p) (λ held.
         let w = was p held in
         let inn = in_place p mine mark in
         let same = is.caches.exclusive w.0 lease w.1 mine p w.2 (places_had c.out lease p inn) (contained_in w.1 p w.3) (contained_in mine p inn) alone in
         not_given c.out lease w.1 (subst (λ a. Has later a w.1) same w.4)))
     go p alone false other =
         ap (λ b. cond b false (marked (keys_of c.rows) marks p)) other ∙ is.exact p alone
-        ∙ by_cases (is_held c.out p) (is_held later p)
+        ∙ both_ways (is_held c.out p) (is_held later p)
         (λ held. let h = holder c.out p held in
         held_by later h.0 h.1 p (trimmed_still (slice_set c.out lease None) h.0 h.1 (set_other c.out lease h.0 None h.1
         (λ same. true≢false (sym (in_any p mine (subst (λ ps. In ps p)

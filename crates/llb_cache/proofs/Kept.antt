@@ -8,11 +8,11 @@ use Rattle.llb_cache.specs.declared.key.Key.{Key}
 use Rattle.llb_cache.specs.declared.need.Need.{Need}
 use Rattle.llb_cache.specs.declared.need.Instance.{Instance}
 use Rattle.llb_cache.specs.Caches.{CachesValue, Row, Leases, Taken, place_for, taken, made_all, is_locked_and_held, is_held, leases, granted}
-use Rattle.llb_cache.specs.Caches.{free_lease, put, given_back, trimmed, trees_of, IsCaches, IsExclusive, Has, AreApart, AreThere}
-use Rattle.llb_cache.specs.Members.{In, in_contained, in_map, pairs_map}
-use Rattle.llb_cache.specs.Leased.{held_by, lease_cases, lease_short, back_cases, back_short, trimmed_twice, trimmed_lease, trimmed_nothing}
-use Rattle.llb_cache.specs.Numbers.{number_within, number_free, number_next}
-use Rattle.llb_cache.specs.Rows.{IsNext, all_grow, all_there, all_few, put_counts}
+use Rattle.llb_cache.specs.Caches.{free_lease, with_lease, put, given_back, trimmed, trees_of, IsCaches, IsExclusive, Has, AreExclusive, AreApart, AreThere}
+use Rattle.llb_cache.proofs.Members.{In, in_contained, in_map, pairs_map}
+use Rattle.llb_cache.proofs.Leased.{held_by, lease_cases, lease_short, back_cases, back_short, trimmed_twice, trimmed_lease, trimmed_nothing}
+use Rattle.llb_cache.proofs.Numbers.{number_within, number_free, number_next}
+use Rattle.llb_cache.proofs.TreesOfKeys.{IsNext, all_grow, all_there, all_few, put_counts}
 
 -- ---- what a lease takes
 
@@ -62,46 +62,51 @@ first_of_each P (t ∷ ts) all = (all.0, first_of_each P ts all.1)
 
 -- ---- a lease
 
--- two leases of which one is the new one
+module _ (out : Leases) (ps : List Instance) where
+  -- what holds of the instances of a new lease, and of those of each other lease, holds of those of each
+  pub each_after : (P : List Instance → Type 0) → P ps → ((a : ℕ) (qs : List Instance) → Has out a qs → P qs) → (a : ℕ) (qs : List Instance)
+      → Has (with_lease out (free_lease out) ps) a qs → P qs
+  each_after P mine theirs a qs at = elim (lease_cases out ps a qs at) [ inl x ↦ subst P x.1 mine | inr x ↦ theirs a qs x ]
+
+  -- if no lease has an exclusive instance of a new one, no two leases have one instance exclusively
+  pub exclusive_after : AreExclusive out → ((p : Instance) → Contains ps p → IsExclusive p.key.mode → is_held out p ≡ false)
+      → AreExclusive (with_lease out (free_lease out) ps)
+  exclusive_after is free a b qs rs p at bt mine theirs alone = elim (lease_cases out ps a qs at) [
+    | inl x ↦ elim (lease_cases out ps b rs bt) [
+      | inl y ↦ x.0 ∙ sym y.0
+      | inr y ↦ absurd (clash b rs y (subst (λ l. Contains l p) (sym x.1) mine) theirs)
+    ]
+    | inr x ↦ elim (lease_cases out ps b rs bt) [
+      | inl y ↦ absurd (clash a qs x (subst (λ l. Contains l p) (sym y.1) theirs) mine)
+      | inr y ↦ is a b qs rs p x y mine theirs alone
+    ]
+  ]
+    where
+      clash : (a : ℕ) (qs : List Instance) → Has out a qs → Contains ps p → Contains qs p → ⊥
+      clash a qs at new old = true≢false (sym (held_by out a qs p at (in_contained qs p old)) ∙ free p new alone)
+
+-- what holds of caches holds after a lease is granted
 pub lease_keeps : (c : CachesValue) (needs : List Need) → IsCaches c → leases c.out < 65536 → AllPairs (λ n m. n.key ≢ m.key) needs
     → find (is_locked_and_held c.out) needs ≡ None
     → IsCaches (granted c needs).1
 unfolding places
 lease_keeps c needs is few differ none =
     let out = c.out in
-    let lease = free_lease out in
     let new : List Instance = places out needs in
     let rows : List Row = made_all c.rows (taken out needs) in
-    let cases = lease_cases out new in
-    let clash : (a : ℕ) (qs : List Instance) (p : Instance) → Has out a qs → Contains new p → Contains qs p → IsExclusive p.key.mode → ⊥ =
-    λ a qs p at mine theirs alone. true≢false (sym (held_by out a qs p at (in_contained qs p theirs)) ∙ taken_free out needs is.apart none p mine alone) in
     record {
-      exclusive = λ a b ps qs p at bt mine theirs alone. elim (cases a ps at) [
-        | inl x ↦ elim (cases b qs bt) [
-          | inl y ↦ x.0 ∙ sym y.0
-          | inr y ↦ absurd (clash b qs p y (subst (λ l. Contains l p) (sym x.1) mine) theirs alone)
-        ]
-        | inr x ↦ elim (cases b qs bt) [
-          | inl y ↦ absurd (clash a ps p x (subst (λ l. Contains l p) (sym y.1) theirs) mine alone)
-          | inr y ↦ is.exclusive a b ps qs p x y mine theirs alone
-        ]
-      ];
-      apart = λ a ps at. elim (cases a ps at) [
-        | inl x ↦ subst (λ l. AllPairs (λ p q. p.key ≢ q.key) l) (sym (places_are out needs) ∙ x.1)
-            (pairs_map (λ p q. p.key ≢ q.key) (λ (n : Need). place_for out n.key) needs differ)
-        | inr x ↦ is.apart a ps x
-      ];
-      there = λ a ps at. elim (cases a ps at) [
-        | inl x ↦ subst (λ l. All (λ p. p.number < length (trees_of rows p.key)) l) x.1
-            (All-from_recursion (λ p. p.number < length (trees_of rows p.key)) new
-            (first_of_each (λ p. p.number < length (trees_of rows p.key)) (taken out needs)
-            (all_there c.rows (taken out needs) (next_all c.rows out needs is.there))))
-        | inr x ↦ λ k d below. let old = is.there a ps x k d below in let more = all_grow c.rows (taken out needs) (get_or ps k d).key in
-            omega (arith, old, more)
-      ];
+      exclusive = exclusive_after out new is.exclusive (taken_free out needs is.apart none);
+      apart = each_after out new (AllPairs (λ p q. p.key ≢ q.key)) (subst (AllPairs (λ p q. p.key ≢ q.key)) (sym (places_are out needs))
+          (pairs_map (λ p q. p.key ≢ q.key) (λ (n : Need). place_for out n.key) needs differ)) is.apart;
+      there = each_after out new (All (λ p. p.number < length (trees_of rows p.key)))
+          (All-from_recursion (λ p. p.number < length (trees_of rows p.key)) new
+          (first_of_each (λ p. p.number < length (trees_of rows p.key)) (taken out needs)
+          (all_there c.rows (taken out needs) (next_all c.rows out needs is.there))))
+          (λ a ps at k d below. let old = is.there a ps at k d below in let more = all_grow c.rows (taken out needs) (get_or ps k d).key in
+          omega (arith, old, more));
       few = all_few c.rows (taken out needs) is.few (small_all out needs few);
       short = lease_short out new is.short few;
-      ends = trimmed_lease out lease new is.ends;
+      ends = trimmed_lease out (free_lease out) new is.ends;
     }
 
 -- ---- the other calls

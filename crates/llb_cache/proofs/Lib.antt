@@ -13,3 +13,10 @@ pub mod Unmade
 pub mod Popped
 pub mod Again
 pub mod Reversed
+pub mod FirstRows
+pub mod KeyOrder
+pub mod Members
+pub mod TreesOfKeys
+pub mod Leased
+pub mod Numbers
+pub mod Removed

@@ -10,8 +10,8 @@ use Rattle.llb_cache.specs.Key.{same_key}
 use Rattle.llb_cache.specs.LawsOfKeys.{same_keys, key_equiv}
 use Rattle.llb_cache.specs.Caches.{Row, same_place, with_trees}
 use Rattle.llb_cache.specs.FirstRows.{IsAbsent, IsFirst, set_trees}
-use Rattle.llb_cache.specs.LawsOfFirstRows.{first_placed, absent_found}
-use Rattle.llb_cache.specs.Leased.{same_places}
+use Rattle.llb_cache.proofs.FirstRows.{first_placed, absent_found}
+use Rattle.llb_cache.proofs.Leased.{same_places}
 use Rattle.llb_cache.specs.Marks.{marked, Remarks}
 
 -- the mark of a number in a list of lists

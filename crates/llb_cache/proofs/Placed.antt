@@ -1,5 +1,5 @@
 -- A search in the order of the keys finds the row of a key, and a row that is put at its place keeps the order.
-use Rattle.std.proofs.Common.{◌≡◌, ℕ, zero, suc, ◌+◌, ◌<◌, ◌≤◌, Bool, true, false, ◌||◌, List, [], ◌∷◌, ◌++◌, length, insert, Some, None, position, is_some}
+use Rattle.std.proofs.Common.{◌≡◌, ℕ, zero, suc, ◌+◌, ◌<◌, ◌≤◌, true, false, ◌||◌, List, [], ◌∷◌, ◌++◌, length, insert, Some, None, position, is_some}
 use Rattle.std.proofs.Common.{slice_get, slice_index_or, refl, sym, ap, ◌∙◌, subst, inl, inr, ◌⊎◌, arith, true≢false}
 use Rattle.std.specs.List.{IsDistinct, list_any}
 use Rattle.std.specs.Map.{keys_of, values_of, lookup}
@@ -7,7 +7,7 @@ use Rattle.std.specs.declared.cmp.Ordering.{Ordering}
 use Rattle.std.specs.declared.cmp.Ordering.TheVariants.{Less, Equal, Greater}
 use Rattle.std.specs.Ordering.{is_lt, is_eq, ordering_reverse}
 use Rattle.std.specs.Cmp.{eq_by_cmp_equiv}
-use Rattle.std.proofs.lemmas.Bool.{cases_lt}
+use Rattle.std.proofs.lemmas.Bool.{cases_lt, false_from_ne_true}
 use Rattle.std.proofs.lemmas.List.Edits.{length-insert, get_or-insert_below, get_or-insert_at, get_or-insert_above}
 use Rattle.std.proofs.lemmas.Map.Keys.{IsDistinct-push, IsDistinct-head, IsDistinct-tail}
 use Rattle.llb_tree.specs.Tree.{TreeMap}
@@ -15,17 +15,13 @@ use Rattle.llb_cache.specs.declared.key.Key.{Key}
 use Rattle.llb_cache.specs.Key.{same_key}
 use Rattle.llb_cache.specs.LawsOfKeys.{same_keys, key_equiv}
 use Rattle.llb_cache.specs.KeyOrder.{key_cmp}
-use Rattle.llb_cache.specs.LawsOfKeyOrder.{key_cmp-IsTotalOrder, tie_is_same}
+use Rattle.llb_cache.proofs.KeyOrder.{key_cmp-IsTotalOrder, tie_is_same}
 use Rattle.llb_cache.specs.Caches.{Row}
 use Rattle.llb_cache.specs.FirstRows.{IsAbsent, IsFirst}
-use Rattle.llb_cache.specs.LawsOfFirstRows.{keys_long, place_first, place_absent, first_trees, first_found, absent_trees}
+use Rattle.llb_cache.proofs.FirstRows.{keys_long, place_first, place_absent, first_trees, first_found, absent_trees}
 use Rattle.llb_cache.specs.RowOrder.{no_key, key_at, row_at, is_before, IsOrdered, IsPlace}
 
 -- ---- two keys
-
-never : (b : Bool) → (b ≡ true → ⊥) → b ≡ false
-never true none = absurd (none refl)
-never false none = refl
 
 not_both : (o : Ordering) → is_eq o ≡ true → is_lt o ≡ true → ⊥
 not_both Less same less = absurd (true≢false (sym same))
@@ -62,7 +58,7 @@ first_at : (k : Key) (es : List Row) (i : ℕ) → IsDistinct same_key (keys_of 
 first_at k [] i distinct below is = absurd (omega (arith, below))
 first_at k (e ∷ es) zero distinct below is = is
 first_at k (e ∷ es) (suc i) distinct below is = (
-  never (same_key k e.0) (λ same. true≢false
+  false_from_ne_true (same_key k e.0) (λ same. true≢false
       (sym is ∙ ap (λ l. same_key l (key_at es i)) (same_keys k e.0 same)
       ∙ absent_at e.0 es i (IsDistinct-head same_key e.0 (keys_of es) distinct) (omega (arith, below)))),
   first_at k es i (IsDistinct-tail same_key e.0 (keys_of es) distinct) (omega (arith, below)) is,
@@ -88,7 +84,7 @@ none_here es order k place is at miss = all_absent k es each
         ]
 
     each : (i : ℕ) → i < length es → same_key k (key_at es i) ≡ false
-    each i below = let e = is.each i below in never (same_key k (key_at es i)) (mine i e.0 e.1 e.2)
+    each i below = let e = is.each i below in false_from_ne_true (same_key k (key_at es i)) (mine i e.0 e.1 e.2)
 
 -- ---- what a search gives
 

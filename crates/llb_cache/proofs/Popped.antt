@@ -13,7 +13,7 @@ use Rattle.std.proofs.lemmas.List.Edits.{length-remove, get_or-remove_below, get
 use Rattle.llb_cache.specs.declared.key.Key.{Key}
 use Rattle.llb_cache.specs.Key.{same_key}
 use Rattle.llb_cache.specs.KeyOrder.{key_cmp}
-use Rattle.llb_cache.specs.LawsOfKeyOrder.{key_cmp-IsTotalOrder}
+use Rattle.llb_cache.proofs.KeyOrder.{key_cmp-IsTotalOrder}
 use Rattle.llb_cache.specs.Caches.{Row}
 use Rattle.llb_cache.specs.RowOrder.{key_at, row_at, is_before, IsOrdered, IsPlace}
 

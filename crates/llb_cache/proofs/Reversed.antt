@@ -3,7 +3,7 @@ use Rattle.std.proofs.Common.{◌≡◌, ◌≢◌, ℕ, zero, suc, ◌+◌, Boo
 use Rattle.std.proofs.Common.{slice_set}
 use Rattle.std.proofs.Common.{unwrap_or, nat_lt, refl, sym, ap, ◌∙◌, arith, inl, inr}
 use Rattle.std.specs.List.{AllPairs, AllByRecursion}
-use Rattle.std.proofs.lemmas.Bool.{ltb-false}
+use Rattle.std.proofs.lemmas.Bool.{ltb-false, false_from_ne_true}
 use Rattle.llb_tree.specs.Tree.{TreeMap}
 use Rattle.llb_cache.specs.declared.growth.Growth.{Growth}
 use Rattle.llb_cache.specs.declared.need.Need.{Need}
@@ -12,9 +12,9 @@ use Rattle.llb_cache.specs.Key.{same_key}
 use Rattle.llb_cache.specs.LawsOfKeys.{same_keys}
 use Rattle.llb_cache.specs.Caches.{CachesValue, Row, Leases, Taken, place_for, taken, made, made_all, granted, free_lease, with_lease, trimmed, places_of, Has}
 use Rattle.llb_cache.specs.Growth.{growth_by, growth_at, growths, unmade, unmade_one, taken_back}
-use Rattle.llb_cache.specs.Leased.{free_within, lease_has, trimmed_none}
-use Rattle.llb_cache.specs.Members.{In, pairs_head, pairs_tail}
-use Rattle.llb_cache.specs.Removed.{unmade_made, look_made}
+use Rattle.llb_cache.proofs.Leased.{free_within, lease_has, trimmed_none}
+use Rattle.llb_cache.proofs.Members.{In, pairs_head, pairs_tail}
+use Rattle.llb_cache.proofs.Removed.{unmade_made, look_made}
 
 -- ---- the rows
 
@@ -40,10 +40,6 @@ all_unmade rows (t ∷ ts) apart =
     (λ i. unmade_one (unmade (made_all next ts) (map (λ (u : Taken). u.0) ts) (growths i)) t.0 (growth_at rows t.0))
     ∙ ap (λ r. unmade_one r t.0 (growth_at rows t.0)) (all_unmade next ts apart.1) ∙ unmade_made rows t.0 t.1
 
-never : (b : Bool) → (b ≡ true → ⊥) → b ≡ false
-never true none = absurd (none refl)
-never false none = refl
-
 apart_taken : (out : Leases) (needs : List Need) → AllPairs (λ (n m : Need). n.key ≢ m.key) needs → AreApart (taken out needs)
 apart_taken out [] differ = tt
 apart_taken out (n ∷ needs) differ = (
@@ -54,7 +50,7 @@ apart_taken out (n ∷ needs) differ = (
     each : (ms : List Need) → ((m : Need) → In ms m → n.key ≢ m.key) → AllByRecursion (λ (u : Taken). same_key u.0.key n.key ≡ false) (taken out ms)
     each [] apart = tt
     each (m ∷ ms) apart = (
-      never (same_key m.key n.key) (λ e. apart m (inl refl) (sym (same_keys m.key n.key e))),
+      false_from_ne_true (same_key m.key n.key) (λ e. apart m (inl refl) (sym (same_keys m.key n.key e))),
       each ms (λ k h. apart k (inr h)),
     )
 

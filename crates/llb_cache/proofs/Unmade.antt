@@ -11,7 +11,7 @@ use Rattle.llb_cache.specs.Key.{same_key}
 use Rattle.llb_cache.specs.Caches.{Row, trees_of}
 use Rattle.llb_cache.specs.Growth.{front, shorter, unmade_one, unmade}
 use Rattle.llb_cache.specs.Marks.{marked, Unmarks}
-use Rattle.llb_cache.specs.Rows.{counted}
+use Rattle.llb_cache.proofs.TreesOfKeys.{counted}
 
 -- ---- all but the last
 

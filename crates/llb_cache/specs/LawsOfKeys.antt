@@ -1,9 +1,9 @@
 -- The test of two keys decides whether they are equal.
-use Rattle.std.specs.Prelude.{◌≡◌, ◌↔◌, ℕ, Bool, true, false, ◌&&◌, ◌==◌, List, Option, Some, None, nat_eq}
-use Rattle.std.specs.Cmp.{IsEquivalence}
+use Rattle.std.specs.Prelude.{◌≡◌, ◌↔◌, ℕ, true, ◌&&◌, ◌==◌, List, Option, Some, None, nat_eq}
+use Rattle.std.specs.Cmp.{IsEquivalence, both_ways}
 use Rattle.std.specs.Cmp.Lexicographic.{pointwise, bytes_decides}
 use Rattle.std.proofs.Common.{refl, sym, ap, ◌∙◌, eq-eqb}
-use Rattle.std.proofs.lemmas.Bool.{eqb-true}
+use Rattle.std.proofs.lemmas.Bool.{and_parts, eqb-true}
 use Rattle.llb_wire.specs.Hashing.{same_text}
 use Rattle.llb_cache.specs.declared.key.Key.{Key}
 use Rattle.llb_cache.specs.declared.key.Seed.{Seed}
@@ -30,17 +30,12 @@ mode_itself Locked = refl
 text_itself : (xs : List ℕ) → pointwise nat_eq xs xs ≡ true
 text_itself xs = (bytes_decides xs xs).1 refl
 
--- if two tests hold together, each holds
-pub both : (a b : Bool) → (a && b) ≡ true → (a ≡ true) × (b ≡ true)
-both true b e = (refl, e)
-both false b e = absurd cc
-
 same_seeds_are : (s t : Option Seed) → same_seeds s t ≡ true → s ≡ t
 same_seeds_are None None e = refl
 same_seeds_are None (Some t) e = absurd cc
 same_seeds_are (Some s) None e = absurd cc
 same_seeds_are (Some s) (Some t) e =
-    let h = both (s.index == t.index) (pointwise nat_eq s.digest t.digest) e in
+    let h = and_parts (s.index == t.index) (pointwise nat_eq s.digest t.digest) e in
     let digest = same_text s.digest t.digest h.1 in
     let index = eqb-true s.index t.index h.0 in
     λ i. Some (record { digest = digest i; index = index i })
@@ -52,8 +47,8 @@ seed_itself (Some s) = ap (λ b. b && pointwise nat_eq s.digest s.digest) (eq-eq
 pub same_keys : (k l : Key) → same_key k l ≡ true → k ≡ l
 unfolding same_key
 same_keys k l e =
-    let h = both (same_mode k.mode l.mode && same_seeds k.seed l.seed) (pointwise nat_eq k.id l.id) e in
-    let g = both (same_mode k.mode l.mode) (same_seeds k.seed l.seed) h.0 in
+    let h = and_parts (same_mode k.mode l.mode && same_seeds k.seed l.seed) (pointwise nat_eq k.id l.id) e in
+    let g = and_parts (same_mode k.mode l.mode) (same_seeds k.seed l.seed) h.0 in
     let mode = same_modes k.mode l.mode g.0 in
     let seed = same_seeds_are k.seed l.seed g.1 in
     let id = same_text k.id l.id h.1 in
@@ -69,15 +64,9 @@ key_itself k =
 pub key_test : (k l : Key) → (same_key k l ≡ true) ↔ (k ≡ l)
 key_test k l = (same_keys k l, λ e. ap (same_key k) (sym e) ∙ key_itself k)
 
-either_way : (a b : Bool) → (a ≡ true → b ≡ true) → (b ≡ true → a ≡ true) → a ≡ b
-either_way true true f g = refl
-either_way true false f g = sym (f refl)
-either_way false true f g = g refl
-either_way false false f g = refl
-
 pub key_equiv : IsEquivalence same_key
 key_equiv = record {
   refl = key_itself;
-  symm = λ k l. either_way (same_key k l) (same_key l k) (λ e. (key_test l k).1 (sym (same_keys k l e))) (λ e. (key_test k l).1 (sym (same_keys l k e)));
+  symm = λ k l. both_ways (same_key k l) (same_key l k) (λ e. (key_test l k).1 (sym (same_keys k l e))) (λ e. (key_test k l).1 (sym (same_keys l k e)));
   congr = λ k l m e. ap (λ n. same_key n m) (same_keys k l e);
 }

@@ -16,7 +16,7 @@ use Rattle.llb_tree.specs.Tree.{remove}
 use Rattle.llb_tree.specs.Tree.{list, name_below, is_dir, empty_tree}
 use Rattle.llb_tree.specs.Overlay.{is_file, below_file}
 use Rattle.llb_merge.specs.Laying.{or_else, lay_at, lay}
-use Rattle.llb_merge.specs.Laws.{get-lay}
+use Rattle.llb_merge.proofs.Laid.{get-lay}
 use Rattle.llb_fileop.proofs.Passing.{Pair, found_at}
 use Rattle.llb_contents.specs.Alike.{BothOptions, BothResults, BothLists, AreLike, AreAlike}
 use Rattle.llb_contents.proofs.Alike.{carry_options, cond_options, after_same, unread}

@@ -24,3 +24,4 @@ pub mod Executions
 pub mod Unread
 pub mod Copies
 pub mod MissingTrees
+pub mod KeyOrder

@@ -1,3 +1,2 @@
--- Read first Laying (one tree laid over another), then Laws (what follows, for those who rest on it).
+-- Read Laying (one tree laid over another).
 pub mod Laying
-pub mod Laws

@@ -9,8 +9,8 @@ use Rattle.llb_cache.specs.declared.key.Mode.TheVariants.{Shared, Private, Locke
 use Rattle.llb_cache.specs.declared.need.Need as cache_need
 use Rattle.llb_cache.specs.Caches as cache
 use Rattle.llb_cache.specs.Caches.{Row, Leases, Taken, trees_of, is_held, leases, is_locked, made, made_all, AreApart, AreThere}
-use Rattle.llb_cache.specs.Numbers.{number_free, number_next}
-use Rattle.llb_cache.specs.Rows.{put_counts, makes}
+use Rattle.llb_cache.proofs.Numbers.{number_free, number_next}
+use Rattle.llb_cache.proofs.TreesOfKeys.{put_counts, makes}
 use Rattle.llb_tree.specs.Tree.{TreeMap}
 use Rattle.llb_model.specs.Caches.{Instance, place, content, put, put_all, Has, Distinct, is_in}
 use Rattle.llb_model.specs.Program.{Need, key_of, base_in}

@@ -10,7 +10,7 @@ use Rattle.llb_cache.specs.Key.{same_key}
 use Rattle.llb_cache.specs.LawsOfKeys.{same_keys, key_itself}
 use Rattle.llb_cache.specs.Caches as cache
 use Rattle.llb_cache.specs.Caches.{Row, trees_of, tree_at, made}
-use Rattle.llb_cache.specs.Rows.{same_trees, other_trees}
+use Rattle.llb_cache.proofs.TreesOfKeys.{same_trees, other_trees}
 use Rattle.llb_tree.specs.Tree.{TreeMap}
 use Rattle.llb_model.specs.Caches.{Instance, place, place_cmp, Store, content, put}
 use Rattle.llb_model.specs.Laws.{IsDense}

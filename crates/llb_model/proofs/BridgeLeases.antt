@@ -5,7 +5,7 @@ use Rattle.std.specs.Prelude.{slice_get, slice_set, nat_lt}
 use Rattle.std.proofs.lemmas.Bool.{ltb-false, ltb-true}
 use Rattle.llb_cache.specs.Caches as cache
 use Rattle.llb_cache.specs.Caches.{Leases, with_lease, free_lease, before, trimmed}
-use Rattle.llb_cache.specs.Leased.{held_by, holder, free_within, lease_cases}
+use Rattle.llb_cache.proofs.Leased.{held_by, holder, free_within, lease_cases}
 use Rattle.llb_model.specs.Caches.{Instance, Has}
 use Rattle.llb_model.specs.State.{Execution, WorkerStatus, Idle, Runs}
 use Rattle.llb_model.specs.Bridge.{HoldsAs, AreLeased}

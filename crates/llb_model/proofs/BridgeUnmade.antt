@@ -8,8 +8,8 @@ use Rattle.llb_cache.specs.declared.key.Key.{Key}
 use Rattle.llb_cache.specs.Caches as cache
 use Rattle.llb_cache.specs.Caches.{CachesValue, Row, AreApart, trees_of, made}
 use Rattle.llb_cache.specs.Growth.{growth_by, growth_at, unmade, unmade_one}
-use Rattle.llb_cache.specs.Members.{In, pairs_cons}
-use Rattle.llb_cache.specs.Removed.{unmade_made, look_made}
+use Rattle.llb_cache.proofs.Members.{In, pairs_cons}
+use Rattle.llb_cache.proofs.Removed.{unmade_made, look_made}
 use Rattle.llb_tree.specs.Tree.{TreeMap, empty_tree}
 use Rattle.llb_model.specs.Caches.{Instance, Store, content, put_all, trees_at, Hold, Has, Distinct}
 use Rattle.llb_model.specs.Program.{Need, key_of, base_in}

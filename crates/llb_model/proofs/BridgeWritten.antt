@@ -8,8 +8,8 @@ use Rattle.llb_cache.specs.declared.key.Key.{Key}
 use Rattle.llb_cache.specs.Key.{same_key}
 use Rattle.llb_cache.specs.Caches as cache
 use Rattle.llb_cache.specs.Caches.{Row, Leases, Taken, trees_of, with_trees, made, made_all}
-use Rattle.llb_cache.specs.Numbers.{number_next}
-use Rattle.llb_cache.specs.Rows.{put_counts, makes}
+use Rattle.llb_cache.proofs.Numbers.{number_next}
+use Rattle.llb_cache.proofs.TreesOfKeys.{put_counts, makes}
 use Rattle.llb_tree.specs.Tree.{TreeMap, empty_tree}
 use Rattle.llb_model.specs.Caches.{Instance, Store, content, put, put_all, Hold, Has, Distinct}
 use Rattle.llb_model.specs.Program.{Need, key_of, base_in}

@@ -1,10 +1,10 @@
 -- What is found below a node, by its children.
-use Rattle.std.proofs.Common.{◌≡◌, ◌≤◌, arith, Vec, Global, ℕ, List, [], ◌∷◌, map, Option, Some, None, cond, T, refl, sym, ap, subst, ◌∙◌}
+use Rattle.std.proofs.Common.{◌≡◌, ◌≤◌, arith, Vec, Global, ℕ, List, [], ◌∷◌, ◌++◌, map, Option, Some, None, cond, T, refl, sym, ap, subst, ◌∙◌}
 use Rattle.std.specs.declared.cmp.Ordering.TheVariants.{Less, Equal, Greater}
 use denote.Param.Weighed.{most}
 use Rattle.std.specs.Arc.{arc_value}
 use Rattle.std.specs.declared.sync.Arc.{Arc}
-use Rattle.llb_tree.specs.Falls.{falls, le_pieces}
+use Rattle.llb_tree.specs.Falls.{falls}
 use Rattle.llb_tree.specs.declared.node.Node.TheDeep.{deep-Child, deep-Piece}
 use Rattle.std.specs.Option.{option_or}
 use Rattle.std.specs.Ordering.{is_eq}
@@ -14,7 +14,7 @@ use Rattle.llb_tree.specs.Path.{name_cmp, path_cmp}
 use Rattle.llb_tree.specs.Meta.{MetaValue}
 use Rattle.llb_tree.specs.PathOrder.{name_cmp-IsAntisymmetric, path_cmp-IsTotalOrder, path_cmp-IsAntisymmetric}
 use Rattle.llb_tree.specs.Tree.{TreeMap, Entry, Dir, File, Look, height}
-use Rattle.llb_tree.specs.Nodes.{name_of, kids_of, kids_in, own_entry, map_of, pair_of, AreSorted, child, look_in, dir_look, file_look}
+use Rattle.llb_tree.specs.Nodes.{name_of, rows_in, kids_of, kids_in, own_entry, map_of, pair_of, AreSorted, child, look_in, dir_look, file_look}
 use Rattle.llb_tree.specs.Looks.{look_kids, get-below, get-root}
 use Rattle.llb_tree.specs.declared.node.Kind.{Kind}
 use Rattle.llb_tree.specs.declared.node.Kind.TheVariants as kind
@@ -102,6 +102,15 @@ pub pieces_below : (k : Kind) (m : MetaValue) (kids : Arc (Vec Piece Global) Glo
 pieces_below k m kids v ps view is same =
     subst (λ x. most deep-Piece ps ≤ height x) (ap map_of (sym is) ∙ view)
     (subst (λ xs. most deep-Piece xs ≤ height (map_of (kind.Dir m kids))) (sym same) (let all = falls (kind.Dir m kids) in omega arith))
+
+-- the heights of the children in pieces, if those of the pieces are at most n
+pub le_pieces : (n : ℕ) (ps : List Piece) → most deep-Piece ps ≤ n → most deep-Child (kids_in ps) ≤ n
+le_pieces n [] h = omega arith
+le_pieces n (p ∷ ps) h = both (rows_in p) (kids_in ps) (omega arith) (le_pieces n ps (omega arith))
+  where
+    both : (xs ys : List Child) → most deep-Child xs ≤ n → most deep-Child ys ≤ n → most deep-Child (xs ++ ys) ≤ n
+    both [] ys g h = h
+    both (x ∷ xs) ys g h = let rest = both xs ys (omega arith) h in omega arith
 
 pub kids_below : (k : Kind) (m : MetaValue) (kids : Arc (Vec Piece Global) Global) (v : TreeMap) (ks : List Child) → map_of k ≡ v
     → k ≡ kind.Dir m kids → ks ≡ kids_in (arc_value kids).items → most deep-Child ks ≤ height v

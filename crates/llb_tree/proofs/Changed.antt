@@ -14,10 +14,9 @@ use Rattle.llb_tree.specs.Meta.{MetaValue}
 use Rattle.llb_tree.specs.Tree.{Entry, Dir, File, Look, TreeMap, parents, all_dirs, file_fits, without, with_tree, tree_at, height, IsTree}
 use Rattle.llb_tree.specs.Nodes.{look_in, set_look, dir_look, file_look, IsWhole}
 use Rattle.llb_tree.specs.Falls.{height_le, le_height}
-use Rattle.llb_tree.specs.Inside.{walk-cons}
-use Rattle.llb_tree.specs.Within.{within_split, within-append, within_itself, cmp-append}
+use Rattle.llb_tree.proofs.Inside.{walk-cons, walk_below, get-tree_at}
+use Rattle.llb_tree.proofs.Within.{within_split, within-append, within_itself, cmp-append}
 use Rattle.llb_tree.proofs.Outside.{get-without}
-use Rattle.llb_tree.specs.Inside.{walk_below, get-tree_at}
 use Rattle.llb_tree.proofs.Grafted.{get_inside, get_outside}
 
 -- a fact of all paths is one of those at or below a path and one of the others
@@ -54,10 +53,12 @@ set_outside (n ∷ p) (m ∷ q) t old out = by_name (name_cmp m n) refl (set_out
 
 -- ---- an entry put
 
-tied_below : (p q : List (List ℕ)) → eq_by_cmp path_cmp (p ++ q) p ≡ is_eq (path_cmp q [])
+-- a path ties with one below it exactly if that goes on by no name
+pub tied_below : (p q : List (List ℕ)) → eq_by_cmp path_cmp (p ++ q) p ≡ is_eq (path_cmp q [])
 tied_below p q = ap is_eq (ap (path_cmp (p ++ q)) (sym (append-nil p)) ∙ cmp-append p q [])
 
-apart : (p q : List (List ℕ)) → is_within p q ≡ false → eq_by_cmp path_cmp q p ≡ false
+-- a path ties with none outside it
+pub apart : (p q : List (List ℕ)) → is_within p q ≡ false → eq_by_cmp path_cmp q p ≡ false
 apart p q out = by_tie (path_cmp q p) refl
   where
     by_tie : (o : Ordering) → path_cmp q p ≡ o → is_eq o ≡ false
@@ -100,6 +101,11 @@ nothing_below t p n q tree fits = by_entry (finite.get t (p ++ (n ∷ q))) refl
         absurd (no_dir (finite.get t (p ++ [])) (map (λ r. finite.get t (p ++ (n ∷ r))) (parents q))
         (ap (λ x. file_fits (finite.get t x)) (append-nil p) ∙ fits)
         (sym (walk-cons (λ r. finite.get t (p ++ r)) n q) ∙ walk_below (finite.get t) p (n ∷ q) (tree.closed (p ++ (n ∷ q)) (ap is_some is))))
+
+-- nor below a path where nothing is
+pub none_below : (t : TreeMap) (p q : List (List ℕ)) → IsTree t → finite.get t p ≡ None → finite.get t (p ++ q) ≡ None
+none_below t p [] tree none = ap (finite.get t) (append-nil p) ∙ none
+none_below t p (n ∷ q) tree none = nothing_below t p n q tree (ap file_fits none)
 
 -- a file set at a path where one may be put makes the map that has the file inserted
 pub file_put : (t new one : TreeMap) (p : List (List ℕ)) (m : MetaValue) (b : List ℕ) → IsTree t → file_fits (finite.get t p) ≡ Ok tt

@@ -1,21 +1,14 @@
 -- Edits keep the parents of every path.
 use Rattle.std.proofs.Common.{◌≡◌, ℕ, List, [], ◌∷◌, map, Option, Some, None, IsSome, is_some, Bool, true, false, cond, Ok, refl, sym, ap}
 use Rattle.std.proofs.Common.{subst, ◌∙◌, true≢false, arith}
-use Rattle.std.specs.declared.cmp.Ordering.{Ordering}
-use Rattle.std.specs.declared.cmp.Ordering.TheVariants.{Less, Equal, Greater}
-use Rattle.std.specs.Ordering.{is_eq, eq_by_cmp}
+use Rattle.std.specs.Ordering.{eq_by_cmp}
 use Rattle.std.specs.FinMap as finite
 use Rattle.llb_wire.specs.Spelling.{AreBytes}
 use Rattle.llb_tree.specs.Meta.{MetaValue, IsMeta}
 use Rattle.llb_tree.specs.Path.{path_cmp, IsPath}
-use Rattle.llb_tree.specs.PathOrder.{path_cmp-IsTotalOrder, path_cmp-IsAntisymmetric}
+use Rattle.llb_tree.specs.PathOrder.{path_cmp-IsTotalOrder, same_path}
 use Rattle.llb_tree.specs.Tree.{Entry, Dir, File, Look, TreeMap, parents, all_dirs, walk, file_fits, IsDirAt, IsAllowedAt, IsTree}
-use Rattle.llb_tree.specs.Inside.{walk-cons}
-
-tied : (o : Ordering) → is_eq o ≡ true → o ≡ Equal
-tied Less e = absurd (true≢false (sym e))
-tied Equal e = refl
-tied Greater e = absurd (true≢false (sym e))
+use Rattle.llb_tree.proofs.Inside.{walk-cons}
 
 -- a path is p, or what is there stays
 pub get-insert_cases : (P : Option Entry → Type 0) (t : TreeMap) (p : List (List ℕ)) (e : Entry) (q : List (List ℕ)) → (q ≡ p → P (Some e))
@@ -23,7 +16,7 @@ pub get-insert_cases : (P : Option Entry → Type 0) (t : TreeMap) (p : List (Li
 get-insert_cases P t p e q here there = subst P (sym (finite.get-insert path_cmp-IsTotalOrder t p e q)) (by_test (eq_by_cmp path_cmp q p) refl)
   where
     by_test : (b : Bool) → eq_by_cmp path_cmp q p ≡ b → P (cond b (Some e) (finite.get t q))
-    by_test true is = here (path_cmp-IsAntisymmetric q p (tied _ is))
+    by_test true is = here (same_path q p is)
     by_test false is = there
 
 -- more directories let a walk through

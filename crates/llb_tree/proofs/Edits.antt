@@ -11,7 +11,7 @@ use Rattle.llb_tree.specs.Nodes.{look_in, set_look, dir_look, file_look, IsWhole
 use Rattle.llb_tree.proofs.Walks.{put_dir-Ok, put_file-Ok}
 use Rattle.llb_tree.proofs.Closed.{IsTree-insert_dir, IsTree-insert_file, IsTree-empty, get-insert_cases}
 use Rattle.llb_tree.proofs.Outside.{remove-Ok, IsTree-removed}
-use Rattle.llb_tree.specs.Inside.{IsTree-tree_at, subtree-Ok}
+use Rattle.llb_tree.proofs.Inside.{IsTree-tree_at, subtree-Ok}
 use Rattle.llb_tree.proofs.Grafted.{IsTree-with_tree, graft-Ok, get_inside}
 use Rattle.llb_tree.proofs.Changed.{dir_put, file_put, taken_away, tree_put, tree_taken, whole_set, deep_from, height_from}
 

@@ -12,12 +12,13 @@ use Rattle.llb_tree.specs.Path.{name_cmp}
 use Rattle.llb_tree.specs.Tree.{TreeMap, Entry, height, places_fit}
 use Rattle.llb_tree.specs.Nodes.{name_of, kids_of, kids_in, map_of}
 use Rattle.llb_tree.specs.Looks.{look_kids, get-below, get-root}
-use Rattle.llb_tree.specs.Falls.{le_pieces, height_le, le_height, falls}
+use Rattle.llb_tree.specs.Falls.{height_le, le_height, falls}
 use Rattle.llb_tree.specs.declared.fault.TreeFault.TheVariants.{BadName}
 use Rattle.llb_tree.specs.declared.node.Kind.{Kind}
 use Rattle.llb_tree.specs.declared.node.Kind.TheVariants as kind
 use Rattle.llb_tree.specs.declared.node.Child.{Child}
 use Rattle.llb_tree.specs.declared.node.Node.TheDeep.{deep-Child}
+use Rattle.llb_tree.proofs.ByName.{le_pieces}
 use Rattle.llb_tree.proofs.Cursor.{IsNext}
 
 most_at : (ks : List Child) (j : ℕ) (d : Child) → j < length ks → height (get_or ks j d).node + 1 ≤ most deep-Child ks

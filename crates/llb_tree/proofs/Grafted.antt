@@ -3,28 +3,20 @@ use Rattle.std.proofs.Common.{◌≡◌, ℕ, ◌+◌, ◌≤◌, nat_lt, Bool, 
 use Rattle.std.proofs.Common.{Some, None, IsSome, is_some, Result, Ok, Err, refl, sym, ap, subst, ◌∙◌, true≢false, arith, length-append}
 use Rattle.std.proofs.lemmas.Bool.{ltb-false}
 use Rattle.std.proofs.lemmas.List.Elements.{All-head, All-tail, All-append, All-map}
-use Rattle.std.specs.declared.cmp.Ordering.{Ordering}
-use Rattle.std.specs.declared.cmp.Ordering.TheVariants.{Less, Equal, Greater}
 use Rattle.std.specs.Ordering.{is_eq, eq_by_cmp}
 use Rattle.std.specs.Cmp.Lexicographic.{bytes_decides}
 use Rattle.std.specs.List.{All}
 use Rattle.std.specs.FinMap as finite
 use Rattle.llb_tree.specs.Path.{is_name, path_cmp, is_within, IsPath}
-use Rattle.llb_tree.specs.PathOrder.{path_cmp-IsTotalOrder, path_cmp-IsAntisymmetric}
+use Rattle.llb_tree.specs.PathOrder.{path_cmp-IsTotalOrder, same_path}
 use Rattle.llb_tree.specs.Meta.{MetaValue}
 use Rattle.llb_tree.specs.Tree.{Entry, Dir, File, Look, TreeMap, parents, all_dirs, walk, moved, without, with_tree, places_fit, graft, IsAllowedAt, IsTree}
 use Rattle.llb_tree.specs.declared.fault.TreeFault.{TreeFault}
 use Rattle.llb_tree.specs.declared.fault.TreeFault.TheVariants.{BadName}
 use Rattle.llb_wire.specs.Answer.{◌>>=◌}
-use Rattle.llb_tree.specs.Inside.{walk-cons}
-use Rattle.llb_tree.specs.Within.{within_split, within-append, cmp-append}
+use Rattle.llb_tree.proofs.Inside.{Pair, walk-cons}
+use Rattle.llb_tree.proofs.Within.{within_split, within-append, cmp-append}
 use Rattle.llb_tree.proofs.Outside.{get-without, walk_beside}
-use Rattle.llb_tree.specs.Inside.{Pair}
-
-tied : (o : Ordering) → is_eq o ≡ true → o ≡ Equal
-tied Less t = absurd (true≢false (sym t))
-tied Equal t = refl
-tied Greater t = absurd (true≢false (sym t))
 
 -- ---- looking among entries
 
@@ -50,9 +42,10 @@ find_apart p q b (e ∷ es) apart all = by_tie (eq_by_cmp path_cmp q e.0) refl �
   where
     by_tie : (t : Bool) → eq_by_cmp path_cmp q e.0 ≡ t → cond t (Some e.1) (finite.find path_cmp q es) ≡ finite.find path_cmp q es
     by_tie false t = refl
-    by_tie true t = absurd (apart (ap (is_within p) (path_cmp-IsAntisymmetric q e.0 (tied _ t)) ∙ All-head (λ (x : Pair). is_within p x.0 ≡ b) e es all))
+    by_tie true t = absurd (apart (ap (is_within p) (same_path q e.0 t) ∙ All-head (λ (x : Pair). is_within p x.0 ≡ b) e es all))
 
-find_moved : (p q : List (List ℕ)) (es : List Pair) → finite.find path_cmp (p ++ q) (map (moved 0 p) es) ≡ finite.find path_cmp q es
+-- among entries that are moved below a path, what was found at q before is found at q below it
+pub find_moved : (p q : List (List ℕ)) (es : List Pair) → finite.find path_cmp (p ++ q) (map (moved 0 p) es) ≡ finite.find path_cmp q es
 find_moved p q [] = refl
 find_moved p q (e ∷ es) = λ i. cond (is_eq (cmp-append p q e.0 i)) (Some e.1) (find_moved p q es i)
 
@@ -82,7 +75,7 @@ module _ (t : TreeMap) (p : List (List ℕ)) (other : TreeMap) where
 -- ---- the tree is one
 
 -- the looks above a path decide the walk to it
-walk_to : (f g : Look) (p : List (List ℕ)) → ((r : List (List ℕ)) → is_within p r ≡ false → f r ≡ g r) → walk f p ≡ walk g p
+pub walk_to : (f g : Look) (p : List (List ℕ)) → ((r : List (List ℕ)) → is_within p r ≡ false → f r ≡ g r) → walk f p ≡ walk g p
 walk_to f g [] same = refl
 walk_to f g (n ∷ p) same =
     walk-cons f n p ∙ (λ i. all_dirs (same [] refl i ∷ map (λ r. f (n ∷ r)) (parents p)))
@@ -96,7 +89,7 @@ walk_to f g (n ∷ p) same =
     onward (Some (Dir m)) is = is
 
 -- a walk to a path, and one from there
-walk_joined : (look : Look) (p q : List (List ℕ)) → walk look p ≡ Ok tt → walk (λ r. look (p ++ r)) q ≡ Ok tt → walk look (p ++ q) ≡ Ok tt
+pub walk_joined : (look : Look) (p q : List (List ℕ)) → walk look p ≡ Ok tt → walk (λ r. look (p ++ r)) q ≡ Ok tt → walk look (p ++ q) ≡ Ok tt
 walk_joined look [] q to from = from
 walk_joined look (n ∷ p) q to from = walk-cons look n (p ++ q) ∙ go (look []) (walk_joined (λ r. look (n ∷ r)) p q) (sym (walk-cons look n p) ∙ to)
   where
@@ -123,7 +116,7 @@ fits_there p q e (x ∷ es) fit is =
   where
     by_tie : (t : Bool) → eq_by_cmp path_cmp q x.0 ≡ t → (finite.find path_cmp q es ≡ Some e → length p + length q ≤ 128)
         → length p + length x.0 ≤ 128 → cond t (Some x.1) (finite.find path_cmp q es) ≡ Some e → length p + length q ≤ 128
-    by_tie true t rest le is = subst (λ y. length p + length y ≤ 128) (sym (path_cmp-IsAntisymmetric q x.0 (tied _ t))) le
+    by_tie true t rest le is = subst (λ y. length p + length y ≤ 128) (sym (same_path q x.0 t)) le
     by_tie false t rest le is = rest is
 
 empty : (q : List (List ℕ)) → length q ≡ 0 → q ≡ []

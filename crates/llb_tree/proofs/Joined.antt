@@ -35,7 +35,8 @@ by_byte : (name : List ℕ) → is_name name ≡ true → All (λ b. (b == 47) �
 by_byte name is = All-weaker (λ b. is_name_byte b ≡ true) (λ b. (b == 47) ≡ false) no_slash name
     (AllPass-from_list_all is_name_byte name (passes_tests name is).plain)
 
-parts_joined : (name : List ℕ) (names : List (List ℕ)) → All Named (name ∷ names) → parts_of (joined (name ∷ names)) ≡ name ∷ names
+-- the parts of names with `/` between them are the names
+pub parts_joined : (name : List ℕ) (names : List (List ℕ)) → All Named (name ∷ names) → parts_of (joined (name ∷ names)) ≡ name ∷ names
 parts_joined name [] all = slice_split_none (λ b. b == 47) name (by_byte name (All-head Named name [] all))
 parts_joined name (other ∷ names) all =
     slice_split_at (λ b. b == 47) name 47 (joined (other ∷ names)) (by_byte name (All-head Named name (other ∷ names) all)) refl

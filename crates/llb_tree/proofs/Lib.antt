@@ -34,3 +34,5 @@ pub mod Thinned
 pub mod Found
 pub mod SameNames
 pub mod TriedPlaces
+pub mod Within
+pub mod Inside

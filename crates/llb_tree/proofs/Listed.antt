@@ -16,8 +16,8 @@ use Rattle.llb_tree.specs.Nodes.{name_of, below, flat}
 use Rattle.llb_tree.specs.declared.node.Child.{Child}
 use Rattle.llb_wire.specs.Answer.{◌>>=◌}
 use Rattle.llb_tree.proofs.Orders.{is_less, less_is, and_first, and_second, and_both}
-use Rattle.llb_tree.specs.Within.{within_split, cmp-append}
-use Rattle.llb_tree.specs.Inside.{Pair, inside, get-tree_at}
+use Rattle.llb_tree.proofs.Within.{within_split, cmp-append}
+use Rattle.llb_tree.proofs.Inside.{Pair, inside, get-tree_at}
 use Rattle.llb_tree.proofs.Entries.{entries-from_entries}
 
 -- where there is a directory at a path, the list is the last names of the paths that are one name below it

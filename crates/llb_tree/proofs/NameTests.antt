@@ -1,6 +1,6 @@
 -- What a name is not, test by test, and what the code finds out about a text that may be one.
 use Rattle.std.proofs.Common.{◌≡◌, ℕ, ◌≤◌, ◌==◌, nat_le, Bool, true, false, not, ◌&&◌, List, length, refl, sym, ◌∙◌}
-use Rattle.std.proofs.lemmas.Bool.{le-leb, and_parts}
+use Rattle.std.proofs.lemmas.Bool.{leb-true, le-leb, and_parts}
 use Rattle.std.proofs.lemmas.Str.{is_utf8-from_IsUtf8, IsUtf8-from_is_utf8}
 use Rattle.std.specs.List.{list_all}
 use Rattle.std.specs.Str.{IsUtf8, is_utf8}
@@ -42,6 +42,10 @@ passes_tests name is =
 -- no byte of a name is a `/`
 pub no_slash : (b : ℕ) → is_name_byte b ≡ true → (b == 47) ≡ false
 no_slash b is = untrue _ (and_parts (nat_le 32 b && not (b == 127)) _ is).1
+
+-- nor is one below a space
+pub from_space : (b : ℕ) → is_name_byte b ≡ true → 32 ≤ b
+from_space b is = leb-true 32 b (and_parts (nat_le 32 b) _ (and_parts (nat_le 32 b && not (b == 127)) _ is).0).0
 
 -- a name is a text
 pub name-IsUtf8 : (name : List ℕ) → is_name name ≡ true → IsUtf8 name

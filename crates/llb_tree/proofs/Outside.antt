@@ -8,7 +8,7 @@ use Rattle.llb_tree.specs.Path.{path_cmp, is_within}
 use Rattle.llb_tree.specs.PathOrder.{path_cmp-IsAntisymmetric}
 use Rattle.llb_tree.specs.Tree.{Entry, Dir, File, Look, TreeMap, parents, all_dirs, walk, without, remove, found, IsTree}
 use Rattle.llb_wire.specs.Answer.{◌>>=◌}
-use Rattle.llb_tree.specs.Inside.{walk-cons}
+use Rattle.llb_tree.proofs.Inside.{walk-cons}
 
 -- what one path is not, a path that ties is not either
 pub alike : (p q x : List (List ℕ)) → path_cmp q x ≡ Equal → not (is_within p x) ≡ not (is_within p q)

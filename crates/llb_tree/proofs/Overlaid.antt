@@ -9,7 +9,7 @@ use Rattle.llb_tree.specs.Tree.{Entry, Dir, File, TreeMap, Look, meta_in, parent
 use Rattle.llb_tree.specs.Falls.{height_le, le_height}
 use Rattle.llb_tree.specs.Overlay.{is_file, below_file, WayValue, is_mode, laid_meta, over, laid_over, over_at}
 use Rattle.llb_tree.specs.Laying.{IsWay, owner_fits}
-use Rattle.llb_tree.specs.Inside.{map-map, walk-cons}
+use Rattle.llb_tree.proofs.Inside.{map-map, walk-cons}
 use Rattle.llb_tree.proofs.Closed.{walk_more}
 
 -- a file is above a path where the root is one, or where one is above the rest below the first name

@@ -118,10 +118,6 @@ changes_piece n p t ps j q a c = (
   λ r. c.2 r ∙ ap (λ o. set_look p t (look_in o) r) (find_piece n ps j a),
 )
 
--- a piece that stays
-pub same_piece : (ps : List Pairs) (j : ℕ) (q : Pairs) → j < length ps → q ≡ get_or ps j [] → joined (set ps j q) ≡ joined ps
-same_piece ps j q lt is = joined_set ps j q lt ∙ ap (λ p. joined (take j ps) ++ (p ++ joined (drop (suc j) ps))) is ∙ sym (split ps j lt)
-
 -- ---- fullness
 
 pub full_or_first : (ps : List Pairs) (j : ℕ) (q : Pairs) → AllFull (drop 1 ps) → 0 < length q → AllFull (drop 1 (set ps j q))

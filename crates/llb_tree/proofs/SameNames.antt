@@ -1,6 +1,6 @@
 -- Children with the same names, and pieces of them.
-use Rattle.std.proofs.Common.{◌≡◌, ℕ, zero, suc, ◌+◌, ◌<◌, ◌≤◌, true, false, cond, List, [], ◌∷◌, ◌++◌, length, map, take, drop, get_or}
-use Rattle.std.proofs.Common.{Some, is_some, refl, sym, ap, subst, ◌∙◌, arith, add-one}
+use Rattle.std.proofs.Common.{◌≡◌, ℕ, ◌+◌, ◌≤◌, true, false, cond, List, [], ◌∷◌, ◌++◌, length, map, take, drop, get_or}
+use Rattle.std.proofs.Common.{Some, is_some, refl, sym, ap, ◌∙◌}
 use Rattle.std.proofs.lemmas.List.{map-append, take_all}
 use Rattle.std.specs.Ordering.{eq_by_cmp}
 use Rattle.llb_tree.specs.Path.{name_cmp}
@@ -25,19 +25,6 @@ pub covers_same : (us ks : List Child) → map name_of us ≡ map name_of ks →
 covers_same us ks same n is = some_named us ks n same ∙ is
 
 module _ {X A : Type 0} (f : X → A) where
-  next : (xs : List X) (i : ℕ) (x : X) → i < length xs → map f (take (suc i) xs) ≡ map f (take i xs) ++ f (get_or xs i x) ∷ []
-  next [] i x lt = absurd (omega arith)
-  next (y ∷ xs) zero x lt = refl
-  next (y ∷ xs) (suc i) x lt = ap (λ zs. f y ∷ zs) (next xs i x (omega arith))
-
-  one_more : (xs : List X) (i : ℕ) (x : X) → i < length xs → x ≡ get_or xs i x → map f (take (i + 1) xs) ≡ map f (take i xs) ++ f x ∷ []
-  one_more xs i x lt is = ap (λ j. map f (take j xs)) (add-one i) ∙ next xs i x lt ∙ ap (λ y. map f (take i xs) ++ f y ∷ []) (sym is)
-
-  -- lists that are alike so far are so with the next element of each
-  pub alike_more : (xs ys : List X) (i : ℕ) (x y : X) → i < length xs → i < length ys → x ≡ get_or xs i x → y ≡ get_or ys i y
-      → map f (take i xs) ≡ map f (take i ys) → f x ≡ f y → map f (take (i + 1) xs) ≡ map f (take (i + 1) ys)
-  alike_more xs ys i x y lx ly ix iy so_far same =
-      one_more xs i x lx ix ∙ (λ k. so_far k ++ same k ∷ []) ∙ sym (one_more ys i y ly iy)
 
   -- and whole where none is left
   pub alike_all : (xs ys : List X) (i : ℕ) → length xs ≤ i → length ys ≤ i → map f (take i xs) ≡ map f (take i ys) → map f xs ≡ map f ys

@@ -5,7 +5,7 @@ use Rattle.std.specs.FinMap as finite
 use Rattle.llb_tree.specs.PathOrder.{path_cmp-IsTotalOrder, path_cmp-IsAntisymmetric}
 use Rattle.llb_tree.specs.Tree.{Entry, Dir, File, Look, TreeMap, parents, all_dirs, walk, IsTree}
 use Rattle.llb_tree.specs.Nodes.{IsWhole}
-use Rattle.llb_tree.specs.Inside.{walk-cons}
+use Rattle.llb_tree.proofs.Inside.{walk-cons}
 use Rattle.llb_tree.specs.Tested.{goes, thin, rid_of, unless_goes, Thins}
 use Rattle.llb_tree.proofs.Changed.{deep_from, height_from}
 

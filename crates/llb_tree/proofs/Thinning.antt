@@ -12,7 +12,7 @@ use Rattle.std.specs.Ordering.{is_eq, is_lt, eq_by_cmp}
 use Rattle.std.specs.FinMap as finite
 use Rattle.std.specs.FinMap.Entries.{below_all, is_some-find}
 use Rattle.llb_tree.specs.Path.{name_cmp, path_cmp}
-use Rattle.llb_tree.specs.PathOrder.{name_cmp-IsAntisymmetric, path_cmp-IsAntisymmetric}
+use Rattle.llb_tree.specs.PathOrder.{name_cmp-IsAntisymmetric, same_path}
 use Rattle.llb_tree.specs.Tree.{TreeMap, Entry}
 use Rattle.llb_tree.specs.Nodes.{Pair, Pairs, name_of, below, flat, kids_of, own_entry, map_of, pair_of, AreSorted}
 use Rattle.llb_tree.specs.Looks.{look_kids, find_flat, get-below, get-root}
@@ -25,11 +25,6 @@ use Rattle.llb_tree.proofs.ByName.{or_None}
 
 abbrev pub keys_of : List Pair → List (List (List ℕ))
 keys_of = map (λ e. e.0)
-
-tied : (o : Ordering) → is_eq o ≡ true → o ≡ Equal
-tied Less e = absurd (true≢false (sym e))
-tied Equal e = refl
-tied Greater e = absurd (true≢false (sym e))
 
 -- a list with a first is that and the others
 pub split_first : {A : Type 0} (xs : List A) (x : A) → 1 ≤ length xs → x ≡ get_or xs 0 x → xs ≡ x ∷ take (length xs - 1) (drop 1 xs)
@@ -101,7 +96,7 @@ not_found f q (k ∷ ks) none some = by_tie (eq_by_cmp path_cmp q k) refl (f k) 
         → (a || list_any (eq_by_cmp path_cmp q) ks) ≡ true
         → (list_any f ks ≡ false → list_any (eq_by_cmp path_cmp q) ks ≡ true → f q ≡ false) → f q ≡ false
     by_tie a at true hit none some rest = absurd (true≢false none)
-    by_tie true at false miss none some rest = ap f (path_cmp-IsAntisymmetric q k (tied _ at)) ∙ miss
+    by_tie true at false miss none some rest = ap f (same_path q k at) ∙ miss
     by_tie false at false miss none some rest = rest none some
 
 module _ {X : Type 0} (passes : X → List ℕ → Bool) where

@@ -15,7 +15,7 @@ use Rattle.llb_tree.specs.Nodes.{name_of, below, flat, pair_of, AreSorted, IsWho
 use Rattle.llb_tree.specs.Walks.{past, behind, AreBehind, AreShort}
 use Rattle.llb_tree.specs.declared.node.Child.{Child}
 use Rattle.llb_tree.proofs.Orders.{is_less, and_first, and_second}
-use Rattle.llb_tree.specs.Within.{within-append}
+use Rattle.llb_tree.proofs.Within.{within-append}
 use denote.Param.Weighed.{most}
 
 abbrev Pair : Type 0

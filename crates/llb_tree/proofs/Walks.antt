@@ -4,7 +4,7 @@ use Rattle.std.proofs.Common.{refl, sym, ap, ◌∙◌, arith, add-one}
 use Rattle.llb_tree.specs.declared.fault.TreeFault.{TreeFault}
 use Rattle.llb_tree.specs.Meta.{MetaValue}
 use Rattle.llb_tree.specs.Tree.{Entry, Dir, File, Look, TreeMap, parents, all_dirs, walk, file_fits, dir_fits, put_file, put_dir}
-use Rattle.llb_tree.specs.Inside.{walk-cons}
+use Rattle.llb_tree.proofs.Inside.{walk-cons}
 use Rattle.llb_wire.specs.Answer.{◌>>=◌}
 use Rattle.std.specs.FinMap as finite
 

@@ -1,8 +1,6 @@
 -- Each child's paths are shorter than the longest of its directory.
 use Rattle.std.specs.Prelude.{ℕ, ◌≡◌, ◌+◌, ◌-◌, ◌≤◌, max, List, [], ◌∷◌, ◌++◌, true, false, cond, Option, Some, None, refl, is_some, length}
 use Rattle.std.proofs.Common.{sym, ◌∙◌, ap, arith}
-use Rattle.std.specs.declared.cmp.Ordering.{Ordering}
-use Rattle.std.specs.declared.cmp.Ordering.TheVariants.{Less, Equal, Greater}
 use Rattle.std.specs.Ordering.{eq_by_cmp, is_eq}
 use Rattle.std.specs.Cmp.{tied_itself}
 use Rattle.std.specs.Cmp.Lexicographic.{nat_list_cmp_total}
@@ -11,7 +9,7 @@ use Rattle.std.specs.FinMap as finite
 use Rattle.std.specs.FinMap.Entries.{find}
 use Rattle.std.specs.Arc.{arc_value}
 use Rattle.llb_tree.specs.Path.{name_cmp, path_cmp}
-use Rattle.llb_tree.specs.PathOrder.{path_cmp-IsTotalOrder, path_cmp-IsAntisymmetric}
+use Rattle.llb_tree.specs.PathOrder.{path_cmp-IsTotalOrder, same_path}
 use Rattle.llb_tree.specs.Tree.{TreeMap, Entry, height}
 use Rattle.llb_tree.specs.Nodes.{map_of, name_of, rows_in, kids_in}
 use Rattle.llb_tree.specs.Looks.{get-below, get-root, look_kids}
@@ -21,14 +19,6 @@ use Rattle.llb_tree.specs.declared.node.Child.{Child}
 use Rattle.llb_tree.specs.declared.node.Piece.{Piece}
 use Rattle.llb_tree.specs.declared.node.Node.TheDeep.{deep-Kind, deep-Child, deep-Piece}
 use denote.Param.Weighed.{most}
-
-same_path : (p q : List (List ℕ)) → eq_by_cmp path_cmp p q ≡ true → p ≡ q
-same_path p q h = path_cmp-IsAntisymmetric p q (is_equal (path_cmp p q) h)
-  where
-    is_equal : (o : Ordering) → is_eq o ≡ true → o ≡ Equal
-    is_equal Less h = cc
-    is_equal Equal h = refl
-    is_equal Greater h = cc
 
 -- a bound of the lengths of all paths that have an entry is a bound of the height
 most_le : (n : ℕ) (es : List (List (List ℕ) × Entry)) → ((q : List (List ℕ)) → is_some (find path_cmp q es) ≡ true → length q + 1 ≤ n)
@@ -86,15 +76,6 @@ pieces_le n (p ∷ ps) h =
     let a : most deep-Child (rows_in p) ≤ n = parts.0 in
     let rest = pieces_le n ps parts.1 in
     omega arith
-
--- and those of the children, if those of the pieces are
-pub le_pieces : (n : ℕ) (ps : List Piece) → most deep-Piece ps ≤ n → most deep-Child (kids_in ps) ≤ n
-le_pieces n [] h = omega arith
-le_pieces n (p ∷ ps) h = both (rows_in p) (kids_in ps) (omega arith) (le_pieces n ps (omega arith))
-  where
-    both : (xs ys : List Child) → most deep-Child xs ≤ n → most deep-Child ys ≤ n → most deep-Child (xs ++ ys) ≤ n
-    both [] ys g h = h
-    both (x ∷ xs) ys g h = let rest = both xs ys (omega arith) h in omega arith
 
 pub falls : (k : Kind) → max (deep-Kind k) 0 ≤ height (map_of k)
 falls (kind.File m c) = omega arith

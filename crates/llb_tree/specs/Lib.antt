@@ -1,6 +1,6 @@
 -- Read first Tree (a tree as a map from paths to entries, and its edits) and Path (names, paths, and what a text reads as) with Meta and Modes, then Overlay
--- (one tree over another), Walks, Tested, Rows and Faults. Within, Inside and PathOrder are what follows, for those who rest on it; Nodes, Pieces, Looks,
--- Falls, Laying and Shared are this crate's own way with nodes; Coded is how a tree is coded.
+-- (one tree over another), Walks, Tested, Rows and Faults. PathOrder has the laws of the order of paths, which Path's `Ord` cites; Nodes,
+-- Pieces, Looks, Falls, Laying and Shared are this crate's own way with nodes; Coded is how a tree is coded.
 pub mod Faults
 pub mod Path
 pub mod PathOrder
@@ -8,8 +8,6 @@ pub mod Meta
 pub mod Modes
 pub mod Tree
 pub mod Coded
-pub mod Within
-pub mod Inside
 pub mod Nodes
 pub mod Pieces
 pub mod Looks

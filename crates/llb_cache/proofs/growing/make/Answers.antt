@@ -6,11 +6,11 @@ use Rattle.std.proofs.lemmas.List.{get_or_default}
 use Rattle.llb_tree.specs.Tree.{TreeMap}
 use Rattle.llb_cache.specs.declared.key.Key.{Key}
 use Rattle.llb_cache.specs.Key.{same_key}
-use Rattle.llb_cache.specs.Rows.{instance_made, instance_there}
+use Rattle.llb_cache.proofs.TreesOfKeys.{instance_made, instance_there}
 use Rattle.llb_cache.specs.declared.need.Instance.{Instance}
 use Rattle.llb_cache.specs.Caches.{Row, same_place, with_trees}
 use Rattle.llb_cache.specs.FirstRows.{set_trees}
-use Rattle.llb_cache.specs.LawsOfFirstRows.{absent_found, written_absent}
+use Rattle.llb_cache.proofs.FirstRows.{absent_found, written_absent}
 use Rattle.llb_cache.specs.Marks.{marked}
 use Rattle.llb_cache.proofs.Marked.{remarked, marked_new, keys_stay, Sets}
 use Rattle.llb_cache.proofs.Placed.{ordered_again}

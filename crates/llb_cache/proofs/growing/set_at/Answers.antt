@@ -5,7 +5,7 @@ use Rattle.llb_cache.specs.declared.key.Key.{Key}
 use Rattle.llb_cache.specs.Key.{same_key}
 use Rattle.llb_cache.specs.Caches.{Row}
 use Rattle.llb_cache.specs.FirstRows.{set_trees}
-use Rattle.llb_cache.specs.Rows.{trees_there, tree_put}
+use Rattle.llb_cache.proofs.TreesOfKeys.{trees_there, tree_put}
 use Rattle.llb_cache.proofs.Marked.{keys_stay}
 use Rattle.llb_cache.proofs.Placed.{ordered_again}
 use Rattle.llb_cache.proofs.Written.{trees_read, row_written}

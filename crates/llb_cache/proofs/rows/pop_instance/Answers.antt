@@ -6,7 +6,7 @@ use Rattle.llb_cache.specs.Key.{same_key}
 use Rattle.llb_cache.specs.Caches.{Row, with_trees}
 use Rattle.llb_cache.specs.FirstRows.{set_trees}
 use Rattle.llb_cache.specs.Growth.{shorter}
-use Rattle.llb_cache.specs.Rows.{trees_written}
+use Rattle.llb_cache.proofs.TreesOfKeys.{trees_written}
 use Rattle.llb_cache.proofs.Marked.{keys_stay}
 use Rattle.llb_cache.proofs.Placed.{ordered_again}
 use Rattle.llb_cache.proofs.Written.{trees_read, row_written}

@@ -6,9 +6,8 @@ use Rattle.std.specs.Arc.{arc_value}
 use Rattle.std.specs.FinMap as finite
 use Rattle.llb_tree.specs.Nodes.{AreSorted, name_of, child, look_in, kids_of, kids_in, left_in, rows_in, map_of, pair_of}
 use Rattle.llb_tree.specs.Pieces.{ArePieced, row_pairs}
-use Rattle.llb_tree.specs.Falls.{le_pieces}
+use Rattle.llb_tree.proofs.ByName.{le_pieces}
 use Rattle.llb_tree.specs.Overlay.{below_file, over, over_at}
-use Rattle.llb_tree.specs.Tree.{TreeMap}
 use Rattle.llb_tree.specs.Laying.{Lays, IsOver, AreLaid, PiecesLaid, those, those_pieces}
 use Rattle.llb_tree.specs.declared.node.Child.{Child}
 use Rattle.llb_tree.specs.declared.node.Node.TheDeep.{deep-Child, deep-Piece}

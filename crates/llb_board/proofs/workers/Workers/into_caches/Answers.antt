@@ -1,5 +1,5 @@
 use Rattle.std.proofs.Common.{List, map, sym, ap, subst, ◌∙◌}
-use Rattle.llb_cache.specs.Leased.{none_out}
+use Rattle.llb_cache.proofs.Leased.{none_out}
 use Rattle.llb_model.specs.Bridge.{AreLeased}
 use Rattle.llb_board.specs.Views.{at_of, leased_by}
 use Rattle.llb_board.specs.Workers.{WorkersValue}

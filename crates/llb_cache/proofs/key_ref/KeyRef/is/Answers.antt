@@ -1,6 +1,6 @@
 use Rattle.std.proofs.Common.{ap, ◌∙◌}
 use Rattle.std.specs.Ordering.{is_eq}
-use Rattle.llb_cache.specs.LawsOfKeyOrder.{tie_is_same}
+use Rattle.llb_cache.proofs.KeyOrder.{tie_is_same}
 use Rattle.llb_cache.proofs.key_ref.KeyRef.is.Goals as goal
 
 pub returns : goal.returns

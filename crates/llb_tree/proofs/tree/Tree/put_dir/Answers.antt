@@ -1,27 +1,16 @@
-use Rattle.std.proofs.Common.{length, sym, ap, subst, ◌∙◌, arith}
+use Rattle.std.proofs.Common.{◌≡◌, length, Ok, sym, ap, subst, ◌∙◌, arith}
 use Rattle.llb_tree.specs.Path.{IsPath}
 use Rattle.llb_tree.specs.Tree.{put_dir}
+use Rattle.llb_tree.specs.Nodes.{IsWhole}
 use Rattle.llb_tree.proofs.Edits.{dir_edit}
 use Rattle.llb_tree.proofs.tree.Tree.put_dir.Goals as goal
+use Rattle.llb_tree.proofs.tree.Tree.put_dir.Goals.{After-max-self-inside}
 
-pub invariant_of-self-2 : goal.invariant_of-self-2
-invariant_of-self-2 c =
-    (dir_edit c.self.inside.root c.set.new.self c.in_ok-node.node c.self.inside.depth _ c.names-names.result.now c.args.meta
-    c.self.invariant (subst IsPath (sym c.names-names.ensures.all) c.names-names.ensures.path) c.is_meta.ensures
-    (sym c.in_ok-walked.ensures.walks) (omega (arith, c.max-self-inside.ensures)) (omega (arith, c.max-self-inside.ensures))
-    (omega (
-      arith,
-      c.max-self-inside.ensures,
-      c.self.invariant.short,
-      c.names-names.ensures.short,
-      ap length c.names-names.ensures.all,
-    )) c.in_ok-set.ensures.ok
-    (sym c.in_ok-dir_may_stand.ensures) c.in_ok-node.ensures).0
-
-pub returns-clause-gives : goal.returns-clause-gives
-returns-clause-gives c =
-    (λ i. put_dir (sym c.self.view_is i) (sym c.names-names.ensures.all i) c.args.meta)
-    ∙ (dir_edit c.self.inside.root c.set.new.self c.in_ok-node.node c.self.inside.depth c.max-self-inside.result c.names-names.result.now
+-- the node that is set makes the tree of the rule, which is whole
+edited : (c : After-max-self-inside) → IsWhole c.set.new.self c.max-self-inside.result
+    × (put_dir c.self.inside.root c.names-names.result.now c.args.meta ≡ Ok c.set.new.self)
+edited c =
+    dir_edit c.self.inside.root c.set.new.self c.in_ok-node.node c.self.inside.depth c.max-self-inside.result c.names-names.result.now
     c.args.meta c.self.invariant (subst IsPath (sym c.names-names.ensures.all) c.names-names.ensures.path) c.is_meta.ensures
     (sym c.in_ok-walked.ensures.walks) (omega (arith, c.max-self-inside.ensures)) (omega (arith, c.max-self-inside.ensures))
     (omega (
@@ -31,4 +20,12 @@ returns-clause-gives c =
       c.names-names.ensures.short,
       ap length c.names-names.ensures.all,
     )) c.in_ok-set.ensures.ok
-    (sym c.in_ok-dir_may_stand.ensures) c.in_ok-node.ensures).1
+    (sym c.in_ok-dir_may_stand.ensures) c.in_ok-node.ensures
+
+pub invariant_of-self-2 : goal.invariant_of-self-2
+invariant_of-self-2 c = (edited (goal.at.invariant_of-self-2 c).After-max-self-inside).0
+
+pub returns-clause-gives : goal.returns-clause-gives
+returns-clause-gives c =
+    (λ i. put_dir (sym c.self.view_is i) (sym c.names-names.ensures.all i) c.args.meta)
+    ∙ (edited (goal.at.returns-clause-gives c).After-max-self-inside).1

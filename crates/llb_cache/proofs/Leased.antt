@@ -1,26 +1,22 @@
 -- Which leases have an instance, and who has what after a lease and after its end.
-use Rattle.std.proofs.Common.{slice_get, ◌≡◌, ℕ, zero, suc, ◌+◌, ◌<◌, ◌≤◌, Bool, true, false, cond, ◌&&◌, ◌||◌, List, [], ◌∷◌, ◌++◌, length}
+use Rattle.std.proofs.Common.{slice_get, ◌≡◌, ℕ, zero, suc, ◌+◌, ◌<◌, ◌≤◌, Bool, true, false, cond, ◌&&◌, List, [], ◌∷◌, ◌++◌, length}
 use Rattle.std.proofs.Common.{Option, Some, None, is_some, slice_set, get_or, take, unwrap_or, nat_lt, refl, sym, ap, ◌∙◌, arith, inl, inr}
 use Rattle.std.proofs.Common.{◌⊎◌, length-append}
 use Rattle.std.specs.List.{list_any}
-use Rattle.std.proofs.lemmas.Bool.{eqb-true, eq-eqb, ltb-false, ltb-true}
+use Rattle.std.proofs.lemmas.Bool.{and_parts, or_cases, or_left, or_right, eqb-true, eq-eqb, ltb-false, ltb-true}
 use Rattle.std.proofs.lemmas.List.{length-set, take_more}
 use Rattle.std.proofs.lemmas.List.Sums.{prefix_len-le-length, sum_by-cons}
 use Rattle.llb_cache.specs.declared.need.Instance.{Instance}
 use Rattle.llb_cache.specs.Key.{same_key}
-use Rattle.llb_cache.specs.LawsOfKeys.{same_keys, key_itself, both}
+use Rattle.llb_cache.specs.LawsOfKeys.{same_keys, key_itself}
 use Rattle.llb_cache.specs.Caches.{Leases, same_place, has, is_held, leases, free_lease, with_lease, before, trimmed, Has}
-use Rattle.llb_cache.specs.Members.{In}
+use Rattle.llb_cache.proofs.Members.{In}
 
 -- ---- the tests
 
-either : (a b : Bool) → (a || b) ≡ true → (a ≡ true) ⊎ (b ≡ true)
-either true b e = inl refl
-either false b e = inr e
-
 pub same_places : (p q : Instance) → same_place p q ≡ true → p ≡ q
 same_places p q e =
-    let h = both _ _ e in
+    let h = and_parts _ _ e in
     let number = eqb-true p.number q.number h.0 in
     let key = same_keys p.key q.key h.1 in
     λ i. record { key = key i; number = number i }
@@ -30,40 +26,32 @@ place_itself p = ap (λ b. b && same_key p.key p.key) (eq-eqb p.number p.number 
 
 any_in : (p : Instance) (ps : List Instance) → list_any (same_place p) ps ≡ true → In ps p
 any_in p [] e = absurd cc
-any_in p (q ∷ ps) e = elim (either (same_place p q) (list_any (same_place p) ps) e) [
+any_in p (q ∷ ps) e = elim (or_cases (same_place p q) (list_any (same_place p) ps) e) [
   | inl here ↦ inl (same_places p q here)
   | inr later ↦ inr (any_in p ps later)
 ]
 
 pub in_any : (p : Instance) (ps : List Instance) → In ps p → list_any (same_place p) ps ≡ true
 in_any p [] h = absurd h
-in_any p (q ∷ ps) (inl is) = ap (λ b. b || list_any (same_place p) ps) (ap (same_place p) (sym is) ∙ place_itself p)
-in_any p (q ∷ ps) (inr h) = ap (λ b. same_place p q || b) (in_any p ps h) ∙ or_true (same_place p q)
-  where
-    or_true : (b : Bool) → (b || true) ≡ true
-    or_true true = refl
-    or_true false = refl
+in_any p (q ∷ ps) (inl is) = or_left _ (list_any (same_place p) ps) (ap (same_place p) (sym is) ∙ place_itself p)
+in_any p (q ∷ ps) (inr h) = or_right (same_place p q) _ (in_any p ps h)
 
 pub in_place : (p : Instance) (ps : List Instance) → has p (Some ps) ≡ true → In ps p
 in_place p ps e = any_in p ps e
-
-or_true : (b : Bool) → (b || true) ≡ true
-or_true true = refl
-or_true false = refl
 
 -- what a lease has is held
 pub held_by : (out : Leases) (a : ℕ) (ps : List Instance) (p : Instance) → Has out a ps → In ps p → is_held out p ≡ true
 unfolding is_held
 held_by [] a ps p at h = absurd cc
-held_by (o ∷ out) zero ps p at h = let is : o ≡ Some ps = ap (λ x. unwrap_or x o) at in ap (λ b. b || list_any (has p) out) (ap (has p) is ∙ in_any p ps h)
-held_by (o ∷ out) (suc a) ps p at h = ap (λ b. has p o || b) (held_by out a ps p at h) ∙ or_true (has p o)
+held_by (o ∷ out) zero ps p at h = let is : o ≡ Some ps = ap (λ x. unwrap_or x o) at in or_left _ (list_any (has p) out) (ap (has p) is ∙ in_any p ps h)
+held_by (o ∷ out) (suc a) ps p at h = or_right (has p o) _ (held_by out a ps p at h)
 
 -- what is held, a lease has
 pub holder : (out : Leases) (p : Instance) → is_held out p ≡ true → (a : ℕ) × (ps : List Instance) × Has out a ps × In ps p
 unfolding is_held
 holder [] p e = absurd cc
 holder (None ∷ out) p e = let rest = holder out p e in (suc rest.0, rest.1, rest.2, rest.3)
-holder (Some ps ∷ out) p e = elim (either (has p (Some ps)) (list_any (has p) out) e) [
+holder (Some ps ∷ out) p e = elim (or_cases (has p (Some ps)) (list_any (has p) out) e) [
   | inl here ↦ (0, ps, refl, any_in p ps here)
   | inr later ↦ let rest = holder out p later in (suc rest.0, rest.1, rest.2, rest.3)
 ]

@@ -29,14 +29,6 @@ pub cmp-append : (p q r : List (List ℕ)) → path_cmp (p ++ q) (p ++ r) ≡ pa
 cmp-append [] q r = refl
 cmp-append (n ∷ p) q r = ap (λ o. ordering_then o (path_cmp (p ++ q) (p ++ r))) (tied_itself nat_list_cmp_total n) ∙ cmp-append p q r
 
--- nothing below a path is before it
-not_before : (p q : List (List ℕ)) → is_lt (path_cmp (p ++ q) p) ≡ false
-not_before p q = ap (λ x. is_lt (path_cmp (p ++ q) x)) (sym (append-nil p)) ∙ ap is_lt (cmp-append p q []) ∙ by_rest q
-  where
-    by_rest : (q : List (List ℕ)) → is_lt (path_cmp q []) ≡ false
-    by_rest [] = refl
-    by_rest (n ∷ q) = refl
-
 -- what is between a path and one below it is below it
 pub between : (p a q : List (List ℕ)) → is_lt (path_cmp a p) ≡ false → path_cmp a (p ++ q) ≡ Less → is_within p a ≡ true
 between [] a q from lt = refl

@@ -14,7 +14,7 @@ use Rattle.llb_cache.specs.Key.{same_key}
 use Rattle.llb_cache.specs.LawsOfKeys.{same_keys, key_itself}
 use Rattle.llb_cache.specs.Caches.{Row, Taken, trees_of, with_trees, put, made, made_all, AreFew}
 use Rattle.llb_cache.specs.FirstRows.{set_trees}
-use Rattle.llb_cache.specs.LawsOfFirstRows.{first_placed, first_trees, written_first}
+use Rattle.llb_cache.proofs.FirstRows.{first_placed, first_trees, written_first}
 
 -- ---- a write at the place of a key
 

@@ -1,7 +1,8 @@
 -- The test of a path against a pattern decides whether it matches.
 use Rattle.std.specs.Prelude.{◌≡◌, ◌↔◌, ℕ, zero, suc, Bool, true, false, ◌&&◌, ◌||◌, List, [], ◌∷◌, drop, IsTrue}
+use Rattle.std.specs.Cmp.{both_ways}
 use Rattle.std.specs.List.{list_any}
-use Rattle.std.proofs.Common.{refl, sym, inl, inr, eqb-true, eq-eqb, leb-true, le-leb}
+use Rattle.std.proofs.Common.{refl, inl, inr, eqb-true, eq-eqb, leb-true, le-leb}
 use Rattle.std.proofs.lemmas.Bool.Decides.{Decides-or, Decides-not}
 use Rattle.std.proofs.lemmas.Bool.{and_parts, and_from, or_cases, or_left, or_right, false≢true}
 use Rattle.std.specs.Str.{chars}
@@ -78,17 +79,12 @@ path_matches-tells [] (name ∷ path) = (λ e. absurd (false≢true e), λ h. ab
 path_matches-tells (part ∷ parts) [] = (λ e. absurd (false≢true e), λ h. absurd h)
 path_matches-tells (part ∷ parts) (name ∷ path) = both _ _ _ _ (name_matches-tells part (chars name)) (path_matches-tells parts path)
 
-same : (a b : Bool) → (IsTrue a → IsTrue b) → (IsTrue b → IsTrue a) → a ≡ b
-same true b there back = sym (there refl)
-same false true there back = back refl
-same false false there back = refl
-
 -- whatever decides whether a path matches is the test
 pub is_the_test : (b : Bool) (parts : List (List Item)) (path : List (List ℕ)) → (IsTrue b ↔ Matches parts path) → b ≡ path_matches parts path
-is_the_test b parts path tells = same b (path_matches parts path) (λ e. (path_matches-tells parts path).1 (tells.0 e))
+is_the_test b parts path tells = both_ways b (path_matches parts path) (λ e. (path_matches-tells parts path).1 (tells.0 e))
     (λ e. tells.1 ((path_matches-tells parts path).0 e))
 
 -- whatever decides whether a name matches is the test of a name
 pub is_the_name_test : (b : Bool) (items : List Item) (name : List ℕ) → (IsTrue b ↔ MatchesName items name) → b ≡ name_matches items name
-is_the_name_test b items name tells = same b (name_matches items name) (λ e. (name_matches-tells items name).1 (tells.0 e))
+is_the_name_test b items name tells = both_ways b (name_matches items name) (λ e. (name_matches-tells items name).1 (tells.0 e))
     (λ e. tells.1 ((name_matches-tells items name).0 e))

@@ -60,12 +60,6 @@ first_placed k es i e = elim (first_or_none k es) [
   | inr f ↦ subst (IsFirst k es) (ap (λ o. unwrap_or o i) (sym (place_first k es f.0 f.1) ∙ e)) f.1
 ]
 
-pub absent_placed : (k : Key) (es : List Row) → position (same_key k) (keys_of es) ≡ None → IsAbsent k es
-absent_placed k es e = elim (first_or_none k es) [
-  | inl none ↦ none
-  | inr f ↦ absurd (none_is_some (sym e ∙ place_first k es f.0 f.1))
-]
-
 -- ---- the trees of the key
 
 pub first_trees : (k : Key) (es : List Row) (i : ℕ) → IsFirst k es i → lookup (same_key k) es ≡ slice_get (values_of es) i
@@ -86,12 +80,6 @@ pub absent_found : (k : Key) (es : List Row) → is_some (lookup (same_key k) es
 absent_found k es e = elim (first_or_none k es) [
   | inl none ↦ none
   | inr f ↦ absurd (true≢false (sym (first_found k es f.0 f.1) ∙ e))
-]
-
-pub placed_found : (k : Key) (es : List Row) → is_some (position (same_key k) (keys_of es)) ≡ is_some (lookup (same_key k) es)
-placed_found k es = elim (first_or_none k es) [
-  | inl none ↦ ap is_some (place_absent k es none) ∙ sym (ap is_some (absent_trees k es none))
-  | inr f ↦ ap is_some (place_first k es f.0 f.1) ∙ sym (first_found k es f.0 f.1)
 ]
 
 -- ---- a write of its trees

@@ -3,18 +3,16 @@ use Rattle.std.proofs.Common.{◌≡◌, ℕ, Bool, true, false, cond, List, [],
 use Rattle.std.proofs.Common.{sym, ap, subst, ◌∙◌, true≢false, arith, length-append}
 use Rattle.std.proofs.lemmas.List.{drop_at, append-nil}
 use Rattle.std.proofs.lemmas.List.Elements.{All-drop}
-use Rattle.std.specs.declared.cmp.Ordering.TheVariants.{Less, Equal, Greater}
-use Rattle.std.specs.declared.cmp.Ordering.{Ordering}
 use Rattle.llb_tree.specs.Meta.{MetaValue}
 use Rattle.std.specs.Ordering.{is_eq, eq_by_cmp}
 use Rattle.std.specs.List.{All}
 use Rattle.std.specs.FinMap as finite
 use Rattle.std.specs.FinMap.Entries.{where_key}
 use Rattle.llb_tree.specs.Path.{is_name, path_cmp, is_within, IsPath}
-use Rattle.llb_tree.specs.PathOrder.{path_cmp-IsTotalOrder, path_cmp-IsAntisymmetric}
+use Rattle.llb_tree.specs.PathOrder.{path_cmp-IsTotalOrder, same_path}
 use Rattle.llb_tree.specs.Tree.{Entry, Dir, File, Look, TreeMap, parents, all_dirs, walk, moved, tree_at, subtree, dir_there, IsTree}
 use Rattle.llb_wire.specs.Answer.{◌>>=◌}
-use Rattle.llb_tree.specs.Within.{within_split, within-append, cmp-append}
+use Rattle.llb_tree.proofs.Within.{within_split, within-append, cmp-append}
 
 pub map-map : {A B C : Type 0} (g : B → C) (f : A → B) (xs : List A) → map g (map f xs) ≡ map (λ x. g (f x)) xs
 map-map g f [] = refl
@@ -47,14 +45,9 @@ find_inside p q (e ∷ es) = by_test (is_within p e.0) refl (find_inside p q es)
         λ i. cond (ties i) (Some e.1) (rest i)
     by_test false is rest = rest ∙ sym (by_tie (eq_by_cmp path_cmp (p ++ q) e.0) refl)
       where
-        tied : (o : Ordering) → is_eq o ≡ true → o ≡ Equal
-        tied Less t = absurd (true≢false (sym t))
-        tied Equal t = refl
-        tied Greater t = absurd (true≢false (sym t))
-
         by_tie : (t : Bool) → eq_by_cmp path_cmp (p ++ q) e.0 ≡ t → cond t (Some e.1) (finite.find path_cmp (p ++ q) es) ≡ finite.find path_cmp (p ++ q) es
         by_tie false t = refl
-        by_tie true t = absurd (true≢false (sym (within-append p q) ∙ ap (is_within p) (path_cmp-IsAntisymmetric (p ++ q) e.0 (tied _ t)) ∙ is))
+        by_tie true t = absurd (true≢false (sym (within-append p q) ∙ ap (is_within p) (same_path (p ++ q) e.0 t) ∙ is))
 
 pub get-tree_at : (t : TreeMap) (p q : List (List ℕ)) → finite.get (tree_at t p) q ≡ finite.get t (p ++ q)
 get-tree_at t p q = finite.get-from_entries path_cmp-IsTotalOrder (inside p (finite.entries t)) q ∙ find_inside p q (finite.entries t)

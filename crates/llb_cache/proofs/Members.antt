@@ -1,7 +1,7 @@
 -- Members of lists by recursion, and that numbers below a bound that are all in a list are no more than its items.
 use Rattle.std.proofs.Common.{◌≡◌, ◌≢◌, ℕ, zero, suc, ◌+◌, ◌<◌, ◌≤◌, Bool, true, false, cond, List, [], ◌∷◌, length, map, get_or, eqb, refl}
 use Rattle.std.proofs.Common.{sym, ◌∙◌, subst, arith, inl, inr, ◌⊎◌}
-use Rattle.std.specs.List.{Contains, AllPairs, AllByRecursion}
+use Rattle.std.specs.List.{Contains, AllPairs}
 use Rattle.std.proofs.lemmas.Bool.{eqb-true, eq-eqb}
 use Rattle.std.proofs.lemmas.List.Elements.{Contains-get_or}
 
@@ -19,11 +19,6 @@ pub contained_in : {A : Type 0} (xs : List A) (y : A) → In xs y → Contains x
 contained_in [] y h = absurd h
 contained_in (x ∷ xs) y (inl is) = (0, omega arith, sym is)
 contained_in (x ∷ xs) y (inr h) = let rest = contained_in xs y h in (suc rest.0, (let below = rest.1 in omega (arith, below)), rest.2)
-
-pub holds_in : {A : Type 0} (P : A → Type 0) (xs : List A) (y : A) → AllByRecursion P xs → In xs y → P y
-holds_in P [] y all h = absurd h
-holds_in P (x ∷ xs) y all (inl is) = subst P (sym is) all.0
-holds_in P (x ∷ xs) y all (inr h) = holds_in P xs y all.1 h
 
 -- each of a list is apart from those after it
 pub pairs_head : {A : Type 0} (R : A → A → Type 0) (x : A) (xs : List A) → AllPairs R (x ∷ xs) → (y : A) → In xs y → R x y

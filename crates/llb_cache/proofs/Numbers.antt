@@ -2,6 +2,7 @@
 use Rattle.std.proofs.Common.{◌≡◌, ◌≢◌, ℕ, zero, suc, ◌+◌, ◌<◌, ◌≤◌, Bool, true, false, cond, ◌&&◌, List, [], ◌∷◌, length, Option, Some}
 use Rattle.std.proofs.Common.{None, is_some, refl, sym, ap, ◌∙◌, arith, inl, inr, ◌⊎◌, true≢false}
 use Rattle.std.specs.List.{AllPairs}
+use Rattle.std.proofs.lemmas.Bool.{false_from_ne_true}
 use Rattle.std.proofs.lemmas.List.Elements.{All-contains}
 use Rattle.std.proofs.lemmas.List.Sums.{sum_by-cons}
 use native.Mathlib.Decide.{dec_lt}
@@ -12,8 +13,8 @@ use Rattle.llb_cache.specs.declared.need.Instance.{Instance}
 use Rattle.llb_cache.specs.Key.{same_key}
 use Rattle.llb_cache.specs.LawsOfKeys.{same_keys, key_itself}
 use Rattle.llb_cache.specs.Caches.{Row, Leases, place, is_held, leases, first_free, number_for, is_locked, IsExclusive, Has, AreApart, AreThere, trees_of}
-use Rattle.llb_cache.specs.Members.{In, contained_in, pairs_head, pairs_tail, no_fewer}
-use Rattle.llb_cache.specs.Leased.{holder}
+use Rattle.llb_cache.proofs.Members.{In, contained_in, pairs_head, pairs_tail, no_fewer}
+use Rattle.llb_cache.proofs.Leased.{holder}
 
 -- ---- each lease has one instance of a key at most
 
@@ -97,16 +98,12 @@ least out key n (suc more) = go (is_held out (place key n)) refl (least out key 
     }
     go false is rest = record { within = omega arith; below = λ k from to. absurd (omega (arith, from, to)); free = λ _. is }
 
-not_held : (b : Bool) → (b ≡ true → ⊥) → b ≡ false
-not_held true never = absurd (never refl)
-not_held false never = refl
-
 -- no lease has the private instance that is chosen for a key
 private_free : (out : Leases) (key : Key) → AreApart out → is_held out (place key (first_free out key 0 (leases out))) ≡ false
 private_free out key apart = go (first_free out key 0 (leases out)) (least out key 0 (leases out))
   where
     go : (r : ℕ) → Least out key 0 (leases out) r → is_held out (place key r) ≡ false
-    go r l = not_held (is_held out (place key r)) (λ is.
+    go r l = false_from_ne_true (is_held out (place key r)) (λ is.
         let all = held_below key out (r + 1) apart (λ k below. elim (at_or_past k r (omega (arith, below))) [
           | inl same ↦ ap (λ m. is_held out (place key m)) same ∙ is
           | inr before ↦ l.below k (omega arith) (omega (arith, before))

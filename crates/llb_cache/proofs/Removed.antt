@@ -10,9 +10,9 @@ use Rattle.llb_cache.specs.declared.need.Instance.{Instance}
 use Rattle.llb_cache.specs.Key.{same_key}
 use Rattle.llb_cache.specs.LawsOfKeys.{key_itself}
 use Rattle.llb_cache.specs.Caches.{Row, trees_of, with_trees, made}
-use Rattle.llb_cache.specs.LawsOfFirstRows.{absent_found, written_absent}
+use Rattle.llb_cache.proofs.FirstRows.{absent_found, written_absent}
 use Rattle.llb_cache.specs.Growth.{front, growth_by, growth_at, shorter, unmade_one}
-use Rattle.llb_cache.specs.Rows.{found_again, found_before}
+use Rattle.llb_cache.proofs.TreesOfKeys.{found_again, found_before}
 
 front_pushed : {A : Type 0} (xs : List A) (x : A) → front (xs ++ x ∷ []) ≡ xs
 front_pushed xs x =

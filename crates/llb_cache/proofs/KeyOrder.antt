@@ -1,11 +1,11 @@
 -- The order of keys is a total order, and two keys are at one position of it if they are one.
-use Rattle.std.specs.Prelude.{◌≡◌, Bool, true, false, Option, Some, None}
+use Rattle.std.specs.Prelude.{◌≡◌, Option, Some, None}
 use Rattle.std.proofs.Common.{refl, sym, ap, ◌∙◌}
 use Rattle.std.specs.declared.cmp.Ordering.{Ordering}
 use Rattle.std.specs.declared.cmp.Ordering.TheVariants.{Less, Equal, Greater}
 use Rattle.std.specs.Ordering.{ordering_then, nat_cmp, is_eq}
 use Rattle.std.specs.Option.{option_cmp}
-use Rattle.std.specs.Cmp.{IsTotalOrder, on_total, then_total, nat_cmp_total, eq_by_cmp_equiv}
+use Rattle.std.specs.Cmp.{IsTotalOrder, Equal-is, both_ways, on_total, then_total, nat_cmp_total, eq_by_cmp_equiv}
 use Rattle.std.specs.Cmp.Lexicographic.{slice_cmp, nat_list_cmp_total, options_total}
 use Rattle.std.specs.FinMap.{IsAntisymmetric, slice_cmp-IsAntisymmetric, nat_cmp-IsAntisymmetric}
 use Rattle.llb_cache.specs.Key.{same_key}
@@ -68,20 +68,9 @@ keys_tie a b e =
     let seed = seeds_same a.seed b.seed parts.1 in
     λ i. record { id = id i; seed = seed i; mode = mode i }
 
-is_equal : (o : Ordering) → is_eq o ≡ true → o ≡ Equal
-is_equal Equal e = refl
-is_equal Less e = absurd cc
-is_equal Greater e = absurd cc
-
-either_way : (a b : Bool) → (a ≡ true → b ≡ true) → (b ≡ true → a ≡ true) → a ≡ b
-either_way true true f g = refl
-either_way true false f g = sym (f refl)
-either_way false true f g = g refl
-either_way false false f g = refl
-
 -- two keys are at one position in the order if they are one
 pub tie_is_same : (k l : Key) → is_eq (key_cmp k l) ≡ same_key k l
 tie_is_same k l =
-    either_way (is_eq (key_cmp k l)) (same_key k l)
-    (λ e. let same = keys_tie k l (is_equal (key_cmp k l) e) in ap (same_key k) (sym same) ∙ key_itself k)
+    both_ways (is_eq (key_cmp k l)) (same_key k l)
+    (λ e. let same = keys_tie k l ((Equal-is (key_cmp k l)).0 e) in ap (same_key k) (sym same) ∙ key_itself k)
     (λ e. ap (λ m. is_eq (key_cmp k m)) (sym (same_keys k l e)) ∙ (eq_by_cmp_equiv key_cmp-IsTotalOrder).refl k)

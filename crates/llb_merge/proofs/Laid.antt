@@ -1,4 +1,4 @@
--- Laws of the laying, for whoever rests on it: the entry at each path, that it is a tree, and what the empty tree does.
+-- What a laying has at each path, that it is a tree, and what the empty tree and a tree itself do in it.
 use Rattle.std.proofs.Common.{◌≡◌, ℕ, Bool, true, false, not, cond, ◌||◌, List, [], ◌∷◌, ◌++◌, map}
 use Rattle.std.proofs.Common.{Option, Some, None, IsSome, is_some, Ok, refl, sym, ap, ◌∙◌, true≢false}
 use Rattle.std.specs.Prelude.{unwrap_or}
@@ -11,7 +11,8 @@ use Rattle.llb_tree.specs.Path.{path_cmp}
 use Rattle.llb_tree.specs.PathOrder.{path_cmp-IsTotalOrder, path_cmp-IsAntisymmetric}
 use Rattle.llb_tree.specs.Tree.{Entry, Dir, File, TreeMap, Look, parents, all_dirs, walk, IsDirAt, IsAllowedAt, IsTree, empty_tree}
 use Rattle.llb_tree.specs.Overlay.{WayValue, way_of, laid_over, over_at}
-use Rattle.llb_tree.specs.Inside.{map-map, walk-cons}
+use Rattle.llb_tree.proofs.Inside.{map-map, walk-cons}
+use Rattle.llb_tree.proofs.Closed.{walk_more}
 use Rattle.llb_merge.specs.Laying.{is_file, below_file, or_else, lay_at, lay}
 
 -- a path, and the entry at it
@@ -74,20 +75,6 @@ over_is_lay w is a b t over = lay_only a b t (λ q.
 
 pub below_file-cons : (look : Look) (n : List ℕ) (p : List (List ℕ)) → below_file look (n ∷ p) ≡ (is_file (look []) || below_file (λ q. look (n ∷ q)) p)
 below_file-cons look n p = ap (λ ys. list_any is_file (look [] ∷ ys)) (map-map look (λ q. n ∷ q) (parents p))
-
--- a walk that one tree lets through goes through any tree with directories where that has some
-walk_more : (f g : Look) → ((r : List (List ℕ)) → IsDirAt f r → IsDirAt g r) → (p : List (List ℕ)) → walk f p ≡ Ok tt → walk g p ≡ Ok tt
-walk_more f g more [] walks = refl
-walk_more f g more (n ∷ p) walks =
-    by_root (f []) refl (sym (walk-cons f n p) ∙ walks) (walk_more (λ q. f (n ∷ q)) (λ q. g (n ∷ q)) (λ r. more (n ∷ r)) p)
-  where
-    by_root : (e : Option Entry) → f [] ≡ e → all_dirs (e ∷ map (λ q. f (n ∷ q)) (parents p)) ≡ Ok tt
-        → (walk (λ q. f (n ∷ q)) p ≡ Ok tt → walk (λ q. g (n ∷ q)) p ≡ Ok tt) → walk g (n ∷ p) ≡ Ok tt
-    by_root None is walks rest = absurd cc
-    by_root (Some (File m b)) is walks rest = absurd cc
-    by_root (Some (Dir m)) is walks rest =
-        let own = more [] (m, is) in
-        walk-cons g n p ∙ ap (λ e. all_dirs (e ∷ map (λ q. g (n ∷ q)) (parents p))) own.1 ∙ rest walks
 
 -- what can be walked to in the lower tree can be walked to in both, if no file of the upper one is above it
 walk_both : (f g : Look) (p : List (List ℕ)) → walk f p ≡ Ok tt → below_file g p ≡ false → walk (lay_at f g) p ≡ Ok tt
