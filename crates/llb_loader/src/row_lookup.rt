@@ -1,5 +1,5 @@
 //! Which rows are distinct, and which row a digest text names. Look-ups by digest go through an index in the order of the texts, so
-//! that no choice of entries makes them slow; the terminal's own digest names nothing.
+//! that no choice of entries makes them slow; where a guess is right, there is none. The terminal's own digest names nothing.
 
 ghost use Rattle.std.specs.Prelude.{◌≡◌, ◌<◌, ◌≤◌, ◌↔◌, ℕ, false, length, map, IfOk, IfErr, OnOk, IsTrue, Some};
 ghost use Rattle.std.specs.List.{filter_map};
@@ -37,8 +37,8 @@ fn same(digest: &Text, other: &Text, bytes: &Bytes, others: &Bytes) -> bool
     digest.same(other) && bytes.same(others)
 }
 
-// Returns the first row of each digest text, and for each row the first one with its digest text. Fails with 84 `Collision` at the first row that has an earlier row's
-// digest and another entry, or with 91 `Memory`.
+// Returns the first row of each digest text, and for each row the first one with its digest text. Fails with 84
+// `Collision` at the first row that has an earlier row's digest and another entry, or with 91 `Memory`.
 pub(crate) fn index_of<'a>(
     alloc: Global,
     rows: &'a [Row],
@@ -145,8 +145,8 @@ fn row_near(
     if row == terminal { None } else { Some(row) }
 }
 
-// Returns the rows that the op's inputs name. The guess for the first of them is given; for each other one it is the row
-// after the one that the input before it names.
+// Returns the rows that the op's inputs name. The guess for the first of them is given; after an input that names a row,
+// it is the row after that one.
 fn rows_named_by(
     alloc: Global,
     rows: &[Row],
@@ -171,7 +171,7 @@ fn rows_named_by(
     Ok(named)
 }
 
-// Returns the rows that each row names. Most definitions have an entry right after its first input.
+// Returns the rows that each row names. The guess is the row before: many entries stand right after their first input.
 pub(crate) fn links_of(
     alloc: Global,
     rows: &[Row],
