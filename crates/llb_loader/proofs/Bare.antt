@@ -18,7 +18,7 @@ use Rattle.llb_loader.specs.declared.row.Row.{Row}
 use Rattle.llb_loader.specs.declared.fault.LoadFault.{LoadFault}
 use Rattle.llb_loader.specs.declared.fault.LoadFault.TheVariants as fault
 use Rattle.llb_loader.specs.Faults.{is_memory, row_fault}
-use Rattle.llb_loader.specs.RowLookup.{row_at, AllSame, Collides, first_with, other_than, terminal_in, row_named, rows_named, graph_of}
+use Rattle.llb_loader.specs.RowLookup.{row_at, AllSame, AreFirsts, Collides, first_with, other_than, terminal_in, row_named, rows_named, graph_of}
 use Rattle.llb_loader.specs.Bare.{with_bytes, AreBare, bared, bytes_of, titles_from, AreRead, RefusesEntry}
 use Rattle.llb_loader.specs.Load.{rows_from}
 use Rattle.llb_loader.specs.Reading.{AreOps, RefusesRow}
@@ -236,3 +236,27 @@ entry_fault k op.WrongWireType m = (refl, refl)
 entry_fault k op.NotUtf8 m = (refl, refl)
 entry_fault k op.OverLimit m = (refl, refl)
 entry_fault k op.Memory m = absurd (let x : true ≡ false = m in cc)
+
+-- ---- the first row with the digest text of each
+
+-- the first of the rows up to n is the first of all
+pub first_of_all : (rows : List Row) (n k : ℕ) (d : List ℕ) → n ≤ length rows → IsFirst rows n d (Some k) → IsFirst rows (length rows) d (Some k)
+first_of_all rows n k d h f = (let l = f.0 in omega (arith, h, l), f.1, f.2)
+
+-- with the first row for the next one, there is one more
+pub firsts_push : (rows : List Row) (firsts : List ℕ) (n k : ℕ) → length firsts ≡ n
+    → ((j : ℕ) → j < n → IsFirst rows (length rows) (row_at rows j).digest (Some (get_or firsts j 0)))
+    → IsFirst rows (length rows) (row_at rows n).digest (Some k)
+    → (j : ℕ) → j < n + 1 → IsFirst rows (length rows) (row_at rows j).digest (Some (get_or (firsts ++ k ∷ []) j 0))
+firsts_push rows firsts n k len old new =
+    below_step (λ j. IsFirst rows (length rows) (row_at rows j).digest (Some (get_or (firsts ++ k ∷ []) j 0))) n
+    (λ j l. subst (λ (m : ℕ). IsFirst rows (length rows) (row_at rows j).digest (Some m)) (sym (get_or_append_left firsts (k ∷ []) 0 j (omega (arith, l, len))))
+    (old j l))
+    (subst (λ (m : ℕ). IsFirst rows (length rows) (row_at rows n).digest (Some m)) (sym (get_or_push firsts k 0 n len)) new)
+
+pub are_firsts : (rows : List Row) (firsts : List ℕ) (n : ℕ) → n ≡ length rows → length firsts ≡ n
+    → ((j : ℕ) → j < n → IsFirst rows (length rows) (row_at rows j).digest (Some (get_or firsts j 0))) → AreFirsts rows firsts
+are_firsts rows firsts n same len firsts_are = record {
+  len = len ∙ same;
+  each = λ k h. sym (first_is rows (row_at rows k).digest (Some (get_or firsts k 0)) (firsts_are k (omega (arith, h, same))));
+}

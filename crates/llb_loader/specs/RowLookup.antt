@@ -63,6 +63,11 @@ graph_of rows t ops = map (rows_named rows t) ops
 abbrev pub IsIndex : List Row → BTreeMap (Bor (List ℕ)) ℕ → Type 0
 IsIndex rows index = (d : List ℕ) → get_by (λ q. slice_cmp nat_cmp d q.now) index ≡ first_with rows d
 
+-- for each row, the first one with its digest text
+pub record AreFirsts (rows : List Row) (firsts : List ℕ) : Type 0 where
+  pub len : length firsts ≡ length rows
+  pub each : (k : ℕ) → k < length rows → first_with rows (row_at rows k).digest ≡ Some (slice_index_or firsts k 0)
+
 -- the least row that collides
 abbrev pub RefusesCollision : List Row → LoadFault → Type 0
 RefusesCollision rows e = (k : ℕ) × (e ≡ Collision k) × Least (Collides rows) k

@@ -4,7 +4,7 @@ ghost use Rattle.std.specs.Prelude.{◌≡◌, ◌<◌, ◌≤◌, true, false, 
 ghost use Rattle.std.specs.List.{All};
 ghost use Rattle.llb_ops.specs.Within.{IsWithinLimits};
 ghost use Rattle.llb_loader.specs.Faults.{is_memory};
-ghost use Rattle.llb_loader.specs.RowLookup.{IsIndex};
+ghost use Rattle.llb_loader.specs.RowLookup.{AreFirsts, IsIndex};
 ghost use Rattle.llb_loader.specs.Bare.{AreBare, bared, bytes_of, with_bytes};
 ghost use Rattle.llb_loader.specs.Linking.{IsApart, IsWhole, Refused, GraphOf};
 ghost use Rattle.llb_loader.specs.Link.{IsGraphOf, IsRefusalOf};
@@ -123,12 +123,14 @@ impl Names {
         alloc: Global,
         rows: &[Row],
         index: &BTreeMap<&str, usize>,
+        firsts: &[usize],
         ops: &[Op],
     ) -> Result<Names, LoadFault>
         requires few { length rows.now ≤ 65_536 }
         requires len { length ops.now ≡ length rows.now }
         requires within { All IsWithinLimits ops.now }
         requires index { IsIndex rows.now index.now }
+        requires firsts { AreFirsts rows.now firsts.now }
         requires apart { IsApart rows.now }
         requires some { 0 < length rows.now }
         ensures names { IfOk result (λ names. AreNames rows.now ops.now names) }
@@ -136,7 +138,7 @@ impl Names {
     {
         let terminal = terminal_of(rows, index);
         let start = start_of(rows, index, terminal, &ops[terminal])?;
-        let links = links_of(alloc, rows, index, terminal, ops)?;
+        let links = links_of(alloc, rows, index, firsts, terminal, ops)?;
         let seen = reached(alloc, &links, start)?;
         check_names(rows, index, terminal, ops, &links, &seen)?;
         Ok(Names {
@@ -167,7 +169,7 @@ impl Linked {
             return Err(LoadFault::TooFew);
         }
         let index = found?;
-        let names = Names::of(alloc, titles, &index, ops.as_slice())?;
+        let names = Names::of(alloc, titles, &index.0, index.1.as_slice(), ops.as_slice())?;
         drop(index);
         Ok(Linked {
             rows,

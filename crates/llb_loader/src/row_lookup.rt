@@ -1,10 +1,10 @@
 //! Which rows are distinct, and which row a digest text names. Look-ups by digest go through an index in the order of the texts, so
-//! that no choice of entries makes them slow; the terminal's own digest names nothing.
+//! that no choice of entries makes them slow; where a guess is right, there is none. The terminal's own digest names nothing.
 
 ghost use Rattle.std.specs.Prelude.{◌≡◌, ◌<◌, ◌≤◌, ◌↔◌, ℕ, false, length, map, IfOk, IfErr, OnOk, IsTrue, Some};
 ghost use Rattle.std.specs.List.{filter_map};
 ghost use Rattle.llb_loader.specs.Faults.{is_memory};
-ghost use Rattle.llb_loader.specs.RowLookup.{AllSame, Collides, IsIndex, IsTerminal, terminal_in, row_named, rows_named, graph_of, RefusesCollision};
+ghost use Rattle.llb_loader.specs.RowLookup.{AllSame, AreFirsts, Collides, IsIndex, IsTerminal, terminal_in, row_named, rows_named, graph_of, RefusesCollision};
 ghost use Rattle.llb_loader.specs.Bare.{with_bytes};
 ghost use Rattle.llb_loader.specs.Rows.{lists};
 ghost use Rattle.llb_loader.specs.Linking.{input_at};
@@ -37,23 +37,26 @@ fn same(digest: &Text, other: &Text, bytes: &Bytes, others: &Bytes) -> bool
     digest.same(other) && bytes.same(others)
 }
 
-// Returns the first row of each digest text. Fails with 84 `Collision` at the first row that has an earlier row's
-// digest and another entry, or with 91 `Memory`.
+// Returns the first row of each digest text, and for each row the first one with its digest text. Fails with 84
+// `Collision` at the first row that has an earlier row's digest and another entry, or with 91 `Memory`.
 pub(crate) fn index_of<'a>(
     alloc: Global,
     rows: &'a [Row],
     entries: &[Bytes],
-) -> Result<BTreeMap<&'a str, usize>, LoadFault>
+) -> Result<(BTreeMap<&'a str, usize>, Vec<usize>), LoadFault>
     requires few { length rows.now ≤ 65_536 }
     requires len { length entries.now ≡ length rows.now }
-    ensures index { IfOk result (λ index. IsIndex rows.now index) }
-    ensures apart { IfOk result (λ index. (k : ℕ) → ¬ Collides (with_bytes rows.now entries.now) k) }
+    ensures index { IfOk result (λ found. IsIndex rows.now found.0) }
+    ensures firsts { IfOk result (λ found. AreFirsts rows.now found.1.items) }
+    ensures apart { IfOk result (λ found. (k : ℕ) → ¬ Collides (with_bytes rows.now entries.now) k) }
     ensures refused { IfErr result (λ e. is_memory e ≡ false → RefusesCollision (with_bytes rows.now entries.now) e) }
 {
     let mut index: BTreeMap<&'a str, usize> = BTreeMap::new(alloc);
+    let mut firsts = Vec::with_capacity(alloc, rows.len())?;
     for k in 0..rows.len() {
         let digest = rows[k].digest.as_str();
         let Some(first) = index.insert(digest, k)? else {
+            firsts.push(k)?;
             continue;
         };
         if !entries[first].same(&entries[k]) {
@@ -61,8 +64,9 @@ pub(crate) fn index_of<'a>(
         }
         // Puts back what was there.
         index.insert(digest, first)?;
+        firsts.push(first)?;
     }
-    Ok(index)
+    Ok((index, firsts))
 }
 
 /// Returns the terminal: the first row with the last row's digest text.
@@ -118,40 +122,73 @@ pub(crate) fn start_of(
     }
 }
 
-/// Returns the rows that the op's inputs name.
-pub(crate) fn rows_named_by(
+// Returns the row that a digest text names, if it names one. A guess saves the look-up if the row there has the digest.
+fn row_near(
+    rows: &[Row],
+    index: &BTreeMap<&str, usize>,
+    firsts: &[usize],
+    terminal: usize,
+    digest: &Text,
+    guess: usize,
+) -> Option<usize>
+    requires index { IsIndex rows.now index.now }
+    requires firsts { AreFirsts rows.now firsts.now }
+    ensures { result ≡ row_named rows.now terminal digest.now }
+{
+    if guess >= rows.len() {
+        return row_of(rows, index, terminal, digest);
+    }
+    if !rows[guess].digest.same(digest) {
+        return row_of(rows, index, terminal, digest);
+    }
+    let row = firsts[guess];
+    if row == terminal { None } else { Some(row) }
+}
+
+// Returns the rows that the op's inputs name. The guess for the first of them is given; after an input that names a row,
+// it is the row after that one.
+fn rows_named_by(
     alloc: Global,
     rows: &[Row],
     index: &BTreeMap<&str, usize>,
+    firsts: &[usize],
     terminal: usize,
     op: &Op,
+    guess: usize,
 ) -> Result<Vec<usize>, AllocError>
-    requires { IsIndex rows.now index.now }
+    requires index { IsIndex rows.now index.now }
+    requires firsts { AreFirsts rows.now firsts.now }
     ensures { IfOk result (λ named. named.items ≡ rows_named rows.now terminal op.now) }
 {
     let mut named = Vec::with_capacity(alloc, op.inputs.len())?;
+    let mut near = guess;
     for input in op.inputs.as_slice() {
-        if let Some(row) = row_of(rows, index, terminal, &input.digest) {
+        if let Some(row) = row_near(rows, index, firsts, terminal, &input.digest, near) {
             named.push(row)?;
+            near = row.wrapping_add(1);
         }
     }
     Ok(named)
 }
 
-/// Returns the rows that each row names.
+// Returns the rows that each row names. The guess is the row before: many entries stand right after their first input.
 pub(crate) fn links_of(
     alloc: Global,
     rows: &[Row],
     index: &BTreeMap<&str, usize>,
+    firsts: &[usize],
     terminal: usize,
     ops: &[Op],
 ) -> Result<Vec<Vec<usize>>, AllocError>
-    requires { IsIndex rows.now index.now }
+    requires index { IsIndex rows.now index.now }
+    requires firsts { AreFirsts rows.now firsts.now }
     ensures { IfOk result (λ links. lists links.items ≡ graph_of rows.now terminal ops.now) }
 {
     let mut links = Vec::with_capacity(alloc, ops.len())?;
+    let mut before = 0;
     for op in ops {
-        links.push(rows_named_by(alloc, rows, index, terminal, op)?)?;
+        links.push(rows_named_by(alloc, rows, index, firsts, terminal, op, before)?)?;
+        before = links.len() - 1;
     }
     Ok(links)
 }

@@ -54,7 +54,8 @@ loop-row-preserved c =
     (let e = c.loop-row.invariant.ops_len in omega (arith, low, e)) in
     let op : op_at c.args.ops.items (get_or c.args.order.now c.loop-row.row-index 0) ≡ c.replace-op.result =
     sym (c.loop-row.invariant.kept c.loop-row.row-index (omega arith) c.loop-row-test.true)
-    ∙ op_read c.loop-row.ops.items (get_or c.args.order.now c.loop-row.row-index 0) c.index_mut-in-loop-row.result.now in_ops c.index_mut-in-loop-row.ensures.value
+    ∙ op_read c.loop-row.ops.items (get_or c.args.order.now c.loop-row.row-index 0) c.index_mut-in-loop-row.result.now in_ops
+    c.index_mut-in-loop-row.ensures.value
     ∙ sym c.replace-op.ensures.value in
     let in_links : get_or c.args.order.now c.loop-row.row-index 0 < length c.args.links.now = (let e = c.requires.links in omega (arith, low, e)) in
     let named = list_at c.args.links.now (get_or c.args.order.now c.loop-row.row-index 0) c.index-links-row.result in_links c.index-links-row.is in

@@ -1,5 +1,5 @@
 use Rattle.std.proofs.Common.{rules, ◌≡◌, ℕ, ◌+◌, ◌<◌, List, [], Option, Some, None, length, get_or, refl, sym, ◌∙◌, ap, subst, arith, ◌≢◌, true, false, IsTrue}
-use Rattle.std.proofs.lemmas.List.{get_or_read}
+use Rattle.std.proofs.lemmas.List.{get_or_read, length_push}
 use Rattle.std.proofs.lemmas.Map.Text.{btree_map_updates_str}
 use Rattle.std.specs.Borrow.{Bor}
 use Rattle.std.specs.Str.{bytes_eq}
@@ -11,7 +11,7 @@ use Rattle.llb_loader.specs.declared.row.Row.{Row}
 use Rattle.llb_loader.specs.RowLookup.{row_at, Collides}
 use Rattle.llb_loader.specs.Bare.{with_bytes}
 use Rattle.llb_loader.proofs.Firsts.{IsFirst, row_read, first_update, first_again, first_is, first_below, below_step}
-use Rattle.llb_loader.proofs.Bare.{with_len, fresh_with, collides_beside, equal_with, put_back}
+use Rattle.llb_loader.proofs.Bare.{first_of_all, firsts_push, are_firsts, with_len, fresh_with, collides_beside, equal_with, put_back}
 use Rattle.llb_loader.proofs.row_lookup.index_of.Goals as goal
 
 pub loop-k-preserved-in_default : goal.loop-k-preserved-in_default
@@ -27,6 +27,16 @@ loop-k-preserved-in_default c =
           (sym (btree_map_updates_str c.as_str-digest.result.now c.loop-k.index c.insert.new.self _ c.in_ok-first.ensures.updates d))
           (subst (λ (b : List ℕ). IsFirst c.args.rows.now (c.loop-k.k + 1) d (update bytes_eq look b (Some c.loop-k.k) d)) dig
           (first_update c.args.rows.now c.loop-k.k d look none c.loop-k.invariant.found));
+      len = ap (λ (xs : List ℕ). length xs) c.in_ok-push.ensures.items
+          ∙ (let p = length_push c.loop-k.firsts.items c.loop-k.k in let l = c.loop-k.invariant.len in omega (arith, p, l));
+      firsts = subst (λ (xs : List ℕ). (j : ℕ) → j < c.loop-k.k + 1 → IsFirst c.args.rows.now (length c.args.rows.now) (row_at c.args.rows.now j).digest
+          (Some (get_or xs j 0))) (sym c.in_ok-push.ensures.items)
+          (firsts_push c.args.rows.now c.loop-k.firsts.items c.loop-k.k c.loop-k.k c.loop-k.invariant.len c.loop-k.invariant.firsts (
+            c.loop-k-test.true,
+            refl,
+            subst (λ (o : Option ℕ). IsFirst c.args.rows.now c.loop-k.k (row_at c.args.rows.now c.loop-k.k).digest o) none
+                (c.loop-k.invariant.found (row_at c.args.rows.now c.loop-k.k).digest),
+          ));
       apart = below_step (λ j. ¬ Collides (with_bytes c.args.rows.now c.args.entries.now) j) c.loop-k.k c.loop-k.invariant.apart
           (fresh_with c.args.rows.now c.args.entries.now c.requires.len c.loop-k.k
           (subst (λ (o : Option ℕ). IsFirst c.args.rows.now c.loop-k.k (row_at c.args.rows.now c.loop-k.k).digest o) none
@@ -99,6 +109,13 @@ loop-k-preserved c =
           (btree_map_updates_str c.as_str-digest.result.now c.loop-k.index c.insert.new.self _ c.in_ok-first.ensures.updates)
           (btree_map_updates_str c.as_str-digest.result.now c.insert.new.self c.insert-in-loop-k.new.self _ c.in_ok-insert.ensures.updates) d))
           (first_again c.args.rows.now c.loop-k.k c.in-Some.first d look some c.loop-k.invariant.found);
+      len = ap (λ (xs : List ℕ). length xs) c.in_ok-push-2.ensures.items
+          ∙ (let p = length_push c.loop-k.firsts.items c.in-Some.first in let l = c.loop-k.invariant.len in omega (arith, p, l));
+      firsts = subst (λ (xs : List ℕ). (j : ℕ) → j < c.loop-k.k + 1 → IsFirst c.args.rows.now (length c.args.rows.now) (row_at c.args.rows.now j).digest
+          (Some (get_or xs j 0))) (sym c.in_ok-push-2.ensures.items)
+          (firsts_push c.args.rows.now c.loop-k.firsts.items c.loop-k.k c.in-Some.first c.loop-k.invariant.len c.loop-k.invariant.firsts
+          (first_of_all c.args.rows.now c.loop-k.k c.in-Some.first (row_at c.args.rows.now c.loop-k.k).digest
+          (let h = c.loop-k-test.true in omega (arith, h)) f));
       apart = below_step (λ j. ¬ Collides (with_bytes c.args.rows.now c.args.entries.now) j) c.loop-k.k c.loop-k.invariant.apart
           (equal_with c.args.rows.now c.args.entries.now c.requires.len c.in-Some.first c.loop-k.k f same c.loop-k.invariant.apart);
     }
@@ -111,3 +128,7 @@ returns-clause-index c d = first_is c.args.rows.now d _
 pub returns-clause-apart : goal.returns-clause-apart
 returns-clause-apart c k x = c.loop-k.invariant.apart k
     (let h = x.here in let n = with_len c.args.rows.now c.args.entries.now c.requires.len in omega (arith, h, n)) x
+
+pub returns-clause-firsts : goal.returns-clause-firsts
+returns-clause-firsts c = are_firsts c.args.rows.now c.loop-k.firsts.items c.loop-k.k (let e : c.loop-k.k ≡ length c.args.rows.now = omega arith in e)
+    c.loop-k.invariant.len c.loop-k.invariant.firsts

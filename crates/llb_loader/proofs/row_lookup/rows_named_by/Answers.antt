@@ -10,13 +10,13 @@ use Rattle.llb_loader.proofs.row_lookup.rows_named_by.Goals.{in-Some+in_ok-push,
 pub loop-input-preserved : goal.loop-input-preserved
 loop-input-preserved c =
     let h = λ (i : Input). row_named c.args.rows.now c.args.terminal i.digest in
-    elim c.match-row_of.branch [
+    elim c.match-row_near.branch [
       | in-Some+in_ok-push w ↦ rw w.named-is (w.in_ok-push.ensures.items ∙ ap (λ (xs : List ℕ). xs ++ w.in-Some.row ∷ []) c.loop-input.invariant
           ∙ sym (filter_map_some h c.as_slice-input-items.result.now c.loop-input.input-index c.input-item.result w.in-Some.row
-          c.loop-input-test.true c.input-item.is (sym c.row_of.ensures ∙ w.in-Some.is)))
+          c.loop-input-test.true c.input-item.is (sym c.row_near.ensures ∙ w.in-Some.is)))
       | in_default w ↦ rw w.named-is (c.loop-input.invariant
           ∙ sym (filter_map_none h c.as_slice-input-items.result.now c.loop-input.input-index c.input-item.result c.loop-input-test.true
-          c.input-item.is (sym c.row_of.ensures ∙ w.in_default.is)))
+          c.input-item.is (sym c.row_near.ensures ∙ w.in_default.is)))
     ]
 
 pub returns : goal.returns

@@ -82,7 +82,7 @@ returns-in_err-names-clause-refused c =
       refused_rows rows (with_bytes rows es) ops (sym (with_len rows es c.requires.len))
           (λ k. with_digest rows es k c.requires.len) both.1 both.0 c.in_err-names.field-0.0
           (subst (λ (xs : List Row). Refused xs c.in_ok-ops.ops.items c.in_err-names.field-0.0) c.as_slice-titles.ensures.value
-          (subst (λ (os : List Op). Refused c.as_slice-titles.result.now os c.in_err-names.field-0.0) c.as_slice-3.ensures.value
+          (subst (λ (os : List Op). Refused c.as_slice-titles.result.now os c.in_err-names.field-0.0) c.as_slice-4.ensures.value
           (c.in_err-names.ensures.refused m))),
     ))
 
@@ -101,7 +101,7 @@ returns-clause-linked c =
     c.in_ok-index.ensures.apart) in
     let both = both_apart rows es c.requires.len c.requires.bare several apart in
     let names = subst (λ (xs : List Row). AreNames xs c.in_ok-ops.ops.items c.in_ok-names.names) c.as_slice-titles.ensures.value
-    (subst (λ (os : List Op). AreNames c.as_slice-titles.result.now os c.in_ok-names.names) c.as_slice-3.ensures.value c.in_ok-names.ensures.names) in
+    (subst (λ (os : List Op). AreNames c.as_slice-titles.result.now os c.in_ok-names.names) c.as_slice-4.ensures.value c.in_ok-names.ensures.names) in
     record {
       ops = with_ops;
       len = sym (with_len rows es c.requires.len);

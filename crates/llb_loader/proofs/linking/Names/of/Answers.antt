@@ -13,7 +13,8 @@ returns-in_err-start-clause-refused c =
     let t = c.terminal_of-terminal.result in
     let p = err_from_is_err_and c.from_residual.result c.from_residual.ensures.1 in
     rw (p.1, p.2) (λ _. refused_start rows ops t (λ a. absurd (c.requires.apart.several a)) c.requires.apart.apart c.terminal_of-terminal.ensures.terminal
-    c.terminal_of-terminal.ensures.found c.requires.len c.index-ops-terminal.result c.index-ops-terminal.is c.in_err-start.field-0.0 c.in_err-start.ensures.refused)
+    c.terminal_of-terminal.ensures.found c.requires.len c.index-ops-terminal.result c.index-ops-terminal.is
+    c.in_err-start.field-0.0 c.in_err-start.ensures.refused)
 
 pub reached-requires-clause-rows : goal.reached-requires-clause-rows
 reached-requires-clause-rows c =
