@@ -33,6 +33,9 @@ from llbm_tools.streams import exit_status
 # The crates whose proofs others may cite, and which others; None for any.
 LENDERS = {
     "llb_model": None,
+    "llb_tree": {"llb_merge", "llb_treetext", "llb_fileop", "llb_applet"},
+    "llb_merge": {"llb_contents"},
+    "llb_cache": {"llb_model", "llb_board"},
     "llb_ops": {"llb_asm", "llb_loader"},
     "llb_execution": {"llb_board"},
     "llb_fileop": {"llb_contents"},

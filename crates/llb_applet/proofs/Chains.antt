@@ -1,76 +1,31 @@
 -- Directories one below the other: a tree of them that is put at a path is what making them there one by one gives.
 use denote.Param.Weighed.{most}
-use Rattle.std.proofs.Common.{◌≡◌, ℕ, ◌+◌, ◌≤◌, nat_lt, Bool, true, false, cond, ◌&&◌, List, [], ◌∷◌, ◌++◌, length, drop, map, Option}
-use Rattle.std.proofs.Common.{Some, None, IsSome, is_some, option_map, Result, Ok, Err, refl, sym, ap, subst, ◌∙◌, true≢false, arith}
+use Rattle.std.proofs.Common.{◌≡◌, ℕ, ◌+◌, ◌≤◌, Bool, true, false, cond, List, [], ◌∷◌, ◌++◌, length, map, Option}
+use Rattle.std.proofs.Common.{Some, None, is_some, option_map, Result, Ok, Err, refl, sym, ap, subst, ◌∙◌, true≢false, arith}
 use Rattle.std.proofs.Common.{length-append, append_assoc}
 use Rattle.std.proofs.lemmas.Bool.{le-ltb}
 use Rattle.std.proofs.lemmas.List.{append-nil}
-use Rattle.std.specs.declared.cmp.Ordering.{Ordering}
-use Rattle.std.specs.declared.cmp.Ordering.TheVariants.{Less, Equal, Greater}
 use Rattle.std.specs.Ordering.{is_eq, eq_by_cmp}
-use Rattle.std.specs.Cmp.Lexicographic.{bytes_decides}
 use Rattle.std.specs.Result.{OnOk}
 use Rattle.std.specs.FinMap as finite
 use Rattle.llb_wire.specs.Answer.{◌>>=◌}
 use Rattle.llb_wire.specs.Laws.Answers.{bind_ok}
 use Rattle.llb_tree.specs.Path.{path_cmp, is_within}
-use Rattle.llb_tree.specs.PathOrder.{path_cmp-IsTotalOrder, path_cmp-IsAntisymmetric}
-use Rattle.llb_tree.specs.Tree.{Entry, Dir, File, Look, TreeMap, new_dir_meta, parents, all_dirs, walk, dir_fits, put_dir, is_dir, height}
+use Rattle.llb_tree.specs.PathOrder.{path_cmp-IsTotalOrder, path_cmp-IsAntisymmetric, same_path}
+use Rattle.llb_tree.specs.Tree.{Entry, Dir, TreeMap, new_dir_meta, walk, dir_fits, put_dir, is_dir, height}
 use Rattle.llb_tree.specs.Tree.{places_fit, with_tree}
 use Rattle.llb_tree.specs.Tree.{graft, empty_tree, Gives, IsTree}
 use Rattle.llb_tree.specs.Falls.{height_le}
-use Rattle.llb_tree.specs.Inside.{walk-cons, walk_below}
-use Rattle.llb_tree.specs.Within.{within_split, within-append, within_itself, cmp-append}
+use Rattle.llb_tree.proofs.Walks.{put_dir-Ok}
+use Rattle.llb_tree.proofs.Grafted.{walk_to, walk_joined}
+use Rattle.llb_tree.proofs.Changed.{by_place, tied_below, apart, none_below}
+use Rattle.llb_tree.proofs.Within.{within-append, cmp-append}
 use Rattle.llb_tree.specs.declared.fault.TreeFault.{TreeFault}
 use Rattle.llb_tree.specs.declared.fault.TreeFault.TheVariants.{BadName}
 use Rattle.llb_applet.specs.Spots.{dir_at, dirs_below, put_then_below}
 
-tied : (o : Ordering) → is_eq o ≡ true → o ≡ Equal
-tied Less t = absurd (true≢false (sym t))
-tied Equal t = refl
-tied Greater t = absurd (true≢false (sym t))
-
 one_value : (s t : TreeMap) → ◌≡◌ {A = Result TreeMap TreeFault} (Ok s) (Ok t) → s ≡ t
 one_value s t is = cc
-
--- ---- walks
-
--- the looks above a path decide the walk to it
-walk_to : (f g : Look) (p : List (List ℕ)) → ((r : List (List ℕ)) → is_within p r ≡ false → f r ≡ g r) → walk f p ≡ walk g p
-walk_to f g [] same = refl
-walk_to f g (n ∷ p) same =
-    walk-cons f n p ∙ (λ i. all_dirs (same [] refl i ∷ map (λ r. f (n ∷ r)) (parents p)))
-    ∙ onward (g []) (walk_to (λ r. f (n ∷ r)) (λ r. g (n ∷ r)) p (λ r out. same (n ∷ r) (ap (λ b. b && is_within p r) ((bytes_decides n n).1 refl) ∙ out)))
-    ∙ sym (walk-cons g n p)
-  where
-    onward : (o : Option Entry) → walk (λ r. f (n ∷ r)) p ≡ walk (λ r. g (n ∷ r)) p
-        → all_dirs (o ∷ map (λ r. f (n ∷ r)) (parents p)) ≡ all_dirs (o ∷ map (λ r. g (n ∷ r)) (parents p))
-    onward None is = refl
-    onward (Some (File m b)) is = refl
-    onward (Some (Dir m)) is = is
-
--- a walk to a path, and one from there
-walk_joined : (look : Look) (p q : List (List ℕ)) → walk look p ≡ Ok tt → walk (λ r. look (p ++ r)) q ≡ Ok tt → walk look (p ++ q) ≡ Ok tt
-walk_joined look [] q to from = from
-walk_joined look (n ∷ p) q to from = walk-cons look n (p ++ q) ∙ go (look []) (walk_joined (λ r. look (n ∷ r)) p q) (sym (walk-cons look n p) ∙ to)
-  where
-    go : (o : Option Entry) → (walk (λ r. look (n ∷ r)) p ≡ Ok tt → walk (λ r. look (n ∷ (p ++ r))) q ≡ Ok tt
-        → walk (λ r. look (n ∷ r)) (p ++ q) ≡ Ok tt) → all_dirs (o ∷ map (λ r. look (n ∷ r)) (parents p)) ≡ Ok tt
-        → all_dirs (o ∷ map (λ r. look (n ∷ r)) (parents (p ++ q))) ≡ Ok tt
-    go None rest is = absurd cc
-    go (Some (File m b)) rest is = absurd cc
-    go (Some (Dir m)) rest is = rest is from
-
--- below a path where nothing is, nothing is
-none_below : (t : TreeMap) (p q : List (List ℕ)) → IsTree t → finite.get t p ≡ None → finite.get t (p ++ q) ≡ None
-none_below t p [] tree none = ap (finite.get t) (append-nil p) ∙ none
-none_below t p (n ∷ q) tree none = by_entry (finite.get t (p ++ n ∷ q)) (tree.closed (p ++ n ∷ q))
-  where
-    by_entry : (o : Option Entry) → (IsSome o → walk (finite.get t) (p ++ n ∷ q) ≡ Ok tt) → o ≡ None
-    by_entry None to = refl
-    by_entry (Some e) to =
-        let below = sym (walk-cons (λ r. finite.get t (p ++ r)) n q) ∙ walk_below (finite.get t) p (n ∷ q) (to refl) in
-        let e = ap (λ o. all_dirs (o ∷ map (λ r. finite.get t (p ++ (n ∷ r))) (parents q))) (sym (ap (finite.get t) (append-nil p) ∙ none)) ∙ below in absurd cc
 
 -- ---- a directory that is made
 
@@ -81,12 +36,6 @@ made_ok t p new is =
     let (u, walks, rest) = bind_ok (walk (finite.get t) p) (λ _. dir_fits (finite.get t p) >>= λ _. Ok next) new is in
     let (v, fits, same) = bind_ok (dir_fits (finite.get t p)) (λ _. Ok next) new rest in
     (walks, fits, one_value next new same)
-
-put_ok : (t : TreeMap) (p : List (List ℕ)) → walk (finite.get t) p ≡ Ok tt → dir_fits (finite.get t p) ≡ Ok tt
-    → put_dir t p new_dir_meta ≡ Ok (finite.insert t p (Dir new_dir_meta))
-put_ok t p walks fits =
-    let next : TreeMap = finite.insert t p (Dir new_dir_meta) in
-    ap (λ r. r >>= λ _. dir_fits (finite.get t p) >>= λ _. Ok next) walks ∙ ap (λ r. r >>= λ _. Ok next) fits
 
 -- ---- a tree with another one at a path
 
@@ -113,34 +62,27 @@ module _ (t : TreeMap) (p : List (List ℕ)) (n : ℕ) where
           → cond b (Some (Dir new_dir_meta)) (finite.get s q) ≡ finite.get t q
       beside q out false is = has.outside q out
       beside q out true is =
-          absurd (true≢false (sym (within-append p x) ∙ ap (is_within p) (sym (path_cmp-IsAntisymmetric q (p ++ x) (tied _ is))) ∙ out))
+          absurd (true≢false (sym (within-append p x) ∙ ap (is_within p) (sym (same_path q (p ++ x) is)) ∙ out))
 
       within : (q : List (List ℕ)) (b : Bool) → eq_by_cmp path_cmp q x ≡ b → is_some (cond b (Some (Dir new_dir_meta)) (finite.get c q)) ≡ true → length q ≤ n
       within q false is there = has.short q there
-      within q true is there = subst (λ y. length y ≤ n) (sym (path_cmp-IsAntisymmetric q x (tied _ is))) le
+      within q true is there = subst (λ y. length y ≤ n) (sym (same_path q x is)) le
 
   -- at first there is one directory at the path, and in the other tree its root
   at_first : IsTree t → finite.get t p ≡ None → HasBelow t p n (finite.insert t p (Dir new_dir_meta)) empty_tree
   at_first tree none = record {
     inside = λ q. finite.get-insert path_cmp-IsTotalOrder t p (Dir new_dir_meta) (p ++ q)
-        ∙ (λ i. cond (is_eq (ties q i)) (Some (Dir new_dir_meta)) ((none_below t p q tree none ∙ sym (finite.get-empty path_cmp q)) i))
+        ∙ (λ i. cond (tied_below p q i) (Some (Dir new_dir_meta)) ((none_below t p q tree none ∙ sym (finite.get-empty path_cmp q)) i))
         ∙ sym (finite.get-insert path_cmp-IsTotalOrder finite.empty [] (Dir new_dir_meta) q);
-    outside = λ q out. finite.get-insert path_cmp-IsTotalOrder t p (Dir new_dir_meta) q ∙ beside q out (eq_by_cmp path_cmp q p) refl;
+    outside = λ q out. finite.get-insert path_cmp-IsTotalOrder t p (Dir new_dir_meta) q
+        ∙ ap (λ b. cond b (Some (Dir new_dir_meta)) (finite.get t q)) (apart p q out);
     short = λ q there. within q (eq_by_cmp path_cmp q []) refl
         (sym (ap is_some (finite.get-insert path_cmp-IsTotalOrder finite.empty [] (Dir new_dir_meta) q)) ∙ there);
   }
     where
-      ties : (q : List (List ℕ)) → path_cmp (p ++ q) p ≡ path_cmp q []
-      ties q = ap (path_cmp (p ++ q)) (sym (append-nil p)) ∙ cmp-append p q []
-
-      beside : (q : List (List ℕ)) → is_within p q ≡ false → (b : Bool) → eq_by_cmp path_cmp q p ≡ b
-          → cond b (Some (Dir new_dir_meta)) (finite.get t q) ≡ finite.get t q
-      beside q out false is = refl
-      beside q out true is = absurd (true≢false (sym (within_itself p) ∙ ap (is_within p) (sym (path_cmp-IsAntisymmetric q p (tied _ is))) ∙ out))
-
       within : (q : List (List ℕ)) (b : Bool) → eq_by_cmp path_cmp q [] ≡ b
           → is_some (cond b (Some (Dir new_dir_meta)) (finite.get (finite.empty {X = Entry} {R = path_cmp}) q)) ≡ true → length q ≤ n
-      within q true is there = subst (λ y. length y ≤ n) (sym (path_cmp-IsAntisymmetric q [] (tied _ is))) (omega arith)
+      within q true is there = subst (λ y. length y ≤ n) (sym (same_path q [] is)) (omega arith)
       within q false is there = absurd (true≢false (sym there ∙ ap is_some (finite.get-empty path_cmp q)))
 
   module _ (to : walk (finite.get t) p ≡ Ok tt) where
@@ -160,7 +102,7 @@ module _ (t : TreeMap) (p : List (List ℕ)) (n : ℕ) where
             let (walks, fits, same) = made_ok c x next first in (
               finite.insert s (p ++ x) (Dir new_dir_meta),
               ap (λ b. cond b (Ok s) (put_dir s (p ++ x) new_dir_meta)) (ap is_dir (has.inside x) ∙ is)
-                  ∙ put_ok s (p ++ x) (walk_joined (finite.get s) p x
+                  ∙ put_dir-Ok s (p ++ x) new_dir_meta (walk_joined (finite.get s) p x
                   (sym (walk_to (finite.get t) (finite.get s) p (λ r out. sym (has.outside r out))) ∙ to)
                   (ap (λ look. walk look x) (λ i r. has.inside r i) ∙ walks)) (ap dir_fits (has.inside x) ∙ fits),
               subst (HasBelow t p n (finite.insert s (p ++ x) (Dir new_dir_meta))) same (with_more s c x has le),
@@ -200,15 +142,6 @@ module _ (t : TreeMap) (tree : IsTree t) (p ns : List (List ℕ)) (c new : TreeM
       put : TreeMap
       put = finite.insert t p (Dir new_dir_meta)
 
-      by_place : (s : TreeMap) → HasBelow t p (length ns) s c → ((q : List (List ℕ)) → finite.get new (p ++ q) ≡ finite.get c q)
-          → ((q : List (List ℕ)) → is_within p q ≡ false → finite.get new q ≡ finite.get t q) → (q : List (List ℕ)) → finite.get s q ≡ finite.get new q
-      by_place s has in' out q = by_test (is_within p q) refl
-        where
-          by_test : (b : Bool) → is_within p q ≡ b → finite.get s q ≡ finite.get new q
-          by_test true is = subst (λ x. finite.get s x ≡ finite.get new x) (sym (within_split p q is))
-              (has.inside (drop (length p) q) ∙ sym (in' (drop (length p) q)))
-          by_test false is = has.outside q is ∙ sym (out q is)
-
       by_walk : (o : Result (Unit {0}) TreeFault) → walk (finite.get t) p ≡ o → Gives (λ _. new) r (put_then_below t p ns)
       by_walk (Err f) is = subst (Gives (λ _. new) r)
           (ap (λ o. o >>= λ _. places_fit p (finite.keys c) >>= λ _. Ok (with_tree t p c)) is
@@ -216,7 +149,7 @@ module _ (t : TreeMap) (tree : IsTree t) (p ns : List (List ℕ)) (c new : TreeM
       by_walk (Ok u) is =
           let (s, made, has) = all_made t p (length ns) is ns [] put empty_tree c (omega arith) (at_first t p (length ns) tree none) chain in
           let deep : height c ≤ length ns + 1 = height_le c (length ns + 1) (λ q there. let le = has.short q there in omega (arith, le)) in
-          let done : put_then_below t p ns ≡ Ok s = ap (λ o. o >>= λ next. dirs_below next p ns) (put_ok t p is (ap dir_fits none))
+          let done : put_then_below t p ns ≡ Ok s = ap (λ o. o >>= λ next. dirs_below next p ns) (put_dir-Ok t p new_dir_meta is (ap dir_fits none))
           ∙ ap (λ x. dirs_below put x ns) (sym (append-nil p)) ∙ made in
           let granted : graft t p c ≡ Ok (with_tree t p c) = ap (λ o. o >>= λ _. places_fit p (finite.keys c) >>= λ _. Ok (with_tree t p c)) is
           ∙ ap (λ o. o >>= λ _. Ok (with_tree t p c)) (fits_all p (finite.entries c) (omega (arith, deep, short))) in
@@ -228,7 +161,8 @@ module _ (t : TreeMap) (tree : IsTree t) (p ns : List (List ℕ)) (c new : TreeM
               → (s : TreeMap) → HasBelow t p (length ns) s c → put_then_below t p ns ≡ Ok s → graft t p c ≡ Ok (with_tree t p c)
               → Gives (λ _. new) r (put_then_below t p ns)
           by_answer (Ok v) gives in' out s has done granted =
-              done ∙ ap Ok (finite.same_map path_cmp-IsTotalOrder path_cmp-IsAntisymmetric s new (by_place s has in' out))
+              done ∙ ap Ok (finite.same_map path_cmp-IsTotalOrder path_cmp-IsAntisymmetric s new (by_place p
+              (λ q. finite.get s q ≡ finite.get new q) (λ q. has.inside q ∙ sym (in' q)) (λ q far. has.outside q far ∙ sym (out q far))))
           by_answer (Err e) gives in' out s has done granted = λ other.
               let e : ◌≡◌ {A = Result TreeMap TreeFault} (Ok (with_tree t p c)) (Err e) = sym granted ∙ gives other in absurd cc
 

@@ -1,8 +1,7 @@
 -- Gathers the words of calls from a text, part by part: how a part changes the final result.
 use Rattle.std.proofs.Common.{◌≡◌, ℕ, ◌+◌, ◌==◌, Bool, true, false, cond, ◌||◌, List, [], ◌∷◌, ◌++◌, length, map, filter, not, Result, Ok}
-use Rattle.std.proofs.Common.{Err, Option, Some, None, is_some, is_ok, refl, sym, ap, ◌∙◌, append_assoc, ne_eqb, arith}
+use Rattle.std.proofs.Common.{Err, Option, Some, None, is_some, is_ok, refl, sym, ap, ◌∙◌, ne_eqb, arith}
 use Rattle.std.specs.List.{flat_map}
-use Rattle.std.proofs.lemmas.List.{length_push}
 use Rattle.std.proofs.lemmas.Bool.{false≢true}
 use Rattle.llb_wire.specs.Answer.{◌>>=◌}
 use Rattle.llb_applet.specs.declared.fault.ScriptFault.{ScriptFault}
@@ -38,9 +37,6 @@ some_separator (b ∷ bs) next is = ap (λ none. cond none [] ((b ∷ bs) ∷ []
 
 pub some_other : (part : List ℕ) → (length part == 0) ≡ false → some_word part ≡ part ∷ []
 some_other part is = ap (λ none. cond none [] (part ∷ [])) is
-
-pub some_none : (part : List ℕ) → (length part == 0) ≡ true → some_word part ≡ []
-some_none part is = ap (λ none. cond none [] (part ∷ [])) is
 
 -- ---- the calls of words
 
@@ -151,51 +147,10 @@ judged_last number call = single (command_of number call)
 
 -- ---- the final result
 
-behind_one : (commands : List Joined) (c : Joined) (r : Result (List Joined) ScriptFault)
-    → behind commands (r >>= λ more. Ok (c ∷ more)) ≡ behind (commands ++ c ∷ []) r
-behind_one commands c (Ok more) = ap Ok (sym (append_assoc commands (c ∷ []) more))
-behind_one commands c (Err e) = refl
-
 -- before there is any command, the result is that of the rest alone
 pub behind_none : (r : Result (List Joined) ScriptFault) → behind [] r ≡ r
 behind_none (Ok more) = refl
 behind_none (Err e) = refl
-
-module _ (join : Join) (commands : List Joined) (more : ℕ → Result (List Joined) ScriptFault) where
-  goes_on : (r : Result Command ScriptFault) (next : List Joined) → (r >>= λ c. Ok (commands ++ joined join c ∷ [])) ≡ Ok next
-      → behind commands (r >>= λ c. more (length commands + 1) >>= λ cs. Ok (joined join c ∷ cs)) ≡ behind next (more (length next))
-  goes_on (Ok c) next is =
-      let same : commands ++ joined join c ∷ [] ≡ next = cc in
-      behind_one commands (joined join c) (more (length commands + 1))
-      ∙ ap (λ n. behind (commands ++ joined join c ∷ []) (more n)) (sym (length_push commands (joined join c)))
-      ∙ ap (λ cs. behind cs (more (length cs))) same
-  goes_on (Err e) next is = absurd cc
-
-  stops_there : (r : Result Command ScriptFault) (e : ScriptFault) → (r >>= λ c. Ok (commands ++ joined join c ∷ [])) ≡ Err e
-      → behind commands (r >>= λ c. more (length commands + 1) >>= λ cs. Ok (joined join c ∷ cs)) ≡ Err e
-  stops_there (Ok c) e is = absurd cc
-  stops_there (Err d) e is = let same : d ≡ e = cc in ap (λ x. Err x) same
-
-module _ (old : Reading) (part : List ℕ) (next : Join) (is : join_of part ≡ Some next) (rest : List (List ℕ)) where
-  ahead_at : ahead old (some_word part ++ rest) ≡ behind old.commands.items (command_of (length old.commands.items) old.words.items
-      >>= λ c. commands_of (length old.commands.items + 1) (calls_from rest next []) >>= λ cs. Ok (joined old.join c ∷ cs))
-  ahead_at = ap (λ calls. behind old.commands.items (commands_of (length old.commands.items) calls)) (at_separator old.join next old.words.items part rest is)
-
-  -- a separator makes the call at hand into a command, and gives the join of the next call
-  pub reads_on : (commands : List Joined) (words : List (List ℕ)) → with_call old ≡ Ok commands → words ≡ []
-      → ahead old (some_word part ++ rest) ≡ behind commands (commands_of (length commands) (calls_from rest next words))
-  reads_on commands words gives none =
-      ahead_at
-      ∙ goes_on old.join old.commands.items (λ n. commands_of n (calls_from rest next []))
-      (command_of (length old.commands.items) old.words.items) commands gives
-      ∙ ap (λ call. behind commands (commands_of (length commands) (calls_from rest next call))) (sym none)
-
-  -- or the call at hand makes no command, and its fault is the result
-  pub reads_stop : (e : ScriptFault) → with_call old ≡ Err e → ahead old (some_word part ++ rest) ≡ Err e
-  reads_stop e gives =
-      ahead_at
-      ∙ stops_there old.join old.commands.items (λ n. commands_of n (calls_from rest next []))
-      (command_of (length old.commands.items) old.words.items) e gives
 
 -- the last call alone is left
 pub ahead_last : (reading : Reading) → ahead reading [] ≡ with_call reading

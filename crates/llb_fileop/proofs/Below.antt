@@ -9,16 +9,16 @@ use Rattle.llb_glob.specs.declared.item.Item.{Item}
 use Rattle.llb_glob.specs.Matching.{name_matches, path_matches}
 use Rattle.llb_wire.specs.Answer.{◌>>=◌}
 use Rattle.llb_tree.specs.Path.{path_cmp, is_within}
-use Rattle.llb_tree.specs.PathOrder.{path_cmp-IsTotalOrder, path_cmp-IsAntisymmetric}
-use Rattle.llb_tree.specs.Within.{within_split, within-append}
-use Rattle.llb_tree.specs.Inside.{walk_below, walk-cons}
+use Rattle.llb_tree.specs.PathOrder.{path_cmp-IsTotalOrder, path_cmp-IsAntisymmetric, same_path}
+use Rattle.llb_tree.proofs.Within.{within_split, within-append}
+use Rattle.llb_tree.proofs.Inside.{walk_below, walk-cons}
 use Rattle.llb_tree.specs.Tested.{passes_all, goes, any_goes, thin, rid_of}
 use Rattle.llb_tree.specs.Tree.{TreeMap, Entry, parents, all_dirs, IsTree}
 use Rattle.llb_tree.specs.declared.fault.TreeFault.{TreeFault}
 use Rattle.llb_fileop.specs.Removing.{matching, is_below_any, left, removed_all, absent, rm_pattern}
 use Rattle.llb_fileop.specs.Copying.{some_match, copy_one, copy_each, copy_chosen, EachMatch}
 use Rattle.llb_ops.specs.declared.actions.CopyFile.{CopyFile}
-use Rattle.llb_fileop.proofs.Passing.{Pair, same_path, ties_itself}
+use Rattle.llb_fileop.proofs.Passing.{Pair, ties_itself}
 
 abbrev Paths : Type 0
 Paths = List (List (List ℕ))

@@ -7,7 +7,7 @@ use Rattle.llb_wire.specs.Answer.{◌>>=◌}
 use Rattle.llb_wire.specs.Laws.Answers.{bind_ok}
 use Rattle.llb_ops.specs.declared.actions.CopyFile.{CopyFile}
 use Rattle.llb_tree.specs.Path.{path_cmp, is_within}
-use Rattle.llb_tree.specs.PathOrder.{path_cmp-IsTotalOrder}
+use Rattle.llb_tree.specs.PathOrder.{path_cmp-IsTotalOrder, same_path}
 use Rattle.llb_tree.specs.Meta.{MetaValue, new_dir_meta}
 use Rattle.llb_tree.specs.Tree.{TreeMap, Entry, Dir, File, tree_at, parents, walk, dir_fits}
 use Rattle.llb_fileop.specs.Owners.{copied}
@@ -16,9 +16,12 @@ use Rattle.llb_fileop.specs.Copying.{fits, all_land, laid_on, land, at_target, p
 use Rattle.llb_fileop.specs.Parts.{laid}
 use Rattle.llb_fileop.specs.Laws.{IsCopied}
 use Rattle.llb_fileop.proofs.Answering.{same_Ok}
-use Rattle.llb_fileop.proofs.Passing.{Pair, same_path}
+use Rattle.llb_tree.proofs.Inside.{get-tree_at}
+use Rattle.llb_tree.proofs.Within.{within-append}
+use Rattle.llb_tree.proofs.Grafted.{find_moved}
+use Rattle.llb_fileop.proofs.Passing.{Pair}
 use Rattle.llb_fileop.proofs.Laid.{get-laid_on}
-use Rattle.llb_fileop.proofs.Moved.{within-append, find_moved, find_beside, target_dir, get-tree_at}
+use Rattle.llb_fileop.proofs.Moved.{find_beside, target_dir}
 
 -- ---- what lands at a place
 

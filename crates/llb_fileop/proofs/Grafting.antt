@@ -1,33 +1,37 @@
 -- A copy at its place: the merged part takes the place of what was there, and a file is put.
-use Rattle.std.proofs.Common.{◌≡◌, ℕ, zero, suc, ◌+◌, ◌≤◌, Bool, true, false, cond, ◌&&◌, List, [], ◌∷◌, ◌++◌, map, length, drop, Option}
+use Rattle.std.proofs.Common.{◌≡◌, ℕ, zero, suc, ◌+◌, ◌≤◌, Bool, true, false, cond, List, [], ◌∷◌, ◌++◌, map, length, drop, Option}
 use Rattle.std.proofs.Common.{Some, None, IsSome, is_some, Result, Ok, Err, T, refl, sym, ap, subst, ◌∙◌, true≢false, arith, length-append}
 use Rattle.std.proofs.lemmas.List.{append-nil}
 use Rattle.std.proofs.lemmas.Bool.{le-ltb}
 use Rattle.std.specs.Prelude.{slice_get}
-use Rattle.std.specs.Ordering.{is_lt, eq_by_cmp}
+use Rattle.std.specs.Ordering.{eq_by_cmp}
 use Rattle.std.specs.FinMap as finite
 use Rattle.std.specs.FinMap.Entries.{below_all}
 use Rattle.llb_wire.specs.Answer.{◌>>=◌}
 use Rattle.llb_wire.specs.Laws.Answers.{bind_ok}
 use Rattle.llb_tree.specs.Path.{path_cmp, is_within}
-use Rattle.llb_tree.specs.PathOrder.{path_cmp-IsTotalOrder, path_cmp-IsAntisymmetric}
+use Rattle.llb_tree.specs.PathOrder.{path_cmp-IsTotalOrder, path_cmp-IsAntisymmetric, same_path}
 use Rattle.llb_tree.specs.Meta.{MetaValue, new_dir_meta}
 use Rattle.llb_tree.specs.Tree.{TreeMap, Entry, Dir, File, moved, with_tree, graft, subtree, tree_at, dir_there, places_fit, parents}
 use Rattle.llb_tree.specs.Tree.{all_dirs, walk, dir_fits, file_fits, not_root, put_dir, IsDirAt, IsTree, is_dir}
 use Rattle.llb_tree.specs.declared.fault.TreeFault.{TreeFault}
 use Rattle.llb_tree.specs.declared.fault.TreeFault.TheVariants.{BadName, Conflict}
-use Rattle.llb_tree.specs.Inside.{IsTree-tree_at}
+use Rattle.llb_tree.proofs.Inside.{IsTree-tree_at}
+use Rattle.llb_tree.proofs.Within.{within_split}
+use Rattle.llb_tree.proofs.Orders.{and_first}
+use Rattle.llb_tree.proofs.Entries.{entries-root}
+use Rattle.llb_tree.proofs.Closed.{get-insert_cases}
+use Rattle.llb_tree.proofs.Grafted.{find_moved, get_inside, get_outside}
 use Rattle.llb_fileop.specs.Copying.{fits, meets, landed, all_land, land, laid_on, at_target, parents_for, copy_to}
 use Rattle.llb_fileop.specs.Making.{kept_or_made, make_all}
 use Rattle.llb_ops.specs.declared.actions.CopyFile.{CopyFile}
 use Rattle.llb_fileop.specs.Owners.{copied}
 use Rattle.llb_fileop.specs.Parts.{put, put_some, laid, land_at, placed, AgreeOn}
 use Rattle.llb_fileop.proofs.Answering.{same_Ok}
-use Rattle.llb_fileop.proofs.Passing.{Pair, same_path, ties_itself, found_at}
-use Rattle.llb_fileop.proofs.Made.{get-insert_cases}
+use Rattle.llb_fileop.proofs.Passing.{Pair, ties_itself, found_at}
 use Rattle.llb_fileop.proofs.Laid.{get-laid_on, get-whole}
 use Rattle.llb_fileop.proofs.Landing.{fits-Ok, fits_short}
-use Rattle.llb_fileop.proofs.Moved.{within_split, find_moved, find_beside, get_inside, get_outside}
+use Rattle.llb_fileop.proofs.Moved.{find_beside}
 
 -- ---- what a landing means for each entry
 
@@ -106,7 +110,7 @@ module _ (given : MetaValue → MetaValue) (here source t : TreeMap) (goal : Lis
       below : (r : List (List ℕ)) → finite.get (with_tree t goal both) (goal ++ r)
           ≡ finite.get (laid_on given t (map (moved 0 goal) (finite.entries source))) (goal ++ r)
       below r =
-          get_inside t both goal r
+          get_inside t goal both r
           ∙ get-laid_on given here (finite.entries source) r
           ∙ (λ i. laid given (same r i) (sym (find_moved goal r (finite.entries source)) i))
           ∙ sym (get-laid_on given t (map (moved 0 goal) (finite.entries source)) (goal ++ r))
@@ -118,7 +122,7 @@ module _ (given : MetaValue → MetaValue) (here source t : TreeMap) (goal : Lis
           ∙ below (drop (length goal) q)
           ∙ ap (finite.get (laid_on given t (map (moved 0 goal) (finite.entries source)))) (sym (within_split goal q is))
       by_test false is =
-          get_outside t both goal q is
+          get_outside t goal both q is
           ∙ sym (get-laid_on given t (map (moved 0 goal) (finite.entries source)) q
           ∙ ap (laid given (finite.get t q)) (find_beside goal q (finite.entries source) is))
 
@@ -133,38 +137,17 @@ module _ (given : MetaValue → MetaValue) (here source t : TreeMap) (goal : Lis
 
 -- ---- a directory
 
--- the entry of the root is the first
-root_first : (es : List Pair) (e : Entry) → T (finite.is_sorted path_cmp es) → finite.find path_cmp [] es ≡ Some e → es ≡ ([], e) ∷ drop 1 es
-root_first [] e sorted is = absurd cc
-root_first (([], d) ∷ es) e sorted is = let same : d ≡ e = cc in ap (λ x. ([], x) ∷ es) same
-root_first ((n ∷ k, d) ∷ es) e sorted is = absurd (missed es (and_first (below_all path_cmp (n ∷ k) es) (finite.is_sorted path_cmp es) sorted) is)
-  where
-    and_first : (a b : Bool) → T (a && b) → T a
-    and_first true b h = tt
-    and_first false b h = absurd h
-
-    missed : (es : List Pair) → T (below_all path_cmp (n ∷ k) es) → finite.find path_cmp [] es ≡ Some e → ⊥
-    missed [] h is = cc
-    missed (([], x) ∷ fs) h is = h
-    missed ((m ∷ j, x) ∷ fs) h is = missed fs (and_second (is_lt (path_cmp (n ∷ k) (m ∷ j))) (below_all path_cmp (n ∷ k) fs) h) is
-      where
-        and_second : (a b : Bool) → T (a && b) → T b
-        and_second true b h = h
-        and_second false b h = absurd h
-
 rest_below : (d : Entry) (es fs : List Pair) → T (finite.is_sorted path_cmp es) → es ≡ ([], d) ∷ fs → T (below_all path_cmp [] fs)
 rest_below d es fs sorted is = and_first (below_all path_cmp [] fs) (finite.is_sorted path_cmp fs) (subst (λ l. T (finite.is_sorted path_cmp l)) is sorted)
-  where
-    and_first : (a b : Bool) → T (a && b) → T a
-    and_first true b h = tt
-    and_first false b h = absurd h
 
 module _ (given : MetaValue → MetaValue) (source t : TreeMap) (goal : List (List ℕ)) (low : length goal ≤ 128) (dir : IsDirAt (finite.get source) []) where
   abbrev es' : List Pair
   es' = map (moved 0 goal) (finite.entries source)
 
   entries_are : finite.entries source ≡ ([], Dir dir.0) ∷ drop 1 (finite.entries source)
-  entries_are = root_first (finite.entries source) (Dir dir.0) (finite.entries_sorted source) (sym (finite.get-entries source []) ∙ dir.1)
+  entries_are =
+      let first = entries-root source (Dir dir.0) dir.1 in
+      first.1 ∙ ap (λ es. ([], Dir dir.0) ∷ drop 1 es) (sym first.1)
 
   first_lands : all_land t es' ≡ (meets (finite.get t goal) (Dir dir.0) >>= λ _. all_land t (map (moved 0 goal) (drop 1 (finite.entries source))))
   first_lands =
@@ -399,11 +382,6 @@ subtree_is t p u is = sym (same_Ok (bind_ok (dir_there t p) (λ _. Ok (tree_at t
 -- the subtree of a tree is a tree
 pub IsTree-subtree : (t : TreeMap) (p : List (List ℕ)) (u : TreeMap) → IsTree t → subtree t p ≡ Ok u → IsTree u
 IsTree-subtree t p u tree is = subst IsTree (sym (subtree_is t p u is)) (IsTree-tree_at t p tree (bind_ok (dir_there t p) (λ _. Ok (tree_at t p)) u is).1)
-
-pub dir_is : (o : Option Entry) → is_dir o ≡ true → (m : MetaValue) × (o ≡ Some (Dir m))
-dir_is None is = absurd (true≢false (sym is))
-dir_is (Some (File m b)) is = absurd (true≢false (sym is))
-dir_is (Some (Dir m)) is = (m, refl)
 
 -- ---- one source
 

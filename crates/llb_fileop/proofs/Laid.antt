@@ -4,7 +4,7 @@ use Rattle.std.specs.List.{list_any}
 use Rattle.std.specs.Ordering.{eq_by_cmp}
 use Rattle.std.specs.FinMap as finite
 use Rattle.llb_tree.specs.Path.{path_cmp}
-use Rattle.llb_tree.specs.PathOrder.{path_cmp-IsTotalOrder, path_cmp-IsAntisymmetric}
+use Rattle.llb_tree.specs.PathOrder.{path_cmp-IsTotalOrder, path_cmp-IsAntisymmetric, same_path}
 use Rattle.llb_tree.specs.Meta.{MetaValue}
 use Rattle.llb_tree.specs.Tree.{TreeMap, Entry, Dir, File, Look, parents, all_dirs, IsTree}
 use Rattle.llb_tree.specs.Overlay as lay
@@ -13,7 +13,7 @@ use Rattle.llb_tree.specs.declared.fault.TreeFault.{TreeFault}
 use Rattle.llb_tree.specs.declared.fault.TreeFault.TheVariants.{Conflict}
 use Rattle.llb_fileop.specs.Copying.{meets, landed, landed_on, laid_on}
 use Rattle.llb_fileop.specs.Parts.{laid, AgreeOn}
-use Rattle.llb_fileop.proofs.Passing.{Pair, same_path}
+use Rattle.llb_fileop.proofs.Passing.{Pair}
 
 -- what is found in a tree with entries over it
 pub find_laid : (given : MetaValue → MetaValue) (t : TreeMap) (es : List Pair) (q : List (List ℕ))

@@ -1,20 +1,19 @@
 -- Entries that land at their places, one after another.
-use Rattle.std.proofs.Common.{◌≡◌, ℕ, ◌+◌, ◌<◌, ◌≤◌, Bool, true, false, cond, not, List, [], ◌∷◌, ◌++◌, map, length, drop, Option, Some}
-use Rattle.std.proofs.Common.{None, is_some, Result, Ok, Err, refl, sym, ap, ◌∙◌, arith, length-append}
+use Rattle.std.proofs.Common.{◌≡◌, ℕ, ◌+◌, ◌<◌, ◌≤◌, Bool, true, false, cond, not, List, [], ◌∷◌, ◌++◌, map, length, drop, Some}
+use Rattle.std.proofs.Common.{None, Result, Ok, Err, refl, sym, ap, ◌∙◌, arith, length-append}
 use Rattle.std.proofs.lemmas.Bool.{lt-ltb, le-ltb, ltb-false}
-use Rattle.std.proofs.lemmas.List.{append-nil}
 use Rattle.std.specs.Prelude.{slice_get, nat_lt}
 use Rattle.std.specs.FinMap as finite
 use Rattle.llb_wire.specs.Answer.{◌>>=◌}
 use Rattle.llb_tree.specs.Path.{is_within}
-use Rattle.llb_tree.specs.Tree.{TreeMap, Entry, Dir, moved, places_fit, walk, IsTree}
+use Rattle.llb_tree.specs.Tree.{TreeMap, Entry, moved, places_fit, IsTree}
 use Rattle.llb_tree.specs.declared.fault.TreeFault.{TreeFault}
 use Rattle.llb_tree.specs.declared.fault.TreeFault.TheVariants.{BadName}
 use Rattle.llb_fileop.specs.Copying.{fits, meets, all_land}
 use Rattle.llb_fileop.specs.Parts.{all_below, all_meet}
+use Rattle.llb_tree.proofs.Within.{within_split}
+use Rattle.llb_tree.proofs.Changed.{none_below}
 use Rattle.llb_fileop.proofs.Passing.{Pair, walk_first, beside}
-use Rattle.llb_fileop.proofs.Made.{walk_passes}
-use Rattle.llb_fileop.proofs.Moved.{within_split}
 
 -- a path of at most 128 names fits
 pub fits-Ok : (p : List (List ℕ)) → length p ≤ 128 → fits p ≡ Ok tt
@@ -77,25 +76,15 @@ module _ (here : TreeMap) (es : List Pair) (k : List (List ℕ)) (e : Entry) (is
   pub below_next : (depth : ℕ) → depth + length k ≤ 128 → all_below here depth es ≡ on depth
   below_next depth short = ap (all_below here depth) (walk_first es k e is) ∙ ap (λ b. cond b (Err BadName) (on depth)) (le-ltb 128 (depth + length k) short)
 
--- if nothing is at a path, nothing is below it
-none_below : (t : TreeMap) → IsTree t → (k q : List (List ℕ)) → finite.get t k ≡ None → is_within k q ≡ true → finite.get t q ≡ None
-none_below t tree k q none inside = by_there (drop (length k) q) (within_split k q inside) (finite.get t q) refl
-  where
-    by_there : (r : List (List ℕ)) → q ≡ k ++ r → (o : Option Entry) → finite.get t q ≡ o → o ≡ None
-    by_there r split None there = refl
-    by_there [] split (Some e) there = let no : Some e ≡ None = sym there ∙ ap (finite.get t) (split ∙ append-nil k) ∙ none in absurd cc
-    by_there (n ∷ r) split (Some e) there =
-        let dir = walk_passes (finite.get t) k n r (ap (walk (finite.get t)) (sym split) ∙ tree.closed q (ap is_some there)) in
-        let no : None ≡ Some (Dir dir.0) = sym none ∙ dir.1 in
-        absurd cc
-
 meet_beside : (here : TreeMap) → IsTree here → (k : List (List ℕ)) (es : List Pair) → finite.get here k ≡ None → all_meet here es ≡ all_meet here (beside k es)
 meet_beside here tree k [] none = refl
 meet_beside here tree k (e ∷ es) none = by_place (is_within k e.0) refl (meet_beside here tree k es none)
   where
     by_place : (w : Bool) → is_within k e.0 ≡ w → all_meet here es ≡ all_meet here (beside k es)
         → (meets (finite.get here e.0) e.1 >>= λ _. all_meet here es) ≡ all_meet here (cond (not w) (e ∷ beside k es) (beside k es))
-    by_place true inside rest = ap (λ o. meets o e.1 >>= λ _. all_meet here es) (none_below here tree k e.0 none inside) ∙ rest
+    by_place true inside rest =
+        let clear = ap (finite.get here) (within_split k e.0 inside) ∙ none_below here k (drop (length k) e.0) tree none in
+        ap (λ o. meets o e.1 >>= λ _. all_meet here es) clear ∙ rest
     by_place false inside rest = ap (λ r. meets (finite.get here e.0) e.1 >>= λ _. r) rest
 
 -- if a tree has nothing at the first entry's path, what is below that path meets nothing and may be passed over

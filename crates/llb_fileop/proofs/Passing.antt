@@ -1,43 +1,20 @@
 -- Passing over entries in the order of their paths.
-use Rattle.std.proofs.Common.{◌≡◌, ℕ, zero, suc, ◌<◌, ◌≤◌, Bool, true, false, cond, not, ◌&&◌, List, [], ◌∷◌, length, drop, Some, None}
-use Rattle.std.proofs.Common.{T, refl, sym, ap, ◌∙◌, true≢false, arith}
+use Rattle.std.proofs.Common.{◌≡◌, ℕ, zero, suc, ◌<◌, ◌≤◌, Bool, true, false, cond, not, List, [], ◌∷◌, length, drop, Some, None}
+use Rattle.std.proofs.Common.{T, refl, sym, ap, ◌∙◌, arith}
 use Rattle.std.specs.Prelude.{slice_get}
-use Rattle.std.specs.declared.cmp.Ordering.{Ordering}
-use Rattle.std.specs.declared.cmp.Ordering.TheVariants.{Less, Equal, Greater}
-use Rattle.std.specs.Ordering.{is_lt, is_eq, eq_by_cmp}
+use Rattle.std.specs.declared.cmp.Ordering.TheVariants.{Less}
+use Rattle.std.specs.Ordering.{is_eq, eq_by_cmp}
 use Rattle.std.specs.Cmp.{tied_itself}
 use Rattle.std.specs.FinMap as finite
 use Rattle.std.specs.FinMap.Entries.{below_all, where_key}
 use Rattle.llb_tree.specs.Path.{path_cmp, is_within}
-use Rattle.llb_tree.specs.PathOrder.{path_cmp-IsTotalOrder, path_cmp-IsAntisymmetric}
+use Rattle.llb_tree.specs.PathOrder.{path_cmp-IsTotalOrder, same_path}
 use Rattle.llb_tree.specs.Tree.{Entry}
 use Rattle.llb_tree.specs.Walks.{past}
+use Rattle.llb_tree.proofs.Orders.{is_less, and_first, and_second}
 
 abbrev pub Pair : Type 0
 Pair = List (List ℕ) × Entry
-
-pub tied : (o : Ordering) → is_eq o ≡ true → o ≡ Equal
-tied Less e = absurd (true≢false (sym e))
-tied Equal e = refl
-tied Greater e = absurd (true≢false (sym e))
-
-less : (o : Ordering) → T (is_lt o) → o ≡ Less
-less Less h = refl
-less Equal h = absurd h
-less Greater h = absurd h
-
--- where two tests hold together, the first does
-pub and_first : (a b : Bool) → T (a && b) → T a
-and_first true b h = tt
-and_first false b h = absurd h
-
-and_second : (a b : Bool) → T (a && b) → T b
-and_second true b h = h
-and_second false b h = absurd h
-
--- a path ties only with itself
-pub same_path : (p q : List (List ℕ)) → eq_by_cmp path_cmp p q ≡ true → p ≡ q
-same_path p q e = path_cmp-IsAntisymmetric p q (tied _ e)
 
 -- a path ties with itself in the order of paths
 pub ties_itself : (p : List (List ℕ)) → eq_by_cmp path_cmp p p ≡ true
@@ -60,7 +37,7 @@ found_at (f ∷ es) (suc i) k e sorted is = by_tie (eq_by_cmp path_cmp k f.0) re
         tail_misses : (es : List Pair) → T (below_all path_cmp f.0 es) → finite.find path_cmp k es ≡ Some e → ⊥
         tail_misses [] h is = cc
         tail_misses (g ∷ gs) h is =
-            let lt : path_cmp k g.0 ≡ Less = ap (λ x. path_cmp x g.0) (same_path k f.0 t) ∙ less _ (and_first _ _ h) in
+            let lt : path_cmp k g.0 ≡ Less = ap (λ x. path_cmp x g.0) (same_path k f.0 t) ∙ is_less _ (and_first _ _ h) in
             tail_misses gs (and_second _ _ h) (ap (λ o. cond (is_eq o) (Some g.1) (finite.find path_cmp k gs)) (sym lt) ∙ is)
     by_tie false t rest = rest
 

@@ -308,10 +308,6 @@ line_gives line x is =
 
 -- ---- what is decided about a line
 
-seen_none : {A B : Type 0} (f : A → B) (o : Option A) → option_map f o ≡ None → o ≡ None
-seen_none f None is = refl
-seen_none f (Some x) is = absurd cc
-
 -- the parts that a line's text is taken apart into are its entry's, and where there are none the line is no entry's
 pub spells : (line text : List ℕ) (o : Option Parts) → text ≡ line → option_map parts_seen o ≡ parts_in text → Spells line o
 spells line text None same is = λ row stands own.

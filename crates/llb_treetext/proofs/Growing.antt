@@ -1,10 +1,8 @@
 -- A directory that is kept apart, and the tree that it goes back to.
-use Rattle.std.proofs.Common.{◌≡◌, ◌≢◌, ℕ, Bool, true, false, cond, List, [], ◌∷◌, ◌++◌, length, drop, map, Option, Some, None, IsSome, Result, Ok}
+use Rattle.std.proofs.Common.{◌≡◌, ◌≢◌, ℕ, Bool, true, false, cond, List, [], ◌∷◌, ◌++◌, length, Option, Some, None, Result, Ok}
 use Rattle.std.proofs.Common.{refl, sym, ap, subst, ◌∙◌, true≢false, arith, length-append, inl}
 use Rattle.std.proofs.lemmas.List.{append-nil}
 use Rattle.std.proofs.lemmas.List.Elements.{All-append, All-cons, All-nil}
-use Rattle.std.specs.declared.cmp.Ordering.{Ordering}
-use Rattle.std.specs.declared.cmp.Ordering.TheVariants.{Less, Equal, Greater}
 use Rattle.std.specs.Ordering.{is_eq, eq_by_cmp}
 use Rattle.std.specs.Option.{option_map}
 use Rattle.std.specs.FinMap as finite
@@ -12,11 +10,11 @@ use Rattle.llb_wire.specs.Answer.{◌>>=◌}
 use Rattle.llb_wire.specs.Laws.Answers.{bind_ok}
 use Rattle.llb_wire.specs.Hexadecimal.{bytes_in, hex_text}
 use Rattle.llb_tree.specs.Path.{is_name, path_cmp, is_within, IsPath}
-use Rattle.llb_tree.specs.PathOrder.{path_cmp-IsTotalOrder, path_cmp-IsAntisymmetric}
+use Rattle.llb_tree.specs.PathOrder.{path_cmp-IsTotalOrder, path_cmp-IsAntisymmetric, same_path}
 use Rattle.llb_tree.specs.Meta.{MetaValue, new_dir_meta}
-use Rattle.llb_tree.specs.Tree.{Entry, Dir, File, TreeMap, parents, all_dirs, walk, file_fits, put_file, empty_tree, IsTree}
-use Rattle.llb_tree.specs.Inside.{walk-cons, walk_below}
-use Rattle.llb_tree.specs.Within.{within_split, within-append, within_itself, cmp-append}
+use Rattle.llb_tree.specs.Tree.{Entry, Dir, File, TreeMap, walk, file_fits, put_file, empty_tree, IsTree}
+use Rattle.llb_tree.proofs.Changed.{by_place, tied_below, apart, none_below}
+use Rattle.llb_tree.proofs.Within.{within-append, cmp-append}
 use Rattle.llb_tree.specs.declared.fault.TreeFault.{TreeFault}
 use Rattle.llb_treetext.specs.TreeText.{names_text, path_text}
 use Rattle.llb_treetext.specs.Reading.{IsRow}
@@ -28,37 +26,20 @@ use Rattle.llb_treetext.specs.declared.grow.Growing.{Growing}
 use Rattle.llb_treetext.proofs.Trails.{names_more, names_front, names_split, no_names_left}
 use Rattle.llb_treetext.proofs.Written.{content_is}
 
-tied : (o : Ordering) → is_eq o ≡ true → o ≡ Equal
-tied Less t = absurd (true≢false (sym t))
-tied Equal t = refl
-tied Greater t = absurd (true≢false (sym t))
-
--- below a path where nothing is, nothing is
-none_below : (t : TreeMap) (p q : List (List ℕ)) → IsTree t → finite.get t p ≡ None → finite.get t (p ++ q) ≡ None
-none_below t p [] tree none = ap (finite.get t) (append-nil p) ∙ none
-none_below t p (n ∷ q) tree none = by_entry (finite.get t (p ++ n ∷ q)) (tree.closed (p ++ n ∷ q))
-  where
-    by_entry : (o : Option Entry) → (IsSome o → walk (finite.get t) (p ++ n ∷ q) ≡ Ok tt) → o ≡ None
-    by_entry None to = refl
-    by_entry (Some e) to =
-        let below = sym (walk-cons (λ r. finite.get t (p ++ r)) n q) ∙ walk_below (finite.get t) p (n ∷ q) (to refl) in
-        let missing = sym (ap (finite.get t) (append-nil p) ∙ none) in
-        let walks = ap (λ o. all_dirs (o ∷ map (λ r. finite.get t (p ++ (n ∷ r))) (parents q))) missing ∙ below in absurd cc
-
 module _ (above : TreeMap) (at : List (List ℕ)) where
   -- a directory is opened where nothing is
   pub opens_there : (m : MetaValue) (dir : TreeMap) → IsTree above → finite.get above at ≡ None → dir ≡ finite.insert empty_tree [] (Dir m)
       → HasBelow (finite.insert above at (Dir m)) above at dir
   opens_there m dir tree none own = record {
     inside = λ q. in_whole q ∙ by_tie (eq_by_cmp path_cmp q []) (finite.get above (at ++ q)) (none_below above at q tree none) ∙ sym (in_dir q);
-    outside = λ q out. finite.get-insert path_cmp-IsTotalOrder above at (Dir m) q ∙ beside q out (eq_by_cmp path_cmp q at) refl;
+    outside = λ q out. finite.get-insert path_cmp-IsTotalOrder above at (Dir m) q ∙ ap (λ b. cond b (Some (Dir m)) (finite.get above q)) (apart at q out);
   }
     where
       in_whole : (q : List (List ℕ)) → finite.get (finite.insert above at (Dir m)) (at ++ q)
           ≡ cond (eq_by_cmp path_cmp q []) (Some (Dir m)) (finite.get above (at ++ q))
       in_whole q =
-          let ties : path_cmp (at ++ q) at ≡ path_cmp q [] = ap (path_cmp (at ++ q)) (sym (append-nil at)) ∙ cmp-append at q [] in
-          finite.get-insert path_cmp-IsTotalOrder above at (Dir m) (at ++ q) ∙ ap (λ o. cond (is_eq o) (Some (Dir m)) (finite.get above (at ++ q))) ties
+          finite.get-insert path_cmp-IsTotalOrder above at (Dir m) (at ++ q)
+          ∙ ap (λ b. cond b (Some (Dir m)) (finite.get above (at ++ q))) (tied_below at q)
 
       in_dir : (q : List (List ℕ)) → finite.get dir q
           ≡ cond (eq_by_cmp path_cmp q []) (Some (Dir m)) (cond (eq_by_cmp path_cmp q []) (Some (Dir new_dir_meta)) None)
@@ -71,11 +52,6 @@ module _ (above : TreeMap) (at : List (List ℕ)) where
       by_tie : (b : Bool) (o : Option Entry) → o ≡ None → cond b (Some (Dir m)) o ≡ cond b (Some (Dir m)) (cond b (Some (Dir new_dir_meta)) None)
       by_tie true o is = refl
       by_tie false o is = is
-
-      beside : (q : List (List ℕ)) → is_within at q ≡ false → (b : Bool) → eq_by_cmp path_cmp q at ≡ b
-          → cond b (Some (Dir m)) (finite.get above q) ≡ finite.get above q
-      beside q out false is = refl
-      beside q out true is = absurd (true≢false (sym (within_itself at) ∙ ap (is_within at) (sym (path_cmp-IsAntisymmetric q at (tied _ is))) ∙ out))
 
   -- an entry more below the path
   with_more : (t dir : TreeMap) (x : List (List ℕ)) (e : Entry) → HasBelow t above at dir
@@ -90,17 +66,13 @@ module _ (above : TreeMap) (at : List (List ℕ)) where
           → cond b (Some e) (finite.get t q) ≡ finite.get above q
       beside q out false is = has.outside q out
       beside q out true is =
-          absurd (true≢false (sym (within-append at x) ∙ ap (is_within at) (sym (path_cmp-IsAntisymmetric q (at ++ x) (tied _ is))) ∙ out))
+          absurd (true≢false (sym (within-append at x) ∙ ap (is_within at) (sym (same_path q (at ++ x) is)) ∙ out))
 
   -- the directory goes back, and the tree is whole
   pub goes_back : (t dir new : TreeMap) → HasBelow t above at dir → ((q : List (List ℕ)) → finite.get new (at ++ q) ≡ finite.get dir q)
       → ((q : List (List ℕ)) → is_within at q ≡ false → finite.get new q ≡ finite.get above q) → new ≡ t
-  goes_back t dir new has inside outside = finite.same_map path_cmp-IsTotalOrder path_cmp-IsAntisymmetric new t (λ q. by_test q (is_within at q) refl)
-    where
-      by_test : (q : List (List ℕ)) (b : Bool) → is_within at q ≡ b → finite.get new q ≡ finite.get t q
-      by_test q true is = subst (λ x. finite.get new x ≡ finite.get t x) (sym (within_split at q is))
-          (inside (drop (length at) q) ∙ sym (has.inside (drop (length at) q)))
-      by_test q false is = outside q is ∙ sym (has.outside q is)
+  goes_back t dir new has inside outside = finite.same_map path_cmp-IsTotalOrder path_cmp-IsAntisymmetric new t
+      (by_place at (λ q. finite.get new q ≡ finite.get t q) (λ q. inside q ∙ sym (has.inside q)) (λ q out. outside q out ∙ sym (has.outside q out)))
 
 -- ---- a file in it
 

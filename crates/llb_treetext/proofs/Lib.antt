@@ -1,7 +1,6 @@
 pub mod Lines
 pub mod Numbers
 pub mod Names
-pub mod Paths
 pub mod Written
 pub mod Rows
 pub mod Apart

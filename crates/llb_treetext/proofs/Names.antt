@@ -1,48 +1,10 @@
--- What a name is not, test by test.
-use Rattle.std.proofs.Common.{◌≡◌, ℕ, ◌+◌, ◌≤◌, ◌<◌, ◌==◌, nat_le, Bool, true, false, not, ◌&&◌, ◌||◌, List, [], ◌∷◌, length, drop, get_or}
+-- Parts of a text that are names, one at a time, and a text that is no path's.
+use Rattle.std.proofs.Common.{◌≡◌, ℕ, ◌+◌, ◌≤◌, ◌<◌, ◌==◌, nat_le, Bool, true, false, ◌&&◌, ◌||◌, List, [], ◌∷◌, length, drop, get_or}
 use Rattle.std.proofs.Common.{refl, sym, ap, ◌∙◌, arith, add-one, drop-cons}
-use Rattle.std.proofs.lemmas.Bool.{eqb-true, leb-true, le-leb, lt-leb, and_parts}
-use Rattle.std.proofs.lemmas.Str.{IsUtf8-from_is_utf8}
+use Rattle.std.proofs.lemmas.Bool.{eqb-true, le-leb, lt-leb}
 use Rattle.std.specs.List.{list_all}
-use Rattle.std.specs.Str.{IsUtf8, is_utf8}
-use Rattle.llb_tree.specs.Path.{is_dot, is_dots, is_name, is_name_byte, parts_of}
+use Rattle.llb_tree.specs.Path.{is_name, parts_of}
 use Rattle.llb_treetext.specs.Fields.{are_names, is_path}
-
-untrue : (b : Bool) → not b ≡ true → b ≡ false
-untrue true e = sym e
-untrue false e = refl
-
--- the tests that a name has passed
-pub record PassesTests (name : List ℕ) : Type 0 where
-  pub some : (length name == 0) ≡ false
-  pub dot : is_dot name ≡ false
-  pub dots : is_dots name ≡ false
-  pub plain : list_all is_name_byte name ≡ true
-  pub text : is_utf8 name ≡ true
-
--- a name has passed each test by itself
-pub passes_tests : (name : List ℕ) → is_name name ≡ true → PassesTests name
-passes_tests name is =
-    let text = and_parts _ (is_utf8 name) is in
-    let all = and_parts _ (list_all is_name_byte name) text.0 in
-    let dots = and_parts _ (not (is_dots name)) all.0 in
-    let dot = and_parts _ (not (is_dot name)) dots.0 in
-    let some = and_parts (not (length name == 0)) _ dot.0 in
-    record { some = untrue _ some.0; dot = untrue _ dot.1; dots = untrue _ dots.1; plain = all.1; text = text.1 }
-
--- no byte of a name is a `/`
-pub no_slash : (b : ℕ) → is_name_byte b ≡ true → (b == 47) ≡ false
-no_slash b is = untrue _ (and_parts (nat_le 32 b && not (b == 127)) _ is).1
-
--- nor below a space
-pub from_space : (b : ℕ) → is_name_byte b ≡ true → 32 ≤ b
-from_space b is = leb-true 32 b (and_parts (nat_le 32 b) _ (and_parts (nat_le 32 b && not (b == 127)) _ is).0).0
-
--- a name is a text
-pub name-IsUtf8 : (name : List ℕ) → is_name name ≡ true → IsUtf8 name
-name-IsUtf8 name is = IsUtf8-from_is_utf8 name (passes_tests name is).text
-
--- ---- parts that are names, one at a time
 
 and_false : (b : Bool) → (b && false) ≡ false
 and_false true = refl

@@ -9,8 +9,8 @@ use Rattle.std.specs.FinMap as finite
 use Rattle.llb_tree.specs.Path.{is_name, IsPath, path_cmp}
 use Rattle.llb_tree.specs.Meta.{MetaValue, IsMeta, new_dir_meta}
 use Rattle.llb_tree.specs.Tree.{Entry, Dir, File, Look, TreeMap, parents, all_dirs, walk, IsDirAt, IsAllowedAt, IsTree, empty_tree}
-use Rattle.llb_tree.specs.Inside.{walk-cons}
-use Rattle.llb_tree.specs.Within.{between, within_split}
+use Rattle.llb_tree.proofs.Inside.{walk-cons}
+use Rattle.llb_tree.proofs.Within.{between, within_split}
 use Rattle.llb_treetext.specs.TreeText.{names_text, path_text, line_of}
 use Rattle.llb_treetext.specs.Reading.{IsRow, IsFault, comes_next}
 use Rattle.llb_treetext.specs.Fields.{Fields, parts_seen, parts_from, trail}
@@ -24,7 +24,8 @@ use Rattle.llb_treetext.specs.declared.judge.Place.{Place}
 use Rattle.llb_treetext.proofs.Rows.{Pair}
 use Rattle.llb_treetext.proofs.Unique.{there, entry_is_row, at_end}
 use Rattle.llb_treetext.proofs.Placing.{find_behind, entries_put, goes_on, put_ok, not_there, not_root, less_true}
-use Rattle.llb_treetext.proofs.Placing.{get-insert_cases, root_entries, root_front}
+use Rattle.llb_tree.proofs.Closed.{get-insert_cases}
+use Rattle.llb_treetext.proofs.Placing.{root_entries, root_front}
 use Rattle.llb_treetext.proofs.Trails.{Named, NoSlash, slashless, trail_is, no_names_left, names_more, names_split, opens_tail, names_front, trail_order}
 
 -- ---- the walk to a path through its directory

@@ -1,21 +1,22 @@
 -- A row after all rows of a tree goes to the end of it, where its directories are there; and each row of a tree's text does.
-use Rattle.std.proofs.Common.{◌≡◌, ◌≢◌, ℕ, zero, suc, ◌<◌, ◌≤◌, ◌==◌, Bool, true, false, cond, ◌&&◌, List, [], ◌∷◌, ◌++◌, length, map}
-use Rattle.std.proofs.Common.{Option, Some, None, IsSome, Result, Ok, Err, T, refl, sym, ap, subst, ◌∙◌, true≢false, arith, append_assoc}
+use Rattle.std.proofs.Common.{◌≡◌, ◌≢◌, ℕ, zero, suc, ◌<◌, ◌≤◌, ◌==◌, Bool, true, false, cond, List, [], ◌∷◌, ◌++◌, length}
+use Rattle.std.proofs.Common.{Option, Some, None, Result, Ok, Err, T, refl, sym, ap, subst, ◌∙◌, true≢false, arith, append_assoc}
 use Rattle.std.proofs.Common.{length-append, inr}
 use Rattle.std.proofs.lemmas.Bool.{eqb-true}
 use Rattle.std.proofs.lemmas.Grind.{flat_map-append}
 use Rattle.std.proofs.lemmas.List.{append-nil}
 use Rattle.std.specs.declared.cmp.Ordering.{Ordering}
 use Rattle.std.specs.declared.cmp.Ordering.TheVariants.{Less, Equal, Greater}
-use Rattle.std.specs.Ordering.{is_lt, is_eq, eq_by_cmp, ordering_reverse}
+use Rattle.std.specs.Ordering.{is_lt, is_eq, ordering_reverse}
 use Rattle.std.specs.FinMap as finite
 use Rattle.std.specs.FinMap.Entries.{by_order}
 use Rattle.llb_tree.specs.Path.{path_cmp}
-use Rattle.llb_tree.specs.PathOrder.{path_cmp-IsTotalOrder, path_cmp-IsAntisymmetric}
+use Rattle.llb_tree.specs.PathOrder.{path_cmp-IsTotalOrder}
 use Rattle.llb_tree.specs.Meta.{MetaValue, new_dir_meta}
-use Rattle.llb_tree.specs.Tree.{Entry, Dir, File, Look, TreeMap, parents, all_dirs, walk, dir_fits, file_fits, IsDirAt, IsAllowedAt, IsTree, empty_tree}
+use Rattle.llb_tree.specs.Tree.{Entry, Dir, File, TreeMap, walk, dir_fits, file_fits, IsTree, empty_tree}
 use Rattle.llb_tree.specs.declared.fault.TreeFault.{TreeFault}
-use Rattle.llb_tree.specs.Inside.{walk-cons}
+use Rattle.llb_tree.proofs.Orders.{is_less, and_first, and_second}
+use Rattle.llb_tree.proofs.Closed.{IsTree-insert}
 use Rattle.llb_wire.specs.Answer.{◌>>=◌}
 use Rattle.llb_treetext.specs.TreeText.{row_text, line_of, lines_of, tree_text}
 use Rattle.llb_treetext.specs.Reading.{IsRow, IsText, IsFault, Stops, comes_next}
@@ -26,26 +27,11 @@ use Rattle.llb_treetext.proofs.Rows.{Pair}
 
 -- ---- after all rows
 
-is_less : (o : Ordering) → T (is_lt o) → o ≡ Less
-is_less Less h = refl
-is_less Equal h = absurd h
-is_less Greater h = absurd h
-
 -- what passes the test for less is Less
 pub less_true : (o : Ordering) → is_lt o ≡ true → o ≡ Less
 less_true Less is = refl
 less_true Equal is = absurd (true≢false (sym is))
 less_true Greater is = absurd (true≢false (sym is))
-
--- where two tests hold together, the first does
-pub and_first : (a b : Bool) → T (a && b) → T a
-and_first true b h = tt
-and_first false b h = absurd h
-
--- where two tests hold together, the second does
-pub and_second : (a b : Bool) → T (a && b) → T b
-and_second true b h = h
-and_second false b h = absurd h
 
 turned : (p q : List (List ℕ)) → path_cmp p q ≡ Less → path_cmp q p ≡ Greater
 turned p q lt = path_cmp-IsTotalOrder.antisymm q p ∙ ap ordering_reverse lt
@@ -72,34 +58,6 @@ put_behind r (s ∷ rows) p e h next =
     ∙ ap (λ l. r ∷ l) (put_behind s rows p e (and_second _ _ h) next)
 
 -- ---- a tree with a row more
-
-tied : (o : Ordering) → is_eq o ≡ true → o ≡ Equal
-tied Less t = absurd (true≢false (sym t))
-tied Equal t = refl
-tied Greater t = absurd (true≢false (sym t))
-
--- a fact of what was at a path, and of the new entry if that is its path, holds of what is there after the insertion
-pub get-insert_cases : (P : Option Entry → Type 0) (t : TreeMap) (p : List (List ℕ)) (e : Entry) (q : List (List ℕ)) → (q ≡ p → P (Some e))
-    → P (finite.get t q) → P (finite.get (finite.insert t p e) q)
-get-insert_cases P t p e q here there = subst P (sym (finite.get-insert path_cmp-IsTotalOrder t p e q)) (by_test (eq_by_cmp path_cmp q p) refl)
-  where
-    by_test : (b : Bool) → eq_by_cmp path_cmp q p ≡ b → P (cond b (Some e) (finite.get t q))
-    by_test true is = here (path_cmp-IsAntisymmetric q p (tied _ is))
-    by_test false is = there
-
--- more directories let a walk through
-walk_more : (f g : Look) → ((r : List (List ℕ)) → IsDirAt f r → IsDirAt g r) → (p : List (List ℕ)) → walk f p ≡ Ok tt → walk g p ≡ Ok tt
-walk_more f g more [] walks = refl
-walk_more f g more (n ∷ p) walks =
-    by_root (f []) refl (sym (walk-cons f n p) ∙ walks) (walk_more (λ q. f (n ∷ q)) (λ q. g (n ∷ q)) (λ r. more (n ∷ r)) p)
-  where
-    by_root : (e : Option Entry) → f [] ≡ e → all_dirs (e ∷ map (λ q. f (n ∷ q)) (parents p)) ≡ Ok tt
-        → (walk (λ q. f (n ∷ q)) p ≡ Ok tt → walk (λ q. g (n ∷ q)) p ≡ Ok tt) → walk g (n ∷ p) ≡ Ok tt
-    by_root None is walks rest = absurd cc
-    by_root (Some (File m b)) is walks rest = absurd cc
-    by_root (Some (Dir m)) is walks rest =
-        let own = more [] (m, is) in
-        walk-cons g n p ∙ ap (λ e. all_dirs (e ∷ map (λ q. g (n ∷ q)) (parents p))) own.1 ∙ rest walks
 
 module _ (t : TreeMap) (tree : IsTree t) (row : Pair) (is : IsRow row) (next : comes_next (finite.entries t) row.0 ≡ true) where
   some_rows : (r : Pair) × ((rows : List Pair) × (finite.entries t ≡ r ∷ rows))
@@ -134,18 +92,8 @@ module _ (t : TreeMap) (tree : IsTree t) (row : Pair) (is : IsRow row) (next : c
   text_put = ap lines_of entries_put ∙ flat_map-append line_of (finite.entries t) (row ∷ []) ∙ ap (λ l. tree_text t ++ l) (append-nil (line_of row))
 
   tree_put : walk (finite.get t) row.0 ≡ Ok tt → IsTree (finite.insert t row.0 row.1)
-  tree_put walks = record {
-    root = more [] tree.root;
-    closed = λ q there. walk_more (finite.get t) (finite.get (finite.insert t row.0 row.1)) more q
-        (get-insert_cases (λ o. IsSome o → walk (finite.get t) q ≡ Ok tt) t row.0 row.1 q
-        (λ same some. ap (walk (finite.get t)) same ∙ walks) (tree.closed q) there);
-    allowed = λ q d. get-insert_cases (λ o. o ≡ Some d → IsAllowedAt q d) t row.0 row.1 q
-        (λ same own. let one : row.1 ≡ d = cc in subst (λ x. IsAllowedAt x d) (sym same) (subst (IsAllowedAt row.0) one is.allowed)) (tree.allowed q d);
-  }
-    where
-      more : (q : List (List ℕ)) → IsDirAt (finite.get t) q → IsDirAt (finite.get (finite.insert t row.0 row.1)) q
-      more q dir = get-insert_cases (λ o. (m : MetaValue) × (o ≡ Some (Dir m))) t row.0 row.1 q
-          (λ same. let e : ◌≡◌ {A = Option Entry} None (Some (Dir dir.0)) = sym not_there ∙ ap (finite.get t) (sym same) ∙ dir.1 in absurd cc) dir
+  tree_put walks = IsTree-insert t tree row.0 walks row.1 is.allowed (λ q dir same.
+      let e : ◌≡◌ {A = Option Entry} None (Some (Dir dir.0)) = sym not_there ∙ ap (finite.get t) (sym same) ∙ dir.1 in absurd cc)
 
   -- an edit puts the row where nothing is, if the walk to it passes
   pub put_ok : (p : List (List ℕ)) (e : Entry) → p ≢ [] → finite.get t p ≡ None → walk (finite.get t) p ≡ Ok tt → put_row t (p, e) ≡ Ok (finite.insert t p e)

@@ -19,7 +19,7 @@ use Rattle.llb_tree.specs.Path.{is_name, is_name_byte, IsPath, name_cmp, path_cm
 use Rattle.llb_treetext.specs.TreeText.{names_text, path_text}
 use Rattle.llb_treetext.specs.Fields.{trail}
 use Rattle.llb_treetext.specs.Placing.{rank, trail_cmp, opens}
-use Rattle.llb_treetext.proofs.Names.{passes_tests, no_slash, from_space}
+use Rattle.llb_tree.proofs.NameTests.{passes_tests, no_slash, from_space}
 use Rattle.llb_treetext.proofs.Written.{long_path}
 
 abbrev pub Named : List (List ℕ) → Type 0

@@ -28,9 +28,9 @@ use Rattle.llb_treetext.specs.Reading.{IsRow}
 use Rattle.llb_treetext.specs.Fields as fields
 use Rattle.llb_treetext.specs.Fields.{Fields, on, cut_at, mode_in, decimal_in, are_names, is_path, dir_parts, file_parts, parts_in}
 use Rattle.llb_treetext.specs.Fields.{parts_from, dir_in, file_in, row_from, row_in}
-use Rattle.llb_treetext.proofs.Names.{name-IsUtf8, passes_tests, from_space}
+use Rattle.llb_tree.proofs.NameTests.{name-IsUtf8, passes_tests, from_space}
 use Rattle.llb_treetext.proofs.Numbers.{decimal_written}
-use Rattle.llb_treetext.proofs.Paths.{reads_back, parts_joined}
+use Rattle.llb_tree.proofs.Joined.{reads_back, parts_joined}
 
 -- ---- a text is cut at the first byte of a kind
 
