@@ -53,7 +53,7 @@ pub enum Command {
     Sha256 { path: Text, out: Text },
 }
 
-// It is written out so that whatever owns one drops it by this one function.
+// Written by hand, so that it is proved once; a derived one is proved again in every function that drops such a value.
 impl Drop for Command {
     fn drop(self) {
         match self {

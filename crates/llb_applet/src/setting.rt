@@ -13,7 +13,7 @@ pub struct Setting {
     pub env: Many<Text>,
 }
 
-// It is written out so that whatever owns one drops it by this one function.
+// Written by hand, so that it is proved once; a derived one is proved again in every function that drops such a value.
 impl Drop for Setting {
     fn drop(self) {
         let Setting { cwd: _, env: _ } = self;

@@ -21,7 +21,7 @@ pub struct Spot {
     pub place: Path,
 }
 
-// It is written out so that whatever owns one drops it by this one function.
+// Written by hand, so that it is proved once; a derived one is proved again in every function that drops such a value.
 impl Drop for Spot {
     fn drop(self) {
         let Spot {

@@ -42,7 +42,7 @@ pub struct Earlier {
     size: usize,
 }
 
-// Written out, so that what owns one drops it by this one function.
+// Written by hand, so that it is proved once; a derived one is proved again in every function that drops such a value.
 impl Drop for Earlier {
     fn drop(self) {
         let Earlier {

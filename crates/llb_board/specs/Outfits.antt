@@ -1,4 +1,4 @@
--- What a claim begins, in the code's types.
+-- What the claim of a vertex prepares, in the code's types.
 use Rattle.std.specs.Prelude.{List, replicate}
 use Rattle.llb_applet.specs.declared.setting.Setting.{Setting}
 use Rattle.llb_loader.specs.declared.graph.Vertex.{Vertex}
@@ -7,7 +7,7 @@ use Rattle.llb_model.specs.Program as model
 use Rattle.llb_execution.specs.Parts.{kind_setting}
 use Rattle.llb_board.specs.declared.workers.outfit.Outfit.{Outfit}
 
--- what an execution has beside its view
+-- what an execution has besides its view
 pub record Outfitted : Type 0 where
   pub program : model.Program
   pub outputs : List TreeMap
@@ -17,6 +17,6 @@ pub record Outfitted : Type 0 where
 abbrev pub outfit_as : Outfit → Outfitted
 outfit_as o = record { program = o.program; outputs = o.outputs.items; setting = o.setting }
 
--- what an execution of a vertex is made with: its program, an empty tree for each output, and where its commands run
+-- what the execution of a vertex is given: its program, an empty tree for each output, and where its commands run
 abbrev pub outfit_of : Vertex → Outfitted
 outfit_of v = record { program = model.program_of v; outputs = replicate v.outputs empty_tree; setting = kind_setting v.op.kind }

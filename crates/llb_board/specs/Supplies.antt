@@ -1,4 +1,4 @@
--- What each worker is supplied with: so no settle needs memory for its outputs, and commands run where their exec says and see the caches that it shows.
+-- The supplies of each worker: with them no settle needs memory for its outputs, and commands know where they run and which caches they see.
 use Rattle.std.specs.Prelude.{ℕ, List, [], map, replicate, length, Option, Some, None, slice_get}
 use Rattle.llb_tree.specs.Tree.{TreeMap, empty_tree}
 use Rattle.llb_applet.specs.declared.setting.Setting.{Setting}
@@ -14,8 +14,8 @@ use Rattle.llb_board.specs.declared.workers.seat.Seat.{Seat}
 use Rattle.llb_board.specs.declared.workers.seat.Execution as own
 use Rattle.llb_board.specs.declared.workers.seat.Seat.TheVariants as seat
 
--- what a worker has from its claim on: an empty tree for each output of its vertex, where its commands run, how many mounts they see, which
--- of these show caches, and the keys of those
+-- what a worker has from its claim on: an empty tree for each output of its vertex, where its commands run, how many mounts there are, which
+-- of them show caches, and the keys of those caches
 pub record Supplies : Type 0 where
   pub outputs : List TreeMap
   pub setting : Setting
@@ -23,7 +23,7 @@ pub record Supplies : Type 0 where
   pub shown : List ℕ
   pub keys : List Key
 
--- what an execution was supplied with
+-- the supplies that an execution has
 abbrev pub supplies_of : own.Execution → Supplies
 supplies_of x = record {
   outputs = x.outputs.items;
@@ -33,7 +33,7 @@ supplies_of x = record {
   keys = map (λ (p : Instance). p.key) x.places.items;
 }
 
--- the mounts that a vertex shows, and the caches that it needs
+-- the mounts of a vertex; none if there is no vertex
 abbrev pub mounts_at : Option Vertex → List Mount
 mounts_at (Some v) = kind_mounts v.op.kind
 mounts_at None = []
@@ -58,7 +58,7 @@ supplies_for o = record {
   keys = map key_of (needs_at o);
 }
 
--- what a worker has ready, and what it needs
+-- the supplies that a worker has now
 abbrev pub ready_made : Seat → Supplies
 ready_made seat.Idle = supplies_for None
 ready_made (seat.Runs l x) = supplies_of x

@@ -55,7 +55,7 @@ pub struct Caches {
     pub(crate) out: Vec<Option<Many<Instance>>>,
 }
 
-// Written out, so that the crates above drop one by this one function.
+// Written by hand, so that it is proved once; a derived one is proved again in every function that drops such a value.
 impl Drop for Caches {
     fn drop(self) {
         let Caches {

@@ -26,7 +26,7 @@ pub struct Seed {
     pub index: u32,
 }
 
-// Written out, so that what owns one drops it by this one function.
+// Written by hand, so that it is proved once; a derived one is proved again in every function that drops such a value.
 impl Drop for Seed {
     fn drop(self) {
         let Seed {
@@ -44,7 +44,7 @@ pub struct Key {
     pub mode: Mode,
 }
 
-// Written out, so that what owns one drops it by this one function.
+// Written by hand, so that it is proved once; a derived one is proved again in every function that drops such a value.
 impl Drop for Key {
     fn drop(self) {
         let Key {

@@ -29,7 +29,7 @@ pub struct Lent {
     out: Vec<Option<Many<Instance>>>,
 }
 
-// Written out, so that what owns one drops it by this one function.
+// Written by hand, so that it is proved once; a derived one is proved again in every function that drops such a value.
 impl Drop for Lent {
     fn drop(self) {
         let Lent {

@@ -12,7 +12,7 @@ pub(crate) struct Marks {
     items: Vec<bool>,
 }
 
-// Written out, so that what owns one drops it by this one function.
+// Written by hand, so that it is proved once; a derived one is proved again in every function that drops such a value.
 impl Drop for Marks {
     fn drop(self) {
         let Marks { items: _ } = self;

@@ -15,7 +15,7 @@ pub(crate) struct Trees {
     items: Vec<Tree>,
 }
 
-// Written out, so that what owns one drops it by this one function.
+// Written by hand, so that it is proved once; a derived one is proved again in every function that drops such a value.
 impl Drop for Trees {
     fn drop(self) {
         let Trees { items: _ } = self;

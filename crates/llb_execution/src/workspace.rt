@@ -39,7 +39,7 @@ pub struct Workspace {
     pub(crate) own: Own,
 }
 
-// Written out, so that the crates above drop one by this one function.
+// Written by hand, so that it is proved once; a derived one is proved again in every function that drops such a value.
 impl Drop for Workspace {
     fn drop(self) {
         let Workspace { own: _ } = self;

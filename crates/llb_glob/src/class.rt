@@ -31,7 +31,7 @@ pub struct Class {
     spans: Vec<Span>,
 }
 
-// It is written out so that whatever owns one drops it by this one function.
+// Written by hand, so that it is proved once; a derived one is proved again in every function that drops such a value.
 impl Drop for Class {
     fn drop(self) {
         let Class {

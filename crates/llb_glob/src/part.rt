@@ -22,7 +22,7 @@ pub struct Part {
     items: Vec<Item>,
 }
 
-// It is written out so that whatever owns one drops it by this one function.
+// Written by hand, so that it is proved once; a derived one is proved again in every function that drops such a value.
 impl Drop for Part {
     fn drop(self) {
         let Part { items: _ } = self;

@@ -18,7 +18,7 @@ pub struct Pattern {
     parts: Vec<Part>,
 }
 
-// It is written out so that whatever owns one drops it by this one function.
+// Written by hand, so that it is proved once; a derived one is proved again in every function that drops such a value.
 impl Drop for Pattern {
     fn drop(self) {
         let Pattern { parts: _ } = self;

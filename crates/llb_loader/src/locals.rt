@@ -16,7 +16,7 @@ pub struct Locals {
     trees: IndexMap<String, Tree>,
 }
 
-// Written out, so that the crates above drop one by this one function.
+// Written by hand, so that it is proved once; a derived one is proved again in every function that drops such a value.
 impl Drop for Locals {
     fn drop(self) {
         let Locals { trees: _ } = self;

@@ -16,7 +16,7 @@ pub struct Shown {
     pub tree: Tree,
 }
 
-// It is written out so that whatever owns one drops it by this one function.
+// Written by hand, so that it is proved once; a derived one is proved again in every function that drops such a value.
 impl Drop for Shown {
     fn drop(self) {
         let Shown {

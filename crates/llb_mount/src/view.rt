@@ -26,7 +26,7 @@ pub struct View {
     order: Option<Arc<Vec<Row>>>,
 }
 
-// It is written out so that the crates above drop one by this one function.
+// Written by hand, so that it is proved once; a derived one is proved again in every function that drops such a value.
 impl Drop for View {
     fn drop(self) {
         let View {

@@ -14,7 +14,7 @@ pub struct MergeOp {
     pub extra: Bytes,
 }
 
-// Written out, so that what owns one drops it by this one function.
+// Written by hand, so that it is proved once; a derived one is proved again in every function that drops such a value.
 impl Drop for MergeOp {
     fn drop(self) {
         let MergeOp {
@@ -30,7 +30,7 @@ pub struct MergeInput {
     pub extra: Bytes,
 }
 
-// Written out, so that what owns one drops it by this one function.
+// Written by hand, so that it is proved once; a derived one is proved again in every function that drops such a value.
 impl Drop for MergeInput {
     fn drop(self) {
         let MergeInput { input: _, extra: _ } = self;

@@ -32,7 +32,7 @@ pub struct Op {
     pub extra: Bytes,
 }
 
-// Written out, so that the crates above drop one by this one function.
+// Written by hand, so that it is proved once; a derived one is proved again in every function that drops such a value.
 impl Drop for Op {
     fn drop(self) {
         let Op {
@@ -62,7 +62,7 @@ pub struct Input {
     pub extra: Bytes,
 }
 
-// Written out, so that what owns one drops it by this one function.
+// Written by hand, so that it is proved once; a derived one is proved again in every function that drops such a value.
 impl Drop for Input {
     fn drop(self) {
         let Input {

@@ -40,7 +40,7 @@ pub struct Outcomes {
     items: Vec<Outcome>,
 }
 
-// Written out, so that what owns one drops it by this one function.
+// Written by hand, so that it is proved once; a derived one is proved again in every function that drops such a value.
 impl Drop for Outcomes {
     fn drop(self) {
         let Outcomes { items: _ } = self;

@@ -1,4 +1,4 @@
--- The replies that calls on a board hand out, and those of its record.
+-- The replies that calls on a board return, and those of its record.
 use Rattle.std.specs.Prelude.{◌≡◌, ℕ, [], ◌∷◌, ◌++◌, Ok}
 use Rattle.llb_model.specs.Table.{Reply}
 use Rattle.llb_execution.specs.Jobs.{OutcomeValue}
@@ -6,8 +6,8 @@ use Rattle.llb_board.specs.Seen.{BoardValue, replies_in}
 use Rattle.llb_board.specs.Rules.{claim_of, step_of, settle_of, cancel_of}
 use Rattle.llb_board.specs.Landing.{Lands}
 
--- For each call that does an event on board b: the reply that the call returns is the last of the replies of the record of the board after it. A landing has
--- the replies of its steps before it.
+-- For each call that does an event on board b: the reply that it returns is the last reply of the record afterwards. For a landing, the replies of its steps
+-- come before that one.
 pub record RepliesAreRecorded (b : BoardValue) : Type 0 where
   pub claim : (w v : ℕ) (t : BoardValue) (r : Reply) → claim_of b w v ≡ Ok (t, r) → replies_in t ≡ replies_in b ++ r ∷ []
   pub step : (w : ℕ) (t : BoardValue) (r : Reply) → step_of b w ≡ Ok (t, r) → replies_in t ≡ replies_in b ++ r ∷ []

@@ -18,7 +18,7 @@ pub struct Path {
     names: Vec<Name>,
 }
 
-// Written out, so that what owns one drops it by this one function.
+// Written by hand, so that it is proved once; a derived one is proved again in every function that drops such a value.
 impl Drop for Path {
     fn drop(self) {
         let Path { names: _ } = self;

@@ -24,7 +24,7 @@ pub struct Walk<'a> {
     levels: Vec<Children<'a>>,
 }
 
-// Written out, so that what owns one drops it by this one function.
+// Written by hand, so that it is proved once; a derived one is proved again in every function that drops such a value.
 impl<'a> Drop for Walk<'a> {
     fn drop(self) {
         let Walk {

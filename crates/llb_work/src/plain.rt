@@ -54,7 +54,7 @@ fn has_cache(vertex: &Vertex) -> bool
     false
 }
 
-/// Returns whether a vertex is marked; one past the marks is not.
+/// Returns whether a vertex is marked; false for a number past the last mark.
 pub(crate) fn is_marked(marks: &[bool], v: u32) -> bool
     ensures { result ≡ unwrap_or (slice_get marks.now v) false }
 {
