@@ -1,4 +1,4 @@
--- The row of a key: the first that has it, or none. What a write of a key's trees changes in either case.
+-- The first row of a key, if it has one, and what a write of a key's trees changes.
 use Rattle.std.proofs.Common.{◌≡◌, ℕ, zero, suc, ◌+◌, ◌<◌, Bool, true, false, cond, not, nat_lt, List, [], ◌∷◌, ◌++◌, length, Some, None, is_some}
 use Rattle.std.proofs.Common.{position, slice_get, unwrap_or, refl, sym, ap, ◌∙◌, subst, arith, inl, inr, ◌⊎◌, lt-ltb, le-ltb, true≢false}
 use Rattle.std.specs.List.{position_or_len}
@@ -27,7 +27,7 @@ pub keys_long : (es : List Row) → length (keys_of es) ≡ length es
 keys_long [] = refl
 keys_long (e ∷ es) = ap suc (keys_long es)
 
--- ---- the position of the key
+-- ---- the position of a key
 
 or_len_first : (k : Key) (es : List Row) (i : ℕ) → IsFirst k es i → position_or_len (same_key k) (keys_of es) ≡ i
 or_len_first k [] i h = absurd h
@@ -66,7 +66,7 @@ absent_placed k es e = elim (first_or_none k es) [
   | inr f ↦ absurd (none_is_some (sym e ∙ place_first k es f.0 f.1))
 ]
 
--- ---- the trees of the key
+-- ---- the trees of a key
 
 pub first_trees : (k : Key) (es : List Row) (i : ℕ) → IsFirst k es i → lookup (same_key k) es ≡ slice_get (values_of es) i
 first_trees k [] i h = absurd h
@@ -94,7 +94,7 @@ placed_found k es = elim (first_or_none k es) [
   | inr f ↦ ap is_some (place_first k es f.0 f.1) ∙ sym (first_found k es f.0 f.1)
 ]
 
--- ---- a write of its trees
+-- ---- a write of a key's trees
 
 pub written_first : (k : Key) (es : List Row) (i : ℕ) (w : List TreeMap) → IsFirst k es i → with_trees es k w ≡ set_trees es i w
 written_first k [] i w h = absurd h

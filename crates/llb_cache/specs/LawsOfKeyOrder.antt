@@ -1,4 +1,4 @@
--- The order of keys is a total order, and two keys are at one position of it if they are one.
+-- The order of keys is a total order, in which only equal keys are at the same position.
 use Rattle.std.specs.Prelude.{◌≡◌, Bool, true, false, Option, Some, None}
 use Rattle.std.proofs.Common.{refl, sym, ap, ◌∙◌}
 use Rattle.std.specs.declared.cmp.Ordering.{Ordering}
@@ -25,7 +25,7 @@ key_cmp-IsTotalOrder =
     then_total (then_total (on_total (λ (k : Key). k.id) nat_list_cmp_total) (on_total (λ (k : Key). mode_place k.mode) nat_cmp_total))
     (on_total (λ (k : Key). k.seed) (options_total seed_cmp-IsTotalOrder))
 
--- ---- only equal keys tie
+-- ---- only equal keys compare as equal
 
 both_equal : (a b : Ordering) → ordering_then a b ≡ Equal → (a ≡ Equal) × (b ≡ Equal)
 both_equal Equal b e = (refl, e)
@@ -44,7 +44,7 @@ seeds_same None (Some b) e = absurd (let x : Less ≡ Equal = e in cc)
 seeds_same (Some a) None e = absurd (let x : Greater ≡ Equal = e in cc)
 seeds_same (Some a) (Some b) e = ap (λ s. Some s) (seed_cmp-IsAntisymmetric a b e)
 
--- modes of one position are one
+-- modes at the same position are the same
 modes_same : (a b : Mode) → mode_place a ≡ mode_place b → a ≡ b
 modes_same Shared Shared e = refl
 modes_same Shared Private e = absurd cc
@@ -79,7 +79,7 @@ either_way true false f g = sym (f refl)
 either_way false true f g = g refl
 either_way false false f g = refl
 
--- two keys are at one position in the order if they are one
+-- two keys compare as equal exactly if they are the same
 pub tie_is_same : (k l : Key) → is_eq (key_cmp k l) ≡ same_key k l
 tie_is_same k l =
     either_way (is_eq (key_cmp k l)) (same_key k l)

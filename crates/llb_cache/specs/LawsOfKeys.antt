@@ -30,7 +30,7 @@ mode_itself Locked = refl
 text_itself : (xs : List ℕ) → pointwise nat_eq xs xs ≡ true
 text_itself xs = (bytes_decides xs xs).1 refl
 
--- if two tests hold together, each holds
+-- if `a && b` is true, both are
 pub both : (a b : Bool) → (a && b) ≡ true → (a ≡ true) × (b ≡ true)
 both true b e = (refl, e)
 both false b e = absurd cc

@@ -1,7 +1,7 @@
--- Read first Caches (keys with their instances, leases, and what each call makes of them), Key (when two keys are one) and Faults (the results of calls).
--- Growing is what a lease has ready, Growth what it adds and how that is removed, Marks which instances are marked as those of leases, KeyOrder and RowOrder
+-- Read first Caches (keys with their instances, leases, and the result of each call), Key (when two keys are the same) and Faults (the results of calls).
+-- Growing is what is prepared for a lease, Growth what a lease adds and how that is removed, Marks which instances leases have, KeyOrder and RowOrder
 -- the order in which keys are looked up, FirstRows at which row a key is;
--- LawsOfKeys, LawsOfKeyOrder, LawsOfFirstRows, Members, Rows, Leased, Numbers and Removed are what follows from the definitions, for those who rest on them.
+-- LawsOfKeys, LawsOfKeyOrder, LawsOfFirstRows, Members, Rows, Leased, Numbers and Removed are what follows from the definitions, for proofs built on them.
 pub mod Key
 pub mod LawsOfKeys
 pub mod KeyOrder

@@ -1,11 +1,11 @@
--- Members of lists by recursion, and that numbers below a bound that are all in a list are no more than its items.
+-- Membership in lists by recursion; and a list that contains all numbers below n has at least n items.
 use Rattle.std.proofs.Common.{◌≡◌, ◌≢◌, ℕ, zero, suc, ◌+◌, ◌<◌, ◌≤◌, Bool, true, false, cond, List, [], ◌∷◌, length, map, get_or, eqb, refl}
 use Rattle.std.proofs.Common.{sym, ◌∙◌, subst, arith, inl, inr, ◌⊎◌}
 use Rattle.std.specs.List.{Contains, AllPairs, AllByRecursion}
 use Rattle.std.proofs.lemmas.Bool.{eqb-true, eq-eqb}
 use Rattle.std.proofs.lemmas.List.Elements.{Contains-get_or}
 
--- an item is one of a list
+-- an item is in a list
 abbrev pub In : {A : Type 0} → List A → A → Type 0
 In [] y = ⊥
 In (x ∷ xs) y = (y ≡ x) ⊎ In xs y
@@ -25,7 +25,7 @@ holds_in P [] y all h = absurd h
 holds_in P (x ∷ xs) y all (inl is) = subst P (sym is) all.0
 holds_in P (x ∷ xs) y all (inr h) = holds_in P xs y all.1 h
 
--- each of a list is apart from those after it
+-- in a list whose pairs are all related by R, the first item is related to each later one
 pub pairs_head : {A : Type 0} (R : A → A → Type 0) (x : A) (xs : List A) → AllPairs R (x ∷ xs) → (y : A) → In xs y → R x y
 pairs_head R x xs all y h =
     let at = contained_in xs y h in
@@ -40,7 +40,7 @@ pairs_cons R x xs head all i zero d before below = absurd (omega (arith, before)
 pairs_cons R x xs head all zero (suc j) d before below = head (get_or xs j d) (in_contained xs (get_or xs j d) (Contains-get_or xs j d (omega (arith, below))))
 pairs_cons R x xs head all (suc i) (suc j) d before below = all i j d (omega (arith, before)) (omega (arith, below))
 
--- a member of a mapped list is the image of a member of the list
+-- each item of a mapped list is the image of an item of the list
 pub in_map : {A B : Type 0} (f : A → B) (xs : List A) (y : B) → In (map f xs) y → (x : A) × In xs x × (y ≡ f x)
 in_map f [] y h = absurd h
 in_map f (x ∷ xs) y (inl is) = (x, inl refl, is)
@@ -55,7 +55,7 @@ pairs_map R f (x ∷ xs) all =
 
 -- ---- numbers
 
--- a list without the first item that is this number
+-- a list without the first item that equals this number
 without : ℕ → List ℕ → List ℕ
 without n [] = []
 without n (m ∷ ms) = cond (eqb n m) ms (m ∷ without n ms)
@@ -83,7 +83,7 @@ still_in n k (m ∷ ms) apart h = go (eqb n m) refl (still_in n k ms apart) h
     go false is rest (inl same) = inl same
     go false is rest (inr later) = inr (rest later)
 
--- a list has at least as many items as numbers from 0 on
+-- a list that contains all numbers below n has at least n items
 pub no_fewer : (n : ℕ) (ms : List ℕ) → ((k : ℕ) → k < n → In ms k) → n ≤ length ms
 no_fewer zero ms all = omega arith
 no_fewer (suc n) ms all =

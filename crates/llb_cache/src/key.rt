@@ -1,4 +1,4 @@
-//! The key of a cache: its ID, the output that a new instance begins with, and how leases share it. Two keys are one if
+//! The key of a cache: its ID, the output that a new instance begins with, and how leases share it. Two keys are the same if
 //! all three are equal.
 
 ghost use Rattle.std.specs.Prelude.{◌≡◌, ◌↔◌, IsTrue, IfOk};

@@ -14,7 +14,7 @@ use std::alloc::AllocError;
 use std::io::Write;
 use std::{error, fmt};
 
-/// Why a text of the program's own is not out.
+/// Why a text that the program itself makes is not written.
 #[derive(Clone, Copy, Debug, PartialEq, Eq)]
 pub enum OutputFault {
     /// 182: the writer failed.

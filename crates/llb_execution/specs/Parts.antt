@@ -1,4 +1,4 @@
--- What the parts of an execution represent, in the words of the machine's definitions.
+-- What the data of programs, workspaces and micro-steps in the code represent in the model.
 use Rattle.std.specs.Prelude.{ℕ, Bool, false, not, Option, Some, None, List, [], ◌∷◌, length, map}
 use Rattle.llb_ops.specs.declared.op.Kind.{Kind}
 use Rattle.llb_ops.specs.declared.op.Kind.TheVariants as kind
@@ -15,7 +15,7 @@ use Rattle.llb_execution.specs.declared.workspace.Own.TheVariants as own
 
 -- ---- programs
 
--- where the commands of a kind run; only an exec has some
+-- where the commands of a kind run; only an exec has commands
 abbrev pub kind_setting : Option Kind → Setting
 kind_setting (Some (kind.Exec x)) = model.setting_of x.meta
 kind_setting _ = model.setting_of None
@@ -27,7 +27,7 @@ step_in (step.Act action) = model.Act action.now
 step_in (step.LayInput number) = model.LayInput number
 step_in (step.Run setting command later) = model.Run setting.now command.now (model.all_and later.now)
 
--- the micro-steps that a program owns
+-- the micro-steps that a program owns, as those of the model
 abbrev pub steps_in : Steps → List model.MicroStep
 steps_in steps.Nothing = []
 steps_in steps.Read = model.ReadLocal ∷ []
@@ -37,7 +37,7 @@ steps_in (steps.Commands setting script) = model.runs_of setting script
 
 -- ---- workspaces
 
--- what a workspace owns
+-- the workspace that the data of the code represents
 abbrev pub own_of : Own → model.Workspace
 own_of (own.Local t) = model.LocalTree t
 own_of (own.Files inputs results) = model.Files inputs.items results.items
@@ -64,11 +64,11 @@ shown_in (model.Layers inputs t) = []
 abbrev pub work_with : model.Workspace → List TreeMap → model.Work
 work_with workspace trees = record { own = workspace; trees = trees }
 
--- what a micro-step leaves: a workspace, these trees, and its fault
+-- the result of a micro-step: a workspace, these trees, and its fault
 abbrev pub left_with : model.Workspace → List TreeMap → Option VertexFault → model.Left
 left_with workspace trees fault = record { work = work_with workspace trees; fault = fault }
 
--- a command that is skipped after a workspace's last status
+-- whether a micro-step is a command that is skipped after the workspace's last status
 abbrev pub is_skipped : model.MicroStep → model.Workspace → Bool
 is_skipped (model.Run setting command ends) workspace = not (model.is_run command.join (model.last_of workspace))
 is_skipped model.ReadLocal workspace = false

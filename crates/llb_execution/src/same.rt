@@ -154,7 +154,7 @@ fn are_layings(steps: &Steps, inputs: &[MergeInput]) -> bool
     }
 }
 
-// Returns whether the micro-steps are these commands, run where an exec of that meta runs them.
+// Returns whether the micro-steps are these commands, run where an exec with this meta runs them.
 fn are_runs(steps: &Steps, meta: &Option<Meta>, commands: &[Joined]) -> bool
     ensures { IsTrue result ↔ (steps_in steps.now ≡ runs_of (setting_of meta.now) commands.now) }
 {
@@ -172,7 +172,7 @@ fn are_runs(steps: &Steps, meta: &Option<Meta>, commands: &[Joined]) -> bool
     }
 }
 
-// Returns whether commands of that meta run in this setting.
+// Returns whether commands of an exec with this meta run in this setting.
 fn is_setting(setting: &Setting, meta: &Option<Meta>) -> bool
     ensures { IsTrue result ↔ (setting.now ≡ setting_of meta.now) }
 {

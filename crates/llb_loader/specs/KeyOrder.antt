@@ -26,7 +26,7 @@ key_cmp-IsTotalOrder =
     then_total (then_total (on_total (λ (k : CacheKey). k.id) nat_list_cmp_total) (on_total (λ (k : CacheKey). k.mode) int_cmp_total))
     (on_total (λ (k : CacheKey). k.seed) (options_total seed_cmp-IsTotalOrder))
 
--- ---- only equal keys tie
+-- ---- only equal keys compare as equal
 
 both_equal : (a b : Ordering) → ordering_then a b ≡ Equal → (a ≡ Equal) × (b ≡ Equal)
 both_equal Equal b e = (refl, e)

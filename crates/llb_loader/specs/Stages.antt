@@ -1,4 +1,4 @@
--- Rows between the stages of linking.
+-- What holds of the rows between the stages of linking.
 use Rattle.std.specs.Prelude.{◌≡◌, ℕ, ◌≤◌, ◌↔◌, List, length}
 use Rattle.std.specs.List.{All}
 use Rattle.llb_ops.specs.Within.{IsWithinLimits}
@@ -13,7 +13,7 @@ use Rattle.llb_loader.specs.Linking.{Plan, plan, IsPlanOf, IsNamed, ReachedRow, 
 abbrev pub plan_in : Linked → Plan
 plan_in l = plan l.rows.now l.ops.items l.terminal l.start
 
--- The rows have the plan that they are to have, each input of a reached row names a row, and the reached rows are marked.
+-- The terminal and the start are those of the rows, each input of a reached row names a row, and the reached rows are marked.
 pub record IsLinked (l : Linked) : Type 0 where
   pub few : length l.rows.now ≤ 65_536
   pub len : length l.ops.items ≡ length l.rows.now
@@ -24,7 +24,7 @@ pub record IsLinked (l : Linked) : Type 0 where
   pub seen : length l.seen.items ≡ length l.rows.now
   pub exact : (k : ℕ) → IsMarked l.seen.items k ↔ ReachedRow (plan_in l) k
 
--- these rows, read as these ops, are linked
+-- l is the result of linking these rows, which are read as these ops
 pub record IsLinkedFrom (rows : List Row) (ops : List Op) (l : Linked) : Type 0 where
   pub same_rows : l.rows.now ≡ rows
   pub same_ops : l.ops.items ≡ ops

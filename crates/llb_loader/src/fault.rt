@@ -72,7 +72,7 @@ fn at_row<W: fmt::Write, T: fmt::Display>(
     write!(f, "{number} {row} {what}")
 }
 
-// Written out: prints what `Display` does.
+// Written by hand: prints what `Display` does.
 impl fmt::Debug for LoadFault {
     fn fmt<W: fmt::Write>(&self, f: &mut fmt::Formatter<W>) -> fmt::Result {
         fmt::Display::fmt(self, f)
@@ -222,7 +222,7 @@ impl fmt::Display for Rule {
     }
 }
 
-// Written out: prints what `Display` does.
+// Written by hand: prints what `Display` does.
 impl fmt::Debug for Rule {
     fn fmt<W: fmt::Write>(&self, f: &mut fmt::Formatter<W>) -> fmt::Result {
         fmt::Display::fmt(self, f)

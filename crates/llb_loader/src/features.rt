@@ -1,4 +1,4 @@
-//! The features of an op that are not supported. Each test looks at the ops of one kind; the order of features is that
+//! The features of an op that are not supported. Each test looks at ops of one kind; the order of the features is that
 //! of `features`.
 
 ghost use Rattle.std.specs.Prelude.{◌≡◌};

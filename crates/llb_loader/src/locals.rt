@@ -67,7 +67,7 @@ impl Locals {
         copied(&self.trees)
     }
 
-    /// Returns the tree of a name; `None` if the name has none.
+    /// Returns the tree with a name; `None` if the name has none.
     pub fn get(&self, name: &str) -> Option<&Tree>
         ensures { option_map (λ t. t.now) result ≡ tree_of_local self.now name.now }
     {

@@ -1,4 +1,4 @@
-//! What a file action does: each kind is made from its records, and has its canonical bytes.
+//! What a file action does: each kind is read from its records, and written as its canonical bytes.
 
 ghost use Rattle.std.specs.Prelude.{◌≡◌, IfOk, true};
 ghost use Rattle.llb_ops.specs.Records.{views, texts_fit};
@@ -192,7 +192,7 @@ impl Drop for CopyFile {
     }
 }
 
-// Makes a copy action from its records and its owner, which is read before.
+// Makes a copy action from its records and its owner, which was read before.
 #[tactic(auto, unfolding(crate::specs::Messages::copy_file_with))]
 fn copy_file_with(
     alloc: Global,

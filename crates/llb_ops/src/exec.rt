@@ -1,4 +1,4 @@
-//! Executions, their mounts and caches, as `ops.proto` of BuildKit names them. Enums of the wire are numbers.
+//! Executions, their mounts and caches, as `ops.proto` of BuildKit names them. Enums are numbers here.
 
 use crate::fault::OpFault;
 use crate::message::{Message, each, one};
@@ -66,7 +66,7 @@ pub struct Mount {
     pub input: i64,
     pub selector: Text,
     pub dest: Text,
-    /// The output that the mount's tree is, -1 for none.
+    /// The number of the output that the mount's tree becomes, -1 for none.
     pub output: i64,
     pub readonly: bool,
     /// 0 bind, 1 secret, 2 SSH, 3 cache, 4 tmpfs.

@@ -42,12 +42,12 @@ impl Drop for Actions {
     }
 }
 
-/// `FileAction`: one action, its inputs, and the output that its result is, -1 for none.
+/// `FileAction`: one action, its inputs, and the number of the output that its result becomes, -1 for none.
 pub struct Action {
     pub input: i64,
     pub secondary_input: i64,
     pub output: i64,
-    /// The member that is set, if any.
+    /// The member of the oneof that is set, if any.
     pub kind: Option<ActionKind>,
     pub extra: Bytes,
 }

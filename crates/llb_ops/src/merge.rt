@@ -8,7 +8,7 @@ use crate::writing::{put_extra, put_messages, put_signed};
 use llb_wire::{Bytes, Many, Memory};
 use std::alloc::Global;
 
-/// Trees that are laid one over the other, in their order.
+/// Trees that are laid one over another, in their order.
 pub struct MergeOp {
     pub inputs: Many<MergeInput>,
     pub extra: Bytes,

@@ -26,7 +26,7 @@ use std::alloc::Global;
 /// A vertex of the build graph, as its entry has it.
 pub struct Op {
     pub inputs: Many<Input>,
-    /// The member that is set, if any.
+    /// The member of the oneof that is set, if any.
     pub kind: Option<Kind>,
     /// The records of fields that the message doesn't name, as they are.
     pub extra: Bytes,

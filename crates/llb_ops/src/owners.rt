@@ -1,4 +1,4 @@
-//! Owners of what a file action makes: users and groups by what they are of their records, and their canonical bytes.
+//! Owners of what a file action makes: users and groups, read from their records, and their canonical bytes.
 
 use crate::fault::OpFault;
 use crate::message::{Member, Message, one, one_of};
@@ -8,7 +8,7 @@ use crate::writing::{put_extra, put_message, put_one_of, put_set_bytes, put_set_
 use llb_wire::{Bytes, Memory};
 use std::alloc::Global;
 
-/// The owner that made or copied entries get.
+/// The owner of the entries that an action makes or copies.
 pub struct ChownOpt {
     pub user: Option<UserOpt>,
     pub group: Option<UserOpt>,

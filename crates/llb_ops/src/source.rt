@@ -45,7 +45,7 @@ impl Drop for Attributes {
     }
 }
 
-/// What follows a key.
+/// The value of an attribute, with the extra bytes of its entry.
 pub struct Attribute {
     pub value: Text,
     pub extra: Bytes,

@@ -24,7 +24,7 @@ pub enum Outcome {
 }
 
 impl Outcome {
-    /// Returns the output of that number, if the vertex is done and has it.
+    /// Returns the output with this number, if the vertex is done and has it.
     pub fn output(&self, index: u32) -> Option<&Tree>
         ensures { option_map (λ t. t.now) result ≡ output_in (ending_in (Some (outcome_of self.now))) index }
     {
@@ -35,7 +35,7 @@ impl Outcome {
     }
 }
 
-/// The outcomes of vertices, by number. Contracts see the list of them, in the words of the machine's definitions.
+/// The outcomes of vertices, by number. Contracts see the list of them, as outcomes of the model.
 pub struct Outcomes {
     items: Vec<Outcome>,
 }

@@ -25,7 +25,7 @@ pub struct Tree {
     pub(crate) alloc: Global,
 }
 
-// Written out, so that the crates above drop a tree by this one function.
+// Written by hand, so that it is proved once; a derived one is proved again in every function that drops a tree.
 impl Drop for Tree {
     fn drop(self) {
         let Tree {
