@@ -1,4 +1,4 @@
-//! Why a script is refused, and a command that is out of memory. A fault prints what follows the word `fault` in a
+//! Why a script is refused, and the fault of a command for which memory is refused. A fault prints what follows the word `fault` in a
 //! refusal: its number, and its argument. Refusals of memory of any kind become `Memory` by `?`.
 
 ghost use Rattle.std.specs.Prelude.{Some};

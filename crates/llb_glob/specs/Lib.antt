@@ -1,5 +1,5 @@
 -- Read Matching with ClassValue and Class first (when a path matches a pattern), then Spelling (what spells a part) and Pattern (what a text reads as) with
--- Items, then Simple, Faults and Laws. Reading, Places and Walk follow the steps of the code.
+-- Items, then Simple, Faults and Laws. Reading, Places and Walk have the states between the steps of the code.
 pub mod Faults
 pub mod ClassValue
 pub mod Class

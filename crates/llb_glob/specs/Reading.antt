@@ -1,4 +1,4 @@
--- A part while it is read: the result of reading it with the characters that are left.
+-- The state while a part is read: the result that the remaining characters give.
 use Rattle.std.specs.Prelude.{◌≡◌, ℕ, false, List, Result, Ok, Err}
 use Rattle.llb_glob.specs.declared.fault.PatternFault.{PatternFault}
 use Rattle.llb_glob.specs.declared.item.Item.{Item}
@@ -6,7 +6,7 @@ use Rattle.llb_glob.specs.declared.part.Reading.{Reading}
 use Rattle.llb_glob.specs.Faults.{is_memory}
 use Rattle.llb_glob.specs.Items.{behind, items_from}
 
--- the items that are whole, and then those that the rest of the characters is read as
+-- the items so far, followed by those of the remaining characters
 abbrev pub ahead : Reading → List ℕ → Result (List Item) PatternFault
 ahead reading letters = behind reading.items.items (items_from letters reading.cursor reading.class)
 

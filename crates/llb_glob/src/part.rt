@@ -82,7 +82,7 @@ impl NameTest for Part {
     }
 }
 
-/// A part while it is read: where the reader is, the whole items before it, and the current class.
+/// The state while a part is read: the cursor, the items so far, and the current class.
 #[derive(Drop)]
 pub struct Reading {
     cursor: Cursor,

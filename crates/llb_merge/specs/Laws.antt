@@ -1,4 +1,4 @@
--- Laws of the laying, for whoever rests on it: the entry at each path, that it is a tree, and what the empty tree does.
+-- Laws of laying, for proofs built on it: the entry at each path, that the result is a tree, and what the empty tree does.
 use Rattle.std.proofs.Common.{◌≡◌, ℕ, Bool, true, false, not, cond, ◌||◌, List, [], ◌∷◌, ◌++◌, map}
 use Rattle.std.proofs.Common.{Option, Some, None, IsSome, is_some, Ok, refl, sym, ap, ◌∙◌, true≢false}
 use Rattle.std.specs.Prelude.{unwrap_or}
@@ -43,11 +43,11 @@ get-lay a b q =
     ∙ ap (or_else (finite.get b q)) (cond-not (below_file (finite.get b) q) (finite.find path_cmp q (finite.entries a)) None
     ∙ ap (λ o. cond (below_file (finite.get b) q) None o) (sym (finite.get-entries a q)))
 
--- and no other tree has at each path what the laying has
+-- and a tree that has this at each path is the result of laying
 pub lay_only : (a b t : TreeMap) → ((q : List (List ℕ)) → finite.get t q ≡ lay_at (finite.get a) (finite.get b) q) → t ≡ lay a b
 lay_only a b t is = finite.same_map path_cmp-IsTotalOrder path_cmp-IsAntisymmetric t (lay a b) (λ q. is q ∙ sym (get-lay a b q))
 
--- a tree over another in the way that changes no mode and no owner, and keeps no directory of the lower one, is the laying
+-- the overlay of llb_tree that changes no mode and no owner, and keeps no directory of the lower tree, is this laying
 abbrev plain_way : WayValue
 plain_way = record { mode = None; uid = None; gid = None; keeps = false }
 
@@ -70,12 +70,12 @@ over_is_lay w is a b t over = lay_only a b t (λ q.
     ∙ ap (λ x. over_at x (finite.get a) (finite.get b) q) (sym (ap (λ o. unwrap_or o w) is))
     ∙ over_plain (finite.get a) (finite.get b) q)
 
--- ---- walks
+-- ---- the parents of a path
 
 pub below_file-cons : (look : Look) (n : List ℕ) (p : List (List ℕ)) → below_file look (n ∷ p) ≡ (is_file (look []) || below_file (λ q. look (n ∷ q)) p)
 below_file-cons look n p = ap (λ ys. list_any is_file (look [] ∷ ys)) (map-map look (λ q. n ∷ q) (parents p))
 
--- a walk that one tree lets through goes through any tree with directories where that has some
+-- if all parents of a path are directories in one tree, so they are in any tree with directories wherever that one has some
 walk_more : (f g : Look) → ((r : List (List ℕ)) → IsDirAt f r → IsDirAt g r) → (p : List (List ℕ)) → walk f p ≡ Ok tt → walk g p ≡ Ok tt
 walk_more f g more [] walks = refl
 walk_more f g more (n ∷ p) walks =
@@ -89,7 +89,7 @@ walk_more f g more (n ∷ p) walks =
         let own = more [] (m, is) in
         walk-cons g n p ∙ ap (λ e. all_dirs (e ∷ map (λ q. g (n ∷ q)) (parents p))) own.1 ∙ rest walks
 
--- what can be walked to in the lower tree can be walked to in both, if no file of the upper one is above it
+-- if all parents of a path are directories in the lower tree, so they are in the result, if no file of the upper tree is above the path
 walk_both : (f g : Look) (p : List (List ℕ)) → walk f p ≡ Ok tt → below_file g p ≡ false → walk (lay_at f g) p ≡ Ok tt
 walk_both f g [] walks clear = refl
 walk_both f g (n ∷ p) walks clear =
@@ -108,9 +108,9 @@ walk_both f g (n ∷ p) walks clear =
     by_root (Some (Dir m)) (Some (Dir k)) walks clear rest = rest walks clear
     by_root (Some (Dir m)) None walks clear rest = rest walks clear
 
--- ---- the whole is a tree
+-- ---- the result is a tree
 
--- an entry of the whole is the upper tree's, or the lower one's that nothing hides
+-- an entry of the result is the upper tree's, or the lower one's if no file of the upper tree is above it
 pub laid_cases : (C : Type 0) (f g : Look) (q : List (List ℕ)) (e : Entry)
     → (g q ≡ Some e → C) → (g q ≡ None → below_file g q ≡ false → f q ≡ Some e → C) → lay_at f g q ≡ Some e → C
 laid_cases C f g q e up low is = by_upper (g q) refl is
@@ -178,7 +178,7 @@ lay_over_empty t tree = sym (lay_only empty_tree t t there)
         sym (ap (λ o. or_else (finite.get t (n ∷ q)) (cond (below_file (finite.get t) (n ∷ q)) None o)) (get-empty_tree (n ∷ q))
         ∙ none_more (below_file (finite.get t) (n ∷ q)) (finite.get t (n ∷ q)))
 
--- the empty tree has no file, so none is above a path
+-- a tree without files has no file above a path
 below_none : (look : Look) → ((r : List (List ℕ)) → is_file (look r) ≡ false) → (p : List (List ℕ)) → below_file look p ≡ false
 below_none look none p = go (parents p)
   where

@@ -1,3 +1,3 @@
--- Read first Laying (one tree laid over another), then Laws (what follows, for those who rest on it).
+-- Read first Laying (one tree laid over another), then Laws (what follows, for proofs built on it).
 pub mod Laying
 pub mod Laws

@@ -1,6 +1,6 @@
 -- Read first Tree (a tree as a map from paths to entries, and its edits) and Path (names, paths, and what a text reads as) with Meta and Modes, then Overlay
--- (one tree over another), Walks, Tested, Rows and Faults. Within, Inside and PathOrder are what follows, for those who rest on it; Nodes, Pieces, Looks,
--- Falls, Laying and Shared are this crate's own way with nodes; Coded is how a tree is coded.
+-- (one tree over another), Walks, Tested, Rows and Faults. Within, Inside and PathOrder are what follows, for proofs built on it; Nodes, Pieces, Looks,
+-- Falls, Laying and Shared say how this crate keeps trees as nodes; Coded has trees as plain values.
 pub mod Faults
 pub mod Path
 pub mod PathOrder

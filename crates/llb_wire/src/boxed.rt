@@ -1,4 +1,4 @@
-//! A value on the heap, which contracts see as the value.
+//! A value on the heap; contracts see the value alone.
 
 ghost use Rattle.std.specs.Prelude.{◌≡◌, IfOk};
 
@@ -7,7 +7,7 @@ use crate::same::Same;
 use std::alloc::Global;
 use std::marker::Model;
 
-/// A value on the heap: an enum whose large variants are boxed is as small as its small ones allow.
+/// A value on the heap. It keeps an enum with large variants small.
 pub struct Boxed<T> {
     place: Box<T>,
 }

@@ -1,4 +1,4 @@
-//! Byte strings, which contracts see as lists. The type keeps that the elements are bytes.
+//! Byte strings, which contracts see as lists. The type ensures that all elements are bytes.
 
 ghost use Rattle.std.specs.Prelude.{◌≡◌, IfOk};
 ghost use Rattle.llb_wire.specs.Spelling.{AreBytes};

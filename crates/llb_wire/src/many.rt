@@ -1,4 +1,4 @@
-//! Lists of a public type, which contracts see as lists.
+//! Lists that own their items, as a public type; contracts see the list of the items' values.
 
 ghost use Rattle.std.specs.Prelude.{◌≡◌, ◌==◌, length};
 
@@ -56,7 +56,7 @@ impl<T> Many<T> {
         self.items.is_empty()
     }
 
-    /// Returns the allocator of the items. No clause speaks of it: contracts see no allocator, and there is one.
+    /// Returns the allocator of the items. No clause is about it: contracts see no allocator, and there is only one.
     pub fn allocator(&self) -> Global {
         *self.items.allocator()
     }
