@@ -52,7 +52,7 @@ is_word_byte b =
 abbrev pub bad_in : Bool → List ℕ → Option ℕ
 bad_in called word = if is_separator word then (if called then None else Some 0) else position (λ b. not (is_word_byte b)) word
 
--- whether the word before what follows a part belongs to a call: this part, or, if it is empty, the word before it
+-- whether a call is begun at the end of this part of a script: the part ends in a word of it, or is empty and a call was begun before
 abbrev pub called_after : Bool → List ℕ → Bool
 called_after called part = if length part == 0 then called else not (is_separator part)
 

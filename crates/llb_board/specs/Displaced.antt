@@ -147,7 +147,7 @@ abbrev pub AreHeldThere : List WorkerStatus → List Row → Type 0
 AreHeldThere workers rows = (w : ℕ) (x : Execution) (p : Instance) → slice_get workers w ≡ Some (Runs x) → Has x.places p
     → p.number < length (trees_of rows p.key)
 
--- two workers that hold one instance of a locked or a private key are one worker
+-- two workers that hold the same instance of a locked or a private key are the same worker
 abbrev pub AreHeldOnce : List WorkerStatus → Type 0
 AreHeldOnce workers = (w u : ℕ) (x y : Execution) (p : Instance) → slice_get workers w ≡ Some (Runs x) → slice_get workers u ≡ Some (Runs y)
     → Has x.places p → Has y.places p → IsExclusive p.key.mode → w ≡ u

@@ -93,7 +93,7 @@ is_marked marks x = get_or marks x false
 abbrev pub IsClosed : List (List ℕ) → (ℕ → Bool) → Type 0
 IsClosed users p = (y x : ℕ) → p y ≡ true → Contains (get_or users y []) x → p x ≡ true
 
--- how many are not marked
+-- how many vertices are not marked
 abbrev pub unmarked : List Bool → ℕ
 unmarked [] = 0
 unmarked (b ∷ bs) = (if b then 0 else 1) + unmarked bs

@@ -108,7 +108,7 @@ pub fn stays_dense(board: &Board)
 
 /// Proves that if no cache is shared, after any list of granted events, the settled vertices and the free cache instances are as if each
 /// claimed vertex had been run at its claim, in the order of the claims: whole, or up to the micro-step at which it was cancelled.
-/// They are so on this board, in the order of the claims of its record.
+/// The same holds for this board, in the order of the claims of its record.
 pub fn runs_in_claim_order(board: &Board)
     ensures after { machine.NoShared board.now.build → machine.RunsInClaimOrder board.now.build }
     ensures here { machine.NoShared board.now.build → StandsInClaimOrder board.now }

@@ -13,7 +13,7 @@ use llb_wire::{Bytes, Over, write_all};
 use std::alloc::Global;
 use std::io::{Read, Write};
 
-// Returns the program's fault for one of the assembler; a refused line stays one.
+// Returns the program's fault for one of the assembler; a refused line keeps its number and its rule.
 fn assembling_fault(fault: AsmFault) -> ProgramFault
     ensures { result ≡ assembling_fault fault }
 {

@@ -20,7 +20,7 @@ abbrev pub kind_setting : Option Kind → Setting
 kind_setting (Some (kind.Exec x)) = model.setting_of x.meta
 kind_setting _ = model.setting_of None
 
--- a micro-step that is borrowed from its program
+-- a borrowed micro-step of a program, as a micro-step of the model
 abbrev pub step_in : MicroStep → model.MicroStep
 step_in step.ReadLocal = model.ReadLocal
 step_in (step.Act action) = model.Act action.now

@@ -138,7 +138,7 @@ pub record IsGraph (g : Numbered) : Type 0 where
   pub whole : (k : ℕ) → k < length g.vertices → Reached (links g.vertices) g.result.vertex k
   pub vertex : All IsVertex g.vertices
   pub inputs : All (HasInputs g.vertices) g.vertices
-  -- no two vertices have one digest
+  -- no two vertices have the same digest
   pub distinct : (a b : ℕ) (d : Vertex) → a < length g.vertices → b < length g.vertices
       → (slice_index_or g.vertices a d).digest ≡ (slice_index_or g.vertices b d).digest → a ≡ b
   -- each vertex is of a supported kind

@@ -43,7 +43,7 @@ get-lay a b q =
     ∙ ap (or_else (finite.get b q)) (cond-not (below_file (finite.get b) q) (finite.find path_cmp q (finite.entries a)) None
     ∙ ap (λ o. cond (below_file (finite.get b) q) None o) (sym (finite.get-entries a q)))
 
--- and a tree that has this at each path is the result of laying
+-- a tree that has these entries at all paths is the result of laying
 pub lay_only : (a b t : TreeMap) → ((q : List (List ℕ)) → finite.get t q ≡ lay_at (finite.get a) (finite.get b) q) → t ≡ lay a b
 lay_only a b t is = finite.same_map path_cmp-IsTotalOrder path_cmp-IsAntisymmetric t (lay a b) (λ q. is q ∙ sym (get-lay a b q))
 

@@ -33,7 +33,7 @@ pub record IsReached (b : Build) (s : State) : Type 0 where
 
 -- ---- the caches of a graph
 
--- no vertex mounts two caches of one key
+-- no vertex mounts two caches with the same key
 abbrev pub HasDistinctNeeds : Build → Type 0
 HasDistinctNeeds b = (k : ℕ) (v : Vertex) → slice_get b.graph.vertices k ≡ Some v → Distinct (map key_of (needs_of v))
 

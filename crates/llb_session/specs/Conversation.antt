@@ -30,7 +30,7 @@ abbrev pub last_line : List ℕ → List (List ℕ)
 last_line [] = []
 last_line (b ∷ rest) = (b ∷ rest) ∷ []
 
--- ---- the replies to them
+-- ---- the replies to lines
 
 -- the replies to some lines, counted from n, are this text; s is the stepper before them and t the one after them
 abbrev pub Talks : Stepping → ℕ → List (List ℕ) → List ℕ → Stepping → Type 0

@@ -306,7 +306,7 @@ pub fn replay_is_the_run(board: &Board)
 }
 
 /// A law: the reply that a call on a board returns is the one in the record of the board afterwards, the last one there.
-/// The calls are `claim`, `step`, `settle`, `cancel`, and `land`, for whose steps the replies are before it.
+/// The calls are `claim`, `step`, `settle`, `cancel`, and `land`, where the replies of its steps come before its own.
 pub fn replies_are_recorded(board: &Board)
     ensures { RepliesAreRecorded board.now }
 {

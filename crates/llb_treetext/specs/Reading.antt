@@ -44,7 +44,7 @@ IsFault rows rest (NoParent n) = (n ≡ length rows + 1)
     × ((row : List (List ℕ) × Entry) × Begins rest row × (comes_next rows row.0 ≡ true) × (walk (λ q. finite.find path_cmp q rows) row.0 ≢ Ok tt))
 IsFault rows rest Memory = ⊥
 
--- the text begins with the lines of a tree, or with none, and the next line has this fault; a missing line counts as a faulty one if there are no lines
+-- the text begins with the lines of a tree (perhaps none), and the line after them has this fault; if the text is empty, the missing line is faulty
 pub record Stops (bytes : List ℕ) (e : TextFault) : Type 0 where
   pub rows : List (List (List ℕ) × Entry)
   pub rest : List ℕ
