@@ -45,7 +45,7 @@ impl fmt::Debug for LandFault {
 /// Why a graph is not opened. The graph, the local trees and the caches are in the fault.
 #[derive(Drop, Error)]
 pub enum OpenFault {
-    /// 121: no tree is given for a local source, the least vertex's of those; its name.
+    /// 121: no tree is given for a local source; its name (the least such vertex's).
     #[error("121 {0}")]
     MissingLocal(Text, Graph, Locals, Caches),
     /// 122: the number of workers is 0 or more than 64.

@@ -6,7 +6,7 @@ use thiserror::Error;
 /// Why a conversation ends early.
 #[derive(Clone, Copy, Debug, PartialEq, Eq, Error)]
 pub enum SessionFault {
-    /// 181: a read failed, in this way.
+    /// 181: a read failed; it holds the error.
     #[error("181")]
     Failed(ErrorKind),
     /// 181: the bound on reads was met; it holds how many reads were interrupted.
