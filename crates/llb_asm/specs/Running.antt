@@ -71,7 +71,7 @@ closing_on bytes (f ∷ below) = still (record { here = f.here; bytes = f.bytes 
 abbrev pub closing_of : OpenOp → Ending
 closing_of s = closing_on s.bytes s.below
 
--- what a closing line leaves, as the code keeps it
+-- what a closing line leaves, given the value of the code's type
 abbrev pub ended : Closed → Ending
 ended (Whole bytes) = whole bytes
 ended (Still s) = still (open_op_of s)

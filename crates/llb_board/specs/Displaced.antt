@@ -98,7 +98,7 @@ workers_before (Unclaim w v growths) workers = slice_set workers w Idle
 workers_before (Unstep w mark trees) workers = slice_set workers w (step_before mark (slice_get workers w))
 workers_before (Resume e w left lent) workers = slice_set workers w (Runs left.execution)
 
--- the supplies of the workers before the event
+-- what each worker has from its claim on (`Supplies`), as it was before the event
 abbrev pub supplies_before : Back → List Supplies → List Supplies
 supplies_before (Unclaim w v growths) supplies = slice_set supplies w (supplies_for None)
 supplies_before (Unstep w mark trees) supplies = supplies
@@ -184,7 +184,7 @@ pub record MarksEnd (vs : VerticesValue) (ws : WorkersValue) (e : End) (w : ℕ)
   pub supplies : left.supplies ≡ supplies_for (slice_get vs.build.graph.vertices left.execution.vertex)
   pub keys : map (λ (p : Instance). p.key) left.execution.places ≡ left.supplies.keys
 
--- u takes back this event
+-- u is what has to be put back to take this event back
 abbrev pub MarksIn : VerticesValue → WorkersValue → own_event.Event → Displaced → Type 0
 MarksIn vs ws (event.Claim w v) u = MarksClaim vs ws w v u
 MarksIn vs ws (event.Step w) u = MarksStep vs ws w u

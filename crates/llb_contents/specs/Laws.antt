@@ -42,7 +42,7 @@ RunsAlike s v c = (test : List ℕ → List ℕ → Bool) (w : List Shown) → I
 
 -- ---- for any relation
 
--- what the vertices at or before vertex v themselves write is related to itself
+-- every content that a micro-step of a vertex at or before vertex v writes by itself is related to itself
 abbrev pub RelatesWritten : (List ℕ → List ℕ → Type 0) → Numbered → ℕ → Type 0
 RelatesWritten R g v = (k : ℕ) (x : Vertex) → Reached (links g.vertices) v k → slice_get g.vertices k ≡ Some x → All (RelatesStep R) (program_of x).steps
 
@@ -77,7 +77,7 @@ HandsRelationsOn g = (test : List ℕ → List ℕ → Bool) → IsKept (By test
 abbrev pub ExpandsTo : (List ℕ → Option (List ℕ)) → List ℕ → List ℕ → Type 0
 ExpandsTo expand a b = expand a ≡ Some b
 
--- if the contents of local trees expand to others, and appending keeps this, the outcome's contents expand to those of the other outcome
+-- if contents of local trees expand to others, the contents of the outcomes expand to those of the others' outcomes, for each expansion that appending keeps
 abbrev pub HandsExpansionsOn : Numbered → Type 0
 HandsExpansionsOn g = (expand : List ℕ → Option (List ℕ)) → IsKept (ExpandsTo expand) → HandsOn (ExpandsTo expand) g
 
@@ -85,9 +85,9 @@ HandsExpansionsOn g = (expand : List ℕ → Option (List ℕ)) → IsKept (Expa
 abbrev pub ExpandsToOne : TreeMap → Type 0
 ExpandsToOne t = (expand : List ℕ → Option (List ℕ)) (u w : TreeMap) → AreAlike (ExpandsTo expand) t u → AreAlike (ExpandsTo expand) t w → u ≡ w
 
--- what the rest of a content expands to, while `left` bytes of a token are still to be read and n is its number so far. The byte 255, which UTF-8 does not
--- have,
--- begins a token; the four bytes after it are its number, the most significant first; each other byte expands to itself
+-- what the rest of a content expands to, while `left` bytes of a token are still to be read and n is its number so far. The byte 255, which no text in UTF-8
+-- has, begins a token;
+-- the four bytes after it are its number, the most significant first; each other byte expands to itself
 abbrev pub spelled_from : (ℕ → List ℕ) → List ℕ → ℕ → ℕ → Option (List ℕ)
 spelled_from table [] zero n = Some []
 spelled_from table [] (suc left) n = None

@@ -11,7 +11,7 @@ use Rattle.llb_glob.specs.declared.item.Item.{Item}
 use Rattle.llb_glob.specs.declared.item.Item.TheVariants.{Run, One}
 use Rattle.llb_glob.specs.declared.item.Letter.TheVariants.{Any, Only}
 
--- the item of a character that is no `\` and not after one
+-- the item of a character that is no `\` and has none before it
 abbrev pub simple_item : ℕ → Result Item PatternFault
 simple_item c =
     if c == 91 then Err BadPattern

@@ -50,7 +50,7 @@ count_there counts named i = slice_index_or counts (slice_index_or named i 0) 0
 abbrev pub FitsAll : List ℕ → List ℕ → Op → ℕ → Type 0
 FitsAll counts named op n = (i : ℕ) → i < n → IsBelow (count_there counts named i) (input_at op i).index
 
--- input i is the first of n inputs whose index is that of no output
+-- input i is the first of the first n inputs of an op that names an output that does not exist
 pub record FirstBad (counts named : List ℕ) (op : Op) (n i : ℕ) : Type 0 where
   pub here : i < n
   pub bad : ¬ IsBelow (count_there counts named i) (input_at op i).index

@@ -33,7 +33,7 @@ tmpfs = pos 4
 abbrev pub has_type : ℤ → Mount → Bool
 has_type t m = int_eq m.mount_type t
 
--- ---- values that some positions of a list have
+-- ---- lists in which each position has a value or none
 
 -- the value at a position of a list; none past the end
 abbrev pub value_at : {X : Type 0} → List (Option X) → ℕ → Option X

@@ -12,7 +12,7 @@ use Rattle.llb_ops.specs.declared.exec.ExecOp.{ExecOp}
 use Rattle.llb_ops.specs.declared.exec.Meta.{Meta}
 use Rattle.llb_ops.specs.Limits.{field_limit, entries_limit, entry_limit}
 
--- a repeated field has no more values than the limit
+-- a list has few items: no more than a repeated field may have records
 abbrev pub IsFew : {A : Type 0} → List A → Type 0
 IsFew xs = length xs ≤ field_limit
 
@@ -61,12 +61,12 @@ IsKindWithin (Some (Build bytes)) = Unit {0}
 IsKindWithin (Some (Merge m)) = IsFew m.inputs
 IsKindWithin (Some (Diff bytes)) = Unit {0}
 
--- an op has few inputs, and its messages are within the limits
+-- an op has few inputs (`IsFew`), and its messages are within the limits
 pub record IsWithinLimits (op : Op) : Type 0 where
   pub inputs : IsFew op.inputs
   pub kind : IsKindWithin op.kind
 
--- there are few entries, and each is short
+-- there are few entries, and each is short: no more and no longer than the limits of a definition
 pub record AreWithinLimits (entries : List (List ℕ)) : Type 0 where
   pub few : length entries ≤ entries_limit
   pub short : All (λ e. length e ≤ entry_limit) entries

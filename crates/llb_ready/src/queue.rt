@@ -40,7 +40,7 @@ impl ReadyQueue {
     {
         let (queue, whole) = RuledArrayQueue::ruled(alloc, n as usize)?;
         let mut pass = whole;
-        // The rule is changed so that it has room for one more number, n times. This changes nothing in the queue.
+        // The queue begins with a rule that allows no numbers; it is changed n times, each time to allow one more. The queue's content stays.
         for _i in 0..n {
             drop(queue.another::<Widens>(&mut pass));
         }

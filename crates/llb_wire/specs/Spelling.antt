@@ -44,7 +44,7 @@ pub record CutVarint (bytes : List ℕ) (at : ℕ) : Type 0 where
   pub more : IsOpen (drop at bytes)
   pub few : length (drop at bytes) ≤ 9
 
--- n bytes say that more follow, and the next one is above 1
+-- n bytes are at least 128, which says that more follow, and the byte after them is above 1
 abbrev pub IsLong : ℕ → List ℕ → Type 0
 IsLong more [] = ⊥
 IsLong zero (b ∷ bs) = 1 < b
