@@ -126,7 +126,7 @@ text_of_lines lines = flat_map line_text lines
 abbrev pub plain_text : List Formed → List ℕ
 plain_text xs = text_of_lines (plain_lines [] xs)
 
--- ---- the law
+-- ---- the law: a written text is read back
 
 -- the text of the entries of a definition is read as these entries
 abbrev pub ReadsBack : List (List ℕ) → Type 0

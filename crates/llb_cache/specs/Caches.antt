@@ -28,7 +28,7 @@ pub record CachesValue : Type 0 where
   pub rows : List Row
   pub out : Leases
 
--- ---- instances
+-- ---- the instances of a key
 
 -- the instance of a key with this number
 abbrev pub place : Key → ℕ → Instance

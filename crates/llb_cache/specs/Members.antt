@@ -53,7 +53,7 @@ pairs_map R f (x ∷ xs) all =
     (λ y h. let m = in_map f xs y h in subst (R (f x)) (sym m.2) (pairs_head (λ x y. R (f x) (f y)) x xs all m.0 m.1))
     (pairs_map R f xs (pairs_tail (λ x y. R (f x) (f y)) x xs all))
 
--- ---- numbers
+-- ---- lists of numbers
 
 -- a list without the first item that equals this number
 without : ℕ → List ℕ → List ℕ

@@ -20,7 +20,7 @@ pub record IsKept (R : List ℕ → List ℕ → Type 0) : Type 0 where
   pub empty : R [] []
   pub appended : (a b c d : List ℕ) → R a b → R c d → R (a ++ c) (b ++ d)
 
--- ---- two of a kind
+-- ---- two options, or two results
 
 -- both exist and P holds of them, or neither exists
 abbrev pub BothOptions : {A : Type 0} → (A → A → Type 0) → Option A → Option A → Type 0

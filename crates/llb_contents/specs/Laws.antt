@@ -40,7 +40,7 @@ abbrev pub RunsAlike : Setting → List Shown → Command → Type 0
 RunsAlike s v c = (test : List ℕ → List ℕ → Bool) (w : List Shown) → IsKept (By test) → RelatesTexts (By test) s c → AreAlikeViews (By test) v w
     → BothOptions (AreAlikeViews (By test)) (run s v c) (run s w c)
 
--- ---- for any relation
+-- ---- a law for each relation between contents
 
 -- every content that a micro-step of a vertex at or before vertex v writes by itself is related to itself
 abbrev pub RelatesWritten : (List ℕ → List ℕ → Type 0) → Numbered → ℕ → Type 0
@@ -71,7 +71,7 @@ HandsOn R g = (ls ms : List Local) (v : ℕ) → RelatesWritten R g v → HaveAl
 abbrev pub HandsRelationsOn : Numbered → Type 0
 HandsRelationsOn g = (test : List ℕ → List ℕ → Bool) → IsKept (By test) → HandsOn (By test) g
 
--- ---- for contents that expand to others
+-- ---- a law for contents that expand to others
 
 -- the second content is what the first one expands to
 abbrev pub ExpandsTo : (List ℕ → Option (List ℕ)) → List ℕ → List ℕ → Type 0
@@ -179,7 +179,7 @@ abbrev pub HandsTokensOn : Numbered → Type 0
 HandsTokensOn g = (table : ℕ → List ℕ) (ls ms : List Local) (v : ℕ) → WritesNoMark g v → DigestsLiterals g ls ms v
     → HaveAlikeSources (ExpandsTo (spelled table)) g v ls ms → HasAlikeOutcomes (ExpandsTo (spelled table)) g ls ms v
 
--- ---- if no digest is made
+-- ---- the law if no vertex makes a digest
 
 -- no vertex at or before vertex v makes a digest of contents
 abbrev pub MakesNoDigest : Numbered → ℕ → Type 0

@@ -152,7 +152,7 @@ abbrev pub HasWord : Option Meta → Type 0
 HasWord (Some meta) = 0 < length meta.args
 HasWord None = ⊤
 
--- ---- counts
+-- ---- how many micro-steps and outputs an op has
 
 -- how many micro-steps an op of this kind has
 abbrev pub kind_steps : Option Kind → ℕ

@@ -59,7 +59,7 @@ Hold s [] (t ∷ ts) = ⊥
 Hold s (p ∷ ps) [] = ⊥
 Hold s (p ∷ ps) (t ∷ ts) = (content s p ≡ Some t) × Hold s ps ts
 
--- ---- lists
+-- ---- lists, of any type
 
 -- p is one of the items of a list
 abbrev pub Has : {A : Type 0} → List A → A → Type 0

@@ -121,10 +121,10 @@ AreFew last count (bytes row held rest) = (one_more_of last count row.1.number �
 AreFew last count (message row inner rest) =
     (one_more_of last count row.1.number ≤ field_limit) × AreFew 0 0 inner × AreFew row.1.number (one_more_of last count row.1.number) rest
 
--- ---- the law
+-- ---- the law of canonical bytes
 
--- An op's canonical bytes are fields of the message Op, none of which occurs too often. Without empty keys and values they are no
--- more, still none occurs too often, and they are read as the op too.
+-- An op's canonical bytes are fields of the message Op, none of which occurs too often. Without empty keys and values the bytes are not longer,
+-- still no field occurs too often, and the same op is read from them.
 pub record HasFields (op : Op) : Type 0 where
   pub fields : Fields
   pub are : AreFields named.Op 0 false fields

@@ -148,7 +148,7 @@ content_of (Some (File m content)) = Some content
 abbrev pub IsDirAt : Look → List (List ℕ) → Type 0
 IsDirAt look p = (m : MetaValue) × (look p ≡ Some (Dir m))
 
--- the content of a file is bytes
+-- the content of a file consists of bytes: numbers below 256
 abbrev pub HasBytes : Entry → Type 0
 HasBytes (Dir m) = Unit {0}
 HasBytes (File m content) = AreBytes content

@@ -69,7 +69,7 @@ abbrev pub Walks : List ℕ → ℕ → List Record → Type 0
 Walks bytes at [] = next_field bytes at ≡ Ok None
 Walks bytes at (r ∷ rs) = (f : Field) × (next_field bytes at ≡ Ok (Some f)) × (r ≡ record_at bytes at f) × Walks bytes f.«end» rs
 
--- ---- what is written
+-- ---- the bytes that are written for records
 
 -- the payload as it is kept in a record
 abbrev pub own_text : Wire → ℕ → List ℕ → List ℕ

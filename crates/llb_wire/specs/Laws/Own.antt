@@ -40,7 +40,7 @@ varint_prefix (suc more) (b ∷ bytes) v n (suc k) rest e le =
       | inr l ↦ rw (l.0, varint_prefix more bytes l.1.0.0 l.1.0.1 k rest l.1.1 (omega (arith, le, l.1.3)), l.1.2, l.1.3) refl
     ]
 
--- ---- positions
+-- ---- positions in bytes
 
 dropped : (bytes rest : List ℕ) (at k : ℕ) → at ≤ k → k ≤ length bytes → drop at (take k bytes ++ rest) ≡ take (k - at) (drop at bytes) ++ rest
 dropped bytes rest at k le inside =

@@ -154,7 +154,7 @@ record_kept_at before r rest at e h =
 pub record_kept : (r : Record) (rest : List ℕ) → IsRecord r → record_of (r.text ++ rest) (placed 0 r) ≡ r
 record_kept r rest h = record_kept_at [] r rest 0 refl h
 
--- ---- a record that is read is spelled there
+-- ---- the bytes that are read for a record spell it
 
 number_ok : (tag n : ℕ) → number_of (tag / 8) ≡ Ok n → (n ≡ tag / 8) × IsFieldNumber n
 number_ok tag n e = go (tag / 8) n (eqb (tag / 8) 0) (ltb 536_870_911 (tag / 8)) refl refl e where
@@ -437,7 +437,7 @@ walk_is bytes rs are = (
   λ h. subst (λ (xs : List ℕ). Walks xs 0 rs) (sym h.whole) (spelled_walk [] rs h.each),
 )
 
--- ---- what is written
+-- ---- the bytes that are written for records
 
 written_payload : (w : Wire) (value : ℕ) (payload : List ℕ) → value < 2 ^ 64 → length payload < 2 ^ 64 → (w ≡ wire.I32 → value < 2 ^ 32)
     → IsPayload w (payload_text w value payload) (value_text w value payload) (own_text w value payload)

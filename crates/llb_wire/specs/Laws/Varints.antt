@@ -22,7 +22,7 @@ ok_of x = Ok x
 ok_pair : {x y : ℕ × ℕ} → ok_of x ≡ ok_of y → x ≡ y
 ok_pair e = cc
 
--- ---- a number that is read is spelled there
+-- ---- the bytes that are read for a number spell it
 
 -- a byte is the last one of a number, or the rest of the number follows it
 pub short_or : (b v n : ℕ) (more : Result (ℕ × ℕ) WireFault) (test : Bool)
@@ -125,7 +125,7 @@ pub varint_read : (before spelling rest : List ℕ) (n at : ℕ) → at ≡ leng
 varint_read before spelling rest n at e h =
     rw (drop_at before (spelling ++ rest) at (sym e), spells_read 9 spelling rest n h.spells (omega (arith, h.short)) h.small) refl
 
--- ---- bytes
+-- ---- spellings are bytes
 
 -- elements that are all below 256 are bytes
 pub are_bytes : (xs : List ℕ) → ((k : ℕ) → get_or xs k 0 < 256) → AreBytes xs
@@ -149,7 +149,7 @@ pub are_bytes-back : (xs ys : List ℕ) → AreBytes (xs ++ ys) → AreBytes ys
 are_bytes-back [] ys h = h
 are_bytes-back (x ∷ xs) ys h = are_bytes-back xs ys h.1
 
--- ---- at a position
+-- ---- reading and spelling at a position in longer bytes
 
 -- the number that is read at a position of bytes is spelled there
 pub varint_found : (bytes : List ℕ) (at : ℕ) (x : ℕ × ℕ) → AreBytes bytes → at ≤ length bytes → varint_at bytes at ≡ Ok x → VarintAt bytes at x.0 x.1
