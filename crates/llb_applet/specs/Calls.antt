@@ -30,7 +30,7 @@ pair (a ∷ []) = None
 pair (a ∷ b ∷ []) = Some (a, b)
 pair (a ∷ b ∷ c ∷ ws) = None
 
--- the command, if there are no words
+-- the command of an applet that takes no words; nothing if there are words
 abbrev pub no_words : List Word → Command → Option Command
 no_words [] c = Some c
 no_words (w ∷ ws) c = None

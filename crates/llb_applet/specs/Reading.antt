@@ -27,7 +27,7 @@ ahead reading words = behind reading.commands.items (commands_of (length reading
 abbrev pub with_call : Reading → Result (List Joined) ScriptFault
 with_call reading = command_of (length reading.commands.items) reading.words.items >>= λ c. Ok (reading.commands.items ++ joined reading.join c ∷ [])
 
--- a step does not change the final result, or it fails with the fault of that result, or with `Memory`
+-- after one more step, the final result is the same, whatever follows; or the step fails with the fault of that result, or with `Memory`
 abbrev pub Reads : Result (Unit {0}) ScriptFault → Result (List Joined) ScriptFault → Result (List Joined) ScriptFault → Type 0
 Reads (Ok _) before after = before ≡ after
 Reads (Err e) before after = is_memory e ≡ false → before ≡ Err e
@@ -52,7 +52,7 @@ pub record Refuses (e : ScriptFault) (rule : Result (Unit {0}) ScriptFault) : Ty
   pub known : is_memory e ≡ false → rule ≡ Err e
   pub last : is_memory e ≡ true → names_word rule ≡ true
 
--- a step does not change the first fault, or it fails with that fault, or with `Memory`
+-- after one more part is checked, the first fault of the text is the same, whatever follows; or the check fails with that fault, or with `Memory`
 abbrev pub Judges : Result (Unit {0}) ScriptFault → List ℕ → List (List ℕ) → Begun → Begun → Type 0
 Judges (Ok _) part call old new = (next : List (List ℕ)) × IsBegun next new
     × ((rest : List (List ℕ)) → judged old.number call (some_word part ++ rest) ≡ judged new.number next rest)

@@ -164,11 +164,11 @@ pub record CanPutBack (u : Displaced) (ws : WorkersValue) : Type 0 where
 abbrev pub taken_at : VerticesValue → WorkersValue → ℕ → List Instance
 taken_at vs ws v = places_for (held ws.workers) (needs_at (slice_get vs.build.graph.vertices v))
 
--- u takes back a claim of vertex v by worker w
+-- u is what has to be put back to take back a claim of vertex v by worker w
 pub record MarksClaim (vs : VerticesValue) (ws : WorkersValue) (w v : ℕ) (u : Displaced) : Type 0 where
   pub back : u.back ≡ Unclaim w v (map (growth_at ws.rows) (taken_at vs ws v))
 
--- u takes back a micro-step of worker w
+-- u is what has to be put back to take back a micro-step of worker w
 pub record MarksStep (vs : VerticesValue) (ws : WorkersValue) (w : ℕ) (u : Displaced) : Type 0 where
   pub x : Execution
   pub runs : slice_get ws.workers w ≡ Some (Runs x)
@@ -176,7 +176,7 @@ pub record MarksStep (vs : VerticesValue) (ws : WorkersValue) (w : ℕ) (u : Dis
   pub mounts : mounts_in x.own ≡ length (mounts_at (slice_get vs.build.graph.vertices x.vertex))
   pub keys : map (λ (p : Instance). p.key) x.places ≡ map key_of (needs_at (slice_get vs.build.graph.vertices x.vertex))
 
--- u takes back the settle or cancel of what worker w runs
+-- u is what has to be put back to take back the settle or cancel of what worker w runs
 pub record MarksEnd (vs : VerticesValue) (ws : WorkersValue) (e : End) (w : ℕ) (u : Displaced) : Type 0 where
   pub left : Left
   pub runs : slice_get ws.workers w ≡ Some (Runs left.execution)

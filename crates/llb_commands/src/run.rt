@@ -69,7 +69,7 @@ fn finished(opened: Result<Board, ProgramFault>) -> Result<Board, ProgramFault>
     whole(board, fault)
 }
 
-// Does the same with this number of workers; if there are several, each has a thread.
+// Runs a board that was opened to its end with this number of workers; if there are several, each has a thread.
 fn finished_by<T: Threads + Wait + Sync>(
     rt: &T,
     alloc: Global,
@@ -215,7 +215,7 @@ pub fn run_over<R: Read, W: Write, E: Write>(
     print_end(alloc, finished(opened), out, err)
 }
 
-/// Does the same with this number of workers; if there are several, each has a thread, and the call waits for them. If no cache is mounted,
+/// Does what `run_over` does with this number of workers; if there are several, each has a thread, and the call waits for them. If no cache is mounted,
 /// the text is that of the plain outcomes, for any number of workers. The status is 2 also if the number is 0, or more than 64 (`fault 122`),
 /// and 3 also if a thread could not be started (`fault 153`).
 pub fn run_many_over<T: Threads + Wait + Sync, R: Read, W: Write, E: Write>(

@@ -186,7 +186,7 @@ fn ask(rt: &impl Abort, alloc: Global, text: &mut String, stage: &mut Stage, wor
     say_asked(rt, text, stage, asked);
 }
 
-// Does the same, with this row tried first for each key.
+// Asks for a lease as `ask` does, with this row tried first for each key.
 fn ask_near(rt: &impl Abort, alloc: Global, text: &mut String, stage: &mut Stage, words: &str) {
     let (row, needs) = word_and_rest(words);
     let row = row.parse::<usize>().ok();

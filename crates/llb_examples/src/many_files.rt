@@ -68,7 +68,7 @@ fn one_byte_in_one_of_a_thousand_files_is_not_in_the_copy(rt: HostRuntime) {
     }
 }
 
-// Does the same in two threads at once, each on its own copy of one tree; one drops its tree first, the other its copy.
+// Calls `one_byte` in two threads at once, each on its own copy of one tree; one drops its tree first, the other its copy.
 fn one_byte_each<R: Abort + Threads + Sync>(rt: &R, alloc: Global, tree: &Tree) -> (bool, bool) {
     let (one, other) = (copied(rt, tree), copied(rt, tree));
     thread::join(

@@ -72,7 +72,7 @@ fn route(rt: &impl Abort, alloc: Global, rows: &[Row], text: &str) -> Option<(u3
     Some(view.route(&path_of(rt, alloc, text)))
 }
 
-// The same mounts with the root as the last one.
+// The mounts of `THREE` with the root as the last one.
 const TURNED: &[Row] = &[
     ("/t/in", "/", false, "a"),
     ("/t", "/", false, "b"),

@@ -32,7 +32,7 @@ const SOURCE: &[u8] =
     b"\x1A\x25\x0A\x09local://a\x12\x06\x0A\x01k\x12\x01v\x12\x06\x0A\x01j\x12\x01w\
     \x12\x08\x0A\x01k\x12\x01x\x18\x07";
 
-// The same with one attribute for each key: the later value, at the position of the first.
+// The source above with one attribute for each key: the later value, at the position of the first.
 const SETTLED_SOURCE: &[u8] =
     b"\x1A\x1D\x0A\x09local://a\x12\x08\x0A\x01k\x12\x01x\x18\x07\x12\x06\x0A\x01j\x12\x01w";
 

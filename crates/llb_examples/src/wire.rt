@@ -177,7 +177,7 @@ fn keeps_bytes(rt: &impl Abort, alloc: Global, bytes: &[u8], other: &[u8]) -> bo
     told && copied.into_vec().as_slice() == bytes
 }
 
-// Returns the same for a text.
+// Returns whether the copy of a text and the string that it is turned into are this text.
 fn keeps_text(rt: &impl Abort, alloc: Global, text: &str, other: &str) -> bool {
     let kept = text_of(rt, alloc, text);
     let copied = kept.copy().expect(rt, "memory");

@@ -17,7 +17,7 @@ number_in (Some (ById n)) = Some n
 number_in (Some (ByName name)) = None
 number_in None = None
 
--- the same for the whole message
+-- the number in the message of a user or a group; nothing if there is none
 abbrev pub id_in : Option UserOpt → Option ℕ
 id_in None = None
 id_in (Some u) = number_in u.user

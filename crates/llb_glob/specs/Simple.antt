@@ -31,7 +31,7 @@ abbrev pub each_simple : List (List ℕ) → Result (List (List Item)) PatternFa
 each_simple [] = Ok []
 each_simple (name ∷ names) = simple_items (chars name) >>= λ part. each_simple names >>= λ parts. Ok (part ∷ parts)
 
--- the same for a path; a text that is no path is no pattern
+-- the parts of a text that was read as a path, each read as items without classes; a text that is no path is no pattern
 abbrev pub simple_path : Result (List (List ℕ)) TreeFault → Result (List (List Item)) PatternFault
 simple_path (Ok names) = each_simple names
 simple_path (Err e) = Err BadPattern

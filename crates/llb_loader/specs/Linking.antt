@@ -38,7 +38,7 @@ pub record Plan : Type 0 where
   pub terminal : ℕ
   pub start : ℕ
 
--- the plan of these four
+-- the plan with these four fields
 abbrev pub plan : List Row → List Op → ℕ → ℕ → Plan
 plan rows ops terminal start = record { rows = rows; ops = ops; terminal = terminal; start = start }
 

@@ -190,7 +190,7 @@ pub record RunsInTurn (setting : Setting) (cs : List Joined) (work : Work) (k : 
   pub runs : (c : Joined) → (part (runs_of setting cs) work k).fault ≡ None → slice_get cs k ≡ Some c
       → is_run c.join (last_of (part (runs_of setting cs) work k).work.own) ≡ true
 
--- commands joined by && run in turn
+-- commands joined by `&&` run one after another, up to the first with a status other than 0
 abbrev pub AndsRunInTurn : Type 0
 AndsRunInTurn = (setting : Setting) (cs : List Joined) (mounts : List Shown) (caches : List ℕ) (trees : List TreeMap) (k : ℕ)
     → are_ands cs ≡ true → RunsInTurn setting cs (at_start mounts caches trees) k

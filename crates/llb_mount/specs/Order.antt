@@ -45,7 +45,7 @@ pub record AtRoot (ds : List (List (List ℕ))) (rows : List Row) : Type 0 where
   pub there : 0 < length rows
   pub root : dest_of ds rows 0 ≡ []
 
--- going up from position j, position k, whose dest is a prefix of that at j, is not passed over
+-- a dest at position k that is a prefix of the dest at position j is not passed over on the way from j up to the position above it
 pub record IsAbove (ds : List (List (List ℕ))) (rows : List Row) (j k : ℕ) : Type 0 where
   pub up : above_of rows j < j
   pub kept : k ≤ above_of rows j

@@ -65,12 +65,12 @@ pub record Answered (p : Standing) (bytes : List ℕ) (t : Stepping) (out : Stre
   pub same : t ≡ at.session
   pub printed : IsWritten out text
 
--- the same, and then the line that is being read ends the session, without a reply
+-- the replies to the lines that the bytes complete are written, and the line that is being read ends the session, without a reply
 pub record Quit (p : Standing) (bytes : List ℕ) (t : Stepping) (out : Stream) : Type 0 where
   pub before : Answered p bytes t out
   pub quits : Quits before.at.line
 
--- the same, and then a prefix of the reply to the line that is being read
+-- the replies to the lines that the bytes complete are written, and then a prefix of the reply to the line that is being read
 pub record CutShort (p : Standing) (bytes : List ℕ) (t : Stepping) (out : Stream) : Type 0 where
   pub text : List ℕ
   pub at : Standing

@@ -14,7 +14,7 @@ use Rattle.llb_tree.specs.declared.node.Piece.{Piece}
 abbrev pub dress : WayValue → TreeMap → TreeMap
 dress w t = finite.from_entries (map (λ (e : List (List ℕ) × Entry). (e.0, over w None e.1)) (finite.entries t))
 
--- the same for a child, which keeps its name
+-- a child whose tree gets the given mode and owner at each entry; its name stays
 abbrev pub dress_pair : WayValue → List ℕ × TreeMap → List ℕ × TreeMap
 dress_pair w k = (k.0, dress w k.1)
 
@@ -39,7 +39,7 @@ AreLaid w old [] (k ∷ made) = ⊥
 AreLaid w old (u ∷ upper) [] = ⊥
 AreLaid w old (u ∷ upper) (k ∷ made) = IsLaid w old u k × AreLaid w old upper made
 
--- the same for upper pieces, one by one
+-- the children of each upper piece are laid as `AreLaid` says, and make a piece of their own
 abbrev pub PiecesLaid : WayValue → List Child → List Piece → List Piece → Type 0
 PiecesLaid w old [] [] = Unit {0}
 PiecesLaid w old [] (p ∷ made) = ⊥
