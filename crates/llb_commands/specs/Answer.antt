@@ -60,7 +60,7 @@ result_in s g = output_in (ending_at s.statuses g.result.vertex) g.result.index
 abbrev pub plain_result : Build → Option TreeMap
 plain_result b = output_in (ending_in (outcome b b.graph.result.vertex)) b.graph.result.index
 
--- bytes that are the definition of a graph whose result, where a run on these local trees by these workers has ended, is a tree of that text; then no
+-- bytes that are the definition of a graph; a run of it on these local trees by these workers has ended, and the result is a tree with this text; so no
 -- vertex has failed, and without caches it is the result's tree by the plain outcomes
 pub record Yields (workers : ℕ) (locals : List Local) (bytes text : List ℕ) : Type 0 where
   pub graph : Numbered
@@ -142,7 +142,7 @@ Runs workers locals io status =
 abbrev pub DrawsAll : Stream → List ℕ → Type 0
 DrawsAll output bytes = (g : Numbered) × IsGraphIn bytes g × IsWritten output (graph_text g)
 
--- a prefix of that text is written, and no more
+-- a prefix of the text of the graph is written, and no more
 abbrev pub DrawsPart : Stream → List ℕ → Type 0
 DrawsPart output bytes = (g : Numbered) × IsGraphIn bytes g × IsPartWritten output (graph_text g)
 

@@ -56,7 +56,7 @@ IsUnread p definition = ((e : OpFault) × (definition_of definition ≡ Err e) �
 abbrev pub IsOut : (List ℕ → List ℕ → Type 0) → Stream → List ℕ → Type 0
 IsOut Comes output input = (text : List ℕ) × Comes input text × IsWritten output text
 
--- a prefix of that is written, and no more
+-- a prefix of what a command makes of its input is written, and no more
 abbrev pub IsPartOut : (List ℕ → List ℕ → Type 0) → Stream → List ℕ → Type 0
 IsPartOut Comes output input = (text : List ℕ) × Comes input text × IsPartWritten output text
 

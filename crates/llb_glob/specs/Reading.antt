@@ -10,7 +10,7 @@ use Rattle.llb_glob.specs.Items.{behind, items_from}
 abbrev pub ahead : Reading → List ℕ → Result (List Item) PatternFault
 ahead reading letters = behind reading.items.items (items_from letters reading.cursor reading.class)
 
--- a step does not change the final result, or it fails with the fault of that result, or with `Memory`
+-- after one more step, the final result is the same, whatever follows; or the step fails with the fault of that result, or with `Memory`
 abbrev pub Reads : Result (Unit {0}) PatternFault → Result (List Item) PatternFault → Result (List Item) PatternFault → Type 0
 Reads (Ok _) before after = before ≡ after
 Reads (Err e) before after = is_memory e ≡ false → before ≡ Err e

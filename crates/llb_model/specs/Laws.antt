@@ -69,7 +69,7 @@ OthersKeep b = (s t : State) (e : Event) (r : Reply) → IsReached b s → table
 abbrev pub with_content : Instance → TreeMap → State → State
 with_content p t s = record s { store = put s.store p t }
 
--- a state and a reply, with another tree in one instance of that state
+-- a state and a reply, in which one instance has another tree
 abbrev pub with_content_after : Instance → TreeMap → State × Reply → State × Reply
 with_content_after p t a = (with_content p t a.0, a.1)
 

@@ -46,7 +46,7 @@ fn end_told(rt: &impl Abort, alloc: Global, end: &RunEnd) -> String {
     }
 }
 
-// A board, the end of its run, and another such board.
+// The line of a test, the board that it is opened on, and the end of that board's run.
 #[derive(Drop)]
 struct OnRun {
     on: &'static str,

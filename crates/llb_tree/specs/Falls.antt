@@ -78,7 +78,7 @@ most_append : (xs ys : List Child) (n : ℕ) → most deep-Child (xs ++ ys) ≤ 
 most_append [] ys n h = (omega arith, h)
 most_append (x ∷ xs) ys n h = let rest = most_append xs ys n (omega arith) in let a : most deep-Child xs ≤ n = rest.0 in (omega arith, rest.1)
 
--- a bound of the heights of children is a bound of those of the pieces in which they are
+-- if the heights of all children in some pieces are at most n, so are the heights of the pieces
 pub pieces_le : (n : ℕ) (ps : List Piece) → most deep-Child (kids_in ps) ≤ n → most deep-Piece ps ≤ n
 pieces_le n [] h = omega arith
 pieces_le n (p ∷ ps) h =
@@ -87,7 +87,7 @@ pieces_le n (p ∷ ps) h =
     let rest = pieces_le n ps parts.1 in
     omega arith
 
--- a bound of the heights of pieces is a bound of those of the children in them
+-- if the heights of some pieces are at most n, so are the heights of all children in them
 pub le_pieces : (n : ℕ) (ps : List Piece) → most deep-Piece ps ≤ n → most deep-Child (kids_in ps) ≤ n
 le_pieces n [] h = omega arith
 le_pieces n (p ∷ ps) h = both (rows_in p) (kids_in ps) (omega arith) (le_pieces n ps (omega arith))

@@ -133,7 +133,7 @@ pub record IsWhole (root : TreeMap) (depth : ℕ) : Type 0 where
   pub deep : base.height root ≤ depth + 1
   pub short : depth ≤ 128
 
--- the children that remain of those of a directory: the rest of one piece, and whole pieces after it
+-- the remaining children of a directory: the rest of one piece, and the pieces after it
 abbrev pub left_in : Children → List Child
 left_in c = c.rows.now ++ kids_in c.pieces.now
 
