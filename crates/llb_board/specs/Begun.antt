@@ -29,11 +29,11 @@ pub record IsBegunPlainly (b : BoardValue) (w : ℕ) (x : Execution) : Type 0 wh
   pub bare : x.places ≡ []
   pub job : plain_job b.build w x.vertex ≡ Some (job_now b.build b.state.store w x)
 
--- every worker that has done no micro-step of such a vertex has an execution like this
+-- every worker that has done no micro-step of a vertex with no cache mount at or before it has an execution as `IsBegunPlainly` says
 abbrev pub BegunArePlain : BoardValue → Type 0
 BegunArePlain b = (w : ℕ) (x : Execution) → is_plain b.build x.vertex ≡ true → slice_get b.state.workers w ≡ Some (Runs x) → x.done ≡ 0 → IsBegunPlainly b w x
 
--- a claim of such a vertex hands out the plain job
+-- a claim of a vertex with no cache mount at or before it hands out the plain job
 abbrev pub ClaimsArePlain : BoardValue → Type 0
 ClaimsArePlain b = (w v : ℕ) (t : State) (job : Job) → is_plain b.build v ≡ true → table b.build b.state (Claim w v) ≡ Some (t, Claimed job)
     → plain_job b.build w v ≡ Some job
@@ -46,6 +46,6 @@ pub record IsKnown (b : BoardValue) (w : ℕ) (job : Job) : Type 0 where
   pub first : x.done ≡ 0
   pub same : plain_job b.build w x.vertex ≡ Some job
 
--- the outcome of such a job can be landed
+-- the outcome of a job for which `IsKnown` holds can be landed
 abbrev pub KnownLand : BoardValue → Type 0
 KnownLand b = (w : ℕ) (job : Job) → IsKnown b w job → CanLand b w job

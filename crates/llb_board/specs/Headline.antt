@@ -25,13 +25,13 @@ LockedOnce b = (w u : ℕ) (p q : Instance) → HoldsInstance b w p → HoldsIns
 abbrev pub HeldOnce : BoardValue → Type 0
 HeldOnce b = (w u : ℕ) (p : Instance) → HoldsInstance b w p → HoldsInstance b u p → IsExclusive p.key.mode → w ≡ u
 
--- an event of another worker does not change such an instance
+-- an event of another worker does not change an instance that a running worker holds exclusively
 abbrev pub OthersLeave : BoardValue → Type 0
 OthersLeave b = (w : ℕ) (p : Instance) → HoldsInstance b w p → IsExclusive p.key.mode → (e : Event) (t : State) (r : Reply) → worker_of e ≢ w
     → table b.build b.state e ≡ Some (t, r)
     → content t.store p ≡ content b.state.store p
 
--- an event of another worker would have the same reply, and the same effect elsewhere, whatever tree such an instance had
+-- an event of another worker would have the same reply, and the same effect elsewhere, whatever tree an instance had that a running worker holds exclusively
 abbrev pub OthersIgnore : BoardValue → Type 0
 OthersIgnore b = (w : ℕ) (p : Instance) → HoldsInstance b w p → IsExclusive p.key.mode → (e : Event) (tree : TreeMap) → worker_of e ≢ w
     → table b.build (with_content p tree b.state) e ≡ option_map (with_content_after p tree) (table b.build b.state e)

@@ -31,7 +31,7 @@ taken_by v events s = taken events (get_or s.cancels v 0)
 abbrev pub claimed : ℕ → ℕ → Space → Space
 claimed v events s = record s { room = s.room + taken_by v events s }
 
--- the room after such a claim is taken back
+-- the room after a claim of vertex v is taken back
 abbrev pub unclaimed : ℕ → ℕ → Space → Space
 unclaimed v events s = record s { room = s.room - taken_by v events s }
 

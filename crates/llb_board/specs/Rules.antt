@@ -8,18 +8,18 @@ use Rattle.llb_events.specs.declared.refusal.SettleFault.{SettleFault}
 use Rattle.llb_events.specs.declared.refusal.CancelFault.{CancelFault}
 use Rattle.llb_board.specs.Seen.{BoardValue, recorded}
 
--- the table's result of a claim, recorded
+-- the table's result of a claim; if it is granted, with the event appended to the record
 abbrev pub claim_of : BoardValue → ℕ → ℕ → Result (BoardValue × Reply) ClaimFault
 claim_of b w v = recorded b (Claim w v) (claim_grant b.build b.state w v)
 
--- the table's result of a step, recorded
+-- the table's result of a step; if it is granted, with the event appended to the record
 abbrev pub step_of : BoardValue → ℕ → Result (BoardValue × Reply) StepFault
 step_of b w = recorded b (Step w) (step_grant b.build b.state w)
 
--- the table's result of a settle, recorded
+-- the table's result of a settle; if it is granted, with the event appended to the record
 abbrev pub settle_of : BoardValue → ℕ → Result (BoardValue × Reply) SettleFault
 settle_of b w = recorded b (Settle w) (settle_grant b.build b.state w)
 
--- the table's result of a cancel, recorded
+-- the table's result of a cancel; if it is granted, with the event appended to the record
 abbrev pub cancel_of : BoardValue → ℕ → Result (BoardValue × Reply) CancelFault
 cancel_of b w = recorded b (Cancel w) (cancel_grant b.state w)

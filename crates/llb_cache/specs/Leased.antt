@@ -242,7 +242,7 @@ none_out (None ∷ out) same none =
     let rest = none_out out less (omega (arith, none, one)) in
     let e = ap before (less ∙ rest) in absurd cc
 
--- the first i + 1 leases, trimmed: if lease i is current, then if it is not
+-- trimming the first i + 1 leases changes nothing if lease i is current; if it is not, the result is that for the first i leases
 pub trimmed_at_some : (out : Leases) (i : ℕ) (o : Option (List Instance)) → i < length out → o ≡ get_or out i o → is_some o ≡ true
     → trimmed (take (i + 1) out) ≡ take (i + 1) out
 trimmed_at_some out i None below read is = absurd cc

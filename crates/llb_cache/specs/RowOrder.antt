@@ -14,7 +14,7 @@ use Rattle.llb_cache.specs.KeyOrder.{key_cmp}
 abbrev pub no_key : Key
 no_key = record { id = []; seed = None; mode = Shared }
 
--- the key of row i; the one above past the last row
+-- the key of row i; `no_key` past the last row
 abbrev pub key_at : List Row → ℕ → Key
 key_at rows i = slice_index_or (keys_of rows) i no_key
 

@@ -128,7 +128,7 @@ abbrev pub FailsAll : ℕ → List Local → Stream → List ℕ → Type 0
 FailsAll workers locals errors bytes = (y : YieldsNone workers locals bytes)
     × IsWritten errors (failed_lines (build_of locals y.graph) y.state (length y.graph.vertices))
 
--- How a run by a number of workers ends. 0: the text of the result is written, and nothing else. 1: a vertex failed, so that the result is no tree, and
+-- How a run by a number of workers ends. Status 0: the text of the result is written, and nothing else. 1: a vertex failed, so that the result is no tree, and
 -- nothing is written but the lines of the failures. 2: the bytes are refused, a local tree is missing, or there are no workers or too many, and nothing is
 -- written but the line that says which. 3: a device, a thread or memory failed; nothing is written, or a prefix of the text.
 abbrev pub Runs : ℕ → List Local → Io → ℕ → Type 0
@@ -146,8 +146,8 @@ DrawsAll output bytes = (g : Numbered) × IsGraphIn bytes g × IsWritten output 
 abbrev pub DrawsPart : Stream → List ℕ → Type 0
 DrawsPart output bytes = (g : Numbered) × IsGraphIn bytes g × IsPartWritten output (graph_text g)
 
--- How a show ends. 0: the text of the graph is written, and nothing else. 2: the bytes are refused, and nothing is written but the line that says why. 3: a
--- device or memory failed; nothing is written, or a prefix of the text.
+-- How a show ends. Status 0: the text of the graph is written, and nothing else. 2: the bytes are refused, and nothing is written but the line that says why.
+-- 3: a device or memory failed; nothing is written, or a prefix of the text.
 abbrev pub Draws : Io → ℕ → Type 0
 Draws io status =
     ((status ≡ 0) × IsKept io.errors × IfSome io.input.before (DrawsAll io.output))

@@ -60,8 +60,8 @@ IsOut Comes output input = (text : List ℕ) × Comes input text × IsWritten ou
 abbrev pub IsPartOut : (List ℕ → List ℕ → Type 0) → Stream → List ℕ → Type 0
 IsPartOut Comes output input = (text : List ℕ) × Comes input text × IsPartWritten output text
 
--- How a command ends that writes what it makes from its input. 0: all of it is written, and nothing else. 2: the input is refused, and nothing is written but
--- the line that says why. 3: a device or memory failed; nothing is written, or a prefix of it.
+-- How a command ends that writes what it makes from its input. Status 0: all of it is written, and nothing else. 2: the input is refused, and nothing is
+-- written but the line that says why. 3: a device or memory failed; nothing is written, or a prefix of it.
 abbrev pub Ends : (List ℕ → List ℕ → Type 0) → (ProgramFault → List ℕ → Type 0) → Io → ℕ → Type 0
 Ends Comes IsRefused io status =
     ((status ≡ 0) × IsKept io.errors × IfSome io.input.before (IsOut Comes io.output))

@@ -67,7 +67,7 @@ HasAlikeOutcomes R g ls ms v = BothOptions (AreAlikeOutcomes R) (outcome (record
 abbrev pub HandsOn : (List ℕ → List ℕ → Type 0) → Numbered → Type 0
 HandsOn R g = (ls ms : List Local) (v : ℕ) → RelatesWritten R g v → HaveAlikeSources R g v ls ms → HasAlikeOutcomes R g ls ms v
 
--- this holds for every relation that a test decides and that appending keeps
+-- `HandsOn` holds for every relation that a test decides and that appending keeps
 abbrev pub HandsRelationsOn : Numbered → Type 0
 HandsRelationsOn g = (test : List ℕ → List ℕ → Bool) → IsKept (By test) → HandsOn (By test) g
 
@@ -189,7 +189,7 @@ MakesNoDigest g v = (k : ℕ) (x : Vertex) → Reached (links g.vertices) v k �
 abbrev pub HandsOnUndigested : (List ℕ → List ℕ → Type 0) → Numbered → Type 0
 HandsOnUndigested R g = (ls ms : List Local) (v : ℕ) → MakesNoDigest g v → HaveAlikeSources R g v ls ms → HasAlikeOutcomes R g ls ms v
 
--- this holds for every such relation, if no digest is made
+-- `HandsOnUndigested` holds for every relation that appending keeps and that relates each content to itself, if no digest is made
 abbrev pub HandsUndigestedOn : Numbered → Type 0
 HandsUndigestedOn g = (test : List ℕ → List ℕ → Bool) → IsKept (By test) → ((a : List ℕ) → By test a a) → HandsOnUndigested (By test) g
 

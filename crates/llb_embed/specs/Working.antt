@@ -37,7 +37,7 @@ KeepsRest old new = (new.locals ≡ old.locals) × (new.session ≡ old.session)
 
 -- ---- whole commands
 
--- a command on these bytes has ended like this, and the local trees and the session are unchanged
+-- a command on these bytes has ended with this status, and the local trees and the session are unchanged
 abbrev pub EndsBy : (Io → ℕ → Type 0) → List ℕ → Held → Held → ℕ → Type 0
 EndsBy Ends bytes old new status = KeepsRest old new × ((rest : Option (List ℕ)) × Ends (streams bytes rest new) status)
 
@@ -65,7 +65,7 @@ TellsWhyNot name text new status =
     ((¬ (IsUtf8 name)) × TellsWords (Some []) (Some new.messages.items) (Words None) status)
     ⊎ ((e : SourceFault) × ReadsTree text (Err e) × TellsSource (Some []) (Some new.messages.items) e status)
 
--- 0: the tree of the text is added under the name. Else the local trees are unchanged, and the messages have a line that says why.
+-- Status 0: the tree of the text is added under the name. Any other: the local trees are unchanged, and the messages have a line that says why.
 abbrev pub Added : List ℕ → List ℕ → Held → Held → ℕ → Type 0
 Added name text old new status = (new.session ≡ old.session) × (new.lines ≡ old.lines) × (new.output.items ≡ []) × (
     ((status ≡ 0) × (new.messages.items ≡ []) × ((t : TreeMap) × ReadsTree text (Ok t) × (new.locals ≡ with_local old.locals name t)))
@@ -77,7 +77,7 @@ Added name text old new status = (new.session ≡ old.session) × (new.lines ≡
 abbrev pub IsBegun : List ℕ → ℕ → Held → Held → Type 0
 IsBegun definition workers old new = (g : Numbered) × IsGraphIn definition g × (new.session ≡ Some (begun old.locals g workers)) × (new.lines ≡ 0)
 
--- 0: a session is begun. Else the session is the one from before, if any, and the status is 2, with a line in the messages that says why, or 3.
+-- Status 0: a session is begun. Else the session is the one from before, if any, and the status is 2, with a line in the messages that says why, or 3.
 abbrev pub Opened : List ℕ → ℕ → Held → Held → ℕ → Type 0
 Opened definition workers old new status = (new.locals ≡ old.locals) × (new.output.items ≡ []) × (
     ((status ≡ 0) × (new.messages.items ≡ []) × IsBegun definition workers old new)
@@ -88,8 +88,8 @@ Opened definition workers old new status = (new.locals ≡ old.locals) × (new.o
 abbrev pub GoesOn : List ℕ → Stepping → ℕ → Held → Type 0
 GoesOn line s n new = (t : Stepping) × (new.session ≡ Some t) × (new.lines ≡ n) × (¬ Quits line) × RespondsAs (request_in line) s n new.output.items t
 
--- A line is sent to session s. 0: its reply is the output. 1: it ends the session, and none is open. Else nothing is changed, and the messages have a line that
--- says why: memory was refused for the line of a refusal; or the line would be one more than the 2^64 - 1 lines that a session has.
+-- A line is sent to session s. Status 0: its reply is the output. 1: it ends the session, and none is open. Else nothing is changed, and the messages have a
+-- line that says why: memory was refused for the line of a refusal; or the line would be one more than the 2^64 - 1 lines that a session has.
 abbrev pub RepliesOn : List ℕ → Stepping → Held → Held → ℕ → Type 0
 RepliesOn line s old new status =
     ((status ≡ 0) × (new.messages.items ≡ []) × GoesOn line s (old.lines + 1) new)

@@ -32,7 +32,7 @@ abbrev pub tree_or : Option TreeMap → List TreeMap → Option ℕ → Option T
 tree_or own trees None = own
 tree_or own trees (Some k) = slice_get trees k
 
--- the last position of i so far, after number m at position k
+-- the last position so far at which number i is, given that number m is at position k
 abbrev pub next_place : ℕ → ℕ → ℕ → Option ℕ → Option ℕ
 next_place i m k place = if m == i then Some k else place
 

@@ -23,7 +23,7 @@ abbrev pub put_from : Store → Key → ℕ → List TreeMap → Store
 put_from s k n [] = s
 put_from s k n (t ∷ ts) = put (put_from s k (n + 1) ts) (place k n) t
 
--- for each key of the first rows, its trees in all rows, as a store
+-- a store that has, for each key of the rows in the second list, the trees that this key has in the first
 abbrev pub store_from : List Row → List Row → Store
 store_from all [] = finite.empty
 store_from all (r ∷ rows) = put_from (store_from all rows) r.0 0 (trees_of all r.0)

@@ -169,7 +169,7 @@ pub record StandsByLastStatus (cs : List Joined) (steps : List MicroStep) (x : E
   pub finished : is_finished steps x ≡ (nat_le (length cs) x.done || (not (last_of x.own == 0) && all_and (drop x.done cs)))
   pub fails : is_finished steps x ≡ true → x.fault ≡ fault_of (x.done - 1) (last_of x.own)
 
--- every worker that runs an exec is like this, whatever others do to shared instances meanwhile
+-- `StandsByLastStatus` holds for every worker that runs an exec, whatever others do to shared instances meanwhile
 abbrev pub ExecsEndByLastStatus : Build → Type 0
 ExecsEndByLastStatus b = (s : State) → IsReached b s → (w : ℕ) (x : Execution) (v : Vertex) (e : ExecOp) → slice_get s.workers w ≡ Some (Runs x)
     → slice_get b.graph.vertices x.vertex ≡ Some v → v.op.kind ≡ Some (kind.Exec e)
@@ -184,7 +184,7 @@ are_ands (c ∷ cs) = is_run c.join 0 && all_and cs
 abbrev pub in_turn : Setting → Joined → MicroStep
 in_turn setting c = Run setting (record { join = Then; command = c.command }) true
 
--- the commands of such a script run one after another, none of them is skipped, and the first with a status other than 0 is the exec's fault
+-- the commands of a script joined by And run one after another, none is skipped, and the first with a status other than 0 is the exec's fault
 pub record RunsInTurn (setting : Setting) (cs : List Joined) (work : Work) (k : ℕ) : Type 0 where
   pub leaves : part (runs_of setting cs) work k ≡ part (map (in_turn setting) cs) work k
   pub runs : (c : Joined) → (part (runs_of setting cs) work k).fault ≡ None → slice_get cs k ≡ Some c

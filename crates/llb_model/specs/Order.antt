@@ -50,7 +50,7 @@ stands_after (Some k) p left = Waiting
 
 -- ---- the order
 
--- the state after the vertex gets that status and the trees are written back to the instances
+-- the state after the vertex gets this status and these trees are written back to its instances
 abbrev pub left_by : Order → ℕ → List Instance → Program → Option ℕ → Left → Order
 left_by o v ps p cut left = record { statuses = slice_set o.statuses v (stands_after cut p left); store = put_all o.store ps left.work.trees }
 

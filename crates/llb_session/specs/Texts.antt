@@ -34,7 +34,7 @@ look_text (Failed f) = codes "failed " ++ failure_text f
 abbrev pub status_line : ℕ → Status → List ℕ
 status_line v look = decimal v ++ (codes " " ++ (look_text look ++ codes "\n"))
 
--- that line; empty if there is no such vertex
+-- the line for the status of a vertex; empty if there is no such vertex
 abbrev pub status_line_of : ℕ → Option Status → List ℕ
 status_line_of v None = []
 status_line_of v (Some look) = status_line v look
@@ -75,7 +75,7 @@ role_text (MountAt dest) = codes "mount " ++ path_text dest
 abbrev pub role_line : ℕ → Role → List ℕ
 role_line i role = decimal i ++ (codes " " ++ (role_text role ++ codes "\n"))
 
--- that line; empty if there is no such tree
+-- the line for tree i of a worker; empty if there is no such tree
 abbrev pub role_line_of : ℕ → Option Role → List ℕ
 role_line_of i None = []
 role_line_of i (Some role) = role_line i role
@@ -112,7 +112,7 @@ key_line k key n =
     ++ (codes " "
     ++ (mode_word key.mode ++ (codes " " ++ (decimal n ++ (codes " " ++ (seed_text key.seed ++ (codes " " ++ (key.id ++ codes "\n"))))))))
 
--- that line; empty if there is no such key
+-- the line for key k; empty if there is no such key
 abbrev pub key_line_of : List Row → ℕ → Option Key → List ℕ
 key_line_of rows k None = []
 key_line_of rows k (Some key) = key_line k key (length (trees_of rows key))

@@ -124,7 +124,7 @@ places_fit p (q ∷ qs) = if nat_lt 128 (length p + length q) then Err BadName e
 abbrev pub with_tree : TreeMap → List (List ℕ) → TreeMap → TreeMap
 with_tree t p other = finite.from_entries (map (moved 0 p) (finite.entries other) ++ finite.entries (without t p))
 
--- the tree after another one is put at a path like this, or why it can't be; at the root it becomes the other
+-- the tree after another one is put at a path as `with_tree` says, or why it can't be; at the root the tree becomes the other
 abbrev pub graft : TreeMap → List (List ℕ) → TreeMap → Result TreeMap TreeFault
 graft t p other = walk (finite.get t) p >>= λ _. places_fit p (finite.keys other) >>= λ _. Ok (with_tree t p other)
 

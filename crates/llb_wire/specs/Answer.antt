@@ -16,7 +16,7 @@ abbrev pub MemoryLast : {X Y F : Type 0} → (F → Bool) → Result X F → Res
 MemoryLast is_memory (Ok x) rule = Unit {0}
 MemoryLast is_memory (Err e) rule = is_memory e ≡ true → is_ok rule ≡ true
 
--- the value of the first result is what the function after it is applied to
+-- two rules, one after the other: the second is applied to the value of the first
 infixl 10 ◌>>=◌
 -- f applied to the value of the first result; or its fault
 abbrev pub ◌>>=◌ : {A B F : Type 0} → Result A F → (A → Result B F) → Result B F

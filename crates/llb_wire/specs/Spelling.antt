@@ -24,7 +24,7 @@ pub record IsVarint (bytes : List ℕ) (n : ℕ) : Type 0 where
   pub short : length bytes ≤ 10
   pub small : n < 2 ^ 64
 
--- the bytes from one position up to another, without the byte there
+-- the bytes from one position up to another, without the byte at the second
 abbrev pub between : ℕ → ℕ → List ℕ → List ℕ
 between from to bytes = take (to - from) (drop from bytes)
 

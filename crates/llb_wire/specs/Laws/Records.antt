@@ -130,7 +130,7 @@ record_read_at before r rest at e h =
 pub record_read : (r : Record) (rest : List ℕ) → IsRecord r → field_at (r.text ++ rest) 0 ≡ Ok (placed 0 r)
 record_read r rest h = record_read_at [] r rest 0 refl h
 
--- and what is read there is the same record
+-- the record that is read from its own bytes, wherever they are, is the same record
 pub record_kept_at : (before : List ℕ) (r : Record) (rest : List ℕ) (at : ℕ) → at ≡ length before → IsRecord r
     → record_at (before ++ (r.text ++ rest)) at (placed at r) ≡ r
 record_kept_at before r rest at e h =
@@ -465,7 +465,7 @@ written_is_record number w value payload named small len narrow =
       payload = written_payload w value payload small len narrow;
     }
 
--- and no bytes that spell it are fewer
+-- no bytes that spell a record are fewer than those that are written for it
 pub written_is_shortest : (number : ℕ) (w : Wire) (value : ℕ) (payload : List ℕ) → IsFieldNumber number → value < 2 ^ 64 → length payload < 2 ^ 64
     → (w ≡ wire.I32 → value < 2 ^ 32) → AreBytes payload → IsShortestRecord (written_record number w value payload)
 written_is_shortest number w value payload named small len narrow are =
