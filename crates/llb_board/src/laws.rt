@@ -117,7 +117,7 @@ pub fn runs_in_claim_order(board: &Board)
     board.replays();
 }
 
-/// Proves that chosen events, from an opening on, leave all vertices and all cache instances like this, shared caches included.
+/// Proves that chosen events, from an opening on, leave vertices and cache instances as their claim order says (`runs_in_claim_order`), shared caches included.
 pub fn alone_in_claim_order(board: &Board)
     ensures { machine.AloneInClaimOrder board.now.build }
 {

@@ -20,7 +20,7 @@ const PIECE: usize = 4096;
 pub enum ReadFault {
     /// There were more bytes than the limit.
     TooLong,
-    /// A read failed, in this way.
+    /// A read failed; holds the kind of its error.
     Failed(ErrorKind),
     /// The bound on reads was met; holds how many of the reads were interrupted.
     Unending(u64),

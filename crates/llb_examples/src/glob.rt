@@ -102,7 +102,7 @@ fn a_path_matches_part_by_part_and_a_bad_pattern_is_refused(rt: HostRuntime) {
     }
 }
 
-// A part of a pattern's text and how often it is repeated, a rest; a part of a path's text and how often it is repeated; and whether they match.
+// A part of the pattern's text, how often it is repeated, and the rest; the same three for the path's text; and whether they match.
 type Long = (
     &'static str,
     usize,

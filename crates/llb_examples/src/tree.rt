@@ -66,7 +66,7 @@ fn names_of(alloc: Global, text: &str) -> Result<usize, TreeFault> {
     Ok(path.names().len())
 }
 
-// A part of a text and how often it is repeated, a rest, and the number of names.
+// A part of a text, how often it is repeated, the rest of the text, and how many names its path has.
 type Counted = (&'static str, usize, &'static str, Result<usize, TreeFault>);
 
 const COUNTS: &[Counted] = &[

@@ -26,7 +26,7 @@ fn kinds(alloc: Global, graph: &Graph) -> Result<String, AllocError> {
     Ok(text)
 }
 
-// Returns the same for a definition, or why it is refused.
+// Returns the kinds of the vertices of a definition's graph, or why it is refused.
 fn kinds_in(alloc: Global, definition: &[u8]) -> Result<String, LoadFault> {
     let graph = load(alloc, definition)?;
     Ok(kinds(alloc, &graph)?)

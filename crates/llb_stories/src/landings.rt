@@ -74,7 +74,7 @@ fn counted<G: Gate>(
     }
 }
 
-// What worker 0 does at vertex 0, and these two numbers of its outcome.
+// What worker 0 does at vertex 0, and the two numbers that `counted` returns of its outcome.
 const COUNTS: &[(&str, (u32, bool))] = &[
     (TWO_FILES, (1, false)),
     (FIRST_FAILS, (1, true)),

@@ -125,7 +125,7 @@ fn is_two_before(board: &Board) -> bool {
         && board.worker(1) == Some(WorkerStatus::Runs(1, 1, true))
 }
 
-// Returns whether a replay of that record stops at a breakpoint at a claim of the merge, and can be taken back from there.
+// Returns whether a replay of the record of two workers stops at a breakpoint at a claim of the merge, and can be taken back from there.
 fn is_replayed(stepper: &mut Stepper) -> [bool; 3] {
     let broken = breaks_at(stepper, Break::Claims(2));
     let wanted = Stop {

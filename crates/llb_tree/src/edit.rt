@@ -71,7 +71,7 @@ fn set_in(
     }
 }
 
-// Does the same in a piece, whose children may be shared: makes them its own first.
+// Does what `set_in` does in a piece, whose children may be shared: first makes them this owner's own.
 #[cycle(set)]
 fn set_rows(
     rows: &mut Arc<Vec<Child>>,
@@ -92,7 +92,7 @@ fn set_rows(
     }
 }
 
-// Does the same in a list of pieces, in the piece that the name belongs to.
+// Does what `set_in` does in a list of pieces: in the piece that the name belongs to.
 #[cycle(set)]
 fn set_piece(
     pieces: &mut Vec<Piece>,
@@ -113,7 +113,7 @@ fn set_piece(
     Ok(())
 }
 
-// Does the same if the list of the pieces may be shared: makes it its own first.
+// Does what `set_piece` does if the list of the pieces may be shared: first makes the list this owner's own.
 #[cycle(set)]
 fn set_below(
     kids: &mut Arc<Vec<Piece>>,

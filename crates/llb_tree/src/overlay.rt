@@ -155,8 +155,8 @@ fn laid_all(
     Ok(made)
 }
 
-// Does the same for the upper children of one piece. Looks for the lower child of a name first at the same index of the
-// lower piece `at`.
+// Lays the upper children of one piece over the lower ones of their names; returns `None` if none changes. Looks for each name first at
+// the same index of the lower piece `at`.
 #[cycle(lay)]
 fn laid_rows(
     kids: &[Piece],

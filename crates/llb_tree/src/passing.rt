@@ -47,7 +47,7 @@ fn find<T: NameTest>(
     Ok(())
 }
 
-// Does the same for a child of the node at the path.
+// Appends the paths at and below a child that pass; `path` is the path of the child's directory.
 #[cycle(find)]
 fn find_in<T: NameTest>(
     kid: &Child,

@@ -48,7 +48,7 @@ fn thinned<T: NameTest>(
     }
 }
 
-// Does the same for children.
+// Returns what remains of children without all that passes the tests; `None` if nothing passes.
 #[cycle(thin)]
 fn thinned_children<T: NameTest>(
     kids: Children<'_>,
