@@ -51,7 +51,7 @@ fn bad_in(called: bool, word: &str) -> Option<usize>
     word.as_bytes().iter().position(|byte| !is_word_byte(*byte))
 }
 
-// Returns whether the word before what follows a part belongs to a call.
+// Returns whether a call is begun at the end of this part: the part ends in a word of it, or is empty and a call was begun before.
 fn called_after(called: bool, part: &str) -> bool
     ensures { result ≡ called_after called part.now }
 {

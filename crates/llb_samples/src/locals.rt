@@ -26,7 +26,7 @@ d 0755 0 0 /sub
 f 0644 0 0 6869 /sub/f
 ";
 
-// The same with a token in place of the content of `/sub/f`: the byte 255, and the number 1 in four bytes.
+// The trees above with a token in place of the content of `/sub/f`: the byte 255, and the number 1 in four bytes.
 const SUB_BY_A_TOKEN: &str = "== p
 d 0755 0 0 /
 == q

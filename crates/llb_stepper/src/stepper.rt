@@ -1,4 +1,4 @@
-//! The stepper: the board, what takes back each event that was done here, and the breakpoints.
+//! The stepper: the board, what takes back each event that the stepper did, and the breakpoints.
 
 ghost use Rattle.std.specs.Prelude.{◌≡◌, ◌≤◌, ◌+◌, ◌++◌, ◌∷◌, [], length, drop, Bool, true, map, option_map, false, IfOk, IfErr};
 ghost use Rattle.std.specs.Prelude.{OnOk, OnErr, Some, string_bytes};
@@ -20,7 +20,7 @@ use llb_wire::Text;
 use std::alloc::Global;
 use std::marker::Model;
 
-/// A board, what takes back each event that was done on it here, and breakpoints. Contracts see the board, the boards before these events,
+/// A board, what takes back each event that the stepper did on it, and breakpoints. Contracts see the board, the boards before these events,
 /// the last first, and the breakpoints.
 pub struct Stepper {
     alloc: Global,
@@ -111,7 +111,7 @@ impl Stepper {
         self.board.chosen()
     }
 
-    /// Goes back to the board before the last event; breakpoints stay. Fails with 172 if no event was done here, or all were taken back. Does not allocate.
+    /// Goes back to the board before the last event; breakpoints stay. Fails with 172 if the stepper did no event, or all are taken back. Does not allocate.
     pub fn back(&mut self) -> Result<(), StepperFault>
         ensures ok { OnOk result (GoesBack self.old self.new) }
         ensures fewer { OnOk result (length self.old.board.events ≡ length self.new.board.events + 1) }
@@ -195,7 +195,7 @@ impl Stepper {
         }
     }
 
-    /// Takes back the last `count` events, or all that were done here if there are fewer; breakpoints stay. Does not allocate.
+    /// Takes back the last `count` events, or all that the stepper did if there are fewer; breakpoints stay. Does not allocate.
     pub fn back_many(&mut self, count: usize)
         ensures timeline { timeline self.new ≡ drop (lesser count (length self.old.past)) (timeline self.old) }
         ensures build { self.new.board.build ≡ self.old.board.build }

@@ -37,9 +37,9 @@ impl Ran {
 pub(crate) struct Rooms {
     /// How many bytes standard input returns before it fails.
     pub input: usize,
-    /// The same for the file of a definition.
+    /// How many bytes the file of a definition returns before it fails.
     pub file: usize,
-    /// The same for each file of a local source.
+    /// How many bytes each file of a local source returns before it fails.
     pub local: usize,
     pub out: usize,
     pub flushes: usize,
