@@ -11,7 +11,7 @@ use Rattle.llb_cache.specs.Caches.{Taken}
 abbrev pub shown : Ready → Taken
 shown r = (r.place, r.tree)
 
--- there is room for the new instance and for its mark, and no mark is set in that room
+-- there is room for the new instance; the prepared list of marks is long enough for its mark, and no mark is set in the list
 pub record FitsIn (r : Ready) : Type 0 where
   pub tree : r.place.number < r.room
   pub mark : r.place.number < length r.marks
@@ -22,7 +22,7 @@ abbrev pub IsRefusal : Option Need → LeaseFault → Type 0
 IsRefusal None e = ⊥
 IsRefusal (Some n) e = e ≡ Held n.key
 
--- there is room for an instance's mark, and no mark is set in it
+-- the prepared list of marks is long enough for an instance's mark, and no mark is set in the list
 pub record HasRoomFor (p : Instance) (marks : List Bool) : Type 0 where
   pub mark : p.number < length marks
   pub clear : (k : ℕ) → slice_index_or marks k false ≡ false

@@ -87,7 +87,7 @@ pub(crate) fn say_fault<E: Display>(rt: &impl Abort, text: &mut String, fault: &
     write!(text, "{fault}\n").expect(rt, "memory");
 }
 
-// Returns a part that is repeated, and then a rest.
+// Returns a text: one part, repeated a number of times, and then another.
 pub(crate) fn repeated(
     rt: &impl Abort,
     alloc: Global,

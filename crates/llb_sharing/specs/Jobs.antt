@@ -24,7 +24,7 @@ abbrev pub ShareJobs : Numbered → Numbered → Type 0
 ShareJobs g h = (ls ms : List Local) (v u a w : ℕ) → HaveOneDigest g v h u → HaveSameSources g v ls ms
     → plain_job (record { graph = h; locals = ms }) w u ≡ option_map (given_to w u) (plain_job (record { graph = g; locals = ls }) a v)
 
--- o is the outcome of the plain job of vertex v over graph g and these local trees; on the board, worker w has done no micro-step yet of a vertex with
+-- o is the outcome of the plain job of vertex v over graph g and these local trees. On board b worker w has done no micro-step yet of a vertex with
 -- the same digest, with no cache mount at or before it and with the same trees of the sources
 pub record IsWorkedElsewhere (g : Numbered) (ls : List Local) (v : ℕ) (b : BoardValue) (w : ℕ) (x : Execution) (o : OutcomeValue) : Type 0 where
   pub worker : ℕ

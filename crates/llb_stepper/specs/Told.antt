@@ -1,4 +1,4 @@
--- Breakpoints and lines, by the board's own type of replies, which has no job in the reply to a claim.
+-- Breakpoints and lines, stated with the type of replies of `walk`, in which the reply to a claim has no job.
 use Rattle.std.specs.Prelude.{ℕ, ◌==◌, Bool, true, false, List, ◌++◌, codes, slice_get}
 use Rattle.std.specs.Fmt.{decimal}
 use Rattle.llb_loader.specs.declared.graph.Vertex.{Vertex}

@@ -99,8 +99,8 @@ fn a_gate_stops_whom_it_does_not_let_work(rt: HostRuntime) {
     );
 }
 
-// The definition over which worker 0 works at vertex 0; the board to which the outcome is brought, what was done there, and by which worker; and the
-// number of the fault, or 0 if it lands.
+// An outcome, and whether it lands: the definition over which worker 0 works at vertex 0; the definition of the board to which the outcome is brought;
+// the events done on that board; the worker that brings it; and the number of the fault, or 0 if it lands.
 type Landing = (&'static str, &'static str, &'static str, u32, u32);
 
 const CLAIMED: &str = "claim 0 0";
