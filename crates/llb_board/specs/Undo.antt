@@ -98,7 +98,7 @@ pub record IsStepped (b : BoardValue) (w : ℕ) (mark : Mark) (trees : List Tree
   pub count : length trees ≡ length x.places
   pub keys : map (λ (p : Instance). p.key) x.places ≡ map key_of (needs_at (slice_get b.build.graph.vertices x.vertex))
 
--- after a settle or a cancel: worker w is idle, and this is what it left
+-- after a settle or a cancel: worker w is idle, and `left` and `lent` are what it left
 pub record IsLeft (b : BoardValue) (w : ℕ) (left : Left) (lent : Option LentValue) : Type 0 where
   pub idle : slice_get b.state.workers w ≡ Some Idle
   pub supplies : left.supplies ≡ supplies_for (slice_get b.build.graph.vertices left.execution.vertex)

@@ -91,7 +91,7 @@ fn parts_of(rt: &impl Abort, alloc: Global, written: &Written) -> Parts {
     }
 }
 
-/// Makes a board before any event.
+/// Makes a board on which no event was done.
 pub(crate) fn board_on(rt: &impl Abort, alloc: Global, written: &Written) -> Board {
     match opened(parts_of(rt, alloc, written), written.workers, alloc) {
         Answer::Opened(Ok(board)) => board,
@@ -139,7 +139,7 @@ fn is_done(board: &mut Board, event: Event) -> bool {
     }
 }
 
-/// Makes a board after its events.
+/// Makes a board, and does its events on it.
 pub(crate) fn board_of(rt: &impl Abort, alloc: Global, written: &Written) -> Board {
     let mut board = board_on(rt, alloc, written);
     for line in written.events.split("; ") {

@@ -56,7 +56,7 @@ is_path (b ∷ names) = (b == 47) && ((length names == 0) || are_names names)
 abbrev pub Fields : Type 0
 Fields = MetaValue × Option (List ℕ) × List ℕ
 
--- the fields of a line, by what the code has of it
+-- the fields of a line, given the code's type for them
 abbrev pub parts_seen : Parts → Fields
 parts_seen x = (x.meta, option_map (λ digits. digits.now) x.digits, x.path.now)
 
@@ -89,7 +89,7 @@ abbrev pub entry_of : MetaValue → Option (List ℕ) → Entry
 entry_of m None = Dir m
 entry_of m (Some content) = File m content
 
--- the path and the entry of a line, by what the code has of it
+-- the path and the entry of a line, given the code's type for them
 abbrev pub pair_of : Row → List (List ℕ) × Entry
 pair_of r = (r.path, entry_of r.meta r.content)
 

@@ -144,8 +144,8 @@ impl Workers {
     }
 }
 
-// Makes the job and the execution of a vertex, before its first micro-step, with the caches that it wants, as they were
-// looked up: both have the trees of the inputs and the cache instances that a lease will take; the execution also has an
+// Makes the job and the execution of a vertex, before its first micro-step, given what was looked up of the caches that it
+// mounts: both have the trees of the inputs and the cache instances that a lease will take; the execution also has an
 // empty tree for each output, and where its commands run. Fails with 134 `NotReady` if an input is missing, with 141
 // `Memory`.
 fn begun_with(
