@@ -1,4 +1,4 @@
--- Which words make which command: an applet's name, then words in one of the applet's forms.
+-- Which words are which command: an applet's name, and then words in one of the applet's forms.
 use Rattle.std.specs.Prelude.{◌≡◌, ℕ, true, false, if◌then◌else◌, List, [], ◌∷◌, length, drop, Option, Some, None, option_map}
 use Rattle.std.specs.Prelude.{option_and_then, Result, Err, codes, slice_index_or}
 use Rattle.std.specs.Option.{ok_or, option_or}
@@ -17,40 +17,40 @@ use Rattle.llb_tree.specs.Modes.{mode_of}
 abbrev Word : Type 0
 Word = List ℕ
 
--- the word of a list that has just one
+-- the word of a list that has exactly one
 abbrev pub alone : List Word → Option Word
 alone [] = None
 alone (a ∷ []) = Some a
 alone (a ∷ b ∷ ws) = None
 
--- the words of a list that has just two
+-- the words of a list that has exactly two
 abbrev pub pair : List Word → Option (Word × Word)
 pair [] = None
 pair (a ∷ []) = None
 pair (a ∷ b ∷ []) = Some (a, b)
 pair (a ∷ b ∷ c ∷ ws) = None
 
--- a command if there are no words
+-- the command of an applet that takes no words; nothing if there are words
 abbrev pub no_words : List Word → Command → Option Command
 no_words [] c = Some c
 no_words (w ∷ ws) c = None
 
--- a command of one word, if there is just one
+-- a command with one word, if there is exactly one
 abbrev pub one_word : List Word → (Word → Command) → Option Command
 one_word ws f = option_map f (alone ws)
 
--- a command of two words, if there are just two
+-- a command with two words, if there are exactly two
 abbrev pub two_words : List Word → (Word → Word → Option Command) → Option Command
 two_words ws f = option_and_then (λ p. f p.0 p.1) (pair ws)
 
--- the kind that an option of `test` asks for
+-- what an option of `test` asks for
 abbrev pub kind_of : Word → Option Kind
 kind_of word =
     if spells (codes "-e") word then Some Something
     else (if spells (codes "-f") word then Some File
     else (if spells (codes "-d") word then Some Dir else None))
 
--- the `concat` of an output and one or more inputs
+-- the command `concat` with an output and one or more inputs
 abbrev pub concat_of : List Word → Option Command
 concat_of [] = None
 concat_of (out ∷ []) = None
@@ -73,16 +73,16 @@ form Listing ws = two_words ws (λ path out. Some (command.Listing path out))
 form Envfile ws = one_word ws (λ out. command.Envfile out)
 form Sha256 ws = two_words ws (λ path out. Some (command.Sha256 path out))
 
--- a list has `count` words, and `word` is the first, or empty if there is none
+-- the list has `count` words, and `word` is the first one, or empty if there is none
 pub record IsFront (words : List Word) (count : ℕ) (word : Word) : Type 0 where
   pub counted : count ≡ length words
   pub first : word ≡ slice_index_or words 0 []
 
--- the command of a call, given the applet that its first word names, if any
+-- the command of a call, given the applet that its first word names; the fault if it names none, or if the other words are no form of it
 abbrev pub command_by : ℕ → List Word → Option Applet → Result Command ScriptFault
 command_by number call None = Err (NoApplet (slice_index_or call 0 []))
 command_by number call (Some applet) = ok_or (form applet (drop 1 call)) (Usage number)
 
--- the command of the call of a number: its first word is an applet's name, and the others are one of its forms
+-- the command of the call with this number: its first word is an applet's name, and the others are one of its forms
 abbrev pub command_of : ℕ → List Word → Result Command ScriptFault
 command_of number call = command_by number call (applet_of (slice_index_or call 0 []))

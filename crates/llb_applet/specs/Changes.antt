@@ -1,4 +1,4 @@
--- What the changes of a view return: whether they are done, and what they leave.
+-- The results of changes of a view: whether they are done, and the view after them.
 use Rattle.std.specs.Prelude.{◌≡◌, ℕ, Bool, true, false, Option, Some, None, Result, Ok, Err}
 use Rattle.llb_tree.specs.declared.fault.TreeFault.{TreeFault}
 use Rattle.llb_tree.specs.declared.fault.TreeFault.TheVariants as tree
@@ -7,13 +7,13 @@ use Rattle.llb_mount.specs.View.{mount_at, with_tree_of}
 use Rattle.llb_applet.specs.declared.fault.Memory.{Memory}
 use Rattle.llb_applet.specs.Spots.{Mounts}
 
--- a mount's tree is taken out and an empty one is in its place, if the mount is not read-only
+-- a mount's tree is taken out and replaced by an empty one; or the mount is read-only, and nothing changes
 abbrev pub PutsAside : Result (Option TreeMap) Memory → Mounts → ℕ → Mounts → Type 0
 PutsAside (Ok (Some t)) old mount new = ((mount_at old mount).readonly ≡ false) × (t ≡ (mount_at old mount).tree) × (new ≡ with_tree_of old mount empty_tree)
 PutsAside (Ok None) old mount new = ((mount_at old mount).readonly ≡ true) × (new ≡ old)
 PutsAside (Err e) old mount new = new ≡ old
 
--- whether a change is done; a fault of the tree's is a refusal
+-- whether a change is done; any fault of the tree but `Memory` means that it is refused
 abbrev pub settled : Result (Unit {0}) TreeFault → Result Bool Memory
 settled (Ok _) = Ok true
 settled (Err tree.Memory) = Err (record {})
@@ -24,7 +24,7 @@ settled (Err tree.Conflict) = Ok false
 settled (Err tree.Root) = Ok false
 settled (Err tree.BadName) = Ok false
 
--- a change is done and leaves the outcome's view; or it is refused, as there is no outcome, or lacks memory, and the view has not changed
+-- the change is done, and the view is the outcome's; or it is refused, as there is no outcome, or it fails for want of memory, and the view is unchanged
 abbrev pub Does : Result Bool Memory → Option Mounts → Mounts → Mounts → Type 0
 Does (Ok true) outcome old new = outcome ≡ Some new
 Does (Ok false) outcome old new = (outcome ≡ None) × (new ≡ old)

@@ -1,5 +1,5 @@
--- What a command leaves of a view, by cases on the applet: the view after it, and the status is 0; or nothing, and then the status is 1
--- and the view stays as it was.
+-- The results of commands, applet by applet: the view after the command, with status 0; or nothing, with status 1,
+-- and then the view is unchanged.
 use Rattle.std.specs.Prelude.{ℕ, Bool, true, false, if◌then◌else◌, List, [], ◌∷◌, ◌++◌, length, ◌-◌, slice_get, Option, Some, None, is_some}
 use Rattle.std.specs.Prelude.{option_map, option_and_then, unwrap_or, codes}
 use Rattle.std.specs.List.{flat_map}
@@ -18,15 +18,15 @@ use Rattle.llb_applet.specs.declared.command.Command.TheVariants as command
 use Rattle.llb_applet.specs.Spots.{Mounts, spot_of, tree_at, entry_at, file_in, with_file, with_dir, without_spot, with_new_dir, with_dirs}
 
 infixl 10 ◌>>=◌
--- what f makes of a value, if there is one
+-- f applied to a value, if there is one
 abbrev pub ◌>>=◌ : {A B : Type 0} → Option A → (A → Option B) → Option B
 o >>= f = option_and_then f o
 
--- the path that a word is, read from the cwd
+-- the path that a word reads as, from the cwd
 abbrev pub path_by : Setting → List ℕ → Option (List (List ℕ))
 path_by setting word = result_ok (path_from setting.cwd word)
 
--- the spot that a word means
+-- the spot that a word names: a mount, and a path in its tree
 abbrev pub spot_by : Setting → Mounts → List ℕ → Option Spot
 spot_by setting view word = path_by setting word >>= spot_of view
 
@@ -39,15 +39,15 @@ abbrev pub meta_there : Option Entry → MetaValue
 meta_there (Some e) = tree.meta_in e
 meta_there None = new_meta
 
--- the file that a word means
+-- the file that a word names
 abbrev pub file_by : Setting → Mounts → List ℕ → Option (MetaValue × List ℕ)
 file_by setting view word = spot_by setting view word >>= λ spot. file_in (entry_at view spot)
 
--- the view after content is written at a spot: into the file that is there, whose mode and owner stay, or into a new one
+-- the view after content is written at a spot: a file that is there gets the content and keeps its mode and owner; else a new file is made
 abbrev pub written : Mounts → Spot → List ℕ → Option Mounts
 written view spot content = with_file view spot (meta_there (entry_at view spot)) content
 
--- the view after content is written at a path that a word means
+-- the view after content is written at the path that a word names
 abbrev pub writes : Setting → Mounts → List ℕ → List ℕ → Option Mounts
 writes setting view word content = spot_by setting view word >>= λ spot. written view spot content
 
@@ -55,7 +55,7 @@ writes setting view word content = spot_by setting view word >>= λ spot. writte
 abbrev pub line : List ℕ → List ℕ
 line word = word ++ 10 ∷ []
 
--- the view after a line is written at the end of a file, or into a new one
+-- the view after a line is appended to a file, or written to a new one
 abbrev pub appended : Mounts → Spot → List ℕ → Option Mounts
 appended view spot word = written view spot (unwrap_or (option_map (λ f. f.1) (file_in (entry_at view spot))) [] ++ line word)
 
@@ -63,7 +63,7 @@ appended view spot word = written view spot (unwrap_or (option_map (λ f. f.1) (
 abbrev pub last_name : List (List ℕ) → Option (List ℕ)
 last_name path = slice_get path (length path - 1)
 
--- where a copy goes: to the path or, if a directory is there, into it under the last name of the source
+-- the spot to which a file is copied: the path, or, if a directory is there, the source's last name in that directory
 abbrev pub target_of : Mounts → List (List ℕ) → List (List ℕ) → Option Spot
 target_of view source path =
     spot_of view path >>= λ spot.
@@ -79,39 +79,39 @@ copied setting view from to =
     target_of view source path >>= λ target.
     with_file view target file.0 file.1
 
--- the contents of these files, one after the other
+-- the contents of these files, one after another
 abbrev pub joined : Setting → Mounts → List (List ℕ) → Option (List ℕ)
 joined setting view [] = Some []
 joined setting view (word ∷ words) = file_by setting view word >>= λ file. joined setting view words >>= λ more. Some (file.1 ++ more)
 
--- the view after the entry at a spot gets another mode; its owner and content stay
+-- the view after the mode of the entry at a spot is changed; its owner and content stay
 abbrev pub with_mode : Mounts → Spot → ℕ → Option Entry → Option Mounts
 with_mode view spot mode None = None
 with_mode view spot mode (Some (tree.Dir m)) = with_dir view spot (record m { mode = mode })
 with_mode view spot mode (Some (tree.File m content)) = with_file view spot (record m { mode = mode }) content
 
--- whether the entry at a spot is of the kind that `test` asks for
+-- whether the entry at a spot is what `test` asks for
 abbrev pub is_kind : Kind → Option Entry → Bool
 is_kind Something e = is_some e
 is_kind File e = is_some (file_in e)
 is_kind Dir e = is_dir e
 
--- the line of a name in a directory: the name, `/` if it is a directory's, and a line end
+-- the line for a name in a directory: the name, `/` after it if it is a directory's, and a line end
 abbrev pub line_of : TreeMap → List (List ℕ) → List ℕ → List ℕ
 line_of t p name = name ++ (if is_dir (finite.get t (p ++ name ∷ [])) then codes "/" else []) ++ 10 ∷ []
 
--- the lines of these names in a directory
+-- the lines for these names in a directory
 abbrev pub listed : TreeMap → List (List ℕ) → List (List ℕ) → List ℕ
 listed t p names = flat_map (line_of t p) names
 
--- the listing of the directory that a word means: a line for each name in it
+-- the listing of the directory that a word names: a line for each name in it
 abbrev pub listing_by : Setting → Mounts → List ℕ → Option (List ℕ)
 listing_by setting view word =
     spot_by setting view word >>= λ spot.
     result_ok (list (tree_at view spot) spot.place) >>= λ names.
     Some (listed (tree_at view spot) spot.place names)
 
--- the view that a command leaves, if its status is 0; none if it fails
+-- the view after a command with status 0; nothing if the command fails
 abbrev pub run : Setting → Mounts → Command → Option Mounts
 run setting view command.True = Some view
 run setting view command.False = None
@@ -128,11 +128,11 @@ run setting view (command.Listing path out) = listing_by setting view path >>= w
 run setting view (command.Envfile out) = writes setting view out (flat_map line setting.env)
 run setting view (command.Sha256 path out) = file_by setting view path >>= λ file. writes setting view out (line (digits_of file.1))
 
--- the status of a command: 0 if it leaves a view, 1 if it fails
+-- the status of a command: 0 if there is a view after it, 1 if it fails
 abbrev pub status_of : Option Mounts → ℕ
 status_of (Some view) = 0
 status_of None = 1
 
--- the view that is left
+-- the view after a command: unchanged if it fails
 abbrev pub left : Mounts → Option Mounts → Mounts
 left view outcome = unwrap_or outcome view

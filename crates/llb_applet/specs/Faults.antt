@@ -1,23 +1,23 @@
--- What the calls of this crate return: what their rule gives, or `Memory`. A rule is a function into values
--- or faults that never gives `Memory`.
+-- The results of this crate's calls: the result of the call's rule, or the fault `Memory`. A rule is a function that returns a value
+-- or a fault, and never `Memory`.
 use Rattle.std.specs.Prelude.{◌≡◌, ℕ, Bool, true, false, ◌||◌, List, ◌++◌, Result, Ok, Err, is_ok, codes}
 use Rattle.std.specs.Fmt.{decimal}
 use Rattle.llb_wire.specs.Answer as answer
 use Rattle.llb_applet.specs.declared.fault.ScriptFault.{ScriptFault}
 use Rattle.llb_applet.specs.declared.fault.ScriptFault.TheVariants.{NoApplet, Usage, ShellSyntax, Memory}
 
--- whether a fault is `Memory`, which no rule gives
+-- whether a fault is `Memory`, which no rule returns
 abbrev pub is_memory : ScriptFault → Bool
 is_memory Memory = true
 is_memory (NoApplet word) = false
 is_memory (Usage number) = false
 is_memory (ShellSyntax place) = false
 
--- what a call returns, seen by view, is what the rule gives, unless it is `Memory`
+-- the result of a call is that of its rule, or the call fails for want of memory
 abbrev pub Gives : {X Y : Type 0} → (X → Y) → Result X ScriptFault → Result Y ScriptFault → Type 0
 Gives = answer.Gives is_memory
 
--- whether a result is a refusal that holds a text
+-- whether a result is a refusal that has a text in it
 abbrev pub names_word : {Y : Type 0} → Result Y ScriptFault → Bool
 names_word (Ok y) = false
 names_word (Err (NoApplet word)) = true
@@ -25,7 +25,7 @@ names_word (Err (Usage number)) = false
 names_word (Err (ShellSyntax place)) = false
 names_word (Err Memory) = false
 
--- `Memory` comes last: a call fails with it only if the rule has no refusal, or one that holds a text
+-- `Memory` is reported last: a call fails with it only if the rule has no refusal, or one that has a text in it
 abbrev pub MemoryLast : {X Y : Type 0} → Result X ScriptFault → Result Y ScriptFault → Type 0
 MemoryLast (Ok x) rule = Unit {0}
 MemoryLast (Err e) rule = is_memory e ≡ true → (is_ok rule || names_word rule) ≡ true

@@ -1,4 +1,4 @@
--- What holds for a text with no bad position: what its calls are, and that they are read again from the text that they make; and what the
+-- What holds for a text without a bad position: what its calls are, and that the text that they are written as has the same calls; and what the
 -- calls are if every separator is `&&`.
 use Rattle.std.specs.Prelude.{◌≡◌, ℕ, ◌==◌, Bool, true, false, ◌&&◌, ◌||◌, not, IsTrue, List, [], ◌∷◌, ◌++◌, length, map, codes}
 use Rattle.std.specs.List.{list_all, join_with_byte, slice_split}
@@ -8,11 +8,11 @@ use Rattle.llb_applet.specs.Applets.{spells}
 use Rattle.llb_applet.specs.Words.{words_of, is_separator, Call, is_word_byte, calls_of}
 use Rattle.llb_applet.specs.Scripts.{commands_in}
 
--- a word has a byte, and only bytes that words may have
+-- a word has at least one byte, and only bytes that words may have
 abbrev pub is_plain_word : List ℕ → Bool
 is_plain_word word = not (length word == 0) && list_all is_word_byte word
 
--- a call has a word, and only plain ones
+-- a call has at least one word, and only plain ones
 abbrev pub is_call : Call → Bool
 is_call call = not (length call.words == 0) && list_all is_plain_word call.words
 
@@ -36,7 +36,7 @@ with_separators (call ∷ calls) = call.words ++ after_separators calls
 abbrev pub text_of : List Call → List ℕ
 text_of calls = join_with_byte 32 (with_separators calls)
 
--- a text is a list of calls with a separator between each two, and the text of its calls reads the same
+-- the text is a list of calls with a separator between each two, and the text that its calls are written as reads the same
 pub record IsShellText (text : List ℕ) : Type 0 where
   pub calls : IsTrue (list_all is_call (calls_of text))
   pub again : commands_in (text_of (calls_of text)) ≡ commands_in text
@@ -70,7 +70,7 @@ abbrev pub joined_by_ands : List Call → Bool
 joined_by_ands [] = true
 joined_by_ands (call ∷ calls) = follows_all call.join && list_all (λ (c : Call). follows_success c.join) calls
 
--- the calls of a text are what is between its `&&`
+-- the calls of the text are what is between its words `&&`
 pub record IsSplitAtAnds (text : List ℕ) : Type 0 where
   pub calls : map (λ (c : Call). c.words) (calls_of text) ≡ slice_split is_and (texts_of text)
   pub joins : joined_by_ands (calls_of text) ≡ true

@@ -1,4 +1,4 @@
--- Calls while they are read from a text, part by part: what is known of the current call, and what the rest of the words makes of it.
+-- The state while calls are read from a text: what is known of the current call, and the result that the remaining words give.
 use Rattle.std.specs.Prelude.{◌≡◌, ℕ, ◌==◌, true, false, if◌then◌else◌, List, [], ◌∷◌, ◌++◌, length, Result, Ok, Err, slice_index_or}
 use Rattle.llb_wire.specs.Answer.{◌>>=◌}
 use Rattle.llb_applet.specs.declared.fault.ScriptFault.{ScriptFault}
@@ -11,23 +11,23 @@ use Rattle.llb_applet.specs.Words.{calls_from}
 use Rattle.llb_applet.specs.Calls.{command_of}
 use Rattle.llb_applet.specs.Scripts.{joined, commands_of}
 
--- the word that is between two spaces, if there is one
+-- the text between two spaces as a word; none if it is empty
 abbrev pub some_word : List ℕ → List (List ℕ)
 some_word part = if length part == 0 then [] else part ∷ []
 
--- a result's commands with these before them
+-- these commands, followed by those of a result
 abbrev pub behind : List Joined → Result (List Joined) ScriptFault → Result (List Joined) ScriptFault
 behind commands rest = rest >>= λ more. Ok (commands ++ more)
 
--- the commands, or the fault, of calls that are being read, when these words are left
+-- the commands, or the fault, of a text that is being read, by what was read and the remaining words
 abbrev pub ahead : Reading → List (List ℕ) → Result (List Joined) ScriptFault
 ahead reading words = behind reading.commands.items (commands_of (length reading.commands.items) (calls_from words reading.join reading.words.items))
 
--- the commands that were read, with that of the current call after them
+-- the commands so far, followed by that of the current call
 abbrev pub with_call : Reading → Result (List Joined) ScriptFault
 with_call reading = command_of (length reading.commands.items) reading.words.items >>= λ c. Ok (reading.commands.items ++ joined reading.join c ∷ [])
 
--- a step does not change the final result, or it fails with the fault of that result, or with `Memory`
+-- after one more step, the final result is the same, whatever follows; or the step fails with the fault of that result, or with `Memory`
 abbrev pub Reads : Result (Unit {0}) ScriptFault → Result (List Joined) ScriptFault → Result (List Joined) ScriptFault → Type 0
 Reads (Ok _) before after = before ≡ after
 Reads (Err e) before after = is_memory e ≡ false → before ≡ Err e
@@ -37,28 +37,28 @@ abbrev pub verdict : {A : Type 0} → Result A ScriptFault → Result (Unit {0})
 verdict (Ok x) = Ok tt
 verdict (Err e) = Err e
 
--- what is known of a call: how many words it has, and the first two
+-- what is kept of a call: how many words it has, and the first two
 pub record IsBegun (call : List (List ℕ)) (begun : Begun) : Type 0 where
   pub counted : begun.count ≡ length call
   pub named : begun.name.now ≡ slice_index_or call 0 []
   pub option : begun.first.now ≡ slice_index_or call 1 []
 
--- the first fault of a call of this number and of those after it, when these words are left; the call's join makes no difference
+-- the first fault of the call with this number and of those after it, given the remaining words; the call's join makes no difference
 abbrev pub judged : ℕ → List (List ℕ) → List (List ℕ) → Result (Unit {0}) ScriptFault
 judged number call words = verdict (commands_of number (calls_from words Then call))
 
--- a refusal is the rule's, or it is `Memory` and the rule's fault holds a text
+-- the refusal is that of the rule, or it is `Memory` and the rule's fault has a text in it
 pub record Refuses (e : ScriptFault) (rule : Result (Unit {0}) ScriptFault) : Type 0 where
   pub known : is_memory e ≡ false → rule ≡ Err e
   pub last : is_memory e ≡ true → names_word rule ≡ true
 
--- a step does not change the first fault, or it fails with that fault, or with `Memory`
+-- after one more part is checked, the first fault of the text is the same, whatever follows; or the check fails with that fault, or with `Memory`
 abbrev pub Judges : Result (Unit {0}) ScriptFault → List ℕ → List (List ℕ) → Begun → Begun → Type 0
 Judges (Ok _) part call old new = (next : List (List ℕ)) × IsBegun next new
     × ((rest : List (List ℕ)) → judged old.number call (some_word part ++ rest) ≡ judged new.number next rest)
 Judges (Err e) part call old new = (rest : List (List ℕ)) → Refuses e (judged old.number call (some_word part ++ rest))
 
--- the current call is judged: it is right, or the refusal is its fault or `Memory`
+-- the check of a whole call: it makes a command, or the refusal is its fault or `Memory`
 abbrev pub JudgesCall : Result (Unit {0}) ScriptFault → ℕ → List (List ℕ) → Type 0
 JudgesCall (Ok _) number call = verdict (command_of number call) ≡ Ok tt
 JudgesCall (Err e) number call = Refuses e (verdict (command_of number call))

@@ -1,4 +1,4 @@
--- The script that arguments are: that of the text after `/bin/sh -c`, or else one call.
+-- The script that arguments are read as: that of the text after `/bin/sh -c`, or else one call.
 use Rattle.std.specs.Prelude.{◌≡◌, ℕ, ◌+◌, ◌==◌, Bool, ◌&&◌, if◌then◌else◌, List, [], ◌∷◌, length, slice_index_or, Option, Some, None, Result, Ok, Err, codes}
 use Rattle.llb_wire.specs.Answer.{◌>>=◌}
 use Rattle.llb_applet.specs.declared.fault.ScriptFault.{ScriptFault}
@@ -15,13 +15,13 @@ use Rattle.llb_applet.specs.Calls.{command_of}
 abbrev pub joined : Join → Command → Joined
 joined join command = record { join = join; command = command }
 
--- the commands of calls, which are numbered from `number` on, or the fault of the first that makes no command
+-- the commands of calls, the first of which has number `number`, or the fault of the first call that makes no command
 abbrev pub commands_of : ℕ → List Call → Result (List Joined) ScriptFault
 commands_of number [] = Ok []
 commands_of number (call ∷ calls) =
     command_of number call.words >>= λ c. commands_of (number + 1) calls >>= λ cs. Ok (joined call.join c ∷ cs)
 
--- the commands of a text, or `ShellSyntax` if it has a bad position
+-- the commands of a text, or `ShellSyntax` with its bad position
 abbrev pub commands_unless : Option ℕ → List ℕ → Result (List Joined) ScriptFault
 commands_unless (Some place) text = Err (ShellSyntax place)
 commands_unless None text = commands_of 0 (calls_of text)
@@ -34,7 +34,7 @@ commands_in text = commands_unless (bad_place_of text) text
 abbrev pub is_shell : List (List ℕ) → Bool
 is_shell args = (length args == 3) && spells (codes "/bin/sh") (slice_index_or args 0 []) && spells (codes "-c") (slice_index_or args 1 [])
 
--- the commands that arguments are: those of the text after `/bin/sh -c`, or else the one call that the arguments are
+-- the commands that arguments are read as: those of the text after `/bin/sh -c`, or else that of the one call that the arguments are
 abbrev pub script_of : List (List ℕ) → Result (List Joined) ScriptFault
 script_of args = if is_shell args then commands_in (slice_index_or args 2 []) else commands_of 0 (first_call args ∷ [])
 

@@ -1,4 +1,4 @@
--- What a path means on a view, and the changes of a view there. A view is the list of its mounts; a refused change gives no view.
+-- The spot that a path names on a view, and the changes of a view there. A view is the list of its mounts; a refused change results in nothing.
 use Rattle.std.specs.Prelude.{◌≡◌, ℕ, ◌<◌, ◌≤◌, ◌==◌, nat_lt, Bool, true, false, ◌||◌, ◌&&◌, not, if◌then◌else◌, List, [], ◌∷◌, ◌++◌}
 use Rattle.std.specs.Prelude.{length, drop, Option, Some, None, is_some, Result, Ok, Err}
 use Rattle.std.specs.FinMap as finite
@@ -15,8 +15,8 @@ use Rattle.llb_applet.specs.declared.spot.Spot.{Spot}
 abbrev pub Mounts : Type 0
 Mounts = List Shown
 
--- the spot that a path means: the mount that it is routed to, and in the mount's tree the rest of the path below the selector; there is
--- none if that is longer than a path can be
+-- the spot that a path names: the mount that the path leads to, and in its tree the mount's selector followed by the rest of the path; nothing
+-- if that has more names than a path can have
 abbrev pub spot_of : Mounts → List (List ℕ) → Option Spot
 spot_of view path =
     let to = route view path in
@@ -24,7 +24,7 @@ spot_of view path =
     let place = place_in selector to.1 path in
     if nat_lt 128 (length place) then None else Some (record { mount = to.0; base = length selector; place = place })
 
--- a spot is in one of the mounts, at or below its selector
+-- a spot is in one of the mounts, at or below the mount's selector
 pub record IsSpot (view : Mounts) (spot : Spot) : Type 0 where
   pub mount : spot.mount < length view
   pub base : spot.base ≡ length (mount_at view spot.mount).selector
@@ -38,54 +38,54 @@ tree_at view spot = (mount_at view spot.mount).tree
 abbrev pub entry_at : Mounts → Spot → Option Entry
 entry_at view spot = finite.get (tree_at view spot) spot.place
 
--- whether a spot is the dest of a mount
+-- whether the spot is that of a mount's dest
 abbrev pub is_dest : Spot → Bool
 is_dest spot = length spot.place == spot.base
 
--- the mode and owner of a file, and its content; none if there is no file
+-- the mode and owner of a file, and its content; nothing if there is no file
 abbrev pub file_in : Option Entry → Option (MetaValue × List ℕ)
 file_in None = None
 file_in (Some (tree.Dir m)) = None
 file_in (Some (tree.File m bytes)) = Some (m, bytes)
 
--- the view with a mount's tree changed, if the change is not refused and the mount is not read-only
+-- the view after a change of a mount's tree; nothing if the change is refused or the mount is read-only
 abbrev pub with_change : Mounts → ℕ → Result TreeMap TreeFault → Option Mounts
 with_change view mount (Ok t) = if (mount_at view mount).readonly then None else Some (with_tree_of view mount t)
 with_change view mount (Err e) = None
 
--- the view with a file at a spot; at a dest it only replaces an entry that is there
+-- the view after a file is put at a spot; at a dest only if an entry is there already
 abbrev pub with_file : Mounts → Spot → MetaValue → List ℕ → Option Mounts
 with_file view spot meta content =
     if is_dest spot && not (is_some (entry_at view spot)) then None
     else with_change view spot.mount (put_file (tree_at view spot) spot.place meta content)
 
--- the view with a directory of this mode and owner at a spot
+-- the view after a directory with this mode and owner is put at a spot
 abbrev pub with_dir : Mounts → Spot → MetaValue → Option Mounts
 with_dir view spot meta = with_change view spot.mount (put_dir (tree_at view spot) spot.place meta)
 
--- the view without what is at and below a spot; a dest is refused
+-- the view after what is at and below a spot is removed; nothing at a dest
 abbrev pub without_spot : Mounts → Spot → Option Mounts
 without_spot view spot = if is_dest spot then None else with_change view spot.mount (remove (tree_at view spot) spot.place)
 
--- the view with a new directory at a spot below the dest, if there is no entry
+-- the view after a new directory is made at a spot below the dest; nothing if there is an entry
 abbrev pub with_new_dir : Mounts → Spot → Option Mounts
 with_new_dir view spot = if is_dest spot || is_some (entry_at view spot) then
     None else with_change view spot.mount (put_dir (tree_at view spot) spot.place new_dir_meta)
 
--- the tree with a directory at a path, which is made if there is none
+-- the tree after a directory is made at a path, if none is there
 abbrev pub dir_at : TreeMap → List (List ℕ) → Result TreeMap TreeFault
 dir_at t p = if is_dir (finite.get t p) then Ok t else put_dir t p new_dir_meta
 
--- the tree with a directory for each of these names below a path, one below the other
+-- the tree after a directory is made for each of these names below a path, each in the one before, if it is not there
 abbrev pub dirs_below : TreeMap → List (List ℕ) → List (List ℕ) → Result TreeMap TreeFault
 dirs_below t p [] = Ok t
 dirs_below t p (n ∷ ns) = answer.◌>>=◌ (dir_at t (p ++ n ∷ [])) (λ next. dirs_below next (p ++ n ∷ []) ns)
 
--- the tree with a new directory at a path, and a directory for each of these names below it
+-- the tree after a new directory is made at a path, and below it one for each of these names
 abbrev pub put_then_below : TreeMap → List (List ℕ) → List (List ℕ) → Result TreeMap TreeFault
 put_then_below t p ns = answer.◌>>=◌ (put_dir t p new_dir_meta) (λ next. dirs_below next p ns)
 
--- the view with a directory at a spot, which is made, with its missing parents below the dest, if it is not there
+-- the view after a directory is made at a spot, with its missing parents below the dest, if it is not there
 abbrev pub with_dirs : Mounts → Spot → Option Mounts
 with_dirs view spot =
     if is_dir (entry_at view spot) then Some view

@@ -1,5 +1,5 @@
--- The words of a script's text with their positions, and the first position at which the text is not a list of calls with a separator
--- between each two. A position is the number of bytes before it.
+-- The words of a script's text with their positions, and the first position at which the text is no list of calls with a separator
+-- between each two. A position is counted in bytes from 0.
 use Rattle.std.specs.Prelude.{ℕ, ◌+◌, ◌==◌, nat_le, Bool, false, ◌&&◌, ◌||◌, not, if◌then◌else◌, List, [], ◌∷◌, ◌++◌, length, map, filter}
 use Rattle.std.specs.Prelude.{Option, Some, None, is_some, option_map, codes}
 use Rattle.std.specs.List.{slice_split, position, list_any}
@@ -13,16 +13,16 @@ pub record Word : Type 0 where
   pub place : ℕ
   pub bytes : List ℕ
 
--- the parts of a text that are between its spaces
+-- the parts of a text between its spaces, some of them empty
 abbrev pub parts_of : List ℕ → List (List ℕ)
 parts_of = slice_split (λ b. b == 32)
 
--- parts with one byte between them, each with the position of its first byte; the first part is at `at`
+-- parts with one byte between each two, each with the position of its first byte; the first part is at `at`
 abbrev pub placed : ℕ → List (List ℕ) → List Word
 placed at [] = []
 placed at (part ∷ parts) = record { place = at; bytes = part } ∷ placed (at + length part + 1) parts
 
--- whether a part is a word: it has a byte
+-- whether a part is a word: it is not empty
 abbrev pub is_word : Word → Bool
 is_word w = not (length w.bytes == 0)
 
@@ -30,7 +30,7 @@ is_word w = not (length w.bytes == 0)
 abbrev pub words_of : List ℕ → List Word
 words_of text = filter is_word (placed 0 (parts_of text))
 
--- the join of the call after a separator; another word has none
+-- the join of the call after a separator; nothing for any other word
 abbrev pub join_of : List ℕ → Option Join
 join_of word =
     if spells (codes ";") word then Some Then
@@ -47,22 +47,22 @@ is_word_byte b =
     (nat_le 48 b && nat_le b 57) || (nat_le 65 b && nat_le b 90) || (nat_le 97 b && nat_le b 122)
     || list_any (λ c. c == b) (codes "_-./,:+@%=") || nat_le 128 b
 
--- the position of a word's first bad byte: for a separator with no call before it, its first byte; for another word, the first byte that
+-- the position in a word of its first bad byte: the start of a separator with no call before it; in any other word the first byte that
 -- words may not have
 abbrev pub bad_in : Bool → List ℕ → Option ℕ
 bad_in called word = if is_separator word then (if called then None else Some 0) else position (λ b. not (is_word_byte b)) word
 
--- whether a word of a call comes right before what follows a part
+-- whether a call is begun at the end of this part of a script: the part ends in a word of it, or is empty and a call was begun before
 abbrev pub called_after : Bool → List ℕ → Bool
 called_after called part = if length part == 0 then called else not (is_separator part)
 
--- the first bad position among words, in a text of `end` bytes, where `called` says whether a word of a call comes right before them; at
--- the end a call must have begun
+-- the first bad position among words, in a text of `end` bytes; `called` says whether the word before them belongs to a call; at
+-- the end of the text it has to
 abbrev pub bad_place : ℕ → Bool → List Word → Option ℕ
 bad_place end called [] = if called then None else Some end
 bad_place end called (w ∷ ws) = option_or (option_map (λ k. w.place + k) (bad_in called w.bytes)) (bad_place end (not (is_separator w.bytes)) ws)
 
--- the first position at which a text is not a list of calls with a separator between each two; none if it is such a list
+-- the first position at which a text is no list of calls with a separator between each two; nothing if it is one
 abbrev pub bad_place_of : List ℕ → Option ℕ
 bad_place_of text = bad_place (length text) false (words_of text)
 
@@ -79,12 +79,12 @@ call_by join words = record { join = join; words = words }
 abbrev pub first_call : List (List ℕ) → Call
 first_call words = call_by Then words
 
--- what the next word does: a separator ends the current call and begins the next, and another word is added to the current call
+-- the calls after the next word: a separator ends the current call and begins the next, any other word is added to the current call
 abbrev pub at_word : Join → List (List ℕ) → List ℕ → Option Join → (Join → List (List ℕ) → List Call) → List Call
 at_word join call word (Some next) rest = call_by join call ∷ rest next []
 at_word join call word None rest = rest join (call ++ word ∷ [])
 
--- the calls of words, if the current call has this join, and has these words already
+-- the calls of these words, given the join and the words of the current call so far
 abbrev pub calls_from : List (List ℕ) → Join → List (List ℕ) → List Call
 calls_from [] join call = call_by join call ∷ []
 calls_from (word ∷ words) join call = at_word join call word (join_of word) (λ next begun. calls_from words next begun)

@@ -1,4 +1,4 @@
-//! Judges the calls of a text without making them: for a call it is enough to know how many words it has, and the first
+//! Checks the calls of a text without making commands: for a call it is enough to know how many words it has, and the first
 //! two.
 
 ghost use Rattle.std.specs.Prelude.{◌≡◌, ◌+◌, ◌≤◌, ◌<◌, ◌^◌, ◌++◌, ◌∷◌, [], List, ℕ};
@@ -14,7 +14,7 @@ use crate::words::is_separator;
 use llb_wire::Text;
 use std::alloc::Global;
 
-/// A call as far as it is read: its number, how many words it has, and the first two.
+/// The current call so far: its number, how many words it has, and the first two.
 #[derive(Drop)]
 pub struct Begun<'a> {
     pub number: usize,
@@ -24,7 +24,7 @@ pub struct Begun<'a> {
 }
 
 impl<'a> Begun<'a> {
-    /// Checks the call, if it has no more words. Fails with 71 `NoApplet` or 72 `Usage`, and with 74 `Memory` only in place of 71.
+    /// Checks the call, which has no more words. Fails with 71 `NoApplet` or 72 `Usage`, and with 74 `Memory` only in place of 71.
     pub fn judge(&self, alloc: Global) -> Result<(), ScriptFault>
         ensures { (call : List (List ℕ)) → IsBegun call self.now → JudgesCall result self.now.number call }
     {

@@ -26,7 +26,7 @@ fn put_aside(alloc: Global, view: &mut View, mount: u32) -> Result<Option<Tree>,
     Ok(Some(view.swap_tree(mount, empty)))
 }
 
-// Returns whether a change is done; a fault of the tree's other than want of memory is a refusal.
+// Returns whether a change is done; any fault of the tree but want of memory means that it is refused.
 fn settled(change: Result<(), TreeFault>) -> Result<bool, Memory>
     ensures { result ≡ settled change }
 {
@@ -198,7 +198,7 @@ pub fn make_dirs(alloc: Global, view: &mut View, spot: &Spot) -> Result<bool, Me
     }
 }
 
-// Makes a directory for each of the names, one below the other, if it is not there. After a refusal the tree is
+// Makes a directory for each of the names, each in the one before, if it is not there. After a refusal the tree is
 // unchanged.
 fn dirs_below(alloc: Global, tree: &mut Tree, at: &Path, names: &[Name]) -> Result<(), TreeFault>
     requires { length at.now + length names.now ≤ 128 }
@@ -233,7 +233,7 @@ fn put_dirs(alloc: Global, tree: &mut Tree, path: &Path, names: &[Name]) -> Resu
     tree.graft(path, &made)
 }
 
-// Makes a tree of directories alone, one for each of the names, one below the other.
+// Makes a tree of directories alone, one for each of the names, each in the one before.
 fn chain(alloc: Global, names: &[Name]) -> Result<Tree, AllocError>
     requires { length names.now ≤ 128 }
     ensures { IfOk result (λ t. dirs_below empty_tree [] names.now ≡ Ok t) }

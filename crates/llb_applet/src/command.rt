@@ -1,4 +1,4 @@
-//! Commands: calls whose applets are known and whose words are one of the applet's forms. Whoever runs a command checks no form again.
+//! Commands: calls with an applet that exists and words in one of its forms, so that running a command checks no form again.
 
 ghost use Rattle.std.specs.Prelude.{◌≡◌, List, ℕ, is_some, Ok};
 ghost use Rattle.llb_applet.specs.declared.applet.Applet.TheVariants.{Mkdir, Concat, Chmod, Test};
@@ -53,7 +53,7 @@ pub enum Command {
     Sha256 { path: Text, out: Text },
 }
 
-// It is written out so that whatever owns one drops it by this one function.
+// Written by hand, so that it is proved once; a derived one is proved again in every function that drops such a value.
 impl Drop for Command {
     fn drop(self) {
         match self {
@@ -281,7 +281,7 @@ fn test_of(words: Vec<Text>) -> Option<Command>
     Some(Command::Test { kind, path })
 }
 
-// Returns the command of an applet and the words after its name; `None` if they are none of its forms.
+// Returns the command of an applet with the words after its name; `None` if they are no form of it.
 fn form(applet: Applet, words: Vec<Text>) -> Option<Command>
     ensures { result ≡ form applet words.items }
 {
@@ -342,7 +342,7 @@ pub fn command_of(alloc: Global, number: usize, words: Vec<Text>) -> Result<Comm
     }
 }
 
-/// Returns whether `count` words after an applet's name, of which `first` is the first, are one of the applet's forms.
+/// Returns whether a call with `count` words after the applet's name, the first of which is `first`, is in one of the applet's forms.
 pub fn is_form(applet: Applet, count: usize, first: &str) -> bool
     ensures { (words : List (List ℕ)) → IsFront words count first.now → result ≡ is_some (form applet words) }
 {

@@ -17,7 +17,7 @@ use llb_wire::Text;
 use sha2::{Digest, Sha256};
 use std::alloc::Global;
 
-// Appends a word and a line end to a content.
+// Appends a word and a line end to a text.
 fn push_line(content: &mut Vec<u8>, word: &str) -> Result<(), Memory>
     ensures { OnOk result (content.new.items ≡ content.old.items ++ line word.now) }
 {
@@ -35,7 +35,7 @@ pub fn line(alloc: Global, word: &str) -> Result<Bytes, Memory>
     Ok(Bytes::new(content))
 }
 
-/// Returns the content of the file at a spot, empty if there is no file, with one more line. Fails with 75 `Memory` alone.
+/// Returns the content of the file at a spot with one more line, the line alone if there is no file. Fails with 75 `Memory` alone.
 pub fn more(alloc: Global, view: &View, spot: &Spot, word: &Text) -> Result<Bytes, Memory>
     requires { IsSpot view.now spot.now }
     ensures { IfOk result (λ b. b ≡ unwrap_or (option_map (λ f. f.1) (file_in (entry_at view.now spot.now))) [] ++ line word.now) }
@@ -48,7 +48,7 @@ pub fn more(alloc: Global, view: &View, spot: &Spot, word: &Text) -> Result<Byte
     Ok(Bytes::new(content))
 }
 
-// Returns the content of the file that a word means; `None` if it means no file.
+// Returns the content of the file that a word names; `None` if it names no file.
 fn content_by<'v>(
     alloc: Global,
     setting: &Setting,
@@ -63,7 +63,7 @@ fn content_by<'v>(
     }
 }
 
-/// Returns the contents of the files that words mean, one after the other; `None` if one means no file. Fails with 75 `Memory` alone.
+/// Returns the contents of the files that words name, one after another; `None` if one names no file. Fails with 75 `Memory` alone.
 pub fn joined(
     alloc: Global,
     words: &[Text],
@@ -82,7 +82,7 @@ pub fn joined(
     Ok(Some(Bytes::new(content)))
 }
 
-// Returns whether there is a directory one name below a path.
+// Returns whether a directory's entry of this name is a directory.
 fn is_dir_below(tree: &Tree, path: &Path, name: &Name) -> Result<bool, Memory>
     ensures { IfOk result (λ yes. yes ≡ is_dir (finite.get tree.now (path.now ++ name.now ∷ []))) }
 {
@@ -98,7 +98,7 @@ fn is_dir_below(tree: &Tree, path: &Path, name: &Name) -> Result<bool, Memory>
     Ok(tree.is_dir(&below))
 }
 
-// Returns a line for each name in a directory.
+// Returns a line for each of these names in a directory.
 fn listed(alloc: Global, tree: &Tree, path: &Path, names: &[Name]) -> Result<Bytes, Memory>
     ensures { IfOk result (λ b. b ≡ listed tree.now path.now names.now) }
 {
@@ -109,7 +109,7 @@ fn listed(alloc: Global, tree: &Tree, path: &Path, names: &[Name]) -> Result<Byt
     Ok(Bytes::new(content))
 }
 
-// Appends the line of a name in a directory.
+// Appends the line for a name in a directory.
 fn push_name(content: &mut Vec<u8>, tree: &Tree, path: &Path, name: &Name) -> Result<(), Memory>
     ensures { OnOk result (content.new.items ≡ content.old.items ++ line_of tree.now path.now name.now) }
 {
@@ -121,7 +121,7 @@ fn push_name(content: &mut Vec<u8>, tree: &Tree, path: &Path, name: &Name) -> Re
     Ok(())
 }
 
-/// Returns the lines of the directory that a word means; `None` if it means no directory. Fails with 75 `Memory` alone.
+/// Returns the lines for the directory that a word names; `None` if it names no directory. Fails with 75 `Memory` alone.
 pub fn listing_by(
     alloc: Global,
     path: &Text,
@@ -155,7 +155,7 @@ pub fn envfile(alloc: Global, setting: &Setting) -> Result<Bytes, Memory>
     Ok(Bytes::new(content))
 }
 
-/// Returns the 64 hex digits of the SHA-256 of the file that a word means, and a line end; `None` if it means no file. Fails with 75
+/// Returns the 64 hex digits of the SHA-256 of the file that a word names, and a line end; `None` if it names no file. Fails with 75
 /// `Memory` alone.
 pub fn sha256_by(
     alloc: Global,

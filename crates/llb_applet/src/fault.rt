@@ -1,4 +1,4 @@
-//! Why a script is refused, and a command that is out of memory. A fault prints what follows the word `fault` in a
+//! Why a script is refused, and the fault of a command for which memory is refused. A fault prints what follows the word `fault` in a
 //! refusal: its number, and its argument. Refusals of memory of any kind become `Memory` by `?`.
 
 ghost use Rattle.std.specs.Prelude.{Some};
@@ -15,9 +15,9 @@ use thiserror::Error;
 pub enum ScriptFault {
     /// 71 WORD: the first word of a call, WORD, is no applet's name.
     NoApplet(Text),
-    /// 72 C: in call C, from 0, the words after an applet's name are none of its forms.
+    /// 72 C: in call C, from 0, the words after an applet's name fit none of its forms.
     Usage(usize),
-    /// 73 P: the text is not a list of calls with separators between them; its first bad place is P, from 0.
+    /// 73 P: the text is no list of calls with separators between them; its first bad position is P, from 0.
     ShellSyntax(usize),
     /// 74: memory was refused.
     Memory,

@@ -24,7 +24,7 @@ pub struct Joined {
     pub command: Command,
 }
 
-// It is written out so that whatever owns one drops it by this one function.
+// Written by hand, so that it is proved once; a derived one is proved again in every function that drops such a value.
 impl Drop for Joined {
     fn drop(self) {
         let Joined {

@@ -1,5 +1,5 @@
-//! Runs a command on a view. A command that is done leaves the view with one mount's tree changed in place, or as it was;
-//! one that is not done, or that lacks memory, leaves it as it was.
+//! Runs a command on a view. A command that is done changes one mount's tree in place, or nothing;
+//! one that fails, or for which memory is refused, leaves the view as it was.
 
 ghost use Rattle.std.specs.Prelude.{◌≡◌, ◌≢◌, IfOk, IfSome, OnOk, OnErr, option_and_then};
 ghost use Rattle.llb_applet.specs.declared.command.Command.TheVariants as command;
@@ -74,7 +74,7 @@ fn write_at(alloc: Global, view: &mut View, spot: &Spot, content: Bytes) -> Resu
     put_file(alloc, view, spot, meta, content)
 }
 
-// Writes a file with this content at a path, if there is a content.
+// Writes a file with this content at a path; does nothing if there is no content.
 fn write_some(
     alloc: Global,
     path: &Text,
@@ -138,8 +138,8 @@ fn cp(
     put_shared(alloc, view, &target, meta, content)
 }
 
-// Returns the spot to which a file is copied: that of the path or, if a directory is there, the one in it under the
-// last name of the source.
+// Returns the spot to which a file is copied: that of the path, or, if a directory is there, that of the source's last name
+// in the directory.
 fn target_of(view: &View, source: &Path, path: Path) -> Result<Option<Spot>, Memory>
     ensures means { IfOk result (λ s. s ≡ target_of view.now source.now path) }
     ensures spot { IfOk result (λ s. IfSome s (λ spot. IsSpot view.now spot)) }
@@ -202,7 +202,7 @@ fn with_bits(meta: &Meta, mode: Mode) -> Meta
     Meta::new(mode.bits(), meta.uid(), meta.gid()).unwrap()
 }
 
-// Returns whether the entry at a path is of the kind.
+// Returns whether the entry at a path is of this kind.
 fn test(
     alloc: Global,
     kind: Kind,
@@ -218,7 +218,7 @@ fn test(
     }
 }
 
-// Returns whether the entry at a spot is of the kind.
+// Returns whether the entry at a spot is of this kind.
 fn is_kind(view: &View, spot: &Spot, kind: Kind) -> bool
     requires { IsSpot view.now spot.now }
     ensures { result ≡ is_kind kind (entry_at view.now spot.now) }
@@ -272,7 +272,7 @@ fn done(
 }
 
 /// Runs a command on a view. Returns status 0 if it is done; returns 1, and leaves the view as it was, if a path is invalid, something
-/// is not there or is of the wrong sort, or the change would be below a read-only mount. Paths are read from the setting's cwd
+/// does not exist or is of the wrong sort, or the change would be below a read-only mount. Paths are read from the setting's cwd
 /// and looked up by `View::route`, below the mount's selector. Fails with 75 `Memory` alone; then the view is as it was. A command changes
 /// one mount's tree in place, and copies no tree.
 pub fn run_command(

@@ -1,4 +1,4 @@
-//! Scripts. A text is first checked without allocating, so that a refusal is not mistaken for want of memory, and then
+//! Scripts. A text is first checked without allocating, so that a refusal can't be hidden by want of memory, and then
 //! its calls are made into commands.
 
 ghost use Rattle.std.specs.Prelude.{◌≡◌, ◌+◌, ◌<◌, ◌++◌, ◌∷◌, [], List, ℕ, length, OnOk, IsTrue, slice_index_or, Ok};
@@ -25,7 +25,7 @@ pub struct Script {
     commands: Arc<Vec<Joined>>,
 }
 
-// It is written out so that the crates above drop one by this one function.
+// Written by hand, so that it is proved once; a derived one is proved again in every function that drops such a value.
 impl Drop for Script {
     fn drop(self) {
         let Script { commands: _ } = self;
@@ -75,7 +75,7 @@ impl Same for Script {
     }
 }
 
-/// Calls while they are read: the commands of the calls that are whole, the join of the current call, and its words.
+/// The state while calls are read: the commands of the whole calls, the join of the current call, and its words.
 #[derive(Drop)]
 pub struct Reading {
     commands: Vec<Joined>,
@@ -86,8 +86,8 @@ pub struct Reading {
 impl Reading {
     ghost use Rattle.llb_applet.specs.Reading.{some_word, ahead, with_call, Reads};
 
-    // Reads what is between two spaces: a separator ends the current call, another word is added to it, and an empty
-    // part is no word.
+    // Takes the text between two spaces: a separator ends the current call, any other word is added to it, and an empty
+    // text is no word.
     fn take(&mut self, alloc: Global, part: &str) -> Result<(), ScriptFault>
         ensures { (rest : List (List ℕ)) → Reads result (ahead self.old (some_word part.now ++ rest)) (ahead self.new rest) }
     {
@@ -205,8 +205,8 @@ fn read_commands(alloc: Global, args: &[Text]) -> Result<Vec<Joined>, ScriptFaul
 }
 
 /// Reads arguments as a script: `/bin/sh`, `-c` and one text, or else one call, an applet's name and its words. In a
-/// text words are between spaces, and a separator, a word `;`, `&&` or `
-/// `, is between two calls; another word has only ASCII letters and digits, `_ - . / , : + @ % =` and characters past
+/// text words are between spaces, and a separator, which is a word `;`, `&&` or `||`,
+/// is between two calls; any other word has only ASCII letters and digits, `_ - . / , : + @ % =` and characters past
 /// ASCII. Fails with 73 `ShellSyntax` at the first bad position of the text, in bytes from 0: a byte that no word may
 /// have, a separator with no call before it, or the text's end if the last call is missing. Otherwise fails, for the
 /// first such call, with 71 `NoApplet` if its first word is no applet's name, or with 72 `Usage` if the others are none

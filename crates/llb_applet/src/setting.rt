@@ -7,13 +7,13 @@ use crate::texts::copies;
 use llb_tree::Path;
 use llb_wire::{Many, Same, Text};
 
-/// Where commands run: paths are read from `cwd`, and `envfile` writes `env`.
+/// Where commands run: paths are read from the directory `cwd`, and `envfile` writes the variables `env`.
 pub struct Setting {
     pub cwd: Path,
     pub env: Many<Text>,
 }
 
-// It is written out so that whatever owns one drops it by this one function.
+// Written by hand, so that it is proved once; a derived one is proved again in every function that drops such a value.
 impl Drop for Setting {
     fn drop(self) {
         let Setting { cwd: _, env: _ } = self;

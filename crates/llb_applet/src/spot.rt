@@ -1,5 +1,5 @@
-//! What a path means on a view: a mount, and a path in its tree. A word that is no path, or whose path in the tree
-//! would have more than 128 names, means nothing.
+//! The spot that a path names on a view: a mount, and a path in its tree. A word that is no path, or whose path in the tree
+//! would have more than 128 names, names no spot.
 
 ghost use Rattle.std.specs.Prelude.{◌≡◌, ◌<◌, ◌++◌, length, IfOk, IfSome, option_map, is_some};
 ghost use Rattle.llb_tree.specs.Tree.{meta_in, is_dir};
@@ -21,7 +21,7 @@ pub struct Spot {
     pub place: Path,
 }
 
-// It is written out so that whatever owns one drops it by this one function.
+// Written by hand, so that it is proved once; a derived one is proved again in every function that drops such a value.
 impl Drop for Spot {
     fn drop(self) {
         let Spot {
@@ -43,7 +43,7 @@ pub fn path_by(alloc: Global, setting: &Setting, word: &Text) -> Result<Option<P
     }
 }
 
-/// Returns the spot that a path means; `None` if the path in the mount's tree would have more than 128 names. Fails
+/// Returns the spot that a path names; `None` if the path in the mount's tree would have more than 128 names. Fails
 /// with 75 `Memory` alone.
 pub fn spot_of(view: &View, path: &Path) -> Result<Option<Spot>, Memory>
     ensures means { IfOk result (λ s. s ≡ spot_of view.now path.now) }
@@ -88,7 +88,7 @@ fn new_meta() -> Meta
     Meta::new(0o644, 0, 0).unwrap()
 }
 
-/// Returns the spot that a word means; `None` if it means nothing. Fails with 75 `Memory` alone.
+/// Returns the spot that a word names; `None` if it names none. Fails with 75 `Memory` alone.
 pub fn spot_by(
     alloc: Global,
     setting: &Setting,

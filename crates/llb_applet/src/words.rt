@@ -1,4 +1,4 @@
-//! Checks a script's text without allocating: the position of its first fault.
+//! Finds the first bad position of a script's text, without allocating.
 
 ghost use Rattle.std.specs.Prelude.{◌≡◌, ◌+◌, ◌<◌, length, IfSome};
 ghost use Rattle.llb_applet.specs.Words.{join_of, is_separator, is_word_byte, bad_in, called_after, bad_place_of};
@@ -17,7 +17,7 @@ fn is_word_byte(byte: u8) -> bool
         || byte >= 128
 }
 
-/// Returns the join of the call after a separator; `None` for another word.
+/// Returns the join of the call after a separator; `None` for any other word.
 pub fn join_of(word: &str) -> Option<Join>
     ensures { result ≡ join_of word.now }
 {
@@ -40,7 +40,7 @@ pub fn is_separator(word: &str) -> bool
     join_of(word).is_some()
 }
 
-// Returns the index of a word's first bad byte; `called` says whether a word of a call comes right before the word.
+// Returns the index in a word of its first bad byte; `called` says whether the word before it belongs to a call.
 fn bad_in(called: bool, word: &str) -> Option<usize>
     ensures value { result ≡ bad_in called word.now }
     ensures inside { IfSome result (λ k. k < length word.now) }
@@ -51,7 +51,7 @@ fn bad_in(called: bool, word: &str) -> Option<usize>
     word.as_bytes().iter().position(|byte| !is_word_byte(*byte))
 }
 
-// Returns whether a word of a call comes right before what follows a part.
+// Returns whether a call is begun at the end of this part: the part ends in a word of it, or is empty and a call was begun before.
 fn called_after(called: bool, part: &str) -> bool
     ensures { result ≡ called_after called part.now }
 {
@@ -61,7 +61,7 @@ fn called_after(called: bool, part: &str) -> bool
     !is_separator(part)
 }
 
-/// Returns the first position, in bytes from 0, at which a text is not a list of calls with a separator between each
+/// Returns the first position, in bytes from 0, at which a text is no list of calls with a separator between each
 /// two; `None` if it is one.
 pub fn bad_place(text: &str) -> Option<usize>
     ensures { result ≡ bad_place_of text.now }

@@ -1,4 +1,4 @@
--- One line in an entry: what it adds to the current message, or why it is refused.
+-- One line inside an entry: what it adds to the current message, or why it is refused.
 use Rattle.std.specs.Prelude.{ℕ, ◌+◌, ◌==◌, ◌&&◌, ◌||◌, not, nat_le, nat_eq, if◌then◌else◌, Bool, true, false, List, [], length, take, drop, position}
 use Rattle.std.specs.Prelude.{codes, slice_get, Option, Some, None, Result, Ok, Err, option_map}
 use Rattle.std.specs.Str.{is_utf8}
@@ -21,67 +21,67 @@ use Rattle.llb_asm.specs.declared.line.Item.{Item}
 use Rattle.llb_asm.specs.Values.{number_in, string_in, bytes_spelled, label_in}
 use Rattle.llb_wire.specs.Texts.{is_text}
 
--- a value, or this refusal if there is none
+-- the value if there is one, else this refusal
 abbrev pub or_else : {A : Type 0} → Refusal → Option A → Result A Refusal
 or_else e None = Err e
 or_else e (Some x) = Ok x
 
--- this refusal, unless the test passes
+-- nothing if the test passes, else this refusal
 abbrev pub guard : Refusal → Bool → Result (Unit {0}) Refusal
 guard e true = Ok tt
 guard e false = Err e
 
 -- ---- the name and the value of an item, with one space between them
 
--- a line parted at a position, without the byte there
+-- a line split at a position; the byte at that position is dropped
 abbrev pub parted_at : List ℕ → Option ℕ → Option (List ℕ × List ℕ)
 parted_at line None = None
 parted_at line (Some at) = Some (take at line, drop 1 (drop at line))
 
--- a line of UTF-8, parted at its first space
+-- a line split at its first space; nothing if it has no space or is not UTF-8
 unfoldable pub parted : List ℕ → Option (List ℕ × List ℕ)
 parted line = if is_utf8 line then parted_at line (position (λ b. nat_eq b 32) line) else None
 
 -- ---- values
 
--- the record that a field with this number adds: an empty one if the number is 0 and the field is then left out
+-- the record that a field with this number adds; no bytes if the number is 0 and the field is then left out
 abbrev pub number_record : NamedField → ℕ → Held
 number_record f v = Record (if (v == 0) && not (may_be_empty f) then [] else set_number f.number v)
 
--- the record that a field with these bytes adds: an empty one if there are none and the field is then left out
+-- the record that a field with these bytes adds; no bytes if there are none and the field is then left out
 abbrev pub bytes_record : NamedField → List ℕ → Held
 bytes_record f held = Record (if (length held == 0) && not (may_be_empty f) then [] else set_bytes f.number held)
 
--- the digest text that label k means, which is that of entry k
+-- the digest text of entry k; refused if there is no such entry before this one
 abbrev pub labelled : List (List ℕ) → ℕ → Result (List ℕ) Refusal
 labelled labels k = or_else UnknownLabel (slice_get labels k)
 
--- the digest text that a label means, if the text is a label; else the string that the text spells between quotes
+-- the digest text of the entry that a label names, if the text is a label; else the string that the text spells between quotes
 abbrev pub digest_or_string : List (List ℕ) → Option ℕ → List ℕ → Result (List ℕ) Refusal
 digest_or_string labels (Some k) text = labelled labels k
 digest_or_string labels None text = or_else (Breaks BadValue) (string_in text)
 
--- the string that the value of a field of this name spells; only one named `digest` may be a label
+-- the string that a text spells as the value of a field with this name; only in a field `digest` may it be a label
 abbrev pub string_of : List (List ℕ) → List ℕ → List ℕ → Result (List ℕ) Refusal
 string_of labels name text = digest_or_string labels (if is_text name (codes "digest") then label_in text else None) text
 
--- the record of a String field whose value is label k: it holds the digest text of entry k; `UnknownLabel` if there is no such entry before
+-- the record of a String field whose value is label k: the digest text of entry k
 abbrev pub labelled_record : List (List ℕ) → NamedField → ℕ → Result Held Refusal
 labelled_record labels f k = labelled labels k >>= λ s. Ok (bytes_record f s)
 
--- the record of a String field whose value the text spells
+-- the record of a String field with the value that this text spells
 abbrev pub string_record : List (List ℕ) → Row → List ℕ → Result Held Refusal
 string_record labels row text = string_of labels row.0 text >>= λ s. Ok (bytes_record row.1 s)
 
--- the record of a Bytes field whose value the text spells
+-- the record of a Bytes field with the value that this text spells
 abbrev pub spelled_record : NamedField → List ℕ → Result Held Refusal
 spelled_record f text = or_else (Breaks BadValue) (option_map (bytes_record f) (bytes_spelled text))
 
--- the opening of a message, which is the text `{`
+-- the opening of a message, for which the text has to be `{`
 abbrev pub opening_in : NamedField → MessageName → List ℕ → Result Held Refusal
 opening_in f m text = if is_text text (codes "{") then Ok (Opens f.number m) else Err (Breaks BadValue)
 
--- what a field of this kind holds whose value the text spells
+-- what a field of this kind adds, if the text spells its value
 abbrev pub held_by : List (List ℕ) → Row → FieldKind → List ℕ → Result Held Refusal
 held_by labels row (kind.Message m) text = opening_in row.1 m text
 held_by labels row kind.String text = string_record labels row text
@@ -92,17 +92,17 @@ held_by labels row kind.Uint32 text = or_else (Breaks BadValue) (option_map (num
 held_by labels row kind.Enum text = or_else (Breaks BadValue) (option_map (number_record row.1) (number_in kind.Enum text))
 held_by labels row kind.Bool text = or_else (Breaks BadValue) (option_map (number_record row.1) (number_in kind.Bool text))
 
--- what a field of a row holds whose value the text spells
+-- what the field of a row of the table adds, if the text spells its value
 unfoldable pub held_in : List (List ℕ) → Row → List ℕ → Result Held Refusal
 held_in labels row text = held_by labels row row.1.kind text
 
--- ---- the context of a line: the message, its last field, whether a member of its oneof is set, and how often the last field occurred
+-- ---- the context of a line: the message, its last field, whether a member of its oneof is set, and how often the last field has occurred
 
 -- the context of the first line of a message
 abbrev pub inside : MessageName → Here
 inside m = record { message = m; last = 0; set = false; count = 0; ended = false }
 
--- the context after a line of field f
+-- the context of the line after one of field f
 abbrev pub behind : Here → NamedField → Here
 behind here f = record {
   message = here.message;
@@ -112,21 +112,21 @@ behind here f = record {
   ended = false;
 }
 
--- the context after a line of extra bytes, after which no more lines of the message may follow
+-- the context of the line after one of extra bytes; no more lines of the message may follow it
 abbrev pub at_end : Here → Here
 at_end here = record { message = here.message; last = here.last; set = here.set; count = here.count; ended = true }
 
--- whether one more item of a field is within the limit of repeated fields
+-- whether one more value of field f is within the limit of repeated fields
 abbrev pub has_room : Here → NamedField → Bool
 has_room here f = not ((here.last == f.number) && nat_le field_limit here.count)
 
--- whether a line of field f may follow
+-- whether a line of field f may follow in this context
 abbrev pub follows : Here → NamedField → Bool
 follows here f = not here.ended && may_follow here.last here.set f
 
 -- ---- the tests of a line, in their order
 
--- the item of a line `extra`: records of fields that the message does not name
+-- the item of a line `extra`, whose bytes have to be records of fields that the message does not name
 abbrev pub extra_in : Here → List ℕ → Result Item Refusal
 extra_in here text = do
   _ ← guard (Breaks Order) (not here.ended)
@@ -134,7 +134,7 @@ extra_in here text = do
   _ ← guard (Breaks BadValue) (are_unnamed here.message bytes)
   Ok (record { next = at_end here; held = Record bytes })
 
--- the item of a line that names a field of the message
+-- the item of a line whose name is that of a field of the message
 abbrev pub field_in : List (List ℕ) → Here → List ℕ × List ℕ → Result Item Refusal
 field_in labels here p = do
   row ← or_else (Breaks UnknownField) (row_named here.message p.0)
@@ -143,7 +143,7 @@ field_in labels here p = do
   _ ← guard (Breaks OverLimit) (has_room here row.1)
   Ok (record { next = behind here row.1; held = held })
 
--- the item that a line adds in its context, or why it is refused
+-- the item that a line adds in its context, or why the line is refused
 unfoldable pub line_in : List (List ℕ) → Here → List ℕ → Result Item Refusal
 line_in labels here line = do
   p ← or_else (Breaks Syntax) (parted line)

@@ -1,4 +1,4 @@
--- The lines of a text that are looked at.
+-- The lines of a text that are read as items: those that are neither empty nor comments.
 use Rattle.std.specs.Prelude.{ℕ, ◌+◌, ◌==◌, ◌&&◌, ◌||◌, not, nat_eq, Bool, true, if◌then◌else◌, List, [], ◌∷◌, reverse, filter}
 use Rattle.std.specs.List.{slice_split}
 use Rattle.std.specs.Str.{is_utf8}
@@ -25,11 +25,11 @@ abbrev pub is_dropped : List ℕ → Bool
 is_dropped [] = true
 is_dropped (b ∷ line) = (b == 35) && is_utf8 (b ∷ line)
 
--- a line under its number
+-- a line with its number
 abbrev pub Line : Type 0
 Line = ℕ × List ℕ
 
--- the lines, stripped and numbered from n
+-- the lines, stripped, with their numbers from n up
 abbrev pub numbered : ℕ → List (List ℕ) → List Line
 numbered n [] = []
 numbered n (line ∷ lines) = (n, stripped line) ∷ numbered (n + 1) lines

@@ -1,4 +1,4 @@
--- The one text that is written of entries.
+-- The one text that is written for some entries.
 use Rattle.std.specs.Prelude.{◌≡◌, ℕ, ◌+◌, ◌*◌, if◌then◌else◌, List, [], ◌∷◌, ◌++◌, map, codes, position, replicate, Option, Some, None, Ok}
 use Rattle.std.specs.List.{flat_map}
 use Rattle.llb_wire.specs.Digest.{digest_text}
@@ -17,7 +17,7 @@ use Rattle.llb_wire.specs.Texts.{is_text}
 
 -- ---- values
 
--- the least entry whose digest has this text
+-- the least entry whose digest text is this one
 abbrev pub label_for : List (List ℕ) → List ℕ → Option ℕ
 label_for labels digest = position (is_text digest) labels
 
@@ -26,11 +26,11 @@ abbrev pub labelled_text : List ℕ → Option ℕ → List ℕ
 labelled_text string None = string_text string
 labelled_text string (Some k) = label_text k
 
--- in a field `digest`, the label of the entry that has this digest text, if one has; else the string between quotes
+-- the value that is written for a string: in a field `digest` the label of the entry with this digest text, if there is one; else the string between quotes
 abbrev pub string_for : List (List ℕ) → List ℕ → List ℕ → List ℕ
 string_for labels name string = labelled_text string (if is_text name (codes "digest") then label_for labels string else None)
 
--- the value that is written for the bytes of a String or Bytes field of this name; empty for the other kinds, whose values are no bytes
+-- the value that is written for the bytes of a String or Bytes field with this name; empty for the other kinds
 abbrev pub held_text : FieldKind → List (List ℕ) → List ℕ → List ℕ → List ℕ
 held_text kind.String labels name held = string_for labels name held
 held_text kind.Bytes labels name held = hex_text held
@@ -43,7 +43,7 @@ held_text (kind.Message m) labels name held = []
 
 -- ---- lines, each with its depth
 
--- a line that is written: how many messages and ops are open around it, and its text, without the spaces before and the end after it
+-- a line that is written: how many messages and ops are open around it, and its text without indentation and line end
 abbrev pub PlainLine : Type 0
 PlainLine = ℕ × List ℕ
 
@@ -59,12 +59,12 @@ opening = codes "{"
 abbrev pub closing_line : ℕ → PlainLine
 closing_line depth = (depth, codes "}")
 
--- the extra bytes, if there are any
+-- the line of the extra bytes; none if there are no extra bytes
 abbrev pub extra_lines : ℕ → List ℕ → List PlainLine
 extra_lines depth [] = []
 extra_lines depth (b ∷ more) = item_line depth (codes "extra") (hex_text (b ∷ more)) ∷ []
 
--- the fields of a message
+-- the lines of the fields of a message
 abbrev pub field_lines : List (List ℕ) → ℕ → Fields → List PlainLine
 field_lines labels depth (extra more) = extra_lines depth more
 field_lines labels depth (number row v rest) = item_line depth row.0 (number_text row.1.kind v) ∷ field_lines labels depth rest
@@ -78,17 +78,17 @@ field_lines labels depth (message row inner rest) =
 abbrev pub IsStructured : List ℕ → Type 0
 IsStructured entry = (op : Op) × (op_of entry ≡ Ok op) × (op_bytes op ≡ entry)
 
--- how an entry is written: as an op by the fields of its canonical bytes, or as its bytes
+-- how an entry is written: as an op, by the fields of its canonical bytes, or as raw bytes
 pub data Form : Type 0 where
   structured : (op : Op) → HasFields op → Form
   raw : Form
 
--- this is the form of an entry: `structured` by an op that the entry is read as and whose canonical bytes it is, or `raw` if there is no such op
+-- the form in which an entry is written: as the op that it is read as, if its bytes are that op's canonical bytes; else raw
 abbrev pub HasForm : List ℕ → Form → Type 0
 HasForm entry (structured op has) = (op_of entry ≡ Ok op) × (op_bytes op ≡ entry)
 HasForm entry raw = ¬ IsStructured entry
 
--- the lines of an entry in its form: `op {`, the fields without the empty keys and values of map entries, and `}`; or `raw` and the bytes
+-- the lines of an entry: `op {`, its fields without empty keys and values of map entries, and `}`; or `raw` and the bytes
 abbrev pub entry_lines : List (List ℕ) → List ℕ → Form → List PlainLine
 entry_lines labels entry (structured op has) = item_line 0 (codes "op") opening ∷ (field_lines labels 1 (without_empty has.fields) ++ (closing_line 0 ∷ []))
 entry_lines labels entry raw = item_line 0 (codes "raw") (hex_text entry) ∷ []
@@ -102,12 +102,12 @@ abbrev pub HaveForms : List Formed → Type 0
 HaveForms [] = Unit {0}
 HaveForms (x ∷ xs) = HasForm x.0 x.1 × HaveForms xs
 
--- entries in their forms: how all of them are written
+-- these are the entries, each with its form
 pub record AreFormed (entries : List (List ℕ)) (xs : List Formed) : Type 0 where
   pub same : map (λ x. x.0) xs ≡ entries
   pub forms : HaveForms xs
 
--- the lines of entries, each after the labels of those before it
+-- the lines of entries; a label may name any earlier entry
 abbrev pub plain_lines : List (List ℕ) → List Formed → List PlainLine
 plain_lines labels [] = []
 plain_lines labels (x ∷ xs) = entry_lines labels x.0 x.1 ++ plain_lines (labels ++ digest_text x.0 ∷ []) xs
@@ -122,11 +122,11 @@ line_text l = replicate (2 * l.0) 32 ++ (l.1 ++ 10 ∷ [])
 abbrev pub text_of_lines : List PlainLine → List ℕ
 text_of_lines lines = flat_map line_text lines
 
--- the text that is written of entries in their forms, with labels counted from the first of them (docs/FORMATS.md, "The text of entries")
+-- the text that is written for entries in their forms, with labels counted from the first of them (docs/FORMATS.md, "The text of entries")
 abbrev pub plain_text : List Formed → List ℕ
 plain_text xs = text_of_lines (plain_lines [] xs)
 
--- ---- the law
+-- ---- the law: a written text is read back
 
 -- the text of the entries of a definition is read as these entries
 abbrev pub ReadsBack : List (List ℕ) → Type 0

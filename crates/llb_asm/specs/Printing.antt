@@ -11,7 +11,7 @@ use Rattle.llb_asm.specs.declared.fault.AsmFault.TheVariants as fault
 use Rattle.llb_asm.specs.declared.print.Front.{Front}
 use Rattle.llb_asm.specs.Plain.{PlainLine, item_line, held_text}
 
--- the whole text is written; or a prefix of it, if memory was refused or the sink has failed
+-- the whole text is written; or a prefix of it if memory was refused or the sink has failed
 abbrev pub Prints : Option (List ℕ) → Option (List ℕ) → Bool → List ℕ → Result (Unit {0}) AsmFault → Type 0
 Prints taken taken' failed' text (Ok u) = Appends taken taken' text
 Prints taken taken' failed' text (Err fault.Memory) = PartOut taken taken' text
@@ -21,18 +21,18 @@ Prints taken taken' failed' text (Err (fault.UnknownLabel n)) = ⊥
 
 -- ---- one record at a time
 
--- the result of reading the next record, if it is this one
+-- the result of reading the next record if it is f
 abbrev pub found : Field → Result (Option Field) WireFault
 found f = Ok (Some f)
 
--- the record at the start of bytes, if there is one: its number, its value, its payload, and the bytes after it
+-- what is found at the start of bytes: a record (its number, value, payload, and the bytes after it) or nothing
 abbrev pub Finds : List ℕ → Option Front → Type 0
 Finds bytes None = (f : Field) → next_field bytes 0 ≢ found f
 Finds bytes (Some front) =
     (f : Field) × (next_field bytes 0 ≡ found f) × (front.number ≡ f.number) × (front.value ≡ f.value)
     × (front.payload.now ≡ drop f.start (take f.«end» bytes)) × (front.after.now ≡ drop f.«end» bytes)
 
--- the line of a string or of bytes; an empty key or value of an entry of a map has none
+-- the line of a string or of bytes; none for an empty key or value of a map entry
 abbrev pub held_lines : List (List ℕ) → ℕ → Row → List ℕ → List PlainLine
 held_lines labels depth row held =
     if row.1.of_entry && (length held == 0) then [] else item_line depth row.0 (held_text row.1.kind labels row.0 held) ∷ []

@@ -1,5 +1,5 @@
--- Which lines are the items of a message and the entries of a definition, what they are read as, and which line is the first that is
--- refused. Nothing here knows how lines are read.
+-- Which lines are the items of a message and the entries of a definition, which entries they are read as, and which line is the first that is
+-- refused. This file says nothing of the code that reads them.
 use Rattle.std.specs.Prelude.{◌≡◌, ◌≢◌, ◌≤◌, ℕ, ◌+◌, ◌&&◌, ◌⊎◌, nat_lt, nat_le, Bool, if◌then◌else◌, List, [], ◌∷◌, ◌++◌, length, map, codes, Option}
 use Rattle.std.specs.Prelude.{Some, None, Result, Ok, Err}
 use Rattle.llb_wire.specs.Answer.{◌>>=◌}
@@ -36,14 +36,14 @@ use Rattle.llb_asm.specs.Line.{or_else, guard, parted, inside, line_in}
 abbrev pub record_length : ℕ → ℕ → ℕ
 record_length number size = length (tag_text number wire.Len) + (length (varint_text size) + size)
 
--- whether one more entry of this length, after these, is within the limits of a definition
+-- whether one more entry of this length, after the earlier ones, is within the limits of a definition
 abbrev pub is_within : List (List ℕ) → ℕ → Bool
 is_within earlier size = nat_le size entry_limit && nat_le (length (definition_bytes earlier) + record_length 1 size) definition_limit
 
 -- ---- the current message
 
--- the current message: the context of its next line, its bytes so far, and `room`, which says whether the entry is within the limits if this message has n
--- bytes and all messages are then closed
+-- the current message: the context of its next line, its bytes so far, and `room`, which says whether the entry is within the limits if this message has
+-- that many bytes and all messages are then closed
 pub record Hand : Type 0 where
   pub here : Here
   pub bytes : List ℕ
@@ -54,7 +54,7 @@ abbrev pub added : Held → ℕ
 added (Record bytes) = length bytes
 added (Opens number m) = record_length number 0
 
--- the item that a line adds to the current message, if the entry is then within the limits
+-- the item that a line adds to the current message, if the entry is within the limits after it
 abbrev pub item_at : List (List ℕ) → Hand → List ℕ → Result Item Refusal
 item_at labels hand line = do
   i ← line_in labels hand.here line
@@ -65,13 +65,13 @@ item_at labels hand line = do
 abbrev pub beyond : Hand → Here → List ℕ → Hand
 beyond hand next bytes = record { here = next; bytes = hand.bytes ++ bytes; room = hand.room }
 
--- the message that a line of the current message opens
+-- the current message after a line that opens a message inside it
 abbrev pub within : Hand → ℕ → MessageName → Hand
 within hand number sub = record { here = inside sub; bytes = []; room = λ size. hand.room (length hand.bytes + record_length number size) }
 
 -- ---- the items of a message
 
--- Items with the lines that spell them: each is a line with its record, or a message between an opening line and a closing one. The last one
+-- Items with the lines that spell them: an item is a line with its record, or a message between an opening line and a closing one. The last item
 -- may be a message that is not closed yet.
 pub data Items : Type 0 where
   done : Items
@@ -90,7 +90,7 @@ lines_of (single line next bytes rest) = line ∷ lines_of rest
 lines_of (nested line next number sub inner rest) = line ∷ (lines_of inner ++ (closing ∷ lines_of rest))
 lines_of (unclosed line next number sub inner) = line ∷ lines_of inner
 
--- the records of items; a message that is not closed is taken as closed
+-- the records of some items; a message that is not closed counts as closed
 abbrev pub records_of : Items → List ℕ
 records_of done = []
 records_of (single line next bytes rest) = bytes ++ records_of rest
@@ -104,11 +104,11 @@ IsWhole (single line next bytes rest) = IsWhole rest
 IsWhole (nested line next number sub inner rest) = IsWhole rest
 IsWhole (unclosed line next number sub inner) = ⊥
 
--- the item that holds this, with the context of the line after it
+-- the item of a line: what the line adds (`held`), and the context of the line after it (`next`)
 abbrev pub item : Here → Held → Item
 item next held = record { next = next; held = held }
 
--- each line adds its item to the message that is current there
+-- the items are read in the current message: each line adds its item there
 abbrev pub AreItems : List (List ℕ) → Hand → Items → Type 0
 AreItems labels hand done = Unit {0}
 AreItems labels hand (single line next bytes rest) = (item_at labels hand line ≡ Ok (item next (Record bytes))) × AreItems labels (beyond hand next bytes) rest
@@ -118,7 +118,7 @@ AreItems labels hand (nested line next number sub inner rest) =
 AreItems labels hand (unclosed line next number sub inner) = (item_at labels hand line ≡ Ok (item next (Opens number sub)))
     × AreItems labels (within hand number sub) inner
 
--- the current message after some items
+-- the current message after some items; the innermost one that is open, if the last item is not closed
 abbrev pub at_hand : Hand → Items → Hand
 at_hand hand done = hand
 at_hand hand (single line next bytes rest) = at_hand (beyond hand next bytes) rest
@@ -127,7 +127,7 @@ at_hand hand (unclosed line next number sub inner) = at_hand (within hand number
 
 -- ---- the entries of a text
 
--- how a line begins an entry: `raw` and its bytes, or `op {`; or why it begins none
+-- what a line begins: a raw entry with its bytes, or an op; or why it begins no entry
 abbrev pub begun_by : List ℕ → Option (List ℕ × List ℕ) → Result Begun Refusal
 begun_by line None = Err (Breaks Syntax)
 begun_by line (Some p) =
@@ -135,24 +135,24 @@ begun_by line (Some p) =
     else if is_text p.0 (codes "raw") then (or_else (Breaks BadValue) (bytes_spelled p.1) >>= λ bytes. Ok (Raw bytes))
     else Err (Breaks Syntax)
 
--- how many bytes an entry has already where it begins
+-- how many bytes an entry has at its first line
 abbrev pub begun_size : Begun → ℕ
 begun_size (Raw bytes) = length bytes
 begun_size Structured = 0
 
--- how a line begins an entry after these entries, if it is then within the limits
+-- what a line begins after the earlier entries, if the entry is within the limits then
 unfoldable pub begun_in : List (List ℕ) → List ℕ → Result Begun Refusal
 begun_in earlier line = do
   b ← begun_by line (parted line)
   _ ← guard (Breaks OverLimit) (nat_lt (length earlier) entries_limit && is_within earlier (begun_size b))
   Ok b
 
--- the canonical bytes of an op that was read
+-- the canonical bytes of the op, if one was read
 abbrev pub canonical_of : Result Op OpFault → Option (List ℕ)
 canonical_of (Err f) = None
 canonical_of (Ok op) = Some (op_bytes op)
 
--- canonical bytes, if there are some and the entry is within the limits
+-- these canonical bytes, if there are some and the entry is within the limits
 abbrev pub canonical_in : List (List ℕ) → Option (List ℕ) → Result (List ℕ) Refusal
 canonical_in earlier None = Err (Breaks OverLimit)
 canonical_in earlier (Some entry) = if is_within earlier (length entry) then Ok entry else Err (Breaks OverLimit)
@@ -161,21 +161,21 @@ canonical_in earlier (Some entry) = if is_within earlier (length entry) then Ok 
 unfoldable pub entry_in : List (List ℕ) → List ℕ → Result (List ℕ) Refusal
 entry_in earlier records = canonical_in earlier (canonical_of (op_of records))
 
--- the digest texts of these entries, which are what labels mean
+-- the digest texts of these entries; label k is the k-th of them
 abbrev pub labels_of : List (List ℕ) → List (List ℕ)
 labels_of earlier = map digest_text earlier
 
--- what is kept of entries: the texts of their digests, and how many bytes a definition of them has
+-- what the code keeps of the entries: their digest texts, and how many bytes a definition of them has
 pub record IsKept (entries labels : List (List ℕ)) (size : ℕ) : Type 0 where
   pub digests : labels ≡ labels_of entries
   pub bytes : size ≡ length (definition_bytes entries)
   pub small : size ≤ definition_limit
 
--- the current message at the start of an op
+-- the current message at the start of an op, after the earlier entries
 abbrev pub outermost : List (List ℕ) → Hand
 outermost earlier = record { here = inside named.Op; bytes = []; room = is_within earlier }
 
--- entries with the lines that spell them: each is a `raw` line, or an op between an opening line and a closing one; the last one may be an op that is not
+-- entries with the lines that spell them: an entry is a `raw` line, or an op between an opening line and a closing one; the last one may be an op that is not
 -- closed yet
 pub data Entries : Type 0 where
   none : Entries
@@ -190,7 +190,7 @@ text_of (raw line bytes rest) = line ∷ text_of rest
 text_of (op line items entry rest) = line ∷ (lines_of items ++ (closing ∷ text_of rest))
 text_of (open_op line items) = line ∷ lines_of items
 
--- the bytes of entries, without an op that is not closed
+-- the bytes of the entries, except for an op that is not closed
 abbrev pub entries_of : Entries → List (List ℕ)
 entries_of none = []
 entries_of (raw line bytes rest) = bytes ∷ entries_of rest
@@ -204,7 +204,7 @@ AreClosed (raw line bytes rest) = AreClosed rest
 AreClosed (op line items entry rest) = AreClosed rest
 AreClosed (open_op line items) = ⊥
 
--- each entry is what its lines are read as, after the entries before it
+-- each entry is what its lines are read as, after the earlier entries
 abbrev pub AreEntries : List (List ℕ) → Entries → Type 0
 AreEntries earlier none = Unit {0}
 AreEntries earlier (raw line bytes rest) = (begun_in earlier line ≡ Ok (Raw bytes)) × AreEntries (earlier ++ bytes ∷ []) rest
@@ -223,20 +223,20 @@ pub record SpellsEntries (lines : List Line) (entries : List (List ℕ)) : Type 
 
 -- ---- the first line that is refused
 
--- A line is refused with e in an op that is not closed: it closes the op, whose entry is refused, or its item is refused in the current message.
+-- A line in an op that is not closed is refused with e: it closes the op, and the op's entry is refused; or its item is refused in the current message.
 abbrev pub IsRefusedIn : List (List ℕ) → Items → List ℕ → Refusal → Type 0
 IsRefusedIn earlier items line e =
     ((line ≡ closing) × IsWhole items × (entry_in earlier (records_of items) ≡ Err e))
     ⊎ ((line ≢ closing) × (item_at (labels_of earlier) (at_hand (outermost earlier) items) line ≡ Err e))
 
--- A line is refused with e after these entries, the last of which may be an op that is not closed.
+-- A line after these entries is refused with e; the last of them may be an op that is not closed.
 abbrev pub IsRefused : List (List ℕ) → Entries → List ℕ → Refusal → Type 0
 IsRefused earlier none line e = begun_in earlier line ≡ Err e
 IsRefused earlier (raw l bytes rest) line e = IsRefused (earlier ++ bytes ∷ []) rest line e
 IsRefused earlier (op l items entry rest) line e = IsRefused (earlier ++ entry ∷ []) rest line e
 IsRefused earlier (open_op l items) line e = IsRefusedIn earlier items line e
 
--- line n is refused with e, and the lines before it are those of entries
+-- line n is refused with e, and the lines before it are read as entries
 pub record StopsAt (lines : List Line) (n : ℕ) (e : Refusal) : Type 0 where
   pub before : List Line
   pub line : List ℕ
@@ -257,11 +257,11 @@ pub record EndsOpen (lines : List Line) (n : ℕ) : Type 0 where
   pub text : map (λ l. l.1) lines ≡ text_of parts
   pub not_closed : ¬ AreClosed parts
 
--- Line n is the first that is refused, and e is why; or the lines end in an op that is not closed: then n is the last line, and e is `Unclosed`.
+-- Line n is the first that is refused, with e; or the lines end in an op that is not closed: then n is the last line, and e is `Unclosed`.
 abbrev pub FaultAt : List Line → ℕ → Refusal → Type 0
 FaultAt lines n e = StopsAt lines n e ⊎ (EndsOpen lines n × (e ≡ Breaks Unclosed))
 
--- what a text is assembled to
+-- what assembling a text returns: its entries, or the fault of the first line that is refused
 abbrev pub Assembles : List ℕ → Result (List (List ℕ)) AsmFault → Type 0
 Assembles text (Ok entries) = SpellsEntries (kept text) entries
 Assembles text (Err (fault.Line n rule)) = FaultAt (kept text) n (Breaks rule)
@@ -269,7 +269,7 @@ Assembles text (Err (fault.UnknownLabel n)) = FaultAt (kept text) n UnknownLabel
 Assembles text (Err fault.Memory) = Unit {0}
 Assembles text (Err fault.Write) = ⊥
 
--- a refusal under the number of its line
+-- a refusal with the number of its line
 abbrev pub at_line : ℕ → Refusal → ℕ × Refusal
 at_line n e = (n, e)
 

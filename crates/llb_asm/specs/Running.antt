@@ -1,4 +1,4 @@
--- How lines are read, one after another, with the messages that are open. Only the code and the proofs know it.
+-- How the code reads lines, one after another, with the messages that are open. Only the code and its proofs use this file.
 use Rattle.std.specs.Prelude.{◌≡◌, ℕ, ◌+◌, Bool, List, [], ◌∷◌, ◌++◌, length, Option, Some, None, Result, Ok, Err, option_map, reverse, if◌then◌else◌}
 use Rattle.llb_wire.specs.Answer.{◌>>=◌}
 use Rattle.llb_ops.specs.declared.table.MessageName.TheVariants as named
@@ -25,13 +25,13 @@ use Rattle.llb_asm.specs.Reading.{Hand, closing, record_length, is_within, item_
 
 -- ---- an op that is open
 
--- the current message and its bytes, and the messages that it is in, the innermost first
+-- the current message with its bytes so far, and the messages around it, the innermost first
 pub record OpenOp : Type 0 where
   pub here : Here
   pub bytes : List ℕ
   pub below : List Frame
 
--- an open op as the code stores it: the enclosing messages, innermost last
+-- an open op as the code keeps it: there the messages around it are stored with the innermost last
 abbrev pub open_op_of : Open → OpenOp
 open_op_of s = record { here = s.here; bytes = s.bytes; below = reverse s.below }
 
@@ -39,84 +39,84 @@ open_op_of s = record { here = s.here; bytes = s.bytes; below = reverse s.below 
 abbrev pub at_front : OpenOp
 at_front = record { here = inside named.Op; bytes = []; below = [] }
 
--- whether the entry has room for the current message if that has `size` bytes
+-- whether the entry is within the limits if the current message has `size` bytes and all messages are then closed
 abbrev pub room_in : (ℕ → Bool) → List Frame → ℕ → Bool
 room_in room [] size = room size
 room_in room (f ∷ below) size = room_in room below (length f.bytes + record_length f.number size)
 
--- the current message of an open op, with its room worked out of the argument, which says whether an entry of so many bytes is within the limits
+-- the current message of an open op; `room` says whether an entry of a given size is within the limits
 abbrev pub hand_of : (ℕ → Bool) → OpenOp → Hand
 hand_of room s = record { here = s.here; bytes = s.bytes; room = room_in room s.below }
 
--- the open op with an item more
+-- the open op after one more item, with the context of the next line
 abbrev pub with_held : OpenOp → Here → Held → OpenOp
 with_held s next (Record bytes) = record { here = next; bytes = s.bytes ++ bytes; below = s.below }
 with_held s next (Opens number sub) = record { here = inside sub; bytes = []; below = record { here = next; number = number; bytes = s.bytes } ∷ s.below }
 
--- the open op after this item: its record is added to the current message, or the message that it opens is current
+-- the open op after this item: its record is added to the current message, or the message that it opens becomes the current one
 abbrev pub with_item : OpenOp → Item → OpenOp
 with_item s i = with_held s i.next i.held
 
--- the current message ends: with it the op and its records, or the next message outwards is current
+-- what the end of the current message leaves: the records of the whole op, or the op with the message around it as the current one
 pub data Ending : Type 0 where
   whole : List ℕ → Ending
   still : OpenOp → Ending
 
--- what is open after a message of these bytes ends: the next message outwards, with its record added; or the records of the op if there is none
+-- what the end of a message with these bytes leaves, given the messages around it
 abbrev pub closing_on : List ℕ → List Frame → Ending
 closing_on bytes [] = whole bytes
 closing_on bytes (f ∷ below) = still (record { here = f.here; bytes = f.bytes ++ set_bytes f.number bytes; below = below })
 
--- what is open after the current message of an open op ends, or the records of the op
+-- what the end of the current message of an open op leaves
 abbrev pub closing_of : OpenOp → Ending
 closing_of s = closing_on s.bytes s.below
 
--- what is open after a closing line, as the code stores it
+-- what a closing line leaves, given the value of the code's type
 abbrev pub ended : Closed → Ending
 ended (Whole bytes) = whole bytes
 ended (Still s) = still (open_op_of s)
 
 -- ---- the text
 
--- the entries that are whole, and the op that is open
+-- how far the text was read: the whole entries, and the op that is open, if one is
 pub record Progress : Type 0 where
   pub earlier : List (List ℕ)
   pub current : Option OpenOp
 
--- the progress between two entries: these are whole, and no op is open
+-- between two entries: these are whole, and no op is open
 abbrev pub between : List (List ℕ) → Progress
 between earlier = record { earlier = earlier; current = None }
 
--- the progress in an entry: those before it are whole, and this op is open
+-- inside an op: the entries before it are whole
 abbrev pub amid : List (List ℕ) → OpenOp → Progress
 amid earlier s = record { earlier = earlier; current = Some s }
 
--- the progress after the line that begins an entry: a raw entry is then whole, and an op is open at its start
+-- after the line that begins an entry: a raw entry is whole, an op is open at its start
 abbrev pub with_begun : List (List ℕ) → Begun → Progress
 with_begun earlier (Raw bytes) = between (earlier ++ bytes ∷ [])
 with_begun earlier Structured = amid earlier at_front
 
--- the progress if these entries are whole and the code holds this open op, or none
+-- the progress, by the whole entries and the open op of the code
 abbrev pub progress_of : List (List ℕ) → Option Open → Progress
 progress_of earlier current = record { earlier = earlier; current = option_map open_op_of current }
 
--- the progress after a line that the code has read, by the entries that are whole then and the open op that it returns; or its refusal
+-- the progress after a line, by the result of the code; or the refusal of the line
 abbrev pub progresses : List (List ℕ) → Result (Option Open) Refusal → Result Progress Refusal
 progresses earlier (Ok current) = Ok (progress_of earlier current)
 progresses earlier (Err e) = Err e
 
--- the current message ends
+-- the progress after the current message ends
 abbrev pub closed_on : List (List ℕ) → List ℕ → List Frame → Result Progress Refusal
 closed_on earlier bytes [] = entry_in earlier bytes >>= λ entry. Ok (between (earlier ++ entry ∷ []))
 closed_on earlier bytes (f ∷ below) = Ok (amid earlier (record { here = f.here; bytes = f.bytes ++ set_bytes f.number bytes; below = below }))
 
--- the progress after a line in an open op, or why it is refused: `}` ends the current message, and any other line adds its item there
+-- the progress after a line inside an op, or why it is refused: `}` ends the current message, and any other line adds its item to it
 abbrev pub step_in : List (List ℕ) → OpenOp → List ℕ → Result Progress Refusal
 step_in earlier s line =
     if is_text line closing then closed_on earlier s.bytes s.below
     else (item_at (labels_of earlier) (hand_of (is_within earlier) s) line >>= λ i. Ok (amid earlier (with_item s i)))
 
--- the progress after a line, or why it is refused: it begins an entry if no op is open, and else is a line in the open op
+-- the progress after a line, or why it is refused: it begins an entry if no op is open, else it is a line inside the op
 abbrev pub step_on : List (List ℕ) → Option OpenOp → List ℕ → Result Progress Refusal
 step_on earlier None line = begun_in earlier line >>= λ b. Ok (with_begun earlier b)
 step_on earlier (Some s) line = step_in earlier s line
@@ -125,23 +125,23 @@ step_on earlier (Some s) line = step_in earlier s line
 abbrev pub step_of : Progress → List ℕ → Result Progress Refusal
 step_of p line = step_on p.earlier p.current line
 
--- the result after the last line, of that number
+-- the result after the last line, number n: the entries, or `Unclosed` if an op is open
 abbrev pub finish : ℕ → List (List ℕ) → Option OpenOp → Result (List (List ℕ)) (ℕ × Refusal)
 finish n earlier None = Ok earlier
 finish n earlier (Some s) = Err (n, Breaks Unclosed)
 
--- the final result after line n: that of the lines after it from its progress on, or its refusal under its number
+-- the final result by the result of line n: what the lines after it give, or the refusal of line n
 abbrev pub next : ℕ → (Progress → Result (List (List ℕ)) (ℕ × Refusal)) → Result Progress Refusal → Result (List (List ℕ)) (ℕ × Refusal)
 next n go (Ok p) = go p
 next n go (Err e) = Err (n, e)
 
--- the entries of numbered lines from a progress on, or the first refusal under the number of its line; `last` is the number of the line before these,
--- or 0 for none, and an op that is open after all lines is refused under the number of the last one
+-- the entries of numbered lines from a progress on, or the first refusal with the number of its line; `last` is the number of the line before them,
+-- or 0 if there is none; an op that is open after all lines is refused with the number of the last line
 unfoldable pub run_from : ℕ → Progress → List Line → Result (List (List ℕ)) (ℕ × Refusal)
 run_from last p [] = finish last p.earlier p.current
 run_from last p (l ∷ lines) = next l.0 (λ q. run_from l.0 q lines) (step_of p l.1)
 
--- the result of a call is the expected one, or its fault is the one for refused memory
+-- the result of a call is this one, or the call fails for want of memory
 abbrev pub Gives : Result (List (List ℕ)) AsmFault → Result (List (List ℕ)) (ℕ × Refusal) → Type 0
 Gives (Ok entries) r = r ≡ Ok entries
 Gives (Err (fault.Line n rule)) r = r ≡ Err (n, Breaks rule)
@@ -149,7 +149,7 @@ Gives (Err (fault.UnknownLabel n)) r = r ≡ Err (n, UnknownLabel)
 Gives (Err fault.Memory) r = Unit {0}
 Gives (Err fault.Write) r = ⊥
 
--- the result with the entries that are reached
+-- the result with these entries, if the call succeeded
 abbrev pub reached : List (List ℕ) → Result (Unit {0}) AsmFault → Result (List (List ℕ)) AsmFault
 reached entries (Ok u) = Ok entries
 reached entries (Err f) = Err f

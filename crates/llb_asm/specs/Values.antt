@@ -1,4 +1,4 @@
--- How the value of a field is spelled: what a text is read as, and the one text that is written for a value.
+-- How the values of fields are spelled: how a text is read, and the one text that is written for a value.
 use Rattle.std.specs.Prelude.{◌≡◌, ◌≢◌, ◌<◌, ◌≤◌, ℕ, ◌-◌, ◌+◌, ◌*◌, ◌^◌, ◌==◌, ◌&&◌, ◌||◌, nat_lt, nat_le, if◌then◌else◌, true}
 use Rattle.std.specs.Prelude.{false, List, [], ◌∷◌, ◌++◌, length, codes, Option, Some, None, option_map}
 use Rattle.std.specs.List.{list_all, flat_map}
@@ -14,13 +14,13 @@ use Rattle.llb_ops.specs.Fields.{IsNumberOf}
 use Rattle.llb_ops.specs.declared.table.FieldKind.{FieldKind}
 use Rattle.llb_ops.specs.declared.table.FieldKind.TheVariants.{Int64, Int32, Uint32, Enum, Bool as Flag, String, Bytes, Message}
 
--- ---- numbers, as a varint has them: negative ones in two's complement of 64 bits
+-- ---- numbers as they are in a varint: negative ones in two's complement of 64 bits
 
--- minus n in two's complement of 64 bits, if n is from 1 to the limit
+-- -n in two's complement of 64 bits, if n is from 1 to the limit
 abbrev pub negated : ℕ → ℕ → Option ℕ
 negated limit n = where_so (nat_lt 0 n && nat_le n limit) (2 ^ 64 - n)
 
--- the number that decimal digits spell, with or without a minus before them, from minus the limit up to below the limit; `-0` spells none
+-- the number that decimal digits spell, with or without a minus in front, from -limit to limit - 1; `-0` spells none
 unfoldable pub signed_in : ℕ → List ℕ → Option ℕ
 signed_in limit [] = None
 signed_in limit (b ∷ text) = if b == 45 then then_in (magnitude text) (negated limit) else then_in (magnitude (b ∷ text)) (below limit)
@@ -29,7 +29,7 @@ signed_in limit (b ∷ text) = if b == 45 then then_in (magnitude text) (negated
 abbrev pub flag_in : List ℕ → Option ℕ
 flag_in text = if is_text text (codes "true") then Some 1 else where_so (is_text text (codes "false")) 0
 
--- the number that a text spells for a field of this kind, as a varint has it
+-- the number that a text spells for a field of this kind, as it is in a varint
 abbrev pub number_in : FieldKind → List ℕ → Option ℕ
 number_in Int64 text = signed_in (2 ^ 63) text
 number_in Int32 text = signed_in (2 ^ 31) text
@@ -40,7 +40,7 @@ number_in String text = None
 number_in Bytes text = None
 number_in (Message m) text = None
 
--- the number that v, below 2^64, is in two's complement of 64 bits: decimal digits, with a minus before them where v is 2^63 or more
+-- the decimal text of v, a number below 2^64 in two's complement: with a minus in front if v is 2^63 or more
 abbrev pub signed_text : ℕ → List ℕ
 signed_text v = if nat_lt v (2 ^ 63) then decimal v else 45 ∷ decimal (2 ^ 64 - v)
 
@@ -48,7 +48,7 @@ signed_text v = if nat_lt v (2 ^ 63) then decimal v else 45 ∷ decimal (2 ^ 64 
 abbrev pub flag_text : ℕ → List ℕ
 flag_text v = if v == 0 then codes "false" else codes "true"
 
--- the text that is written for a number of a field of this kind, given as a varint has it; empty for the kinds that hold no number
+-- the text that is written for a number in a field of this kind, as it is in a varint; empty for the kinds that hold no number
 abbrev pub number_text : FieldKind → ℕ → List ℕ
 number_text Int64 v = signed_text v
 number_text Int32 v = signed_text v
@@ -61,7 +61,7 @@ number_text (Message m) v = []
 
 -- ---- strings, between quotes
 
--- where a string's reader is: in no escape, after a backslash, after `\x`, or after `\x` and a digit of this value
+-- the state of reading a string: outside an escape, after a backslash, after `\x`, or after `\x` and a digit with this value
 pub data Escape : Type 0 where
   closed : Escape
   backslash : Escape
@@ -72,11 +72,11 @@ pub data Escape : Type 0 where
 abbrev pub digit_of : ℕ → ℕ
 digit_of b = if nat_le b 57 then b - 48 else b - 87
 
--- a string with one more byte before it
+-- a string with one more byte in front of it
 abbrev pub after_it : ℕ → Option (List ℕ) → Option (List ℕ)
 after_it b text = option_map (λ t. b ∷ t) text
 
--- the string that is spelled by the rest of a text, up to a quote at its end: `\"`, `\\`, and `\x` with two digits up to 7f are one byte
+-- the string that the rest of a text spells, up to a quote at its end: `\"`, `\\`, and `\x` with two digits up to 7f are one byte each
 unfoldable pub string_from : Escape → List ℕ → Option (List ℕ)
 string_from e [] = None
 string_from closed (b ∷ text) =
@@ -94,16 +94,16 @@ string_from (second d) (b ∷ text) = if is_lower b then after_it (16 * d + digi
 abbrev pub lower_digit : ℕ → Option ℕ
 lower_digit b = where_so (is_lower b) (digit_of b)
 
--- the byte that two lower-case hexadecimal digits after `\x` spell; none for other bytes, and none above 7f
+-- the byte that two lower-case hexadecimal digits after `\x` spell, if it is at most 7f
 abbrev pub escape_of : ℕ → ℕ → Option ℕ
 escape_of a b = where_so (is_lower a && is_lower b && nat_lt (digit_of a) 8) (16 * digit_of a + digit_of b)
 
--- from this escape on, a text spells a byte and then a string, or it spells no string
+-- in this state, a text spells a byte and then the rest of a string; or it spells no string
 abbrev pub Continues : Escape → List ℕ → Option (ℕ × Bor (List ℕ)) → Type 0
 Continues e text None = string_from e text ≡ None
 Continues e text (Some x) = (string_from e text ≡ after_it x.0 (string_from closed x.1.now)) × (length x.1.now < length text)
 
--- outside an escape, a text spells a byte and then a string; or it is a closing quote, or spells no string
+-- outside an escape, a text spells a byte and then the rest of a string; or it is the closing quote, or spells no string
 abbrev pub Leads : List ℕ → Option (ℕ × Bor (List ℕ)) → Type 0
 Leads text None = (text ≢ 34 ∷ []) → string_from closed text ≡ None
 Leads text (Some x) = (string_from closed text ≡ after_it x.0 (string_from closed x.1.now)) × (length x.1.now < length text)
@@ -126,7 +126,7 @@ string_text s = 34 ∷ (flat_map escaped s ++ 34 ∷ [])
 
 -- ---- bytes, in lower-case hexadecimal, `-` for none
 
--- the bytes that a text spells as `is_hex` says
+-- the bytes that a text spells, if it is lower-case hexadecimal or `-`
 unfoldable pub bytes_spelled : List ℕ → Option (List ℕ)
 bytes_spelled text = if is_hex text then bytes_in text else None
 
@@ -143,7 +143,7 @@ label_text k = 37 ∷ decimal k
 
 -- ---- what is written is read again
 
--- each text that is written for a value is read as the value, and a string's is no label
+-- the text that is written for a value is read as that value, and no string is written like a label
 pub record ValuesAreReadBack : Type 0 where
   pub number_back : (kind : FieldKind) (v : ℕ) → IsNumberOf kind v → number_in kind (number_text kind v) ≡ Some v
   pub string_back : (s : List ℕ) → string_in (string_text s) ≡ Some s
@@ -167,14 +167,14 @@ pub record EndsSolid (t : List ℕ) : Type 0 where
   pub is : t ≡ before ++ byte ∷ []
   pub above : 33 ≤ byte
 
--- text without control characters, a line end among them, and without a blank at its start or its end
+-- a text without control characters and line ends, and without a blank at either end
 pub record IsSolid (t : List ℕ) : Type 0 where
   pub begins : BeginsSolid t
   pub ends : EndsSolid t
   pub plain : list_all (λ b. nat_le 32 b) t ≡ true
   pub utf8 : is_utf8 t ≡ true
 
--- each text that is written for a value is solid
+-- the text that is written for any value is solid
 pub record ValuesAreSolid : Type 0 where
   pub number_solid : (kind : FieldKind) (v : ℕ) → IsNumberOf kind v → IsSolid (number_text kind v)
   pub string_solid : (s : List ℕ) → is_utf8 s ≡ true → IsSolid (string_text s)

@@ -1,4 +1,4 @@
-//! The lines of a text, one after another, with the entries that are whole and the op that is open.
+//! Reads the lines of a text, one after another; keeps the whole entries and the op that is open.
 
 ghost use Rattle.std.specs.Prelude.{◌≡◌, IfOk, []};
 ghost use Rattle.llb_asm.specs.Lines.{kept};
@@ -16,7 +16,7 @@ use llb_wire::Memory;
 use std::alloc::Global;
 
 impl Refusal {
-    /// Returns the fault of the line of that number.
+    /// Returns the fault of the line with this number.
     fn at(self, line: u64) -> AsmFault
         ensures { result ≡ fault_at line self }
     {
@@ -28,7 +28,7 @@ impl Refusal {
 }
 
 #[tactic(auto, using(crate::proofs::Room::begun_room))]
-/// Reads a line between entries, and returns the op that it opens, if any.
+/// Reads a line that begins an entry, and returns the op that it opens, if any.
 fn begin(
     alloc: Global,
     earlier: &mut Earlier,
@@ -67,7 +67,7 @@ fn close(
     }
 }
 
-/// Reads a line in an op, and returns the op that is open after it, if any.
+/// Reads a line inside an op, and returns the op that is open after it, if any.
 fn go_on(
     alloc: Global,
     earlier: &mut Earlier,
@@ -100,7 +100,7 @@ fn step(
     }
 }
 
-/// Adds the entries that the lines of a text lead to, after those that are there.
+/// Reads the lines of a text, and appends their entries to the earlier ones.
 #[tactic(auto, unfolding(crate::specs::Running::run_from))]
 fn read_lines(alloc: Global, earlier: &mut Earlier, text: &[u8]) -> Result<(), AsmFault>
     ensures { Gives (reached earlier.new result) (run_from 0 (between earlier.old) (kept text.now)) }
@@ -125,7 +125,7 @@ fn read_lines(alloc: Global, earlier: &mut Earlier, text: &[u8]) -> Result<(), A
     Ok(())
 }
 
-/// Returns the entries that the lines of a text lead to, one after another.
+/// Returns the entries that the lines of a text are read as.
 fn run_lines(alloc: Global, text: &[u8]) -> Result<Entries, AsmFault>
     ensures { Gives result (run_from 0 (between []) (kept text.now)) }
 {
@@ -136,7 +136,7 @@ fn run_lines(alloc: Global, text: &[u8]) -> Result<Entries, AsmFault>
 
 /// Reads the entries that a text spells.
 ///
-/// There is one item on a line; spaces, tabs and carriage returns at its ends, empty lines and lines that begin with
+/// Each line has one item; spaces, tabs and carriage returns at its ends, empty lines and lines that begin with
 /// `#` are dropped. An entry is `raw HEX`, or `op {`, items and `}`; docs/FORMATS.md has the grammar. The entry of an
 /// op is its canonical bytes. The call fails at the first faulty line, with the first of its faults in this order: 161
 /// `Line` with `Syntax`, `UnknownField`, `Order` or `BadValue`, 162 `UnknownLabel`, 161 `Line` with `OverLimit`; and,

@@ -1,4 +1,4 @@
-//! The entries that are whole, with the texts of their digests and how much room they leave.
+//! The whole entries so far, with their digest texts and the size of a definition of them.
 
 ghost use Rattle.std.specs.Prelude.{◌≡◌, ◌+◌, ◌++◌, ◌∷◌, ◌≤◌, [], OnOk, length, true, not, nat_lt};
 ghost use Rattle.llb_wire.specs.Spelling.{shortest, varint_text};
@@ -24,7 +24,7 @@ fn shortest_length(value: u64, more: u32) -> usize
     1 + shortest_length(value / 0x80, more - 1)
 }
 
-/// Returns how long a record with a payload of that length is.
+/// Returns how long a record with a payload of this length is.
 pub(crate) fn record_length(number: u32, size: usize) -> usize
     requires { size ≤ entry_limit }
     ensures same { result ≡ record_length number size }
@@ -33,7 +33,7 @@ pub(crate) fn record_length(number: u32, size: usize) -> usize
     shortest_length(8 * u64::from(number) + 2, 9) + (shortest_length(size as u64, 9) + size)
 }
 
-/// The entries that are whole, in order. Contracts see the list of their bytes.
+/// The whole entries so far, in order. Contracts see the list of their bytes.
 pub struct Earlier {
     entries: Vec<Bytes>,
     /// The texts of their digests.
@@ -42,7 +42,7 @@ pub struct Earlier {
     size: usize,
 }
 
-// Written out, so that what owns one drops it by this one function.
+// Written by hand, so that it is proved once; a derived one is proved again in every function that drops such a value.
 impl Drop for Earlier {
     fn drop(self) {
         let Earlier {
@@ -89,7 +89,7 @@ impl Earlier {
         self.entries.len() >= ENTRIES_LIMIT
     }
 
-    /// Returns whether an entry of that length is within the limits of a definition.
+    /// Returns whether one more entry of this length is within the limits of a definition.
     pub(crate) fn has_room(&self, size: usize) -> bool
         ensures { result ≡ is_within self.now size }
     {

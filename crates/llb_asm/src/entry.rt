@@ -1,4 +1,4 @@
-//! How an entry begins and ends.
+//! The first line of an entry, and the end of an op.
 
 ghost use Rattle.std.specs.Prelude.{◌≡◌, IfOk};
 ghost use Rattle.llb_asm.specs.Line.{parted};
@@ -14,16 +14,16 @@ use llb_ops::{Op, OpFault, read_op, write_op};
 use llb_wire::{Bytes, Memory};
 use std::alloc::Global;
 
-/// How an entry begins: `raw` and its bytes, or `op {`.
+/// What the first line of an entry begins.
 #[derive(Drop)]
 pub enum Begun {
-    /// `raw`, with the bytes of the entry.
+    /// A raw entry, with its bytes (`raw HEX`).
     Raw(Bytes),
-    /// `op {`.
+    /// An op, whose fields follow (`op {`).
     Structured,
 }
 
-/// Returns how a line begins an entry, whatever the limits.
+/// Returns what a line begins, without a check of the limits.
 fn begun_by(alloc: Global, line: &[u8]) -> Result<Result<Begun, Refusal>, Memory>
     ensures { IfOk result (λ r. r ≡ begun_by line.now (parted line.now)) }
 {
@@ -42,7 +42,7 @@ fn begun_by(alloc: Global, line: &[u8]) -> Result<Result<Begun, Refusal>, Memory
     }
 }
 
-/// Returns how a line begins an entry, or why it is refused there.
+/// Returns what a line begins, or why it is refused there.
 #[tactic(auto, unfolding(crate::specs::Reading::begun_in))]
 pub(crate) fn begun_in(
     alloc: Global,
@@ -66,7 +66,7 @@ pub(crate) fn begun_in(
     }
 }
 
-// Reads bytes as an op, and returns its canonical bytes; `None` if they are no op.
+// Reads bytes as an op, and returns its canonical bytes; `None` if they can't be read as one.
 pub(crate) fn canonical(alloc: Global, bytes: &[u8]) -> Result<Option<Bytes>, Memory>
     ensures { IfOk result (λ o. o ≡ canonical_of (op_of bytes.now)) }
 {
@@ -87,7 +87,7 @@ fn written(alloc: Global, op: Op) -> Result<Option<Bytes>, Memory>
     }
 }
 
-// Returns the canonical bytes of the op that the records are; refused if they are past the limits.
+// Returns the canonical bytes of the op that the records are read as; refused if they are past the limits.
 #[tactic(auto, unfolding(crate::specs::Reading::entry_in))]
 pub(crate) fn entry_in(
     alloc: Global,

@@ -12,11 +12,11 @@ use std::{error, fmt};
 pub enum Rule {
     /// The line is not UTF-8, or no item can be recognized in it.
     Syntax,
-    /// The message at hand has no field of that name.
+    /// The current message has no field of that name.
     UnknownField,
     /// The field may not follow the one before it.
     Order,
-    /// The field has no value that is spelled so.
+    /// The text after the name is not a value of the field's kind.
     BadValue,
     /// The line passes a limit of a definition.
     OverLimit,

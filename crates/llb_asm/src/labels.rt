@@ -1,5 +1,5 @@
-//! The labels of the entries before: the texts of their digests, found through an index in their order, whose cost no choice of entries
-//! makes worse.
+//! The labels of the earlier entries: their digest texts, looked up in an ordered index, so that no choice of entries
+//! makes a look-up slow.
 
 ghost use Rattle.std.specs.Prelude.{◌≡◌, ◌++◌, ◌∷◌, [], IfOk, OnOk, OnErr};
 ghost use Rattle.llb_wire.specs.Digest.{digest_text};
@@ -19,7 +19,7 @@ pub(crate) fn digest_of(alloc: Global, entry: &[u8]) -> Result<Text, Memory>
     text_of_digest(alloc, &Sha256::digest(entry))
 }
 
-// Enters a text into an index under the number of the texts before it, unless the index has the text.
+// Adds a text to an index, with the number of texts before it, unless the index has the text already.
 fn learn(first: &mut BTreeMap<String, u64>, texts: &[Text], text: &Text) -> Result<(), Memory>
     requires { IsIndex texts.now first.old }
     ensures learnt { OnOk result (IsIndex (texts.now ++ text.now ∷ []) first.new) }
@@ -31,14 +31,14 @@ fn learn(first: &mut BTreeMap<String, u64>, texts: &[Text], text: &Text) -> Resu
     Ok(())
 }
 
-/// The labels of the entries before. Contracts see the texts of their digests, in order.
+/// The labels of the earlier entries. Contracts see their digest texts, in order.
 pub struct Labels {
     texts: Vec<Text>,
     /// The first entry with each text.
     first: BTreeMap<String, u64>,
 }
 
-// Written out, so that what owns one drops it by this one function.
+// Written by hand, so that it is proved once; a derived one is proved again in every function that drops such a value.
 impl Drop for Labels {
     fn drop(self) {
         let Labels { texts: _, first: _ } = self;
@@ -67,7 +67,7 @@ impl Labels {
         }
     }
 
-    /// Returns the least entry whose digest has this text.
+    /// Returns the least entry whose digest text is this one.
     pub(crate) fn label_for(&self, digest: &str) -> Option<u64>
         ensures { result ≡ label_for self.now digest.now }
     {

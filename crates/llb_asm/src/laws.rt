@@ -12,7 +12,7 @@ pub fn one_answer(text: &[u8])
     let _ = text;
 }
 
-/// Proves that what `disassemble` writes of the entries of a definition is read as these entries.
+/// Proves that what `disassemble` writes for the entries of a definition is read as these entries.
 pub fn reads_back(entries: &Entries)
     ensures { ReadsBack entries.now }
 {

@@ -1,4 +1,4 @@
-//! One line in an entry: what it adds to the current message, or why it is refused.
+//! One line inside an entry: what it adds to the current message, or why it is refused.
 
 ghost use Rattle.std.specs.Prelude.{◌≡◌, ◌==◌, ◌++◌, ◌≤◌, IfOk, OnOk, map, position, nat_eq, Ok, true, not, length, ◌&&◌, if◌then◌else◌};
 ghost use Rattle.std.specs.Option.{option_map};
@@ -27,7 +27,7 @@ pub enum Refusal {
     UnknownLabel,
 }
 
-/// Where a line is in its message.
+/// The context of a line: its message, and what came before it there.
 #[derive(Clone, Copy)]
 pub struct Here {
     pub message: MessageName,
@@ -35,29 +35,29 @@ pub struct Here {
     pub last: u32,
     /// Whether a member of the message's oneof is set.
     pub set: bool,
-    /// How often the last field occurred.
+    /// How often the last field has occurred.
     pub count: usize,
-    /// Whether the extra bytes were there.
+    /// Whether the extra bytes have come.
     pub ended: bool,
 }
 
-/// What a line holds: a record, which may be empty, or the opening of a message in the field of that number.
+/// What a line adds to its message.
 #[derive(Drop)]
 pub enum Held {
     /// A record, which may be empty.
     Record(Bytes),
-    /// The opening of a message, in the field of that number.
+    /// The opening of a message, in the field with this number.
     Opens(u32, MessageName),
 }
 
-/// What a line adds, and where the line after it is in the same message.
+/// What a line adds, and the context of the next line of the same message.
 #[derive(Drop)]
 pub struct Item {
     pub next: Here,
     pub held: Held,
 }
 
-// Returns the position at the start of a message.
+// Returns the context at the start of a message.
 pub(crate) fn inside(message: MessageName) -> Here
     ensures { result ≡ inside message }
 {
@@ -71,7 +71,7 @@ pub(crate) fn inside(message: MessageName) -> Here
 }
 
 impl Here {
-    // Returns the position after one more field, which has room.
+    // Returns the context after one more field, which may follow.
     fn behind(self, field: NamedField) -> Here
         requires { has_room self field ≡ true }
         ensures { result ≡ behind self field }
@@ -90,7 +90,7 @@ impl Here {
         }
     }
 
-    // Returns the position after the extra bytes.
+    // Returns the context after the extra bytes.
     fn at_end(self) -> Here
         ensures { result ≡ at_end self }
     {
@@ -145,14 +145,14 @@ pub(crate) fn parted(line: &[u8]) -> Option<(&[u8], &[u8])>
     Some((name, value))
 }
 
-/// Returns whether a value that is 0 or empty is written: it says that the field is there.
+/// Returns whether the field is written also with the value 0 or an empty one, to say that it is set.
 fn may_be_empty(field: NamedField) -> bool
     ensures { result ≡ may_be_empty field }
 {
     field.member || field.repeated || field.of_entry
 }
 
-// Returns whether a value is left out: one that is 0 or empty and may not be so.
+// Returns whether the value is left out: it is 0 or empty, and such a value is not written.
 fn is_left_out(field: NamedField, is_default: bool) -> bool
     ensures { result ≡ is_default && not (may_be_empty field) }
 {
@@ -171,7 +171,7 @@ fn number_record(alloc: Global, field: NamedField, value: u64) -> Result<Held, M
     Ok(Held::Record(Bytes::new(out)))
 }
 
-// Appends a record with a length to some bytes.
+// Appends the record of a field with these bytes.
 #[tactic(auto, using(crate::proofs::Records::bytes_spelled))]
 pub(crate) fn put_bytes(out: &mut Vec<u8>, number: u32, bytes: &[u8]) -> Result<(), Memory>
     ensures { OnOk result (out.new.items ≡ out.old.items ++ set_bytes number bytes.now) }
@@ -192,7 +192,7 @@ fn bytes_record(alloc: Global, field: NamedField, bytes: &[u8]) -> Result<Held, 
     Ok(Held::Record(Bytes::new(out)))
 }
 
-/// Returns the record of a digest that a label names.
+/// Returns the record of a digest that is given by a label.
 fn label_record(
     alloc: Global,
     labels: &[Text],
@@ -315,8 +315,8 @@ fn field_in(
     }
 }
 
-// Returns what a line adds to the current message, or why it is refused. The labels are the texts of the digests of the
-// entries before.
+// Returns what a line adds to the current message, or why it is refused. The labels are the digest texts of the
+// earlier entries.
 #[tactic(auto, unfolding(crate::specs::Line::line_in))]
 pub(crate) fn line_in(
     alloc: Global,

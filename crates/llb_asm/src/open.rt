@@ -1,4 +1,4 @@
-//! An op that is open: the current message, and those that it is in.
+//! An op that is open: the current message, and the messages around it.
 
 ghost use Rattle.std.specs.Prelude.{◌≡◌, ◌<◌, ◌^◌, ◌++◌, ◌∷◌, IfOk, length, reverse};
 ghost use Rattle.llb_asm.specs.Reading.{is_within, item_at, labels_of, added};
@@ -11,8 +11,8 @@ use llb_ops::{ENTRY_LIMIT, MessageName};
 use llb_wire::{Bytes, Many, Memory};
 use std::alloc::Global;
 
-/// A message with another one in it that is open: the position of its next line, its bytes so far, and the number of
-/// the field that is open.
+/// A message around the current one: the context of its next line, its bytes so far, and the number of
+/// the field in which the inner message was opened.
 #[derive(Drop)]
 pub struct Frame {
     pub here: Here,
@@ -20,7 +20,7 @@ pub struct Frame {
     pub bytes: Bytes,
 }
 
-/// The current message, its bytes so far, and the messages that it is in, the innermost last.
+/// The current message, its bytes so far, and the messages around it, the innermost last.
 #[derive(Drop)]
 pub struct Open {
     pub here: Here,
@@ -28,12 +28,12 @@ pub struct Open {
     pub below: Many<Frame>,
 }
 
-/// What is there after a closing line: the records of a whole op, or a message that is still open.
+/// What a closing line leaves: a whole op, or one that is still open.
 #[derive(Drop)]
 pub enum Closed {
     /// The op is closed: the bytes of its records.
     Whole(Bytes),
-    /// A message is still open.
+    /// A message around the closed one is the current one.
     Still(Open),
 }
 
@@ -77,7 +77,7 @@ impl Open {
         }
     }
 
-    /// Returns what a line adds, within the limits, or why it is refused.
+    /// Returns what a line adds, if it is within the limits, or why it is refused.
     pub(crate) fn item_at(
         &self,
         alloc: Global,

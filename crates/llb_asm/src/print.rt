@@ -1,4 +1,4 @@
-//! Entries are written as text: canonical bytes from left to right, by the table of messages.
+//! Writes entries as text: goes through their canonical bytes from left to right, by the table of messages.
 
 ghost use Rattle.std.specs.Prelude.{◌≡◌, ◌<◌, ◌+◌, ◌*◌, ◌++◌, ◌∷◌, [], ◌^◌, ◌↔◌, ℕ, Bool, List, length, codes, replicate, OnOk, IfOk, IfSome, IsTrue};
 ghost use Rattle.std.specs.Prelude.{true, false};
@@ -22,7 +22,7 @@ use llb_wire::{Bytes, Memory, Sink, next_record, write_all};
 use std::alloc::Global;
 use std::str::from_utf8;
 
-/// The record at the start of some bytes, and the bytes after it.
+/// A record, and the bytes after it.
 #[derive(Clone, Copy)]
 struct Front<'a> {
     number: u32,
@@ -102,7 +102,7 @@ fn push_number_line(
     Ok(())
 }
 
-// Appends a string between quotes, or a label if it is the digest of an entry before.
+// Appends a string between quotes, or a label if the string is the digest text of an earlier entry.
 fn push_text(
     alloc: Global,
     out: &mut Vec<u8>,
@@ -122,7 +122,7 @@ fn push_text(
     push_string(alloc, out, text)
 }
 
-// Appends a string or bytes.
+// Appends the value of a String or Bytes field.
 fn push_held(
     alloc: Global,
     out: &mut Vec<u8>,
@@ -139,7 +139,7 @@ fn push_held(
     }
 }
 
-// Appends the line of a string or of bytes. An empty key or value of an entry of a map has none.
+// Appends the line of a string or of bytes; none for an empty key or value of a map entry.
 fn push_held_line(
     alloc: Global,
     out: &mut Vec<u8>,
@@ -259,7 +259,7 @@ fn entry_text(alloc: Global, labels: &Labels, entry: &[u8]) -> Result<Vec<u8>, M
     Ok(text)
 }
 
-// Returns the text of an entry, and appends its label to those of the entries before.
+// Returns the text of an entry, and appends its label to those of the earlier ones.
 fn labelled_text(alloc: Global, labels: &mut Labels, entry: &[u8]) -> Result<Vec<u8>, Memory>
     ensures text { (form : Form) → HasForm entry.now form → IfOk result (λ text. text.items ≡ text_of_lines (entry_lines labels.old entry.now form)) }
     ensures labels { OnOk result (labels.new ≡ labels.old ++ digest_text entry.now ∷ []) }
@@ -307,7 +307,7 @@ fn print_entries<W: Sink>(
     Ok(())
 }
 
-// Proves that each entry has a form.
+// Proves that each entry has a form in which it is written.
 fn entries_have_forms(entries: &[Bytes])
     ensures { (xs : List Formed) × AreFormed entries.now xs }
 {

@@ -1,4 +1,4 @@
-//! How the value of a field is spelled: read from a text, and written at the end of one.
+//! How the values of fields are spelled: read from a text, and appended to one.
 
 ghost use Rattle.std.specs.Prelude.{◌≡◌, ◌==◌, ◌||◌, ◌^◌, ◌≤◌, ◌++◌, nat_lt, IfOk, OnOk};
 ghost use Rattle.std.specs.Option.{option_map};
@@ -55,7 +55,7 @@ fn flag_in(text: &[u8]) -> Option<u64>
     None
 }
 
-/// Reads a number of a field of the kind, as its varint has it. Negative numbers are in two's complement.
+/// Reads a number of a field of this kind, as it is in a varint. Negative numbers are in two's complement.
 pub(crate) fn number_in(kind: FieldKind, text: &[u8]) -> Option<u64>
     ensures { result ≡ number_in kind text.now }
 {
@@ -91,7 +91,7 @@ fn escape_of(high: u8, low: u8) -> Option<u8>
     }
 }
 
-/// Reads the byte, up to 7f, of the two digits that a text begins with, and returns it with the text after them.
+/// Reads the byte, up to 7f, that two digits at the start of a text spell, and returns it with the text after them.
 fn two_digits(text: &[u8]) -> Option<(u8, &[u8])>
     ensures { Continues first text.now result }
 {
@@ -101,7 +101,7 @@ fn two_digits(text: &[u8]) -> Option<(u8, &[u8])>
     }
 }
 
-/// Reads the byte that is spelled by a backslash and what a text begins with, and returns it with the text after that.
+/// Reads the byte that is spelled by a backslash and the start of a text, and returns it with the text after that.
 fn behind_backslash(text: &[u8]) -> Option<(u8, &[u8])>
     ensures { Continues backslash text.now result }
 {
@@ -112,7 +112,7 @@ fn behind_backslash(text: &[u8]) -> Option<(u8, &[u8])>
     }
 }
 
-/// Reads the byte that a text begins with, as it is spelled in a string, and returns it with the text after it. A quote spells no byte.
+/// Reads the first byte of a text, as it is spelled in a string, and returns it with the text after it. A quote spells no byte.
 fn next_byte(text: &[u8]) -> Option<(u8, &[u8])>
     ensures { Leads text.now result }
 {
@@ -123,7 +123,7 @@ fn next_byte(text: &[u8]) -> Option<(u8, &[u8])>
     }
 }
 
-/// Reads the rest of a string's spelling, up to a quote at the end.
+/// Reads the rest of a string, up to a quote at the end of the text.
 fn string_behind(alloc: Global, text: &[u8]) -> Result<Option<Bytes>, Memory>
     ensures { IfOk result (λ o. o ≡ string_from closed text.now) }
 {
@@ -139,7 +139,7 @@ fn string_behind(alloc: Global, text: &[u8]) -> Result<Option<Bytes>, Memory>
     Ok(None)
 }
 
-/// Reads the string that a text between quotes is: `\"`, `\\`, and `\x` with two lower-case digits up to 7f are one byte.
+/// Reads a string between quotes: `\"`, `\\`, and `\x` with two lower-case digits up to 7f are one byte each.
 pub(crate) fn string_in(alloc: Global, text: &[u8]) -> Result<Option<Bytes>, Memory>
     ensures { IfOk result (λ o. o ≡ string_in text.now) }
 {
@@ -149,7 +149,7 @@ pub(crate) fn string_in(alloc: Global, text: &[u8]) -> Result<Option<Bytes>, Mem
     }
 }
 
-// Reads the bytes that lower-case hexadecimal digits spell, and no bytes of `-`.
+// Reads the bytes that lower-case hexadecimal digits spell; `-` spells none.
 #[tactic(auto, unfolding(crate::specs::Values::bytes_spelled))]
 pub(crate) fn bytes_spelled(alloc: Global, text: &[u8]) -> Result<Option<Bytes>, Memory>
     ensures { IfOk result (λ o. o ≡ bytes_spelled text.now) }
@@ -166,7 +166,7 @@ pub(crate) fn bytes_spelled(alloc: Global, text: &[u8]) -> Result<Option<Bytes>,
     }
 }
 
-/// Reads the number of an entry from a label; all above 2^64 - 1 are read as 2^64 - 1.
+/// Reads the number of an entry from a label; a number above 2^64 - 1 is read as 2^64 - 1.
 #[tactic(auto, unfolding(crate::specs::Values::label_in))]
 pub(crate) fn label_in(text: &[u8]) -> Option<u64>
     ensures { result ≡ option_map capped (label_in text.now) }
@@ -207,7 +207,7 @@ fn push_flag(out: &mut Vec<u8>, number: u64) -> Result<(), Memory>
     Ok(())
 }
 
-// Appends a number of a field of the kind to a text.
+// Appends a number of a field of this kind to a text.
 pub(crate) fn push_number(
     alloc: Global,
     out: &mut Vec<u8>,
@@ -279,7 +279,7 @@ pub(crate) fn push_label(alloc: Global, out: &mut Vec<u8>, entry: u64) -> Result
     push_decimal(alloc, out, entry)
 }
 
-// Proves that what is written for a value is read as the value, and fits on one line as it is.
+// Proves that the text that is written for a value is read as that value, and fits on one line.
 pub(crate) fn values_are_read_back()
     ensures read_back { ValuesAreReadBack }
     ensures solid { ValuesAreSolid }

@@ -1,4 +1,4 @@
--- What a worker begins with at a vertex that has no cache mount at or before it: the build and the vertex alone determine it.
+-- The job of a vertex that has no cache mount at or before it: the build and the vertex alone determine it.
 use Rattle.std.specs.Prelude.{◌≡◌, ℕ, true, [], Option, Some, None, option_map, slice_get}
 use Rattle.llb_loader.specs.declared.graph.Vertex.{Vertex}
 use Rattle.llb_model.specs.Program.{Build, Start, start_with, begin}
@@ -10,35 +10,35 @@ use Rattle.llb_board.specs.Seen.{BoardValue}
 use Rattle.llb_board.specs.Jobs.{job_now}
 use Rattle.llb_board.specs.Landing.{CanLand}
 
--- what a claim of a vertex starts with: the vertex and its inputs' plain outcomes, if each has a tree
+-- what the claim of a vertex starts with: the vertex and the trees of its inputs' plain outcomes, if none of them is missing
 abbrev pub plain_start : Build → Option Vertex → Option Start
 plain_start b None = None
 plain_start b (Some vertex) = option_map (start_with vertex) (inputs_from (λ k. ending_in (outcome b k)) vertex.inputs)
 
--- the job of a vertex that shows no cache
+-- the job of a vertex that mounts no cache
 abbrev pub job_from : Build → ℕ → ℕ → Start → Job
 job_from b w v start = job_on w v start.vertex (begin b start []) []
 
--- the job of a worker at a vertex with no cache mount at or before it, whatever was done before
+-- the job of a worker at a vertex with no cache mount at or before it, whatever happened before
 abbrev pub plain_job : Build → ℕ → ℕ → Option Job
 plain_job b w v = option_map (job_from b w v) (plain_start b (slice_get b.graph.vertices v))
 
--- a worker's execution has no fault and no instances, and what it has left is the plain job
+-- a worker's execution has no fault and no instances, and the work that remains is the plain job
 pub record IsBegunPlainly (b : BoardValue) (w : ℕ) (x : Execution) : Type 0 where
   pub clean : x.fault ≡ None
   pub bare : x.places ≡ []
   pub job : plain_job b.build w x.vertex ≡ Some (job_now b.build b.state.store w x)
 
--- every worker that has done no micro-step of such a vertex is begun plainly
+-- every worker that has done no micro-step of a vertex with no cache mount at or before it has an execution as `IsBegunPlainly` says
 abbrev pub BegunArePlain : BoardValue → Type 0
 BegunArePlain b = (w : ℕ) (x : Execution) → is_plain b.build x.vertex ≡ true → slice_get b.state.workers w ≡ Some (Runs x) → x.done ≡ 0 → IsBegunPlainly b w x
 
--- a claim of such a vertex hands out the plain job
+-- a claim of a vertex with no cache mount at or before it hands out the plain job
 abbrev pub ClaimsArePlain : BoardValue → Type 0
 ClaimsArePlain b = (w v : ℕ) (t : State) (job : Job) → is_plain b.build v ≡ true → table b.build b.state (Claim w v) ≡ Some (t, Claimed job)
     → plain_job b.build w v ≡ Some job
 
--- a worker has done no micro-step of a vertex with no cache mount at or before it, and a job is the plain job
+-- a worker has done no micro-step yet of a vertex with no cache mount at or before it, and the job is the plain job
 pub record IsKnown (b : BoardValue) (w : ℕ) (job : Job) : Type 0 where
   pub x : Execution
   pub plain : is_plain b.build x.vertex ≡ true
@@ -46,6 +46,6 @@ pub record IsKnown (b : BoardValue) (w : ℕ) (job : Job) : Type 0 where
   pub first : x.done ≡ 0
   pub same : plain_job b.build w x.vertex ≡ Some job
 
--- the outcome of such a job lands
+-- the outcome of a job for which `IsKnown` holds can be landed
 abbrev pub KnownLand : BoardValue → Type 0
 KnownLand b = (w : ℕ) (job : Job) → IsKnown b w job → CanLand b w job

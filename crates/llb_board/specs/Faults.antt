@@ -1,4 +1,4 @@
--- The refusal of an event of a walk: its text, and what it is by the refusal of the event.
+-- The refusal of an event of a walk: its text, and which refusal it is for each refusal of the event itself.
 use Rattle.std.specs.Prelude.{List, ℕ, Result, Ok, Err, codes}
 use Rattle.llb_events.specs.declared.refusal.ClaimFault.{ClaimFault}
 use Rattle.llb_events.specs.declared.refusal.ClaimFault.TheVariants as claim
@@ -16,7 +16,7 @@ walk_text (walk.Settle e) = settle_text e
 walk_text (walk.Cancel e) = cancel_text e
 walk_text walk.Memory = codes "141"
 
--- refused memory is one fault, whichever call it was refused to
+-- the refusal of a claim as that of a walk; for refused memory there is one fault, whichever event met it
 abbrev pub claim_refused : ClaimFault → WalkFault
 claim_refused claim.Memory = walk.Memory
 claim_refused claim.NoWorker = walk.Claim claim.NoWorker
@@ -32,7 +32,7 @@ step_refused step.NoWorker = walk.Step step.NoWorker
 step_refused step.NotRunning = walk.Step step.NotRunning
 step_refused step.NothingLeft = walk.Step step.NothingLeft
 
--- a result with its cause as a fault
+-- a result whose cause is turned into a fault
 abbrev pub faulted : {A C F : Type 0} → (C → F) → Result A C → Result A F
 faulted fault (Ok x) = Ok x
 faulted fault (Err cause) = Err (fault cause)

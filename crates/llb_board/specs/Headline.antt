@@ -1,4 +1,4 @@
--- The promise of the whole machine over a board, part by part, in the words of the machine's definitions.
+-- The promise of the whole machine for a board, clause by clause, in the words of the machine's definitions.
 use Rattle.std.specs.Prelude.{◌≡◌, ◌≢◌, ℕ, Some, option_map, slice_get}
 use Rattle.llb_cache.specs.declared.key.Mode.TheVariants.{Locked}
 use Rattle.llb_tree.specs.Tree.{TreeMap}
@@ -11,7 +11,7 @@ use Rattle.llb_model.specs.Order.{at_first, order, claims_in, StandsIn}
 use Rattle.llb_board.specs.Seen.{BoardValue, Replays, replies_in}
 use Rattle.llb_board.specs.Laws.{SettledArePlain}
 
--- worker w is running, and holds the instance p
+-- worker w is running and holds instance p
 pub record HoldsInstance (b : BoardValue) (w : ℕ) (p : Instance) : Type 0 where
   pub execution : Execution
   pub runs : slice_get b.state.workers w ≡ Some (Runs execution)
@@ -25,26 +25,26 @@ LockedOnce b = (w u : ℕ) (p q : Instance) → HoldsInstance b w p → HoldsIns
 abbrev pub HeldOnce : BoardValue → Type 0
 HeldOnce b = (w u : ℕ) (p : Instance) → HoldsInstance b w p → HoldsInstance b u p → IsExclusive p.key.mode → w ≡ u
 
--- an event of another worker leaves such an instance as it is
+-- an event of another worker does not change an instance that a running worker holds exclusively
 abbrev pub OthersLeave : BoardValue → Type 0
 OthersLeave b = (w : ℕ) (p : Instance) → HoldsInstance b w p → IsExclusive p.key.mode → (e : Event) (t : State) (r : Reply) → worker_of e ≢ w
     → table b.build b.state e ≡ Some (t, r)
     → content t.store p ≡ content b.state.store p
 
--- an event of another worker would have the same reply, and the same effect elsewhere, whatever tree such an instance had
+-- an event of another worker would have the same reply, and the same effect elsewhere, whatever tree an instance had that a running worker holds exclusively
 abbrev pub OthersIgnore : BoardValue → Type 0
 OthersIgnore b = (w : ℕ) (p : Instance) → HoldsInstance b w p → IsExclusive p.key.mode → (e : Event) (tree : TreeMap) → worker_of e ≢ w
     → table b.build (with_content p tree b.state) e ≡ option_map (with_content_after p tree) (table b.build b.state e)
 
--- the settled vertices and the free instances are as the claims of the record leave them, each vertex run at its claim
+-- each settled vertex and each instance that nobody holds is as it would be if the record's claims were done one after another, each with its whole work
 abbrev pub StandsInClaimOrder : BoardValue → Type 0
 StandsInClaimOrder b = StandsIn b.state (order b.build (at_first b.build b.opening.store) (claims_in (replies_in b)))
 
 -- what holds of every board
 pub record Headline (b : BoardValue) : Type 0 where
-  -- after every interleaving of events the record is a run of the written table from the opening state to this one, with a reply for each event
+  -- the record is a run of the table from the opening state to this state, with a reply for each event, whatever the interleaving was
   pub replays : Replays b
-  -- no two executions hold one locked cache at once, nor one instance of a private one
+  -- no two executions hold one locked cache at once, nor one instance of a private cache
   pub locked_once : LockedOnce b
   pub held_once : HeldOnce b
   -- another worker's event neither changes nor reads an instance that an execution holds exclusively

@@ -1,9 +1,9 @@
--- The record of events, the room for it, and how often each vertex was cancelled, as contracts see them.
+-- The record of events, the room reserved for more, and how often each vertex was cancelled, as contracts see them.
 use Rattle.std.specs.Prelude.{ℕ, zero, suc, ◌+◌, ◌-◌, List, length, take, Option, Some, None, get_or, slice_get, slice_set}
 use Rattle.llb_events.specs.declared.event.Event.{Event}
 use Rattle.llb_events.specs.declared.event.Event.TheVariants.{Claim, Step, Settle, Cancel}
 
--- the events so far, and how many there is room for
+-- the events so far, and the room reserved for more
 pub record Recorded : Type 0 where
   pub list : List Event
   pub room : ℕ
@@ -13,39 +13,39 @@ pub record Space : Type 0 where
   pub room : ℕ
   pub cancels : List ℕ
 
--- the events, the first first, and the room for events to come
+-- the events in order, with the room and the counts
 pub record HistoryValue : Type 0 where
   pub list : List Event
   pub space : Space
 
--- the room that a claim takes for a vertex with this number of events that was cancelled n times: none at its first claim
+-- the room that a claim reserves for a vertex with this number of events that was cancelled n times: none at its first claim
 abbrev pub taken : ℕ → ℕ → ℕ
 taken events zero = 0
 taken events (suc n) = events
 
--- the room that a claim of vertex v takes which is to have so many events
+-- the room that a claim of vertex v reserves, for this number of events
 abbrev pub taken_by : ℕ → ℕ → Space → ℕ
 taken_by v events s = taken events (get_or s.cancels v 0)
 
--- the room after a claim, and after one is taken back
+-- the room after a claim of vertex v
 abbrev pub claimed : ℕ → ℕ → Space → Space
 claimed v events s = record s { room = s.room + taken_by v events s }
 
--- the room without what such a claim took
+-- the room after a claim of vertex v is taken back
 abbrev pub unclaimed : ℕ → ℕ → Space → Space
 unclaimed v events s = record s { room = s.room - taken_by v events s }
 
--- the counts after a cancel, and after one is taken back
+-- the counts after a cancel of vertex v
 abbrev pub cancelled : ℕ → Space → Space
 cancelled v s = record s { cancels = slice_set s.cancels v (get_or s.cancels v 0 + 1) }
 
--- the room where vertex v was cancelled once less
+-- the counts after a cancel of vertex v is taken back
 abbrev pub uncancelled : ℕ → Space → Space
 uncancelled v s = record s { cancels = slice_set s.cancels v (get_or s.cancels v 0 - 1) }
 
 -- ---- the last event taken back
 
--- all items of a list but the last, and the last
+-- the list without its last item
 abbrev pub front : {A : Type 0} → List A → List A
 front xs = take (length xs - 1) xs
 
@@ -53,7 +53,7 @@ front xs = take (length xs - 1) xs
 abbrev pub last_of : {A : Type 0} → List A → Option A
 last_of xs = slice_get xs (length xs - 1)
 
--- the room and the counts before an event of vertex v, which has this number of events: a claim had taken room, a cancel was counted
+-- the room and the counts before an event of vertex v, which has this number of events: less room before a claim, one cancel fewer before a cancel
 abbrev pub space_back : Option Event → ℕ → ℕ → Space → Space
 space_back (Some (Claim w u)) v events s = unclaimed v events s
 space_back (Some (Step w)) v events s = s

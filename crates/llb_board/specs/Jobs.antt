@@ -1,4 +1,4 @@
--- What a worker has left to do, as a job, and its seat after the job's micro-steps.
+-- The job that remains for a worker, and its seat (what it runs) after the job's micro-steps.
 use Rattle.std.specs.Prelude.{◌≡◌, ℕ, ◌+◌, Bool, true, false, map, Option, Some, None}
 use Rattle.std.specs.List.{list_any}
 use Rattle.llb_cache.specs.declared.key.Mode.{Mode}
@@ -18,11 +18,11 @@ is_shared Shared = true
 is_shared Private = false
 is_shared Locked = false
 
--- an execution has an instance that others may have too
+-- whether an execution holds an instance that others may hold too
 abbrev pub has_shared : Execution → Bool
 has_shared x = list_any (λ (p : Instance). is_shared p.key.mode) x.places
 
--- what a worker has left to do: the job that a claim of it would hand out now
+-- the job that remains for a worker: what a claim of its present work would hand out
 abbrev pub job_now : Build → Store → ℕ → Execution → Job
 job_now b store w x = record {
   worker = w;
@@ -33,19 +33,19 @@ job_now b store w x = record {
   instances = map (λ (p : Instance). p.number) x.places;
 }
 
--- a job is a worker's, of the vertex that it runs, and no micro-step was done since
+-- the job is of this worker and the vertex that it runs, and counts the same micro-steps as done
 pub record IsBegun (w : ℕ) (x : Execution) (job : Job) : Type 0 where
   pub worker : job.worker ≡ w
   pub vertex : job.vertex ≡ x.vertex
   pub done : job.done ≡ x.done
   pub clean : x.fault ≡ None
 
--- a job is what the worker runs, by value, and no micro-step has faulted
+-- the job equals what remains for the worker, and no micro-step has faulted
 pub record IsRunOf (b : Build) (store : Store) (w : ℕ) (x : Execution) (job : Job) : Type 0 where
   pub clean : x.fault ≡ None
   pub same : job ≡ job_now b store w x
 
--- the seat of a worker that has done n more micro-steps, which left this
+-- the seat of a worker after n more micro-steps with this result
 abbrev pub seat_left : ℕ → Option VertexFault → Workspace → Option Seat → Seat
 seat_left n fault view (Some (seat.Runs l x)) = seat.Runs l (record x { done = x.done + n; fault = fault; view = view })
 seat_left n fault view (Some seat.Idle) = seat.Idle

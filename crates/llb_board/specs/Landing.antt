@@ -1,4 +1,4 @@
--- What a landing returns: the block of the worker's remaining micro-steps and its settle, or the first cause of its refusal.
+-- The result of a landing: the worker's remaining steps and its settle are done, or the landing is refused for the first cause.
 use Rattle.std.specs.Prelude.{◌≡◌, ℕ, Bool, true, false, List, [], ◌∷◌, ◌++◌, Option, Some, None, slice_get, is_ok}
 use Rattle.llb_model.specs.State.{Execution, WorkerStatus, Idle, Runs}
 use Rattle.llb_model.specs.Table.{Job, Reply, settle_grant}
@@ -14,47 +14,47 @@ use Rattle.llb_board.specs.declared.board.landing.LandCause.TheVariants as cause
 
 -- ---- which outcomes land
 
--- what a worker runs has an instance of a shared cache
+-- whether what a worker runs holds an instance of a shared cache
 abbrev pub runs_shared : Option WorkerStatus → Bool
 runs_shared (Some (Runs x)) = has_shared x
 runs_shared (Some Idle) = false
 runs_shared None = false
 
--- job is what worker w has left to do, on no instance that is shared
+-- job is what remains for worker w, which holds no instance of a shared cache
 pub record CanLand (b : BoardValue) (w : ℕ) (job : Job) : Type 0 where
   pub x : Execution
   pub runs : slice_get b.state.workers w ≡ Some (Runs x)
   pub alone : has_shared x ≡ false
   pub own : IsRunOf b.build b.state.store w x job
 
--- the worker runs a vertex, none of its caches is shared, and the job is not what it runs
+-- the worker runs a vertex and holds no instance of a shared cache, but the job is not what remains for it
 pub record RunsAlone (b : BoardValue) (w : ℕ) (job : Job) : Type 0 where
   pub x : Execution
   pub runs : slice_get b.state.workers w ≡ Some (Runs x)
   pub alone : has_shared x ≡ false
   pub other : IsRunOf b.build b.state.store w x job → ⊥
 
--- worker w runs on an instance that is shared
+-- worker w runs a vertex and holds an instance of a shared cache
 pub record RunsShared (b : BoardValue) (w : ℕ) : Type 0 where
   pub x : Execution
   pub runs : slice_get b.state.workers w ≡ Some (Runs x)
   pub shared : has_shared x ≡ true
 
--- this cause refuses the outcome of a job, and no earlier one applies
+-- this cause refuses the outcome of a job, and no earlier cause applies
 abbrev pub StandsInWay : BoardValue → ℕ → Job → LandCause → Type 0
 StandsInWay b w job cause.NoWorker = slice_get b.state.workers w ≡ None
 StandsInWay b w job cause.NotRunning = slice_get b.state.workers w ≡ Some Idle
 StandsInWay b w job cause.HasShared = RunsShared b w
 StandsInWay b w job cause.Stranger = RunsAlone b w job
 
--- the fault for a cause, which holds the outcome
+-- the fault for a cause; it returns the outcome to the caller
 abbrev pub land_fault : LandCause → OutcomeValue → LandFault
 land_fault cause.NoWorker o = fault.NoWorker o
 land_fault cause.NotRunning o = fault.NotRunning o
 land_fault cause.HasShared o = fault.HasShared o
 land_fault cause.Stranger o = fault.Stranger o
 
--- the refusal e of an outcome has the first cause
+-- e is the refusal of this outcome by its first cause
 pub record IsRefused (b : BoardValue) (w : ℕ) (o : OutcomeValue) (e : LandFault) : Type 0 where
   pub cause : LandCause
   pub stands : StandsInWay b w o.job cause
@@ -62,14 +62,14 @@ pub record IsRefused (b : BoardValue) (w : ℕ) (o : OutcomeValue) (e : LandFaul
 
 -- ---- what a landing does
 
--- a worker's steps, as many as an outcome counts, are done and recorded
+-- as many steps of worker w as `count` says are done and recorded
 pub record Steps (b : BoardValue) (w : ℕ) (count : ℕ) (new : BoardValue) : Type 0 where
   pub replies : List Reply
   pub runs : run b.build b.state (steps_by w count) ≡ Some (new.state, replies)
   pub rows : kept_along b.build b.state b.rows (steps_by w count) ≡ Some (new.state, new.rows)
   pub recorded : new ≡ record b { state = new.state; rows = new.rows; events = b.events ++ steps_by w count }
 
--- the block of these steps and the settle is done and recorded; the settle's reply is the last
+-- all remaining steps of worker w and its settle are done and recorded; the settle's reply is the last
 pub record Lands (b : BoardValue) (w : ℕ) (o : OutcomeValue) (new : BoardValue) (reply : Reply) : Type 0 where
   pub can : CanLand b w o.job
   pub replies : List Reply
@@ -77,7 +77,7 @@ pub record Lands (b : BoardValue) (w : ℕ) (o : OutcomeValue) (new : BoardValue
   pub rows : kept_along b.build b.state b.rows (landing w o.count) ≡ Some (new.state, new.rows)
   pub recorded : new ≡ record b { state = new.state; rows = new.rows; events = b.events ++ landing w o.count }
 
--- after the steps, what the worker runs is finished
+-- after these steps what the worker runs is finished
 pub record IsThrough (b : BoardValue) (w : ℕ) (count : ℕ) (new : BoardValue) : Type 0 where
   pub steps : Steps b w count new
   pub finished : is_ok (settle_grant new.build new.state w) ≡ true

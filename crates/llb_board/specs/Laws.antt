@@ -1,4 +1,4 @@
--- What holds of every board beside the promise of the whole machine: words of the laws' contracts.
+-- What holds of every board besides the headline; the contracts of the laws use these definitions.
 use Rattle.std.specs.Prelude.{◌≡◌, ◌≢◌, ℕ, true, is_some, Bool, ◌||◌, ◌&&◌, Some, slice_get}
 use Rattle.std.specs.List.{list_any, list_all}
 use Rattle.llb_loader.specs.declared.graph.Edge.{Edge}
@@ -14,11 +14,11 @@ use Rattle.llb_board.specs.Seen.{BoardValue}
 abbrev pub SettledArePlain : BoardValue → Type 0
 SettledArePlain b = (v : ℕ) (e : Ending) → is_plain b.build v ≡ true → slice_get b.state.statuses v ≡ Some (Settled e) → outcome b.build v ≡ Some (Ended e)
 
--- the event that a driver chooses is granted
+-- the chosen event is granted
 abbrev pub ChosenIsGranted : BoardValue → Type 0
 ChosenIsGranted b = (e : Event) → chosen b.build b.state ≡ Some e → is_some (table b.build b.state e) ≡ true
 
--- an event that is granted leaves what the workers other than its own do as it is
+-- a granted event leaves what all other workers do as it is
 abbrev pub OthersKeep : BoardValue → Type 0
 OthersKeep b = (e : Event) (a : State × Reply) → table b.build b.state e ≡ Some a → (u : ℕ) → u ≢ worker_of e
     → slice_get a.0.workers u ≡ slice_get b.state.workers u
@@ -34,7 +34,7 @@ ReadyBehindDone b = (v : ℕ) (x : Vertex) → slice_get b.build.graph.vertices 
     → is_ready b.build b.state.statuses v
     ≡ (is_waiting (slice_get b.state.statuses v) && list_all (λ (e : Edge). is_done (ending_at b.state.statuses e.vertex)) x.inputs)
 
--- whether a vertex has failed, or is blocked
+-- whether a vertex has failed or is blocked
 abbrev pub is_failed_or_blocked : BoardValue → ℕ → Bool
 is_failed_or_blocked b v = is_failed (ending_at b.state.statuses v) || is_blocked b.build b.state.statuses v
 
@@ -44,7 +44,7 @@ BlockedBehindAFailure b = (v : ℕ) (x : Vertex) → slice_get b.build.graph.ver
     → is_blocked b.build b.state.statuses v
     ≡ (is_waiting (slice_get b.state.statuses v) && list_any (λ (e : Edge). is_failed_or_blocked b e.vertex) x.inputs)
 
--- the plain outcome of a vertex is what its whole program makes of the outcomes of its inputs
+-- the plain outcome of a vertex is what its whole program makes of the plain outcomes of its inputs
 abbrev pub OutcomeByInputs : BoardValue → Type 0
 OutcomeByInputs b = (v : ℕ) (x : Vertex) → slice_get b.build.graph.vertices v ≡ Some x
     → outcome b.build v ≡ Some (outcome_on b.build x (inputs_from (λ k. ending_in (outcome b.build k)) x.inputs))

@@ -1,22 +1,22 @@
--- Which vertices have an edge to which, how many inputs of each are not done, and what is downstream of a vertex.
+-- Which vertices have an edge to which, how many inputs of each vertex are not done, and what is downstream of a vertex.
 use Rattle.std.specs.Prelude.{◌≡◌, ℕ, zero, suc, ◌+◌, ◌-◌, ◌<◌, ◌≤◌, ◌==◌, Bool, true, false, ◌&&◌, not, List, [], ◌∷◌, ◌++◌, length, get_or}
 use Rattle.std.specs.Prelude.{◌⊎◌, All, Contains, Some, slice_get, if◌then◌else◌}
 use Rattle.std.specs.List.{list_any}
 use Rattle.llb_loader.specs.declared.graph.Edge.{Edge}
 use Rattle.llb_loader.specs.declared.graph.Vertex.{Vertex}
 
--- ---- the vertices that have an edge to one
+-- ---- the users of a vertex: those that have an edge to it
 
--- whether one of some edges leads to a vertex
+-- whether one of these edges leads to vertex u
 abbrev pub leads : List Edge → ℕ → Bool
 leads edges u = list_any (λ (e : Edge). e.vertex == u) edges
 
--- the vertices that have an edge to vertex u, where the list of vertices begins with number k
+-- the vertices that have an edge to vertex u; the first vertex of the list has number k
 abbrev pub users_from : ℕ → ℕ → List Vertex → List ℕ
 users_from u k [] = []
 users_from u k (x ∷ xs) = if leads x.inputs u then k ∷ users_from u (k + 1) xs else users_from u (k + 1) xs
 
--- the vertices that have an edge to one, ascending, each once
+-- the users of a vertex, ascending, each once
 abbrev pub users_of : List Vertex → ℕ → List ℕ
 users_of vs u = users_from u 0 vs
 
@@ -27,15 +27,15 @@ abbrev pub count_below : (ℕ → Bool) → ℕ → ℕ
 count_below p zero = 0
 count_below p (suc n) = (if p n then 1 else 0) + count_below p n
 
--- a vertex has an edge to another, which is not done
+-- whether vertex x has an edge to vertex u, and u is not done
 abbrev pub waits_for : (ℕ → Bool) → Vertex → ℕ → Bool
 waits_for done x u = leads x.inputs u && not (done u)
 
--- how many vertices that are not done it has edges to
+-- how many vertices that are not done a vertex has edges to
 abbrev pub open_inputs : List Vertex → (ℕ → Bool) → Vertex → ℕ
 open_inputs vs done x = count_below (waits_for done x) (length vs)
 
--- every edge leads to a vertex below its own
+-- every edge leads to a vertex with a lower number than its own
 abbrev pub AreBelow : List Vertex → Type 0
 AreBelow vs = (v : ℕ) (x : Vertex) → slice_get vs v ≡ Some x → All (λ (e : Edge). e.vertex < v) x.inputs
 
@@ -50,12 +50,12 @@ pub record Linked : Type 0 where
   pub users : List (List ℕ)
   pub counts : List ℕ
 
--- nothing is reached yet, and there is room for `count` numbers
+-- no vertex is reached yet, and there is room for `count` numbers
 pub record HasRoom (count : ℕ) (reached : List ℕ) (room : ℕ) : Type 0 where
   pub none : reached ≡ []
   pub fits : count ≤ room
 
--- the links are those of the vertices, of which some are done
+-- the links are those of these vertices, of which some are done
 pub record IsLinked (vs : List Vertex) (done : ℕ → Bool) (l : Linked) : Type 0 where
   pub same_users : length l.users ≡ length vs
   pub same_counts : length l.counts ≡ length vs
@@ -66,7 +66,7 @@ pub record IsLinked (vs : List Vertex) (done : ℕ → Bool) (l : Linked) : Type
 abbrev pub users_at : Linked → ℕ → List ℕ
 users_at l u = get_or l.users u []
 
--- no input of a vertex is open
+-- whether no input of a vertex is open
 abbrev pub has_inputs : Linked → ℕ → Bool
 has_inputs l v = get_or l.counts v 1 == 0
 
@@ -75,11 +75,11 @@ abbrev pub times : ℕ → List ℕ → ℕ
 times x [] = 0
 times x (y ∷ ys) = (if y == x then 1 else 0) + times x ys
 
--- each count is lower by one for each time that its vertex is listed, or higher
+-- each count is lower by the number of times that its vertex is in the list
 abbrev pub AreLowered : List ℕ → List ℕ → List ℕ → Type 0
 AreLowered users old new = (length new ≡ length old) × ((x : ℕ) → get_or new x 0 ≡ get_or old x 0 - times x users)
 
--- each count is raised by how often its vertex is among the users
+-- each count is higher by the number of times that its vertex is in the list
 abbrev pub AreRaised : List ℕ → List ℕ → List ℕ → Type 0
 AreRaised users old new = (length new ≡ length old) × ((x : ℕ) → x < length old → get_or new x 0 ≡ get_or old x 0 + times x users)
 
@@ -89,16 +89,16 @@ AreRaised users old new = (length new ≡ length old) × ((x : ℕ) → x < leng
 abbrev pub is_marked : List Bool → ℕ → Bool
 is_marked marks x = get_or marks x false
 
--- a set of vertices that has with each vertex those that have an edge to it
+-- a set of vertices that contains with each vertex all its users
 abbrev pub IsClosed : List (List ℕ) → (ℕ → Bool) → Type 0
 IsClosed users p = (y x : ℕ) → p y ≡ true → Contains (get_or users y []) x → p x ≡ true
 
--- how many are not marked
+-- how many vertices are not marked
 abbrev pub unmarked : List Bool → ℕ
 unmarked [] = 0
 unmarked (b ∷ bs) = (if b then 0 else 1) + unmarked bs
 
--- some of the users are marked, and those that were not marked before are appended to the reached ones
+-- some of the users are marked, and those that were not marked before are appended to the reached vertices
 pub record Visits (users : List ℕ) (old new : List Bool) (reached reached_new : List ℕ) : Type 0 where
   pub same : length new ≡ length old
   pub more : List ℕ
@@ -109,7 +109,7 @@ pub record Visits (users : List ℕ) (old new : List Bool) (reached reached_new 
   pub only : (x : ℕ) → is_marked new x ≡ true → (is_marked old x ≡ true) ⊎ Contains more x
   pub count : unmarked new + length more ≡ unmarked old
 
--- the marks are the least such set that has one vertex and all that were marked
+-- the marked vertices are the least such set that contains vertex v and all that were marked before
 pub record Spreads (users : List (List ℕ)) (v : ℕ) (old new : List Bool) : Type 0 where
   pub same : length new ≡ length old
   pub kept : (x : ℕ) → is_marked old x ≡ true → is_marked new x ≡ true

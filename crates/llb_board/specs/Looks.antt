@@ -1,4 +1,4 @@
--- The trees that a worker works on now, and those of caches, for a look that changes nothing.
+-- The trees that a worker works on now, and the trees of caches, for callers that only read.
 use Rattle.std.specs.Prelude.{ℕ, List, [], Option, Some, None, slice_get}
 use Rattle.std.specs.Map.{keys_of}
 use Rattle.llb_cache.specs.declared.key.Key.{Key}
@@ -8,16 +8,16 @@ use Rattle.llb_model.specs.Caches.{Store, content, place, trees_at}
 use Rattle.llb_model.specs.State.{State, Execution, runs}
 use Rattle.llb_execution.specs.Looks.{trees_with}
 
--- the trees that an execution works on, if the caches have these contents now; none if nothing runs
+-- the trees that an execution works on if the caches have these contents; none if nothing runs
 abbrev pub worked_by : Store → Option Execution → List TreeMap
 worked_by s None = []
 worked_by s (Some x) = trees_with x.own (trees_at s x.places)
 
--- tree i of those that worker w works on; none if it is idle, or there is no such worker or tree
+-- tree i of those that worker w works on; none if w is idle, or there is no such worker or tree
 abbrev pub worked_on : State → ℕ → ℕ → Option TreeMap
 worked_on s w i = slice_get (worked_by s.store (runs (slice_get s.workers w))) i
 
--- the tree of instance i of a key, if there is such a key
+-- the tree of instance i of a key; none if the key or the instance does not exist
 abbrev pub cached_by : Store → ℕ → Option Key → Option TreeMap
 cached_by s i None = None
 cached_by s i (Some key) = content s (place key i)

@@ -1,4 +1,4 @@
--- The caches that a vertex shows, and what a claim takes of caches, in words of leases.
+-- The caches that a vertex needs, and what a claim takes of them, in terms of leases.
 use Rattle.std.specs.Prelude.{◌≡◌, pos, ℕ, Bool, ◌&&◌, List, [], ◌∷◌, map, Option, Some, None, option_map, unwrap_or, slice_get, Result, Ok, Err}
 use Rattle.std.specs.Prelude.{if◌then◌else◌}
 use Rattle.llb_cache.specs.declared.key.Key.{Key}
@@ -19,21 +19,21 @@ use Rattle.llb_events.specs.declared.refusal.ClaimFault.{ClaimFault}
 use Rattle.llb_events.specs.declared.refusal.ClaimFault.TheVariants as claim
 use Rattle.llb_board.specs.declared.workers.needs.Wanted.{Wanted}
 
--- a locked key that a lease has
+-- whether a key is locked and a lease has its instance
 abbrev pub is_locked_and_held : Leases → Key → Bool
 is_locked_and_held out k = is_locked k.mode && is_held out (place k 0)
 
--- the first locked key among the needs that a lease has
+-- the first key among the needs that is locked and that a lease has
 abbrev pub first_held_key : Leases → List Need → Option Key
 first_held_key out [] = None
 first_held_key out (n ∷ needs) = if is_locked_and_held out n.key then Some n.key else first_held_key out needs
 
--- the needs, if no locked key of theirs is held
+-- the needs, or the refusal that a locked key of theirs is held
 abbrev pub unless_held : List Need → Option Key → Result (List Need) ClaimFault
 unless_held needs None = Ok needs
 unless_held needs (Some k) = Err (claim.Held k)
 
--- a wanted cache, as a need of the model
+-- a wanted cache as a need of the model
 abbrev pub need_of : Wanted → Need
 need_of w = record { mount = w.mount; key = w.key; input = w.input }
 
@@ -41,37 +41,37 @@ need_of w = record { mount = w.mount; key = w.key; input = w.input }
 abbrev pub number_of : Instance → ℕ
 number_of p = p.number
 
--- a vertex has an edge for each input of its op, of the output that the input names
+-- a vertex has an edge for each input of its op, to the output that the input names
 abbrev pub HasEdges : Vertex → Type 0
 HasEdges v = (i : ℕ) (input : Input) → slice_get v.op.inputs i ≡ Some input → (e : Edge) × (slice_get v.inputs i ≡ Some e) × (input.index ≡ pos e.index)
 
--- a key, if it is locked
+-- a key if it is locked, else nothing
 abbrev pub if_locked : Option Key → Option Key
 if_locked None = None
 if_locked (Some k) = if is_locked k.mode then Some k else None
 
--- the caches have of a key what was found: the instance that a lease would have, and its tree
+-- what was looked up for a wanted cache is right: the number of the instance that a lease would take, and its tree if it exists
 pub record IsFound (c : cache.CachesValue) (w : Wanted) : Type 0 where
   pub number : w.found.number ≡ cache.number_for c.out w.key w.key.mode
   pub tree : option_map (λ t. t.now) w.found.tree ≡ slice_get (cache.trees_of c.rows w.key) w.found.number
 
--- the instance that a lease would have, as it was found
+-- the instance that a lease would take for a wanted cache, by the look-up
 abbrev pub place_found : Wanted → Instance
 place_found w = place w.key w.found.number
 
--- the tree that the instance begins with: its own if it is there, else that of the input that the mount names, or the empty tree if there is none
+-- the tree that the instance begins with: its own if it exists, else that of the input that the mount names, or the empty tree if it names none
 abbrev pub first_tree : List TreeMap → Wanted → TreeMap
 first_tree inputs w = unwrap_or (option_map (λ t. t.now) w.found.tree) (base_in w.input inputs)
 
--- the row of the caches in which the key was found, if it was found in one
+-- the number of the row in which the key was found; none if it was found in no row
 abbrev pub row_found : Wanted → Option ℕ
 row_found w = w.found.row
 
--- what a claim takes: instances, their numbers, the trees that they begin with, and what a lease is asked for
+-- what a claim takes: instances, their numbers, the trees that they begin with, and the needs of the lease
 abbrev pub Taking : Type 0
 Taking = List Instance × List ℕ × List TreeMap × List cache_need.Need
 
--- what a claim with these needs takes: instances, their numbers, the trees that they begin with, and what the lease is asked for
+-- what a claim with these needs takes of these caches
 abbrev pub taken_with : cache.CachesValue → List TreeMap → List Need → Taking
 taken_with c inputs needs = (
   places_taken c.out needs,
@@ -80,7 +80,7 @@ taken_with c inputs needs = (
   asked inputs needs,
 )
 
--- what a claim takes of caches that are wanted, as they were found
+-- what a claim takes for these wanted caches, by the look-ups
 abbrev pub taken_by : List TreeMap → List Wanted → Taking
 taken_by inputs ws = (
   map place_found ws,

@@ -1,4 +1,4 @@
--- What opening a board returns: the board, or the first cause of a refusal with all that was handed in.
+-- The result of opening a board: the board, or the first cause of a refusal together with everything that was handed in.
 use Rattle.std.specs.Prelude.{ℕ, nat_le, Bool, true, false, ◌&&◌, List, Option, Some, None, Result, Ok, Err, if◌then◌else◌}
 use Rattle.llb_wire.specs.Answer as answer
 use Rattle.llb_cache.specs.Caches.{CachesValue}
@@ -16,23 +16,23 @@ may_work workers = nat_le 1 workers && nat_le workers 64
 abbrev pub open_with : Build → CachesValue → ℕ → Result BoardValue OpenFault
 open_with b c workers = if may_work workers then Ok (opened b workers c.rows) else Err (opening.Workers b.graph b.locals c)
 
--- a missing local tree is the first cause of all
+-- the refusal if a local tree is missing, which is the first cause; else the board or the next refusal
 abbrev pub open_unless : Option (List ℕ) → Build → CachesValue → ℕ → Result BoardValue OpenFault
 open_unless (Some name) b c workers = Err (opening.MissingLocal name b.graph b.locals c)
 open_unless None b c workers = open_with b c workers
 
--- the rule of opening: a missing local tree is reported before any other cause
+-- the rule of opening; a missing local tree is reported before any other cause
 abbrev pub open_of : Build → CachesValue → ℕ → Result BoardValue OpenFault
 open_of b c workers = open_unless (missing_local b.locals b.graph.vertices) b c workers
 
--- whether memory may be needed: if there is no other cause, or for the name of a missing local tree
+-- whether memory may be needed: for the board, or for the name of a missing local tree
 abbrev pub may_want_memory : Result BoardValue OpenFault → Bool
 may_want_memory (Ok b) = true
 may_want_memory (Err (opening.MissingLocal name g ts c)) = true
 may_want_memory (Err (opening.Workers g ts c)) = false
 may_want_memory (Err (opening.Memory g ts c)) = false
 
--- the graph, the local trees and the caches that come back
+-- the graph, the local trees and the caches that a refusal returns
 abbrev pub returned : OpenFault → Build × CachesValue
 returned (opening.Memory g ts c) = (record { graph = g; locals = ts }, c)
 returned (opening.Workers g ts c) = (record { graph = g; locals = ts }, c)
@@ -44,6 +44,6 @@ open_memory (opening.Memory g ts c) = true
 open_memory (opening.Workers g ts c) = false
 open_memory (opening.MissingLocal name g ts c) = false
 
--- a result of opening is what the rule returns, but for want of memory
+-- opening returns what the rule does, or it fails for want of memory
 abbrev pub GivesOpen : {X Y : Type 0} → (X → Y) → Result X OpenFault → Result Y OpenFault → Type 0
 GivesOpen = answer.Gives open_memory

@@ -1,4 +1,4 @@
--- Leases of which there may be none: a vertex without caches has no lease.
+-- Leases that may be absent: a vertex without caches has no lease.
 use Rattle.std.specs.Prelude.{ℕ, List, [], ◌∷◌, Option, Some, None, slice_set, Result, Ok, Err}
 use Rattle.llb_cache.specs.Caches as cache
 use Rattle.llb_cache.specs.Caches.{Leases}
@@ -8,45 +8,45 @@ use Rattle.llb_cache.specs.declared.need.Instance.{Instance}
 use Rattle.llb_cache.specs.declared.need.Need as cache_need
 use Rattle.llb_cache.specs.declared.fault.LeaseFault.{LeaseFault}
 
--- the instances of a lease
+-- the instances of a lease; none if there is no lease
 abbrev pub leased_places : Leases → Option ℕ → List Instance
 leased_places out (Some l) = cache.places_of out l
 leased_places out None = []
 
--- a lease is out, if there is one
+-- if there is a lease, it is current
 abbrev pub IsOutIf : Leases → Option ℕ → Type 0
 IsOutIf out (Some l) = cache.IsOut out l
 IsOutIf out None = Unit {0}
 
--- the leases without one that is given back
+-- the leases after this one, if there is one, is given back
 abbrev pub out_without : Leases → Option ℕ → Leases
 out_without out (Some l) = cache.trimmed (slice_set out l None)
 out_without out None = out
 
--- the caches after a lease is given back
+-- the caches after this lease, if there is one, is given back
 abbrev pub given_back : cache.CachesValue → Option ℕ → cache.CachesValue
 given_back c l = record c { out = out_without c.out l }
 
--- the caches after a lease is taken back with what it added
+-- the caches after a lease is taken back, with the instances that it added
 abbrev pub taken_back : cache.CachesValue → Option ℕ → List Growth → cache.CachesValue
 taken_back c l gs = record (given_back c l) { rows = unmade c.rows (leased_places c.out l) gs }
 
--- what a lease of instances is made of, if there are some
+-- a prepared lease of these instances; none if there are no instances
 abbrev pub lent_of : List Instance → ℕ → Option LentValue
 lent_of [] room = None
 lent_of (p ∷ ps) room = Some (record { places = p ∷ ps; room = room })
 
--- a lease that was made ready, if there is one
+-- the caches after a prepared lease, if there is one, is made, and its number
 abbrev pub lent_if : cache.CachesValue → Option LentValue → Option ℕ × cache.CachesValue
 lent_if c None = (None, c)
 lent_if c (Some l) = (Some (cache.free_lease c.out), lent_again c l.places)
 
--- the result of a lease, the lease as an optional one
+-- the result of a lease, with its number as an option
 abbrev pub some_lease : Result (ℕ × cache.CachesValue) LeaseFault → Result (Option ℕ × cache.CachesValue) LeaseFault
 some_lease (Ok (l, c)) = Ok (Some l, c)
 some_lease (Err e) = Err e
 
--- a lease of needs, if there are some
+-- the result of a lease of these needs; no lease if there are none
 abbrev pub lease_if : cache.CachesValue → List cache_need.Need → Result (Option ℕ × cache.CachesValue) LeaseFault
 lease_if c [] = Ok (None, c)
 lease_if c (n ∷ needs) = some_lease (cache.lease_of c (n ∷ needs))

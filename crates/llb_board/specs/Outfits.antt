@@ -1,11 +1,11 @@
--- What a claim begins, in the code's types.
+-- What the claim of a vertex prepares, in the code's types.
 use Rattle.std.specs.Prelude.{List, replicate}
 use Rattle.llb_loader.specs.declared.graph.Vertex.{Vertex}
 use Rattle.llb_tree.specs.Tree.{TreeMap, empty_tree}
 use Rattle.llb_model.specs.Program as model
 use Rattle.llb_board.specs.declared.workers.outfit.Outfit.{Outfit}
 
--- what an execution has beside its view
+-- what an execution has besides its view
 pub record Outfitted : Type 0 where
   pub program : model.Program
   pub outputs : List TreeMap

@@ -1,4 +1,4 @@
--- A board as contracts see it: what it was opened with, the machine's state, and the record of events; and what a call did.
+-- A board as contracts see it: what it was opened with, the machine's state, and the record; and the board after an event.
 use Rattle.std.specs.Prelude.{◌≡◌, ℕ, List, [], ◌∷◌, ◌++◌, length, fold, option_map, Option, Some, None, Result, Ok, Err, unwrap_or}
 use Rattle.llb_model.specs.Program.{Build}
 use Rattle.llb_cache.specs.Caches.{Row}
@@ -10,8 +10,8 @@ use Rattle.llb_model.specs.Run.{run}
 use Rattle.llb_board.specs.Vertices.{VerticesValue}
 use Rattle.llb_board.specs.Workers.{WorkersValue, state_in}
 
--- what contracts see of a board: its build, what it was opened with, the lists of cache instances as they were handed in (`first`) and as they are now
--- (`rows`), the machine's state, which has the contents of the caches, and the record, which is the events so far
+-- what contracts see of a board: its build, what it was opened with, the rows of the caches as they were handed in (`first`) and as they are now
+-- (`rows`), the machine's state, which has the contents of the caches, and the events so far
 pub record BoardValue : Type 0 where
   pub build : Build
   pub opening : Opening
@@ -24,7 +24,7 @@ pub record BoardValue : Type 0 where
 abbrev pub opening_with : ℕ → List Row → Opening
 opening_with workers rows = record { workers = workers; store = store_of rows }
 
--- a board as contracts see it, over what its vertices and its workers are seen as, and the caches that were handed in
+-- the value of a board with these vertices, these workers and these events, given the caches that were handed in
 abbrev pub seen : VerticesValue → List Row → WorkersValue → List Event → BoardValue
 seen vs first ws events = record {
   build = vs.build;
@@ -35,22 +35,22 @@ seen vs first ws events = record {
   events = events;
 }
 
--- a board on which nothing has happened yet
+-- a board on which no event has happened yet
 abbrev pub opened : Build → ℕ → List Row → BoardValue
 opened b workers rows =
     record { build = b; opening = opening_with workers rows; first = rows; state = opening b (opening_with workers rows); rows = rows; events = [] }
 
--- the state and the lists of instances after one more event, if it is granted
+-- the state and the rows after one more event, if it is granted
 abbrev pub kept_next : Build → Option (State × List Row) → Event → Option (State × List Row)
 kept_next b None e = None
 kept_next b (Some (s, rows)) e = option_map (λ (a : State × Reply). (a.0, rows_after rows a.0 (worker_of e))) (table b s e)
 
--- the state and the lists of instances after a list of events, if each of them is granted
+-- the state and the rows after a list of events, if each of them is granted
 abbrev pub kept_along : Build → State → List Row → List Event → Option (State × List Row)
 kept_along b s rows es = fold (kept_next b) (Some (s, rows)) es
 
--- The record is a run of the table from the opening state to the board's state, and it turns the lists of instances that were handed in into those of the
--- board.
+-- The record is a run of the table from the opening state to the board's state, and it changes the rows that were handed in to the board's
+-- rows.
 pub record Replays (b : BoardValue) : Type 0 where
   pub replies : List Reply
   pub leads : run b.build (opening b.build b.opening) b.events ≡ Some (b.state, replies)
@@ -60,7 +60,7 @@ pub record Replays (b : BoardValue) : Type 0 where
 abbrev pub after_event : BoardValue → Event → State → BoardValue
 after_event b e s = record b { state = s; rows = rows_after b.rows s (worker_of e); events = b.events ++ e ∷ [] }
 
--- the board and the reply after an event, with the event at the end of the record; if it is not granted, the cause as a fault
+-- the board and the reply after an event, which is appended to the record; if it is refused, the cause as a fault
 abbrev pub recorded : {F : Type 0} → BoardValue → Event → Result (State × Reply) F → Result (BoardValue × Reply) F
 recorded b e (Ok (s, r)) = Ok (after_event b e s, r)
 recorded b e (Err cause) = Err cause

@@ -1,4 +1,4 @@
--- How a vertex and a worker look, in a state of the machine.
+-- The statuses of vertices and workers as callers see them, by the state of the machine.
 use Rattle.std.specs.Prelude.{ℕ, Bool, List, Option, Some, None, option_map, slice_get, if◌then◌else◌}
 use Rattle.llb_model.specs.Program.{Build}
 use Rattle.llb_model.specs.Outcome.{Done, Failed}
@@ -9,28 +9,28 @@ use Rattle.llb_board.specs.declared.status.Status.TheVariants as seen
 use Rattle.llb_board.specs.declared.status.WorkerStatus.{WorkerStatus}
 use Rattle.llb_board.specs.declared.status.WorkerStatus.TheVariants as worker
 
--- ---- looks
+-- ---- what callers see
 
--- how a vertex of this status looks, by whether it is ready or blocked while it waits
+-- what callers see of a vertex of this status; a waiting one is Ready, Blocked or Waiting
 abbrev pub look : Bool → Bool → model.Status → Status
 look ready blocked model.Waiting = if ready then seen.Ready else if blocked then seen.Blocked else seen.Waiting
 look ready blocked (model.Running w) = seen.Running w
 look ready blocked (model.Settled (Done trees)) = seen.Done
 look ready blocked (model.Settled (Failed f)) = seen.Failed f
 
--- how vertex v looks among the statuses of all vertices
+-- what callers see of vertex v, by the statuses of all vertices
 abbrev pub look_in : Build → List model.Status → ℕ → Option Status
 look_in b statuses v = option_map (look (model.is_ready b statuses v) (model.is_blocked b statuses v)) (slice_get statuses v)
 
--- how vertex v looks in a state
+-- what callers see of vertex v in a state
 abbrev pub look_at : Build → model.State → ℕ → Option Status
 look_at b s v = look_in b s.statuses v
 
--- how a worker looks that does this
+-- what callers see of a worker that does this
 abbrev pub look_of : Build → model.WorkerStatus → WorkerStatus
 look_of b model.Idle = worker.Idle
 look_of b (model.Runs x) = worker.Runs x.vertex x.done (model.is_finished (model.program_in b x).steps x)
 
--- how worker w looks in a state
+-- what callers see of worker w in a state
 abbrev pub worker_look : Build → model.State → ℕ → Option WorkerStatus
 worker_look b s w = option_map (look_of b) (slice_get s.workers w)

@@ -22,7 +22,7 @@ pub record Supplies : Type 0 where
   pub shown : List ℕ
   pub keys : List Key
 
--- what an execution was supplied with
+-- the supplies that an execution has
 abbrev pub supplies_of : own.Execution → Supplies
 supplies_of x = record {
   outputs = x.outputs.items;
@@ -32,7 +32,7 @@ supplies_of x = record {
   keys = map (λ (p : Instance). p.key) x.places.items;
 }
 
--- the mounts that a vertex shows, and the caches that it needs
+-- the mounts of a vertex; none if there is no vertex
 abbrev pub mounts_at : Option Vertex → List Mount
 mounts_at (Some v) = kind_mounts v.op.kind
 mounts_at None = []
@@ -52,7 +52,7 @@ supplies_for o = record {
   keys = map key_of (needs_at o);
 }
 
--- what a worker has ready, and what it needs
+-- the supplies that a worker has now
 abbrev pub ready_made : Seat → Supplies
 ready_made seat.Idle = supplies_for None
 ready_made (seat.Runs l x) = supplies_of x

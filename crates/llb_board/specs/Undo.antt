@@ -1,4 +1,4 @@
--- An event as `walk` does it, what it displaces, and the board after the event is taken back.
+-- The result of `walk`, what it keeps to take the event back, and the board after that.
 use Rattle.std.specs.Prelude.{◌≡◌, ℕ, ◌+◌, List, [], ◌∷◌, ◌++◌, length, map, Option, Some, Result, Ok, Err, slice_get, slice_set}
 use Rattle.llb_wire.specs.Answer as answer
 use Rattle.llb_cache.specs.Growth.{LentValue}
@@ -28,30 +28,30 @@ use Rattle.llb_board.specs.declared.board.walk.Reply.TheVariants as reply
 
 -- ---- the result of a walked event
 
--- the reply of the table, without a claim's job
+-- a reply of the table as a reply of a walk; that of a claim is without the job
 abbrev pub told : table.Reply → Reply
 told (table.Claimed job) = reply.Claimed
 told (table.HasStepped s) = reply.Stepped s
 told (table.HasSettled s) = reply.Settled s
 told (table.HasCancelled c) = reply.Cancelled c
 
--- an event's result, its refusal as that of a walk
+-- the result of an event as that of a walk
 abbrev pub told_as : {F : Type 0} → (F → WalkFault) → Result (BoardValue × table.Reply) F → Result (BoardValue × Reply) WalkFault
 told_as fault (Ok (b, r)) = Ok (b, told r)
 told_as fault (Err e) = Err (fault e)
 
--- the result of a claim, a step, a settle or a cancel
+-- what `walk` returns for an event
 abbrev pub walk_of : BoardValue → own_event.Event → Result (BoardValue × Reply) WalkFault
 walk_of b (event.Claim w v) = told_as walk.Claim (claim_of b w v)
 walk_of b (event.Step w) = told_as walk.Step (step_of b w)
 walk_of b (event.Settle w) = told_as walk.Settle (settle_of b w)
 walk_of b (event.Cancel w) = told_as walk.Cancel (cancel_of b w)
 
--- a result of a walk is what the rule returns, but for want of memory
+-- a walk returns what the rule does, or it fails for want of memory
 abbrev pub GivesWalk : {X Y : Type 0} → (X → Y) → Result X WalkFault → Result Y WalkFault → Type 0
 GivesWalk = answer.Gives walk_memory
 
--- ---- what the board was before the event
+-- ---- the board before the event
 
 -- the statuses of the vertices before the event
 abbrev pub statuses_before : Back → List Status → List Status
@@ -59,7 +59,7 @@ statuses_before (Unclaim w v growths) statuses = slice_set statuses v Waiting
 statuses_before (Unstep w mark trees) statuses = statuses
 statuses_before (Resume e w left lent) statuses = slice_set statuses left.execution.vertex (Running w)
 
--- the board after an undo
+-- the board after an event is taken back
 abbrev pub undone : Displaced → BoardValue → BoardValue
 undone u b = record b {
   state = record {
@@ -71,7 +71,7 @@ undone u b = record b {
   events = front b.events;
 }
 
--- ---- when it can be taken back
+-- ---- when an event can be taken back
 
 -- the event that is taken back
 abbrev pub event_before : Back → own_event.Event
@@ -79,18 +79,18 @@ event_before (Unclaim w v growths) = event.Claim w v
 event_before (Unstep w mark trees) = event.Step w
 event_before (Resume e w left lent) = end_of e w
 
--- the event that is taken back is the last of the record
+-- the event that is taken back is the last one of the record
 pub record IsLast (u : Displaced) (b : BoardValue) : Type 0 where
   pub reply : table.Reply
   pub gives : table.table b.build (undone u b).state (event_before u.back) ≡ Some (b.state, reply)
   pub events : b.events ≡ (undone u b).events ++ event_before u.back ∷ []
 
--- the worker and its vertex are as the event left them, what is put back has the supplies that the build asks for, there is a tree for each instance of
--- the worker, and the lease that is ready is one of the instances that it left
+-- The next three: the worker and its vertex are in the condition in which the event left them, and what is put back fits. After a claim: the vertex
+-- runs, by this worker, before any micro-step.
 pub record IsBegun (b : BoardValue) (w v : ℕ) : Type 0 where
   pub runs : slice_get b.state.statuses v ≡ Some (Running w)
 
--- worker w runs, and the mark fits what it runs
+-- after a step: worker w runs a vertex, and what is put back fits it
 pub record IsStepped (b : BoardValue) (w : ℕ) (mark : Mark) (trees : List TreeMap) : Type 0 where
   pub x : Execution
   pub runs : slice_get b.state.workers w ≡ Some (Runs x)
@@ -98,20 +98,20 @@ pub record IsStepped (b : BoardValue) (w : ℕ) (mark : Mark) (trees : List Tree
   pub count : length trees ≡ length x.places
   pub keys : map (λ (p : Instance). p.key) x.places ≡ map key_of (needs_at (slice_get b.build.graph.vertices x.vertex))
 
--- worker w is idle, and has left this
+-- after a settle or a cancel: worker w is idle, and `left` and `lent` are what it left
 pub record IsLeft (b : BoardValue) (w : ℕ) (left : Left) (lent : Option LentValue) : Type 0 where
   pub idle : slice_get b.state.workers w ≡ Some Idle
   pub supplies : left.supplies ≡ supplies_for (slice_get b.build.graph.vertices left.execution.vertex)
   pub keys : map (λ (p : Instance). p.key) left.execution.places ≡ left.supplies.keys
   pub ready : lent ≡ lent_of left.execution.places (length b.state.workers + 1)
 
--- a board is as an event leaves it that displaced this
+-- the board is in the condition in which the event left it
 abbrev pub StandsBehind : Back → BoardValue → Type 0
 StandsBehind (Unclaim w v growths) b = IsBegun b w v
 StandsBehind (Unstep w mark trees) b = IsStepped b w mark trees
 StandsBehind (Resume e w left lent) b = IsLeft b w left lent
 
--- the board that an undo leaves is one that events lead to, and whose parts fit
+-- the board before the event is one that granted events lead to, and its parts fit
 pub record CanUndo (u : Displaced) (b : BoardValue) : Type 0 where
   pub replays : Replays (undone u b)
   pub last : IsLast u b

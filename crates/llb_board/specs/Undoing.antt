@@ -1,4 +1,4 @@
--- What is kept of a worker before an event, and what a worker has after a micro-step is taken back.
+-- What is kept of a worker before an event, and its seat (what it runs) after a micro-step is taken back.
 use Rattle.std.specs.Prelude.{◌-◌, Option, Some, None}
 use Rattle.llb_execution.specs.Marks.{Mark, put_back}
 use Rattle.llb_model.specs.State.{Execution}
@@ -8,16 +8,16 @@ use Rattle.llb_board.specs.declared.workers.seat.Seat.{Seat}
 use Rattle.llb_board.specs.declared.workers.seat.Seat.TheVariants as seat
 use Rattle.llb_board.specs.declared.workers.seat.Execution as own
 
--- what a worker that settles holds
+-- what a worker held before its settle or its cancel
 pub record Left : Type 0 where
   pub execution : Execution
   pub supplies : Supplies
 
--- an execution that was left, with its supplies
+-- an execution that a worker left, with its supplies
 abbrev pub left_in : own.Execution → Left
 left_in x = record { execution = execution_of x; supplies = supplies_of x }
 
--- the seat before a micro-step: one micro-step less is done, and none has faulted
+-- the seat before a micro-step: one fewer is done, there is no fault, and the view is as it was
 abbrev pub seat_before : Mark → Option Seat → Seat
 seat_before mark (Some (seat.Runs l x)) = seat.Runs l (record x { done = x.done - 1; fault = None; view = put_back mark x.view })
 seat_before mark (Some seat.Idle) = seat.Idle

@@ -1,4 +1,4 @@
--- What contracts see of the vertices, and what is kept beside, which follows from it.
+-- What contracts see of the vertices, and what is kept besides, which follows from it.
 use Rattle.std.specs.Prelude.{◌≡◌, ℕ, ◌<◌, Bool, true, false, ◌||◌, ◌&&◌, not, List, length, replicate, Option, Some, None, is_some, slice_get, slice_set}
 use Rattle.llb_loader.specs.Graph.{IsGraph}
 use Rattle.llb_loader.specs.declared.graph.Vertex.{Vertex}
@@ -17,24 +17,24 @@ pub record VerticesValue : Type 0 where
   pub build : Build
   pub statuses : List Status
 
--- every vertex waits
+-- the value in which every vertex waits
 abbrev pub all_waiting : Build → VerticesValue
 all_waiting b = record { build = b; statuses = replicate (length b.graph.vertices) Waiting }
 
--- a vertex has another status
+-- the value in which vertex v has another status
 abbrev pub with_status : ℕ → Status → VerticesValue → VerticesValue
 with_status v s vs = record vs { statuses = slice_set vs.statuses v s }
 
--- the status of a vertex
+-- the status that a stage represents
 abbrev pub status_of : Stage → Status
 status_of stage.Waiting = Waiting
 status_of (stage.Running w) = Running w
 status_of (stage.Done trees) = Settled (Done trees)
 status_of (stage.Failed f) = Settled (Failed f)
 
--- ---- what is kept beside
+-- ---- what is kept besides
 
--- if a vertex is done, it has as many trees as outputs
+-- a vertex that is done has as many trees as outputs
 abbrev pub IsWhole : Option Vertex → Status → Type 0
 IsWhole (Some x) (Settled (Done trees)) = length trees ≡ x.outputs
 IsWhole (Some x) (Settled (Failed f)) = Unit {0}
@@ -46,27 +46,27 @@ IsWhole None s = Unit {0}
 abbrev pub done_in : List Status → ℕ → Bool
 done_in statuses u = is_done (ending_at statuses u)
 
--- whether a vertex is settled, or blocked and not Ready: it is not to be claimed
+-- whether a vertex can't be claimed now or later: it is settled, or blocked and not Ready
 abbrev pub is_over : Build → List Status → ℕ → Bool
 is_over b statuses v = is_settled (slice_get statuses v) || (is_blocked b statuses v && not (is_ready b statuses v))
 
--- each vertex below a number is over: none of them is to be claimed
+-- no vertex with a number below n can be claimed now or later
 abbrev pub AreOver : Build → List Status → ℕ → Type 0
 AreOver b statuses n = (v : ℕ) → v < n → is_over b statuses v ≡ true
 
--- a vertex's count is 0 exactly if the trees of all its inputs are there
+-- the count of open inputs of a vertex is 0 exactly if the trees of all its inputs are there
 abbrev pub TellsInputs : Build → List Status → Linked → Type 0
 TellsInputs b statuses l = (v : ℕ) (x : Vertex) → slice_get b.graph.vertices v ≡ Some x → has_inputs l v ≡ is_some (inputs_from (ending_at statuses) x.inputs)
 
--- the users of a vertex have one open input less if it is done now and was not, one more if it was, and else as many
+-- each user of a vertex has one open input fewer if the vertex is done now and was not, one more if it was done and is not, else as many as before
 abbrev pub AreCounted : (was_done is_done : Bool) → List ℕ → List ℕ → List ℕ → Type 0
 AreCounted false true users old new = AreLowered users old new
 AreCounted true false users old new = AreRaised users old new
 AreCounted false false users old new = new ≡ old
 AreCounted true true users old new = new ≡ old
 
--- All else follows from the build and the statuses: there is a status for each vertex, and what is done is whole; marked is what has failed or is downstream
--- of what has; the links count the inputs that are not done; and each vertex below `first_open` is over.
+-- Everything kept besides follows from the build and the statuses: a vertex is marked if it has failed or is downstream of one that has; the links count the
+-- inputs that are not done; no vertex below `first_open` can be claimed. There is a status for each vertex, and what is done has all its outputs.
 pub record IsInStep (b : Build) (statuses : List Status) (stop_marks : List Bool) (links : Linked) (first_open : ℕ) : Type 0 where
   pub graph : IsGraph b.graph
   pub count : length statuses ≡ length b.graph.vertices

@@ -1,26 +1,26 @@
--- What a worker's data represents, in the words of the machine's definitions.
+-- What a worker's data in the code represents in the model.
 use Rattle.std.specs.Prelude.{ℕ, Option, Some, None}
 use Rattle.llb_model.specs.State as model
 use Rattle.llb_board.specs.declared.workers.seat.Seat.{Seat}
 use Rattle.llb_board.specs.declared.workers.seat.Seat.TheVariants as seat
 use Rattle.llb_board.specs.declared.workers.seat.Execution.{Execution}
 
--- an execution as the model's
+-- an execution of the code as one of the model
 abbrev pub execution_of : Execution → model.Execution
 execution_of x = record { vertex = x.vertex; done = x.done; fault = x.fault; own = x.view; places = x.places.items }
 
--- what a worker does
+-- what a worker with this seat does
 abbrev pub at_of : Seat → model.WorkerStatus
 at_of seat.Idle = model.Idle
 at_of (seat.Runs l x) = model.Runs (execution_of x)
 
--- a worker runs a vertex
+-- the worker with this seat runs a vertex
 abbrev pub IsRunning : Option Seat → Type 0
 IsRunning (Some (seat.Runs l x)) = Unit {0}
 IsRunning (Some seat.Idle) = ⊥
 IsRunning None = ⊥
 
--- the lease of a worker's instances
+-- the number of the lease of a worker's instances, if it has one
 abbrev pub leased_by : Seat → Option ℕ
 leased_by seat.Idle = None
 leased_by (seat.Runs l x) = l

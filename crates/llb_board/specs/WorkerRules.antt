@@ -1,4 +1,4 @@
--- What a claim begins, a micro-step leaves, and a worker leaves or gives up; or the first cause of a refusal as a fault.
+-- The results for the workers of a claim, a step, a settle and a cancel; or the first cause of a refusal as a fault.
 use Rattle.std.specs.Prelude.{ℕ, List, Option, Some, None, Result, Ok, Err, if◌then◌else◌}
 use Rattle.llb_loader.specs.declared.graph.Vertex.{Vertex}
 use Rattle.llb_tree.specs.Tree.{TreeMap}
@@ -20,7 +20,7 @@ use Rattle.llb_events.specs.declared.refusal.SettleFault.TheVariants as settle
 use Rattle.llb_events.specs.declared.refusal.CancelFault.{CancelFault}
 use Rattle.llb_events.specs.declared.refusal.CancelFault.TheVariants as cancel
 
--- ---- the result of a claim, and what it begins
+-- ---- the result of a claim
 
 -- what a claim begins: the worker's execution, the reply, and what is to be leased
 pub record Begun : Type 0 where
@@ -28,7 +28,7 @@ pub record Begun : Type 0 where
   pub reply : Reply
   pub needs : List cache_need.Need
 
--- what a claim begins, with these trees of the inputs and these instances
+-- the result of a claim with these trees of the inputs and these instances
 abbrev pub begun_at : Build → CachesValue → ℕ → ℕ → Vertex → List TreeMap → List Instance → Begun
 begun_at b c w v vertex trees ps = record {
   execution = execution_on v (begin_at b (store_of c.rows) (start_with vertex trees) ps) ps;
@@ -36,56 +36,56 @@ begun_at b c w v vertex trees ps = record {
   needs = asked trees (needs_of vertex);
 }
 
--- what a claim begins with, or that an input tree is not there
+-- the result of a claim, or the refusal that an input tree is missing
 abbrev pub begun : Build → CachesValue → ℕ → ℕ → Vertex → Option (List TreeMap) → Result Begun ClaimFault
 begun b c w v vertex (Some trees) = Ok (begun_at b c w v vertex trees (places_taken c.out (needs_of vertex)))
 begun b c w v vertex None = Err claim.NotReady
 
--- ---- the result of a step, and what its micro-step leaves
+-- ---- the result of a step
 
--- what a micro-step leaves: the execution, the trees of its instances, and the reply
+-- the result of a micro-step: the execution, the trees of its instances, and the reply
 pub record Worked : Type 0 where
   pub execution : Execution
   pub trees : List TreeMap
   pub reply : Reply
 
--- an execution after a micro-step that left this, with the trees of its instances and the reply
+-- the result of micro-step m, by what it left
 abbrev pub worked_to : Execution → MicroStep → Left → Worked
 worked_to x m left = record { execution = with_step x left; trees = left.work.trees; reply = step_reply x.done m x.own left }
 
--- an execution after a micro-step on the trees of its instances, or that nothing is left to do
+-- the result of the next micro-step on these trees of the instances, or the refusal that there is none
 abbrev pub worked_by : Execution → List TreeMap → Option MicroStep → Result Worked StepFault
 worked_by x trees None = Err step.NothingLeft
 worked_by x trees (Some m) = Ok (worked_to x m (step_on x.done (Some m) (work_with x.own trees)))
 
--- the next micro-step of an execution, whose instances have these trees
+-- the result of the next micro-step of an execution whose instances have these trees
 abbrev pub worked : List MicroStep → Execution → List TreeMap → Result Worked StepFault
 worked steps x trees = worked_by x trees (next_step steps x)
 
--- a micro-step over the lists of instances: what it leaves of them, and the rest
+-- the result of a micro-step with the rows of the caches after it
 abbrev pub Written : Type 0
 Written = Execution × List Row × Reply
 
--- the result of a micro-step, with its trees written to the rows of the caches
+-- the result of a micro-step with its trees written to the rows
 abbrev pub written_by : List Row → List Instance → Result Worked StepFault → Result Written StepFault
 written_by rows ps (Ok w) = Ok (w.execution, put_each rows ps w.trees, w.reply)
 written_by rows ps (Err e) = Err e
 
--- the next micro-step of an execution on its instances as they are in the rows, which it writes
+-- the result of the next micro-step of an execution on its instances as they are in the rows
 abbrev pub worked_in : Build → List Row → Execution → Result Written StepFault
 worked_in b rows x = written_by rows x.places (worked (program_in b x).steps x (trees_at (store_of rows) x.places))
 
--- ---- the result of a settle, and what it leaves
+-- ---- the result of a settle
 
--- the vertex that a worker leaves, and its status then
+-- the vertex of the worker that settles, and the status of the vertex after it
 abbrev pub left_at : Build → Option WorkerStatus → Result (ℕ × Status) SettleFault
 left_at b None = Err settle.NoWorker
 left_at b (Some Idle) = Err settle.NotRunning
 left_at b (Some (Runs x)) = if is_finished (program_in b x).steps x then Ok (x.vertex, Settled (ending_from (program_in b x) x)) else Err settle.NotFinished
 
--- ---- the result of a cancel, and what it leaves
+-- ---- the result of a cancel
 
--- the vertex that a worker gives up, and how many of its micro-steps were done
+-- the vertex of the worker that cancels, and how many of its micro-steps were done
 abbrev pub given_up_at : Option WorkerStatus → Result (ℕ × ℕ) CancelFault
 given_up_at None = Err cancel.NoWorker
 given_up_at (Some Idle) = Err cancel.NotRunning

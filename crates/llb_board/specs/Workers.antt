@@ -1,4 +1,4 @@
--- What the workers do, and what contracts see of them.
+-- The workers, as contracts see them, and what holds of them.
 use Rattle.std.specs.Prelude.{◌≡◌, ℕ, ◌+◌, ◌<◌, ◌≤◌, List, map, length, Option, Some, None, slice_get, slice_set, Result, Ok, Err}
 use Rattle.llb_cache.specs.declared.need.Need as cache_need
 use Rattle.llb_cache.specs.Caches.{Row, Leases}
@@ -17,13 +17,13 @@ use Rattle.llb_board.specs.Supplies.{Supplies, supplies_for, needed}
 use Rattle.llb_board.specs.WorkerRules.{Begun}
 use Rattle.llb_board.specs.Vertices.{VerticesValue}
 
--- what contracts see of the workers: what each does, the lists of cache instances, and what each is supplied with
+-- what contracts see of the workers: what each does, the rows of the caches, and the supplies of each
 pub record WorkersValue : Type 0 where
   pub workers : List WorkerStatus
   pub rows : List Row
   pub supplies : List Supplies
 
--- 1 to 64 workers, and each that runs with instances has a lease of its own of them
+-- there are 1 to 64 workers, and each one that runs with instances has a lease of exactly these
 pub record IsCrew (workers : List WorkerStatus) (out : Leases) (leases : List (Option ℕ)) : Type 0 where
   pub some : 0 < length workers
   pub few : length workers ≤ 64
@@ -33,43 +33,43 @@ pub record IsCrew (workers : List WorkerStatus) (out : Leases) (leases : List (O
 abbrev pub Fits : Build → WorkersValue → Type 0
 Fits b ws = ws.supplies ≡ map (needed b) ws.workers
 
--- the machine's state
+-- the machine's state, by the values of the vertices and the workers
 abbrev pub state_in : VerticesValue → WorkersValue → State
 state_in vs ws = record { statuses = vs.statuses; workers = ws.workers; store = store_of ws.rows }
 
--- the table's answer to a claim of vertex v by worker w on this state
+-- the table's result of a claim of vertex v by worker w on this state
 abbrev pub claim_in : VerticesValue → WorkersValue → ℕ → ℕ → Result (State × Reply) ClaimFault
 claim_in vs ws w v = (claim_grant vs.build (state_in vs ws) w v)
 
--- the table's answer to a step of worker w on this state
+-- the table's result of a step of worker w on this state
 abbrev pub step_in : VerticesValue → WorkersValue → ℕ → Result (State × Reply) StepFault
 step_in vs ws w = (step_grant vs.build (state_in vs ws) w)
 
--- the reply alone
+-- the reply of a result, without the state
 abbrev pub reply_of : {S E : Type 0} → Result (S × Reply) E → Result Reply E
 reply_of (Ok p) = Ok p.1
 reply_of (Err e) = Err e
 
--- a worker's job, which it has left to do
+-- this job is what remains for worker w
 pub record RunsJob (vs : VerticesValue) (ws : WorkersValue) (w : ℕ) (job : Job) : Type 0 where
   pub x : Execution
   pub runs : slice_get ws.workers w ≡ Some (Runs x)
   pub own : IsRunOf vs.build (store_of ws.rows) w x job
 
--- the worker after the micro-steps of an outcome
+-- what the worker does after the micro-steps of an outcome
 abbrev pub steps_left : OutcomeValue → Option WorkerStatus → WorkerStatus
 steps_left o (Some (Runs x)) = Runs (record x { done = x.done + o.count; fault = o.left.fault; own = o.left.work.own })
 steps_left o (Some Idle) = Idle
 steps_left o None = Idle
 
--- what is begun: the job, the worker's execution with its supplies, and what is to be leased
+-- what a claim prepares: the job, the worker's execution with its supplies, and the needs to be leased
 pub record BegunValue : Type 0 where
   pub job : Job
   pub execution : Execution
   pub supplies : Supplies
   pub needs : List cache_need.Need
 
--- worker w's claim of vertex v was begun on this state: the table grants the claim, and what is begun is the table's
+-- a claim of vertex v by worker w was prepared on this state: the table grants it, and what is prepared is what the table says
 pub record IsBegunAt (vs : VerticesValue) (ws : WorkersValue) (w v : ℕ) (b : BegunValue) : Type 0 where
   pub vertex : Vertex
   pub inputs : List TreeMap
@@ -88,10 +88,10 @@ pub record IsBegunAt (vs : VerticesValue) (ws : WorkersValue) (w v : ℕ) (b : B
   pub supplied : b.supplies ≡ supplies_for (Some vertex)
   pub asks : b.needs ≡ asked inputs (needs_of vertex)
 
--- the claim of a job was begun on this state
+-- the claim of this job was prepared on this state
 abbrev pub IsBegunOn : VerticesValue → WorkersValue → BegunValue → Type 0
 IsBegunOn vs ws b = IsBegunAt vs ws b.job.worker b.job.vertex b
 
--- what is begun, without the supplies
+-- what is prepared, as the result of the rule
 abbrev pub rule_of : BegunValue → Begun
 rule_of b = record { execution = b.execution; reply = Claimed b.job; needs = b.needs }

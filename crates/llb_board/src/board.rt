@@ -1,6 +1,6 @@
-//! The board: what is known of the vertices, what the workers do, and the record of events since it was opened. Its invariant: the record is
+//! The board: the vertices, the workers, and the record of events since it was opened. Its invariant: the record is
 //! a run of the table to the board's state, it has room for every event to come but those of a vertex that is claimed again after a cancel,
-//! and each worker has the supplies of its vertex. What its vertices and its workers keep is theirs.
+//! and each worker has the supplies that its vertex needs. The invariants of vertices and workers are in their own modules.
 
 ghost use Rattle.std.specs.Prelude.{◌≡◌, ◌<◌, ◌≤◌, ◌+◌, [], length, replicate, true, is_some, option_map, Some, OnErr, IfErr, IfOk, if◌then◌else◌};
 ghost use Rattle.llb_events.specs.declared.event.Settled.TheVariants as ended;
@@ -52,7 +52,7 @@ use std::alloc::Global;
 use std::marker::Model;
 pub use walk::{Reply, Walked};
 
-/// A graph that workers work on, with its local trees and caches, and the record of what was done.
+/// A graph that workers work on, with its local trees and caches, and the record of the events so far.
 pub struct Board {
     alloc: Global,
     vertices: Vertices,
@@ -62,7 +62,7 @@ pub struct Board {
     history: History,
 }
 
-// It is written out so that the crates above drop one by this one function.
+// Written by hand, so that it is proved once; a derived one is proved again in every function that drops such a value.
 impl Drop for Board {
     fn drop(self) {
         let Board {
@@ -93,8 +93,8 @@ impl Model for Board {
 
 impl Board {
     /// Opens a board on which nothing has happened. Fails, in this order, with 121 `MissingLocal` and the name of the first local source, by
-    /// vertex, that has no tree, with 122 `Workers` where the number of workers is 0 or more than 64, and with 123 `Memory`. The fault holds
-    /// the graph, the local trees and the caches. No lease of the caches may be out.
+    /// vertex, that has no tree, with 122 `Workers` if the number of workers is 0 or more than 64, and with 123 `Memory`. The fault holds
+    /// the graph, the local trees and the caches. No lease of the caches may be current.
     pub fn open(
         alloc: Global,
         graph: Graph,
@@ -165,8 +165,8 @@ impl Board {
         }
     }
 
-    /// Makes an idle worker claim a vertex that waits and has all its inputs, with an instance of each cache that the vertex shows. Fails with
-    /// 131 `NoWorker`, 132 `Busy`, 133 `NoVertex`, 134 `NotReady`, 135 `Held` and the first locked key that a running worker has, or 141 `Memory`.
+    /// Makes an idle worker claim a vertex that waits and has all its inputs, with an instance of each cache that the vertex mounts. Fails with
+    /// 131 `NoWorker`, 132 `Busy`, 133 `NoVertex`, 134 `NotReady`, 135 `Held` and the first locked key whose instance a running worker has, or 141 `Memory`.
     /// If memory for that key's own text is refused, it fails with 141 in place of 135; want of any other memory is reported after 135. The
     /// claim of a vertex that was cancelled before reserves room for its events once more.
     pub fn claim(&mut self, w: u32, v: u32) -> Result<Job, ClaimFault>
@@ -199,7 +199,7 @@ impl Board {
         Ok(stepped)
     }
 
-    /// Makes a worker leave what it runs, which is finished; its cache instances are free again. Fails with 131 `NoWorker`, 136 `NotRunning` or
+    /// Settles the vertex that a worker runs, which is finished; its cache instances are free again. Fails with 131 `NoWorker`, 136 `NotRunning` or
     /// 138 `NotFinished`. Does not allocate.
     pub fn settle(&mut self, w: u32) -> Result<Settled, SettleFault>
         ensures gives { GivesSettle (λ r. (self.new, HasSettled r)) result (settle_of self.old w) }
@@ -212,7 +212,7 @@ impl Board {
         Ok(settled(v, failed))
     }
 
-    /// Makes a worker give up what it runs, finished or not. Its vertex waits again, its cache instances are free, and they keep what
+    /// Cancels what a worker runs, finished or not. Its vertex waits again, its cache instances are free, and they keep what
     /// its micro-steps have written. Fails with 131 `NoWorker` or 136 `NotRunning`. Does not allocate.
     pub fn cancel(&mut self, w: u32) -> Result<Cancelled, CancelFault>
         ensures gives { GivesCancel (λ r. (self.new, HasCancelled r)) result (cancel_of self.old w) }
@@ -246,7 +246,7 @@ impl Board {
     }
 
     /// Returns tree i of those that a worker works on now: the local tree of a source; the inputs of a file op, then its results so far; the
-    /// inputs of a merge, then what is laid so far; the tree of each mount of an exec, that of a cache's instance as it is now. `None` where
+    /// inputs of a merge, then what is laid so far; the tree of each mount of an exec, that of a cache's instance as it is now. `None` if
     /// the worker is idle, or there is no such worker or tree. Does not allocate.
     pub fn worked_on(&self, w: u32, i: u32) -> Option<&Tree>
         ensures { option_map (λ t. t.now) result ≡ worked_on self.now.state w i }
@@ -254,7 +254,7 @@ impl Board {
         self.workers.worked_on(w, i)
     }
 
-    /// Returns output i of a vertex that is done; `None` where there is no such vertex or output. Does not allocate.
+    /// Returns output i of a vertex that is done; `None` if there is no such vertex or output. Does not allocate.
     pub fn output(&self, v: u32, i: u32) -> Option<&Tree>
         ensures { option_map (λ t. t.now) result ≡ output_in (ending_at self.now.state.statuses v) i }
     {
@@ -279,7 +279,7 @@ impl Board {
         self.history.events()
     }
 
-    /// Returns the event that a driver chooses; `None` where the board is complete. Does not allocate.
+    /// Returns the chosen event; `None` if the board is complete. Does not allocate.
     pub fn chosen(&self) -> Option<Event>
         ensures { result ≡ chosen self.now.build self.now.state }
     {
@@ -292,7 +292,7 @@ impl Board {
         }
     }
 
-    /// Returns whether nothing runs any more and every vertex is done, failed or blocked. Does not allocate.
+    /// Returns whether every vertex is done, failed or blocked, so that nothing runs. Does not allocate.
     pub fn is_complete(&self) -> bool
         ensures { result ≡ is_complete self.now.build self.now.state }
     {
@@ -300,7 +300,7 @@ impl Board {
     }
 
     /// Returns the caches as they are now: each key with its instances, first the keys that were handed in, then the others in the order of
-    /// their first claims. The leases that are out have the instances of the running workers. Does not allocate.
+    /// their first claims. The current leases have the instances of the running workers. Does not allocate.
     pub fn caches(&self) -> &Caches
         ensures rows { result.now.rows ≡ self.now.rows }
         ensures contents { store_of result.now.rows ≡ self.now.state.store }
@@ -309,7 +309,7 @@ impl Board {
         self.workers.caches()
     }
 
-    /// Returns the tree of instance i of key k as it is now, the keys numbered in the order of the rows of `caches`; `None` where there is no
+    /// Returns the tree of instance i of key k as it is now; keys are numbered in the order of the rows of `caches`. Returns `None` if there is no
     /// such key or instance. Does not allocate.
     pub fn cached(&self, k: u32, i: u32) -> Option<&Tree>
         ensures { option_map (λ t. t.now) result ≡ cached_at self.now.rows self.now.state.store k i }
@@ -321,7 +321,7 @@ impl Board {
         }
     }
 
-    /// Returns the graph, the local trees and the caches as they are now, with no lease out. Does not allocate.
+    /// Returns the graph, the local trees and the caches as they are now, without leases. Does not allocate.
     pub fn into_parts(self) -> (Graph, Locals, Caches)
         ensures graph { result.0 ≡ self.build.graph }
         ensures locals { result.1 ≡ self.build.locals }
@@ -355,8 +355,8 @@ impl Board {
         let _ = self.workers.look(&self.vertices, 0);
     }
 
-    /// Recalls that the record is a run of the table from the opening state to the board's state, and the lists of instances are what this run
-    /// leaves of those that were handed in: two boards with one opening and one record are the same. So granted events lead to the
+    /// Recalls that the record is a run of the table from the opening state to the board's state, and that this run changes the lists of instances that
+    /// were handed in to those of the board: two boards with the same opening and the same record are the same. So granted events lead to the
     /// board's state.
     pub fn replays(&self)
         ensures run { Replays self.now }
@@ -391,7 +391,7 @@ fn missing(alloc: Global, graph: &Graph, locals: &Locals) -> Result<Option<Text>
     }
 }
 
-// Returns a copy of the caches, and a record without events that has room for every event, if no vertex is cancelled.
+// Returns a copy of the caches, and an empty record that has room for every event if no vertex is cancelled.
 fn fresh(alloc: Global, vertices: &Vertices, caches: &Caches) -> Result<(Caches, History), Memory>
     ensures start { IfOk result (λ r. r.0 ≡ caches.now) }
     ensures events { IfOk result (λ r. r.1.list ≡ []) }

@@ -1,5 +1,5 @@
-//! Why a call on a board is refused, where it is no single event: an opening, a landing, an event of a walk, or refused memory. A fault prints
-//! its number, and after it the name of a missing tree. What a refused call gives back is in its fault.
+//! Why a call on a board is refused, other than the single events: an opening, a landing, an event of a walk, or refused memory. A fault prints
+//! its number, and after it the name of a missing tree. Whatever a refused call returns to its caller is in its fault.
 
 ghost use Rattle.std.specs.Prelude.{Some};
 ghost use Rattle.llb_board.specs.Faults.{walk_text};
@@ -45,7 +45,7 @@ impl fmt::Debug for LandFault {
 /// Why a graph is not opened. The graph, the local trees and the caches are in the fault.
 #[derive(Drop, Error)]
 pub enum OpenFault {
-    /// 121: no tree is given for a local source, the least vertex's of those; its name.
+    /// 121: no tree is given for a local source; its name (the least such vertex's).
     #[error("121 {0}")]
     MissingLocal(Text, Graph, Locals, Caches),
     /// 122: the number of workers is 0 or more than 64.
@@ -133,7 +133,7 @@ impl From<llb_loader::Memory> for Memory {
     }
 }
 
-/// Converts the fault of a copy of where commands run.
+/// Converts the fault of a copy of the directory and variables with which commands run.
 impl From<llb_applet::Memory> for Memory {
     fn from(_: llb_applet::Memory) -> Memory {
         Memory
@@ -151,7 +151,7 @@ impl From<Memory> for WalkFault {
     }
 }
 
-/// Converts the fault of a mark of a view.
+/// Converts the fault of keeping the parts of a view that a step can change.
 impl From<llb_wire::Memory> for WalkFault {
     ghost use Rattle.std.specs.Prelude.{◌≡◌};
     ghost use Rattle.llb_board.specs.declared.fault.WalkFault.TheVariants as walk;

@@ -19,7 +19,7 @@ pub(crate) struct History {
     cancels: Vec<usize>,
 }
 
-// It is written out so that the crates above drop one by this one function.
+// Written by hand, so that it is proved once; a derived one is proved again in every function that drops such a value.
 impl Drop for History {
     fn drop(self) {
         let History {
@@ -107,7 +107,7 @@ impl History {
         }
     }
 
-    // Counts one cancel of a vertex less.
+    // Lowers the count of a vertex's cancels by one.
     fn uncount(&mut self, v: u32)
         ensures list { self.new.list ≡ self.old.list }
         ensures space { self.new.space ≡ uncancelled v self.old.space }

@@ -40,7 +40,7 @@ pub fn settled_are_plain(board: &Board)
     board.replays();
 }
 
-/// Proves that on a complete board of a graph without cache mounts every vertex is as its plain outcome says: ended with it, or Blocked.
+/// Proves that on a complete board of a graph without cache mounts every vertex is as its plain outcome says: it has ended like it, or is Blocked.
 pub fn complete_is_plain(board: &Board)
     ensures { machine.HasNoCaches board.now.build → is_complete board.now.build board.now.state ≡ true → (v : ℕ) → v < length board.now.build.graph.vertices
         → StandsPlainly (slice_get board.now.state.statuses v) (outcome board.now.build v) }
@@ -64,8 +64,8 @@ pub fn chosen_is_granted(board: &Board)
     board.has_workers();
 }
 
-/// Proves that a granted event leaves what the workers other than its own do as it is. From a worker's claim to its settle or cancel, other
-/// workers' events leave the cache instances that it holds exclusively, and whatever trees these instances had, such an event would have
+/// Proves that a granted event leaves what all other workers do as it is. From a worker's claim to its settle or cancel, other
+/// workers' events do not change the cache instances that it holds exclusively, and whatever trees these instances had, such an event would have
 /// the same reply, and the same effect elsewhere.
 pub fn others_keep(board: &Board)
     ensures workers { OthersKeep board.now }
@@ -83,21 +83,21 @@ pub fn held_once(board: &Board)
     let _ = board;
 }
 
-/// Proves that the instances that a running worker has differ, and each has a tree.
+/// Proves that the instances that a running worker has are distinct, and that each has a tree.
 pub fn held_are_there(board: &Board)
     ensures { machine.HeldAreThere board.now.build }
 {
     board.is_graph();
 }
 
-/// Proves that a claim takes the least instance of a private key that no running worker has.
+/// Proves that for a private key a claim takes the instance with the least number that no running worker has.
 pub fn claims_least(board: &Board)
     ensures { machine.ClaimsLeast board.now.build }
 {
     let _ = board;
 }
 
-/// Proves that the instances of a key are a list, in which no number is missing: on this board, and after any events where none is missing
+/// Proves that the instances of a key are numbered from 0 without gaps: on this board, and after any events if there are no gaps
 /// at first.
 pub fn stays_dense(board: &Board)
     ensures here { machine.IsDense board.now.state.store }
@@ -106,9 +106,9 @@ pub fn stays_dense(board: &Board)
     let _ = board.caches();
 }
 
-/// Proves that where no cache is shared, after any list of granted events, the settled vertices and the free cache instances are as if each
-/// claimed vertex had been run at its claim, in the order of the claims: whole, or as far as it had been run when it was cancelled.
-/// They are so on this board, in the order of the claims of its record.
+/// Proves that if no cache is shared, after any list of granted events, the settled vertices and the free cache instances are as if each
+/// claimed vertex had been run at its claim, in the order of the claims: whole, or up to the micro-step at which it was cancelled.
+/// The same holds for this board, in the order of the claims of its record.
 pub fn runs_in_claim_order(board: &Board)
     ensures after { machine.NoShared board.now.build → machine.RunsInClaimOrder board.now.build }
     ensures here { machine.NoShared board.now.build → StandsInClaimOrder board.now }
@@ -117,7 +117,7 @@ pub fn runs_in_claim_order(board: &Board)
     board.replays();
 }
 
-/// Proves that one driver that does the chosen events leaves all vertices and all cache instances so, shared ones included.
+/// Proves that chosen events, from an opening on, leave vertices and cache instances as their claim order says (`runs_in_claim_order`), shared caches included.
 pub fn alone_in_claim_order(board: &Board)
     ensures { machine.AloneInClaimOrder board.now.build }
 {
@@ -179,8 +179,8 @@ pub fn outcome_by_inputs(board: &Board)
     board.is_graph();
 }
 
-/// Proves that a worker that has done no micro-step of a vertex with no cache mount at or before it has what the build and the vertex alone
-/// determine, whatever was done before; a claim of the vertex hands out just that job. So its outcome lands, and no tree has to be compared.
+/// Proves that a worker that has done no micro-step of a vertex with no cache mount at or before it has just the work that the build and the vertex
+/// determine; a claim of the vertex hands out just that job. So its outcome lands, and no tree has to be compared.
 pub fn begun_are_plain(board: &Board)
     ensures begun { BegunArePlain board.now }
     ensures claims { ClaimsArePlain board.now }

@@ -5,8 +5,8 @@
 //! (121 to 123), `LandFault` (131, 136, 139, 140), `WalkFault` and `Memory` (141).
 //! Promise: `laws::headline`: at every moment, for any workers and any order of events, the record is a run of the table to the board's state;
 //! no two workers have one locked cache; a settled vertex with no cache mount at or before it has its plain outcome. `Board::claim` (`gives`,
-//! `last`, `err`) and its kin are granted exactly where the table grants, and return its reply. `Board::land` (`gives`, `refused`, `err`) does
-//! what the worker has left and its settle, at once.
+//! `last`, `err`), `step`, `settle` and `cancel` are granted exactly if the table grants the event, and return its reply. `Board::land` (`gives`, `refused`,
+//! `err`) does all remaining micro-steps of a worker and its settle, at once.
 //!
 //! A caller:
 //!

@@ -22,7 +22,7 @@ pub(crate) struct Links {
     reached: Vec<u32>,
 }
 
-// Written out, so that what owns one drops it by this one function.
+// Written by hand, so that it is proved once; a derived one is proved again in every function that drops such a value.
 impl Drop for Links {
     fn drop(self) {
         let Links {
@@ -129,7 +129,7 @@ impl Links {
         raise(counts, &users[v as usize]);
     }
 
-    /// Marks a vertex and everything downstream of it, each once: all that have an edge to a marked one. Does not allocate.
+    /// Marks a vertex and everything downstream of it, each once. Does not allocate.
     pub(crate) fn spread(&mut self, marks: &mut [bool], v: u32)
         requires count { (length self.old.users ≡ length marks.old) × (length self.old.counts ≡ length marks.old) }
         requires low { v < length marks.old }

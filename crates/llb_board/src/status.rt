@@ -1,17 +1,17 @@
-//! How a vertex and a worker look from outside.
+//! The statuses of vertices and workers, as callers see them.
 
 use llb_events::VertexFault;
 
-/// How a vertex looks.
+/// The status of a vertex, as callers see it.
 #[derive(Clone, Copy, Debug, PartialEq, Eq)]
 pub enum Status {
     /// An input is not done yet.
     Waiting,
     /// All inputs are done.
     Ready,
-    /// It waits after a vertex that has failed.
+    /// It waits downstream of a vertex that has failed.
     Blocked,
-    /// By the worker of that number.
+    /// The worker of this number runs it.
     Running(u32),
     /// It ended with its outputs.
     Done,
@@ -19,11 +19,11 @@ pub enum Status {
     Failed(VertexFault),
 }
 
-/// How a worker looks.
+/// The status of a worker, as callers see it.
 #[derive(Clone, Copy, Debug, PartialEq, Eq)]
 pub enum WorkerStatus {
     /// It runs no vertex.
     Idle,
-    /// The vertex, the micro-steps done, and whether it is finished.
+    /// It runs this vertex; so many micro-steps are done; and whether it is finished.
     Runs(u32, u32, bool),
 }

@@ -1,5 +1,5 @@
-//! What is known of the vertices: the graph with its local trees, the state of each vertex, and what follows from these, kept so that no
-//! call begins anew: which vertices are stopped, how many inputs of each are open, and where the search for a Ready vertex begins.
+//! The vertices: the graph with its local trees, the state of each vertex, and what follows from these, kept so that no call
+//! computes it again: which vertices have failed or are downstream of one that has, the open inputs of each, and where the search for a Ready one begins.
 
 ghost use Rattle.std.specs.Prelude.{◌≡◌, ◌<◌, ◌^◌, ◌||◌, IfOk, IfErr, length, option_map, replicate, slice_get, false, is_ok, true, Some, Err};
 ghost use Rattle.std.specs.Prelude.{MatchResult, map, ℕ, ◌+◌, All, get_or};
@@ -43,11 +43,11 @@ pub(crate) struct Vertices {
     /// Which vertices have failed, or are downstream of one that has.
     stop_marks: Vec<bool>,
     links: Links,
-    /// No vertex below this is Ready, runs, or can become Ready before another state of it or of one below it is set.
+    /// No vertex with a lower number is Ready or runs, or can become Ready before its own state or that of a lower one is changed.
     first_open: u32,
 }
 
-// Written out, so that what owns one drops it by this one function.
+// Written by hand, so that it is proved once; a derived one is proved again in every function that drops such a value.
 impl Drop for Vertices {
     fn drop(self) {
         let Vertices {
@@ -128,7 +128,7 @@ impl Vertices {
         self.build.steps(v)
     }
 
-    /// Returns how a vertex looks; `None` past the last vertex. Does not allocate.
+    /// Returns the status of a vertex as callers see it; `None` past the last vertex. Does not allocate.
     pub(crate) fn status(&self, v: u32) -> Option<Status>
         ensures { result ≡ look_in self.now.build self.now.statuses v }
     {
@@ -215,7 +215,7 @@ impl Vertices {
         })
     }
 
-    /// Returns the vertex of a number; `None` past the last vertex.
+    /// Returns the vertex with a number; `None` past the last vertex.
     pub(crate) fn vertex(&self, v: u32) -> Option<&Vertex>
         ensures there { option_map (λ x. x.now) result ≡ slice_get self.now.build.graph.vertices v }
         ensures few { length (program_at (slice_get self.now.build.graph.vertices v)).steps < 2 ^ 25 }
@@ -250,7 +250,7 @@ impl Vertices {
         Ok(vertex)
     }
 
-    // Copies the trees of a vertex's inputs. Fails with 134 `NotReady` if one is not there, with 141 `Memory`.
+    // Copies the trees of a vertex's inputs. Fails with 134 `NotReady` if one is missing, with 141 `Memory`.
     pub(crate) fn inputs(&self, alloc: Global, vertex: &Vertex) -> Result<Vec<Tree>, ClaimFault>
         ensures { GivesClaim (λ trees. trees.items) result (or_not_ready (inputs_from (ending_at self.now.statuses) vertex.now.inputs)) }
     {
@@ -277,7 +277,7 @@ impl Same for Vertices {
     }
 }
 
-// Returns what is kept beside a build of which every vertex waits: the states, the marks and the links.
+// Returns what is kept besides a build when every vertex waits: the states, the marks and the links.
 fn at_first(alloc: Global, build: &Build) -> Result<(Vec<Stage>, Vec<bool>, Links), AllocError>
     ensures stages { IfOk result (λ r. r.0.items ≡ replicate (length build.now.graph.vertices) stage.Waiting) }
     ensures marks { IfOk result (λ r. r.1.items ≡ replicate (length build.now.graph.vertices) false) }
@@ -321,7 +321,7 @@ fn output_at(stages: &[Stage], v: u32, i: u32) -> Option<&Tree>
     }
 }
 
-// Counts the open inputs of each user of a vertex anew, given whether the vertex was done and whether it is.
+// Updates the counts of open inputs of the users of a vertex, given whether the vertex was done and whether it is.
 fn count(links: &mut Links, v: u32, was_done: bool, is_done: bool)
     requires low { v < length links.old.users }
     requires below { All (λ x. x < length links.old.counts) (users_at links.old v) }

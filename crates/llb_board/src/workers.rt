@@ -1,5 +1,5 @@
 //! What the workers of a board do, on which cache instances, and the caches themselves. By the invariant of `Workers` there are 1 to 64
-//! workers, and each that runs with instances has a lease of its own of them.
+//! workers, and each that runs with instances has a lease of exactly these.
 
 ghost use Rattle.std.specs.Prelude.{◌≡◌, ◌↔◌, ◌<◌, ◌≤◌, [], IsTrue, length, option_map, replicate, slice_get, IfOk, IfErr};
 ghost use Rattle.llb_cache.specs.Caches.{leases};
@@ -41,7 +41,7 @@ pub(crate) struct Workers {
     caches: Caches,
 }
 
-// It is written out so that a board drops one by this one function.
+// Written by hand, so that it is proved once; a derived one is proved again in every function that drops such a value.
 impl Drop for Workers {
     fn drop(self) {
         let Workers {
@@ -69,7 +69,7 @@ impl Model for Workers {
 }
 
 impl Workers {
-    /// Makes idle workers, of a number from 1 to 64, on caches of which no lease is out. If memory is refused, returns
+    /// Makes idle workers, of a number from 1 to 64, on caches without current leases. If memory is refused, returns
     /// the caches.
     pub(crate) fn open(alloc: Global, caches: Caches, count: u32) -> Result<Workers, Caches>
         requires count { (0 < count) × (count ≤ 64) }
@@ -87,7 +87,7 @@ impl Workers {
         }
     }
 
-    /// Returns the caches; the leases that are out have the instances of the running workers. Does not allocate.
+    /// Returns the caches; the current leases have the instances of the running workers. Does not allocate.
     pub(crate) fn caches(&self) -> &Caches
         ensures rows { result.now.rows ≡ self.now.rows }
         ensures leased { HoldsAs result.now.out self.now.workers }
@@ -95,7 +95,7 @@ impl Workers {
         &self.caches
     }
 
-    /// Returns the caches as they are, with no lease out. Does not allocate.
+    /// Returns the caches as they are, without leases. Does not allocate.
     pub(crate) fn into_caches(self) -> Caches
         ensures rows { result.rows ≡ self.rows }
         ensures free { result.out ≡ [] }
@@ -106,7 +106,7 @@ impl Workers {
         caches
     }
 
-    /// Returns what a worker does; `None` past the last of the 1 to 64 workers. Does not allocate.
+    /// Returns the status of a worker; `None` past the last of the 1 to 64 workers. Does not allocate.
     pub(crate) fn look(&self, vertices: &Vertices, w: u32) -> Option<WorkerStatus>
         ensures looks { result ≡ option_map (look_of vertices.now.build) (slice_get self.now.workers w) }
         ensures some { 0 < length self.now.workers }
@@ -151,7 +151,7 @@ impl Workers {
         })
     }
 
-    /// Returns whether each worker does the same, by value, and the caches have the same trees. Does not allocate.
+    /// Returns whether all workers do the same in both, by value, and the caches have the same trees. Does not allocate.
     pub(crate) fn same(&self, other: &Workers) -> bool
         ensures { IsTrue result ↔ ((self.now.workers ≡ other.now.workers) × (self.now.rows ≡ other.now.rows)) }
     {

@@ -1,4 +1,4 @@
--- The row of a key: the first that has it, or none. What a write of a key's trees changes in either case.
+-- The first row of a key, if it has one, and what a write of a key's trees changes.
 use Rattle.std.proofs.Common.{◌≡◌, ℕ, zero, suc, ◌+◌, ◌<◌, Bool, true, false, cond, not, nat_lt, List, [], ◌∷◌, ◌++◌, length, Some, None, is_some}
 use Rattle.std.proofs.Common.{position, slice_get, unwrap_or, refl, sym, ap, ◌∙◌, subst, arith, inl, inr, ◌⊎◌, lt-ltb, le-ltb, true≢false}
 use Rattle.std.specs.List.{position_or_len}
@@ -27,7 +27,7 @@ pub keys_long : (es : List Row) → length (keys_of es) ≡ length es
 keys_long [] = refl
 keys_long (e ∷ es) = ap suc (keys_long es)
 
--- ---- the position of the key
+-- ---- the position of a key
 
 or_len_first : (k : Key) (es : List Row) (i : ℕ) → IsFirst k es i → position_or_len (same_key k) (keys_of es) ≡ i
 or_len_first k [] i h = absurd h

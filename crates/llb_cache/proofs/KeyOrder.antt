@@ -25,7 +25,7 @@ key_cmp-IsTotalOrder =
     then_total (then_total (on_total (λ (k : Key). k.id) nat_list_cmp_total) (on_total (λ (k : Key). mode_place k.mode) nat_cmp_total))
     (on_total (λ (k : Key). k.seed) (options_total seed_cmp-IsTotalOrder))
 
--- ---- only equal keys tie
+-- ---- only equal keys compare as equal
 
 both_equal : (a b : Ordering) → ordering_then a b ≡ Equal → (a ≡ Equal) × (b ≡ Equal)
 both_equal Equal b e = (refl, e)
@@ -44,7 +44,7 @@ seeds_same None (Some b) e = absurd (let x : Less ≡ Equal = e in cc)
 seeds_same (Some a) None e = absurd (let x : Greater ≡ Equal = e in cc)
 seeds_same (Some a) (Some b) e = ap (λ s. Some s) (seed_cmp-IsAntisymmetric a b e)
 
--- modes of one position are one
+-- modes at the same position are the same
 modes_same : (a b : Mode) → mode_place a ≡ mode_place b → a ≡ b
 modes_same Shared Shared e = refl
 modes_same Shared Private e = absurd cc

@@ -12,7 +12,7 @@ use Rattle.llb_cache.specs.LawsOfKeys.{same_keys, key_itself}
 use Rattle.llb_cache.specs.Caches.{Leases, same_place, has, is_held, leases, free_lease, with_lease, before, trimmed, Has}
 use Rattle.llb_cache.proofs.Members.{In}
 
--- ---- the tests
+-- ---- facts about the tests of instances and leases
 
 pub same_places : (p q : Instance) → same_place p q ≡ true → p ≡ q
 same_places p q e =
@@ -46,7 +46,7 @@ held_by [] a ps p at h = absurd cc
 held_by (o ∷ out) zero ps p at h = let is : o ≡ Some ps = ap (λ x. unwrap_or x o) at in or_left _ (list_any (has p) out) (ap (has p) is ∙ in_any p ps h)
 held_by (o ∷ out) (suc a) ps p at h = or_right (has p o) _ (held_by out a ps p at h)
 
--- what is held, a lease has
+-- an instance that is held belongs to some lease
 pub holder : (out : Leases) (p : Instance) → is_held out p ≡ true → (a : ℕ) × (ps : List Instance) × Has out a ps × In ps p
 unfolding is_held
 holder [] p e = absurd cc
@@ -56,9 +56,9 @@ holder (Some ps ∷ out) p e = elim (or_cases (has p (Some ps)) (list_any (has p
   | inr later ↦ let rest = holder out p later in (suc rest.0, rest.1, rest.2, rest.3)
 ]
 
--- ---- a lease more
+-- ---- after one more lease is granted
 
--- the lease of a number is this one, or it is another that was out before
+-- after entry n of the list is set to x, lease a with these instances is the new one, or it was there before
 abbrev pub Either : Leases → ℕ → Option (List Instance) → ℕ → List Instance → Type 0
 Either out n x a qs = ((a ≡ n) × (x ≡ Some qs)) ⊎ Has out a qs
 
@@ -87,7 +87,7 @@ some_same ps qs e = ap (λ o. unwrap_or o ps) e
 pub free_within : (out : Leases) → free_lease out ≤ length out
 free_within out = prefix_len-le-length _ out
 
--- if all numbers are taken, there are as many leases as numbers
+-- if no number is free, every number of the list is a current lease
 pub all_out : (out : Leases) → length out ≤ free_lease out → leases out ≡ length out
 all_out [] h = refl
 all_out (None ∷ out) h = absurd (omega (arith, h))
@@ -97,7 +97,7 @@ all_out (Some ps ∷ out) h =
     let rest = all_out out (omega (arith, h, first)) in
     omega (arith, rest, one)
 
--- who has what after a lease
+-- after one more lease each current lease is that one, or it was current before
 pub lease_cases : (out : Leases) (ps : List Instance) (a : ℕ) (qs : List Instance) → Has (with_lease out (free_lease out) ps) a qs
     → ((a ≡ free_lease out) × (ps ≡ qs)) ⊎ Has out a qs
 lease_cases out ps a qs = go (nat_lt (free_lease out) (length out)) refl
@@ -125,7 +125,7 @@ lease_short out ps short few = go (nat_lt (free_lease out) (length out)) refl
         let more = length-append out (Some ps ∷ []) in
         omega (arith, all, few, more)
 
--- ---- a lease less
+-- ---- after a lease is given back
 
 before_has : (less out : Leases) (a : ℕ) (qs : List Instance) → Has (before less) a qs → ((b : ℕ) → Has less b qs → Has out b qs) → Has (None ∷ out) a qs
 before_has [] out a qs at rest = absurd cc
@@ -149,7 +149,7 @@ trimmed_short [] = omega arith
 trimmed_short (Some ps ∷ out) = let rest = trimmed_short out in omega (arith, rest)
 trimmed_short (None ∷ out) = let rest = trimmed_short out in let one = before_short (trimmed out) in omega (arith, rest, one)
 
--- who has what after the end of a lease
+-- after a lease is given back each current lease was current before
 pub back_cases : (out : Leases) (n : ℕ) (a : ℕ) (qs : List Instance) → Has (trimmed (slice_set out n None)) a qs → Has out a qs
 back_cases out n a qs at = elim (set_cases out n None a qs (trimmed_has (slice_set out n None) a qs at)) [
   | inl h ↦ absurd (let e = h.1 in cc)
@@ -159,7 +159,7 @@ back_cases out n a qs at = elim (set_cases out n None a qs (trimmed_has (slice_s
 pub back_short : (out : Leases) (n : ℕ) → length (trimmed (slice_set out n None)) ≤ length out
 back_short out n = let less = trimmed_short (slice_set out n None) in let same = length-set out n None in omega (arith, less, same)
 
--- a list whose last lease is out stays as it is when it is trimmed
+-- a list that ends with a current lease stays as it is when it is trimmed
 pub trimmed_some : (out : Leases) (ps : List Instance) → trimmed (out ++ Some ps ∷ []) ≡ out ++ Some ps ∷ []
 unfolding trimmed
 trimmed_some [] ps = refl
@@ -180,7 +180,7 @@ pub trimmed_nothing : trimmed [] ≡ []
 unfolding trimmed
 trimmed_nothing = refl
 
--- what is trimmed stays so: after a lease is given back, and after one more is out
+-- a trimmed list stays as it is when it is trimmed again: after a lease is given back, and after one more is granted
 pub trimmed_twice : (out : Leases) → trimmed (trimmed out) ≡ trimmed out
 unfolding trimmed
 trimmed_twice [] = refl
@@ -217,7 +217,7 @@ trimmed_lease out n ps same = go (nat_lt n (length out))
     go true = trimmed_set out n ps same
     go false = trimmed_some out ps
 
--- if no lease is out, the list of leases is empty
+-- if no lease is current, a trimmed list of leases is empty
 pub none_out : (out : Leases) → trimmed out ≡ out → leases out ≡ 0 → out ≡ []
 unfolding trimmed
 none_out [] same none = refl
@@ -230,7 +230,7 @@ none_out (None ∷ out) same none =
     let rest = none_out out less (omega (arith, none, one)) in
     let e = ap before (less ∙ rest) in absurd cc
 
--- one number more, of a lease that is out, and of one that is not
+-- trimming the first i + 1 leases changes nothing if lease i is current; if it is not, the result is that for the first i leases
 pub trimmed_at_some : (out : Leases) (i : ℕ) (o : Option (List Instance)) → i < length out → o ≡ get_or out i o → is_some o ≡ true
     → trimmed (take (i + 1) out) ≡ take (i + 1) out
 trimmed_at_some out i None below read is = absurd cc
@@ -245,7 +245,7 @@ trimmed_at_none out i None below read is =
     let more : take (i + 1) out ≡ take i out ++ None ∷ [] = take_more out i None below ∙ ap (λ o. take i out ++ o ∷ []) (sym read) in
     ap trimmed more ∙ trimmed_none (take i out)
 
--- what a lease has after its grant
+-- a lease has its instances right after it is granted
 set_here : (out : Leases) (n : ℕ) (x : Option (List Instance)) → n < length out → slice_get (slice_set out n x) n ≡ Some x
 set_here [] n x below = absurd (omega (arith, below))
 set_here (o ∷ out) zero x below = refl

@@ -1,11 +1,11 @@
--- Members of lists by recursion, and that numbers below a bound that are all in a list are no more than its items.
+-- Membership in lists by recursion; and a list that contains all numbers below n has at least n items.
 use Rattle.std.proofs.Common.{◌≡◌, ◌≢◌, ℕ, zero, suc, ◌+◌, ◌<◌, ◌≤◌, Bool, true, false, cond, List, [], ◌∷◌, length, map, get_or, eqb, refl}
 use Rattle.std.proofs.Common.{sym, ◌∙◌, subst, arith, inl, inr, ◌⊎◌}
 use Rattle.std.specs.List.{Contains, AllPairs}
 use Rattle.std.proofs.lemmas.Bool.{eqb-true, eq-eqb}
 use Rattle.std.proofs.lemmas.List.Elements.{Contains-get_or}
 
--- an item is one of a list
+-- an item is in a list
 abbrev pub In : {A : Type 0} → List A → A → Type 0
 In [] y = ⊥
 In (x ∷ xs) y = (y ≡ x) ⊎ In xs y
@@ -35,7 +35,7 @@ pairs_cons R x xs head all i zero d before below = absurd (omega (arith, before)
 pairs_cons R x xs head all zero (suc j) d before below = head (get_or xs j d) (in_contained xs (get_or xs j d) (Contains-get_or xs j d (omega (arith, below))))
 pairs_cons R x xs head all (suc i) (suc j) d before below = all i j d (omega (arith, before)) (omega (arith, below))
 
--- a member of a mapped list is the image of a member of the list
+-- each item of a mapped list is the image of an item of the list
 pub in_map : {A B : Type 0} (f : A → B) (xs : List A) (y : B) → In (map f xs) y → (x : A) × In xs x × (y ≡ f x)
 in_map f [] y h = absurd h
 in_map f (x ∷ xs) y (inl is) = (x, inl refl, is)
@@ -48,9 +48,9 @@ pairs_map R f (x ∷ xs) all =
     (λ y h. let m = in_map f xs y h in subst (R (f x)) (sym m.2) (pairs_head (λ x y. R (f x) (f y)) x xs all m.0 m.1))
     (pairs_map R f xs (pairs_tail (λ x y. R (f x) (f y)) x xs all))
 
--- ---- numbers
+-- ---- lists of numbers
 
--- a list without the first item that is this number
+-- a list without the first item that equals this number
 without : ℕ → List ℕ → List ℕ
 without n [] = []
 without n (m ∷ ms) = cond (eqb n m) ms (m ∷ without n ms)
@@ -78,7 +78,7 @@ still_in n k (m ∷ ms) apart h = go (eqb n m) refl (still_in n k ms apart) h
     go false is rest (inl same) = inl same
     go false is rest (inr later) = inr (rest later)
 
--- a list has at least as many items as numbers from 0 on
+-- a list that contains all numbers below n has at least n items
 pub no_fewer : (n : ℕ) (ms : List ℕ) → ((k : ℕ) → k < n → In ms k) → n ≤ length ms
 no_fewer zero ms all = omega arith
 no_fewer (suc n) ms all =

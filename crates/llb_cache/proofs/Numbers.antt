@@ -1,4 +1,4 @@
--- The number of a private instance: no lease has it, leases have all below it, and it is at most the number of leases.
+-- The number of the private instance that a lease takes: no lease has it, leases have all lower ones, and it is at most the number of leases.
 use Rattle.std.proofs.Common.{◌≡◌, ◌≢◌, ℕ, zero, suc, ◌+◌, ◌<◌, ◌≤◌, Bool, true, false, cond, ◌&&◌, List, [], ◌∷◌, length, Option, Some}
 use Rattle.std.proofs.Common.{None, is_some, refl, sym, ap, ◌∙◌, arith, inl, inr, ◌⊎◌, true≢false}
 use Rattle.std.specs.List.{AllPairs}
@@ -16,9 +16,9 @@ use Rattle.llb_cache.specs.Caches.{Row, Leases, place, is_held, leases, first_fr
 use Rattle.llb_cache.proofs.Members.{In, contained_in, pairs_head, pairs_tail, no_fewer}
 use Rattle.llb_cache.proofs.Leased.{holder}
 
--- ---- each lease has one instance of a key at most
+-- ---- a lease has at most one instance of a key
 
--- the number that a lease has of a key
+-- the number of the instance of this key among some instances; 0 if there is none
 number_in : Key → List Instance → ℕ
 number_in key [] = 0
 number_in key (p ∷ ps) = cond (same_key key p.key) p.number (number_in key ps)
@@ -37,7 +37,7 @@ numbers_leases key (Some ps ∷ out) =
     let one = sum_by-cons (λ (o : Option (List Instance)). cond (is_some o) 1 0) (Some ps) out in
     omega (arith, rest, one)
 
--- no two instances have one key
+-- no two instances have the same key
 abbrev Differ : List Instance → Type 0
 Differ ps = AllPairs (λ p q. p.key ≢ q.key) ps
 
@@ -62,7 +62,7 @@ held_number key k (Some qs ∷ out) zero ps at apart h =
     inl (sym (ap (number_in key) same ∙ number_is key k ps apart h))
 held_number key k (Some qs ∷ out) (suc a) ps at apart h = inr (held_number key k out a ps at apart h)
 
--- leases have no more numbers of a key than there are leases
+-- if leases have the instances of a key with all numbers below n, there are at least n leases
 pub held_below : (key : Key) (out : Leases) (n : ℕ) → AreApart out → ((k : ℕ) → k < n → is_held out (place key k) ≡ true) → n ≤ leases out
 held_below key out n apart all =
     let count = numbers_leases key out in
@@ -72,7 +72,7 @@ held_below key out n apart all =
 
 -- ---- the least free number
 
--- r is the least of so many numbers from n on whose instance no lease has, or the number behind them
+-- r is the least of the `more` numbers from n up whose instance no lease has, or n + more if leases have all of them
 pub record Least (out : Leases) (key : Key) (n more r : ℕ) : Type 0 where
   pub within : r ≤ n + more
   pub below : (k : ℕ) → n ≤ k → k < r → is_held out (place key k) ≡ true
@@ -111,7 +111,7 @@ private_free out key apart = go (first_free out key 0 (leases out)) (least out k
         let free = l.free (omega (arith, all)) in
         true≢false (sym is ∙ free))
 
--- if no lease has a number, and leases have all below it, it is the one that is chosen for the key
+-- if no lease has the instance with number r, and leases have all lower ones, r is the number that is chosen for the key
 pub first_unheld : (out : Leases) (key : Key) (r : ℕ) → AreApart out → ((k : ℕ) → k < r → is_held out (place key k) ≡ true)
     → is_held out (place key r) ≡ false → first_free out key 0 (leases out) ≡ r
 first_unheld out key r apart below free =
@@ -140,7 +140,7 @@ up_to : (r n : ℕ) → ((k : ℕ) → k < r → k < n) → r ≤ n
 up_to zero n all = omega arith
 up_to (suc r) n all = let last = all r (omega arith) in omega (arith, last)
 
--- the instance that is chosen for a key is there, or is the next of its key
+-- the number that is chosen for a key is that of an instance that exists, or the next one
 pub number_next : (rows : List Row) (out : Leases) (key : Key) (m : Mode) → AreThere rows out → number_for out key m ≤ length (trees_of rows key)
 number_next rows out key Shared there = omega arith
 number_next rows out key Locked there = omega arith

@@ -1,4 +1,4 @@
--- An instance that is made and removed again leaves the rows as they were, and making it changes nothing of another key.
+-- An instance that is made and removed again leaves the rows as they were, and making it changes nothing for other keys.
 use Rattle.std.proofs.Common.{◌≡◌, ◌-◌, Bool, true, false, cond, List, [], ◌∷◌, ◌++◌, length, take, Option, Some, None, is_some}
 use Rattle.std.proofs.Common.{unwrap_or, nat_lt, refl, sym, ap, ◌∙◌, arith, length-append, le-ltb}
 use Rattle.std.specs.Map.{lookup}
@@ -28,7 +28,7 @@ trees_twice (r ∷ rows) k ts us = go (same_key k r.0) refl (trees_twice rows k 
     go true is rest = ap (λ b. cond b ((r.0, us) ∷ rows) ((r.0, ts) ∷ with_trees rows k us)) is
     go false is rest = ap (λ b. cond b ((r.0, us) ∷ with_trees rows k ts) (r ∷ with_trees (with_trees rows k ts) k us)) is ∙ ap (λ rs. r ∷ rs) rest
 
--- a key keeps its row under the trees that it has
+-- writing to a key the trees that it has changes no row
 trees_stay : (rows : List Row) (k : Key) (ts : List TreeMap) → lookup (same_key k) rows ≡ Some ts → with_trees rows k ts ≡ rows
 trees_stay [] k ts at = absurd cc
 trees_stay (r ∷ rows) k ts at = go (same_key k r.0) at (trees_stay rows k ts)
@@ -38,7 +38,7 @@ trees_stay (r ∷ rows) k ts at = go (same_key k r.0) at (trees_stay rows k ts)
     go true at rest = let same : r.1 ≡ ts = ap (λ o. unwrap_or o ts) at in λ i. (r.0, sym same i) ∷ rows
     go false at rest = ap (λ rs. r ∷ rs) (rest at)
 
--- an instance that was made is removed again
+-- removing an instance that was made restores the rows
 pub unmade_made : (rows : List Row) (p : Instance) (tree : TreeMap) → unmade_one (made rows p tree) p (growth_at rows p) ≡ rows
 unmade_made rows p tree = by_look (lookup (same_key p.key) rows) refl
   where
@@ -65,7 +65,7 @@ unmade_made rows p tree = by_look (lookup (same_key p.key) rows) refl
     by_look (Some ts) at =
         (λ i. unmade_one (made_by (Some ts) at i) p (growth_by (at i) p.number)) ∙ there ts (nat_lt p.number (length ts)) at
 
--- making an instance of another key changes no row of this one
+-- making an instance of one key does not change what is found for another key
 pub look_made : (rows : List Row) (p : Instance) (tree : TreeMap) (k : Key) → same_key k p.key ≡ false
     → lookup (same_key k) (made rows p tree) ≡ lookup (same_key k) rows
 look_made rows p tree k apart = go (nat_lt p.number (length (trees_of rows p.key)))

@@ -1,4 +1,4 @@
--- The trees of a key, after a write of a key's trees, and after the making of instances.
+-- The trees of a key after a write of some key's trees, and after instances are made.
 use Rattle.std.proofs.Common.{◌≡◌, ℕ, zero, suc, ◌+◌, ◌<◌, ◌≤◌, Bool, true, false, cond, List, [], ◌∷◌, ◌++◌, length, Some, None, position}
 use Rattle.std.proofs.Common.{slice_get, slice_set, unwrap_or, nat_lt, refl, sym, ap, ◌∙◌, arith, inl, inr, ◌⊎◌, length-append, le-ltb}
 use Rattle.std.proofs.Common.{lt-ltb}
@@ -16,14 +16,14 @@ use Rattle.llb_cache.specs.Caches.{Row, Taken, trees_of, with_trees, put, made, 
 use Rattle.llb_cache.specs.FirstRows.{set_trees}
 use Rattle.llb_cache.proofs.FirstRows.{first_placed, first_trees, written_first}
 
--- ---- a write at the place of a key
+-- ---- a write at the position of a key
 
 some_value : (es : List Row) (i : ℕ) (w : List TreeMap) → slice_get (values_of es) i ≡ Some w → set_trees es i w ≡ es
 some_value [] i w at = refl
 some_value (e ∷ es) zero w at = let same : e.1 ≡ w = ap (λ o. unwrap_or o w) at in λ j. (e.0, sym same j) ∷ es
 some_value (e ∷ es) (suc i) w at = ap (λ rows. e ∷ rows) (some_value es i w at)
 
--- the value at the position of a key is its trees
+-- the trees at the position of a key are the key's trees
 pub trees_there : (es : List Row) (k : Key) (i : ℕ) (old : List TreeMap) → position (same_key k) (keys_of es) ≡ Some i
     → slice_get (values_of es) i ≡ Some old → trees_of es k ≡ old
 trees_there es k i old place at = ap (λ o. unwrap_or o []) (first_trees k es i (first_placed k es i place) ∙ at)
@@ -31,7 +31,7 @@ trees_there es k i old place at = ap (λ o. unwrap_or o []) (first_trees k es i 
 pub trees_written : (es : List Row) (k : Key) (i : ℕ) (w : List TreeMap) → position (same_key k) (keys_of es) ≡ Some i → set_trees es i w ≡ with_trees es k w
 trees_written es k i w place = sym (written_first k es i w (first_placed k es i place))
 
--- a new instance
+-- appending a tree to the trees of a key makes the key's next instance
 pub instance_made : (es : List Row) (p : Instance) (tree : TreeMap) (i : ℕ) (old w : List TreeMap)
     → position (same_key p.key) (keys_of es) ≡ Some i → slice_get (values_of es) i ≡ Some old
     → length old ≤ p.number → w ≡ old ++ tree ∷ [] → set_trees es i w ≡ made es p tree
@@ -41,7 +41,7 @@ instance_made es p tree i old w place at past is =
     trees_written es p.key i w place ∙ ap (with_trees es p.key) (is ∙ ap (λ ts. ts ++ tree ∷ []) (sym old_is))
     ∙ sym (ap (λ b. cond b es (with_trees es p.key (trees_of es p.key ++ tree ∷ []))) test)
 
--- an instance that is there
+-- making an instance that exists changes nothing
 pub instance_there : (es : List Row) (p : Instance) (tree : TreeMap) (i : ℕ) (old : List TreeMap)
     → position (same_key p.key) (keys_of es) ≡ Some i → slice_get (values_of es) i ≡ Some old
     → p.number < length old → set_trees es i old ≡ made es p tree
@@ -50,7 +50,7 @@ instance_there es p tree i old place at below =
     let test : nat_lt p.number (length (trees_of es p.key)) ≡ true = lt-ltb p.number (length (trees_of es p.key)) (omega (arith, below, ap length old_is)) in
     some_value es i old at ∙ sym (ap (λ b. cond b es (with_trees es p.key (trees_of es p.key ++ tree ∷ []))) test)
 
--- another tree in an instance
+-- replacing one tree of a key puts a tree in that instance
 pub tree_put : (es : List Row) (p : Instance) (tree : TreeMap) (i : ℕ) (old w : List TreeMap)
     → position (same_key p.key) (keys_of es) ≡ Some i → slice_get (values_of es) i ≡ Some old
     → w ≡ slice_set old p.number tree → set_trees es i w ≡ put es p tree
@@ -87,7 +87,7 @@ same_trees rows k ts = ap (λ o. unwrap_or o []) (found_again rows k ts)
 pub other_trees : (rows : List Row) (k l : Key) (ts : List TreeMap) → same_key l k ≡ false → trees_of (with_trees rows k ts) l ≡ trees_of rows l
 other_trees rows k l ts apart = ap (λ o. unwrap_or o []) (found_before rows k l ts apart)
 
--- how many a key has after a write of a key
+-- after a write of n trees of key k, key l has n trees if it is k, else as many as before
 abbrev pub Counts : List Row → List Row → Key → ℕ → Key → Type 0
 Counts rows new k n l = ((l ≡ k) × (length (trees_of new l) ≡ n)) ⊎ (length (trees_of new l) ≡ length (trees_of rows l))
 
@@ -98,16 +98,16 @@ counted rows k ts l = go (same_key l k) refl
     go true is = let same = same_keys l k is in inl (same, ap length (ap (trees_of (with_trees rows k ts)) same ∙ same_trees rows k ts))
     go false is = inr (ap length (other_trees rows k l ts is))
 
--- a put changes no number
+-- putting a tree in an instance changes no number of instances
 pub put_counts : (rows : List Row) (p : Instance) (tree : TreeMap) (l : Key) → length (trees_of (put rows p tree) l) ≡ length (trees_of rows l)
 put_counts rows p tree l = elim (counted rows p.key (slice_set (trees_of rows p.key) p.number tree) l) [
   | inl h ↦ h.1 ∙ length-set (trees_of rows p.key) p.number tree ∙ ap (λ k. length (trees_of rows k)) (sym h.0)
   | inr h ↦ h
 ]
 
--- ---- what is made
+-- ---- making instances
 
--- how many a key has after the making of an instance
+-- what making an instance changes of the numbers of instances
 pub record Makes (rows : List Row) (p : Instance) (new : List Row) : Type 0 where
   pub grows : (k : Key) → length (trees_of rows k) ≤ length (trees_of new k)
   pub there : p.number ≤ length (trees_of rows p.key) → p.number < length (trees_of new p.key)
@@ -146,7 +146,7 @@ all_grow rows (t ∷ ts) k =
     let rest = all_grow (made rows t.0 t.1) ts k in
     omega (arith, one, rest)
 
--- an instance with a number up to the next one of its key
+-- an instance's number is that of one that exists, or the next one of its key
 abbrev pub IsNext : List Row → Taken → Type 0
 IsNext rows t = t.0.number ≤ length (trees_of rows t.0.key)
 

@@ -19,7 +19,7 @@ use Rattle.llb_cache.specs.declared.fault.LeaseFault.TheVariants.{Held}
 abbrev pub Row : Type 0
 Row = Key × List TreeMap
 
--- the leases by number: the instances of a lease that is out, in the order of its needs, and nothing for one that was given back
+-- the leases by number: for a current lease its instances, in the order of its needs; `None` for one that was given back
 abbrev pub Leases : Type 0
 Leases = List (Option (List Instance))
 
@@ -28,13 +28,13 @@ pub record CachesValue : Type 0 where
   pub rows : List Row
   pub out : Leases
 
--- ---- instances
+-- ---- the instances of a key
 
 -- the instance of a key with this number
 abbrev pub place : Key → ℕ → Instance
 place key number = record { key = key; number = number }
 
--- the trees of a key's instances by number; none for a key that is not there
+-- the trees of a key's instances by number; none if the key has no row
 abbrev pub trees_of : List Row → Key → List TreeMap
 trees_of rows key = unwrap_or (lookup (same_key key) rows) []
 
@@ -47,17 +47,17 @@ with_trees (r ∷ rows) key trees = if same_key key r.0 then (r.0, trees) ∷ ro
 abbrev pub tree_at : List Row → Instance → Option TreeMap
 tree_at rows p = slice_get (trees_of rows p.key) p.number
 
--- the rows, with this tree in an instance
+-- the rows with this tree in an instance
 abbrev pub put : List Row → Instance → TreeMap → List Row
 put rows p tree = with_trees rows p.key (slice_set (trees_of rows p.key) p.number tree)
 
--- the rows after an instance that is missing is made with a tree, after the others of its key
+-- the rows after an instance that does not exist is made with a tree, after the others of its key
 abbrev pub made : List Row → Instance → TreeMap → List Row
 made rows p tree = if nat_lt p.number (length (trees_of rows p.key)) then rows else with_trees rows p.key (trees_of rows p.key ++ tree ∷ [])
 
--- ---- who has what
+-- ---- which lease has which instances
 
--- whether two instances are one
+-- whether two instances are the same
 abbrev pub same_place : Instance → Instance → Bool
 same_place p q = (p.number == q.number) && same_key p.key q.key
 
@@ -66,23 +66,23 @@ abbrev pub has : Instance → Option (List Instance) → Bool
 has p None = false
 has p (Some ps) = list_any (same_place p) ps
 
--- whether a lease that is out has an instance
+-- whether a current lease has an instance
 unfoldable pub is_held : Leases → Instance → Bool
 is_held out p = list_any (has p) out
 
--- how many leases are out
+-- how many leases are current
 abbrev pub leases : Leases → ℕ
 leases out = count_by is_some out
 
--- the instances of a lease that is out
+-- the instances of a lease; none if it is not current
 abbrev pub places_of : Leases → ℕ → List Instance
 places_of out lease = unwrap_or (unwrap_or (slice_get out lease) None) []
 
--- a lease is out
+-- a lease is current: it was granted and not given back
 abbrev pub IsOut : Leases → ℕ → Type 0
 IsOut out lease = (ps : List Instance) × (slice_get out lease ≡ Some (Some ps))
 
--- the instance of a need of a lease
+-- the instance that a lease has for its need i
 abbrev pub place_at : Leases → ℕ → ℕ → Instance
 place_at out lease i = slice_index_or (places_of out lease) i (place (record { id = []; seed = None; mode = Shared }) 0)
 
@@ -103,15 +103,15 @@ number_for out key Private = first_free out key 0 (leases out)
 abbrev pub place_for : Leases → Key → Instance
 place_for out key = place key (number_for out key key.mode)
 
--- for each need an instance, and the tree that it holds if it is new
+-- for one need the instance, and the tree with which it is made if it does not exist
 abbrev pub Taken : Type 0
 Taken = Instance × TreeMap
 
--- what a lease takes: an instance for each need, and the tree for a new one
+-- what a lease takes for its needs
 abbrev pub taken : Leases → List Need → List Taken
 taken out needs = map (λ n. (place_for out n.key, n.tree)) needs
 
--- the rows after the instances that are missing are made
+-- the rows after all instances that do not exist are made
 abbrev pub made_all : List Row → List Taken → List Row
 made_all rows ts = fold (λ rows t. made rows t.0 t.1) rows ts
 
@@ -121,19 +121,19 @@ is_locked Locked = true
 is_locked Shared = false
 is_locked Private = false
 
--- a locked key whose instance a lease has
+-- whether a need's key is locked and a lease has its instance
 abbrev pub is_locked_and_held : Leases → Need → Bool
 is_locked_and_held out n = is_locked n.key.mode && is_held out (place n.key 0)
 
--- the least number that no lease has
+-- the least number that no current lease has
 abbrev pub free_lease : Leases → ℕ
 free_lease out = position_or_len (λ o. not (is_some o)) out
 
--- the leases with one more, under its number: that of one that was given back, or the next
+-- the leases after one more, under the number of one that was given back, or under the next number
 abbrev pub with_lease : Leases → ℕ → List Instance → Leases
 with_lease out lease ps = if nat_lt lease (length out) then slice_set out lease (Some ps) else out ++ Some ps ∷ []
 
--- a lease of all needs, and its number
+-- the number of a lease of these needs, and the caches after it is granted
 abbrev pub granted : CachesValue → List Need → ℕ × CachesValue
 granted c needs = (
   free_lease c.out,
@@ -143,12 +143,12 @@ granted c needs = (
   },
 )
 
--- if one need is refused, all are
+-- a lease of these needs; it is refused as a whole if a need is refused
 abbrev pub lease_by : CachesValue → List Need → Option Need → Result (ℕ × CachesValue) LeaseFault
 lease_by c needs None = Ok (granted c needs)
 lease_by c needs (Some n) = Err (Held n.key)
 
--- the first need whose locked key is held refuses them
+-- a lease of these needs; it is refused for the first need whose locked key is held
 abbrev pub lease_of : CachesValue → List Need → Result (ℕ × CachesValue) LeaseFault
 lease_of c needs = lease_by c needs (find (is_locked_and_held c.out) needs)
 
@@ -158,12 +158,12 @@ lease_of c needs = lease_by c needs (find (is_locked_and_held c.out) needs)
 abbrev pub with_content : CachesValue → ℕ → ℕ → TreeMap → CachesValue
 with_content c lease i tree = record c { rows = put c.rows (place_at c.out lease i) tree }
 
--- a number that is free, before those of leases
+-- one more number without a lease, put before the others; none is put before an empty list
 abbrev pub before : Leases → Leases
 before [] = []
 before (o ∷ out) = None ∷ o ∷ out
 
--- the leases up to the last one that is out
+-- the list of leases cut off after the last current one
 unfoldable pub trimmed : Leases → Leases
 trimmed [] = []
 trimmed (Some ps ∷ out) = Some ps ∷ trimmed out
@@ -173,32 +173,32 @@ trimmed (None ∷ out) = before (trimmed out)
 abbrev pub given_back : CachesValue → ℕ → CachesValue
 given_back c lease = record c { out = trimmed (slice_set c.out lease None) }
 
--- ---- what holds of caches
+-- ---- what is true of all caches
 
--- an exclusive mode: at most one lease at a time has an instance
+-- a mode is exclusive: at most one lease at a time has an instance of such a key
 abbrev pub IsExclusive : Mode → Type 0
 IsExclusive Shared = ⊥
 IsExclusive Private = Unit {0}
 IsExclusive Locked = Unit {0}
 
--- a lease that is out has these instances
+-- a current lease has exactly these instances
 abbrev pub Has : Leases → ℕ → List Instance → Type 0
 Has out lease ps = slice_get out lease ≡ Some (Some ps)
 
--- no two leases have one instance of a private or a locked key
+-- no two leases have the same instance of a private or a locked key
 abbrev pub AreExclusive : Leases → Type 0
 AreExclusive out = (a b : ℕ) (ps qs : List Instance) (p : Instance) → Has out a ps → Has out b qs → Contains ps p → Contains qs p → IsExclusive p.key.mode
     → a ≡ b
 
--- the keys of a lease differ
+-- the instances of a lease have distinct keys
 abbrev pub AreApart : Leases → Type 0
 AreApart out = (a : ℕ) (ps : List Instance) → Has out a ps → AllPairs (λ p q. p.key ≢ q.key) ps
 
--- what a lease has is there
+-- every instance of a lease exists
 abbrev pub AreThere : List Row → Leases → Type 0
 AreThere rows out = (a : ℕ) (ps : List Instance) → Has out a ps → All (λ p. p.number < length (trees_of rows p.key)) ps
 
--- no key has more instances than leases can be out, at most 65,536
+-- no key has more than 65,536 instances, as many as there can be leases
 abbrev pub AreFew : List Row → Type 0
 AreFew rows = (key : Key) → length (trees_of rows key) ≤ 65536
 

@@ -4,15 +4,15 @@ use Rattle.llb_wire.specs.Answer as answer
 use Rattle.llb_cache.specs.declared.fault.LeaseFault.{LeaseFault}
 use Rattle.llb_cache.specs.declared.fault.LeaseFault.TheVariants.{Held, Memory}
 
--- the fault for refused memory, which no rule returns
+-- whether a fault is `Memory`, which no rule returns
 abbrev pub is_memory : LeaseFault → Bool
 is_memory Memory = true
 is_memory (Held key) = false
 
--- the result of a call, seen by view, is the result of its rule
+-- the result of a call is that of its rule, or the call fails for want of memory
 abbrev pub Gives : {X Y : Type 0} → (X → Y) → Result X LeaseFault → Result Y LeaseFault → Type 0
 Gives = answer.Gives is_memory
 
--- and `Memory` is last: a call fails with it only if its rule has no refusal
+-- `Memory` is reported last: a call fails with it only if its rule has no refusal
 abbrev pub MemoryLast : {X Y : Type 0} → Result X LeaseFault → Result Y LeaseFault → Type 0
 MemoryLast = answer.MemoryLast is_memory

@@ -1,4 +1,4 @@
--- The first row that has a key, if one has; and the rows with other trees in one of them.
+-- The first row that has a key; and the rows after the trees in one of them are replaced.
 use Rattle.std.specs.Prelude.{◌≡◌, ℕ, zero, suc, true, false, List, [], ◌∷◌}
 use Rattle.std.specs.List.{AllByRecursion}
 use Rattle.std.specs.Map.{keys_of}
@@ -11,13 +11,13 @@ use Rattle.llb_cache.specs.Caches.{Row}
 abbrev pub IsAbsent : Key → List Row → Type 0
 IsAbsent k es = AllByRecursion (λ l. same_key k l ≡ false) (keys_of es)
 
--- row i has the key, and none before it
+-- row i has the key, and no earlier row has it
 abbrev pub IsFirst : Key → List Row → ℕ → Type 0
 IsFirst k [] i = ⊥
 IsFirst k (e ∷ es) zero = same_key k e.0 ≡ true
 IsFirst k (e ∷ es) (suc i) = (same_key k e.0 ≡ false) × IsFirst k es i
 
--- the rows with other trees in row i
+-- the rows after the trees of row i are replaced
 abbrev pub set_trees : List Row → ℕ → List TreeMap → List Row
 set_trees [] i w = []
 set_trees (e ∷ es) zero w = (e.0, w) ∷ es

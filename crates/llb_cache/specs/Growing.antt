@@ -1,4 +1,4 @@
--- What a lease has ready before anything changes.
+-- What is prepared for a lease before anything changes.
 use Rattle.std.specs.Prelude.{◌≡◌, ℕ, ◌<◌, Bool, false, List, [], ◌∷◌, length, slice_index_or, Option, Some, None}
 use Rattle.llb_cache.specs.declared.need.Need.{Need}
 use Rattle.llb_cache.specs.declared.need.Instance.{Instance}
@@ -7,27 +7,27 @@ use Rattle.llb_cache.specs.declared.fault.LeaseFault.{LeaseFault}
 use Rattle.llb_cache.specs.declared.fault.LeaseFault.TheVariants.{Held}
 use Rattle.llb_cache.specs.Caches.{Taken}
 
--- what is ready for a need: the instance that it takes, and a tree for a new one
+-- what is prepared for a need: the instance that it takes, and a tree for a new one
 abbrev pub shown : Ready → Taken
 shown r = (r.place, r.tree)
 
--- there is room for its instance and all before that, and for its mark, with none set
+-- there is room for the new instance; the prepared list of marks is long enough for its mark, and no mark is set in the list
 pub record FitsIn (r : Ready) : Type 0 where
   pub tree : r.place.number < r.room
   pub mark : r.place.number < length r.marks
   pub clear : (k : ℕ) → slice_index_or r.marks k false ≡ false
 
--- the need that is refused decides the fault
+-- the fault is that of the need that is refused; if no need is refused, there is no fault
 abbrev pub IsRefusal : Option Need → LeaseFault → Type 0
 IsRefusal None e = ⊥
 IsRefusal (Some n) e = e ≡ Held n.key
 
--- there is room for an instance's mark, with none set
+-- the prepared list of marks is long enough for an instance's mark, and no mark is set in the list
 pub record HasRoomFor (p : Instance) (marks : List Bool) : Type 0 where
   pub mark : p.number < length marks
   pub clear : (k : ℕ) → slice_index_or marks k false ≡ false
 
--- for each instance there is room for its mark
+-- there is room for the mark of each instance
 abbrev pub FitEach : List Instance → List (List Bool) → Type 0
 FitEach [] [] = Unit {0}
 FitEach [] (m ∷ rooms) = ⊥

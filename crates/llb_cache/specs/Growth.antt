@@ -1,4 +1,4 @@
--- What a lease adds to the rows, the rows after that is removed again, and a lease of instances that are there.
+-- What a lease adds to the rows, the rows after that is removed again, and a lease of instances that exist.
 use Rattle.std.specs.Prelude.{◌≡◌, ◌≢◌, ℕ, ◌-◌, ◌<◌, nat_lt, false, if◌then◌else◌, List, [], ◌∷◌, length, map, take, Option, Some, None}
 use Rattle.std.specs.List.{All, AllPairs}
 use Rattle.std.specs.Map.{lookup}
@@ -12,54 +12,54 @@ use Rattle.llb_cache.specs.Key.{same_key}
 use Rattle.llb_cache.specs.Caches.{CachesValue, Row, trees_of, with_trees, place_for, is_held, leases, places_of, free_lease, with_lease, given_back}
 use Rattle.llb_cache.specs.Caches.{IsExclusive}
 
--- all items of a list but the last
+-- the list without its last item
 abbrev pub front : {A : Type 0} → List A → List A
 front xs = take (length xs - 1) xs
 
--- what the making of an instance adds, given the trees of its key, if the key has a row
+-- what making an instance adds, given the trees of its key, if the key has a row
 abbrev pub growth_by : Option (List TreeMap) → ℕ → Growth
 growth_by None n = NewRow
 growth_by (Some ts) n = if nat_lt n (length ts) then Nothing else NewInstance
 
--- what an instance adds to the rows
+-- what making an instance adds to the rows
 abbrev pub growth_at : List Row → Instance → Growth
 growth_at rows p = growth_by (lookup (same_key p.key) rows) p.number
 
--- what a lease of needs adds
+-- what a lease of these needs adds, for each of them
 abbrev pub growths : CachesValue → List Need → List Growth
 growths c needs = map (λ (n : Need). growth_at c.rows (place_for c.out n.key)) needs
 
--- the rows without the last of a key's trees, which are these
+-- the rows after the last of a key's trees is removed
 abbrev pub shorter : List Row → Key → Option (List TreeMap) → List Row
 shorter rows key None = rows
 shorter rows key (Some ts) = with_trees rows key (front ts)
 
--- the rows without what was added for an instance
+-- the rows after what was added for an instance is removed
 abbrev pub unmade_one : List Row → Instance → Growth → List Row
 unmade_one rows p Nothing = rows
 unmade_one rows p NewInstance = shorter rows p.key (lookup (same_key p.key) rows)
 unmade_one rows p NewRow = front rows
 
--- the rows without what was added for instances, the last of which goes first
+-- the rows after what was added for these instances is removed, the last of them first
 abbrev pub unmade : List Row → List Instance → List Growth → List Row
 unmade rows [] gs = rows
 unmade rows (p ∷ ps) [] = rows
 unmade rows (p ∷ ps) (g ∷ gs) = unmade_one (unmade rows ps gs) p g
 
--- the caches without a lease, and without what was added for it
+-- the caches after a lease is given back and what it added is removed
 abbrev pub taken_back : CachesValue → ℕ → List Growth → CachesValue
 taken_back c lease gs = record (given_back c lease) { rows = unmade c.rows (places_of c.out lease) gs }
 
--- instances, and how many leases there is room for
+-- a prepared lease: its instances, and how many leases there is room for
 pub record LentValue : Type 0 where
   pub places : List Instance
   pub room : ℕ
 
--- the caches with a lease of instances that are there
+-- the caches after a lease of these instances, which exist
 abbrev pub lent_again : CachesValue → List Instance → CachesValue
 lent_again c ps = record c { out = with_lease c.out (free_lease c.out) ps }
 
--- these instances are there, their keys differ, no lease has one of a private or a locked key, and there is room for one lease more
+-- these instances exist and have distinct keys, no lease has one of a private or a locked key, and there is room for one more lease
 pub record CanLend (c : CachesValue) (l : LentValue) : Type 0 where
   pub free : All (λ p. IsExclusive p.key.mode → is_held c.out p ≡ false) l.places
   pub apart : AllPairs (λ p q. p.key ≢ q.key) l.places

@@ -1,4 +1,4 @@
--- When two keys of caches are one: their IDs, their seeds and their modes are the same.
+-- When two keys of caches are the same: their IDs, their seeds and their modes are equal.
 use Rattle.std.specs.Prelude.{ℕ, Bool, true, false, not, ◌&&◌, ◌||◌, ◌==◌, List, length, Option, Some, None, nat_eq}
 use Rattle.std.specs.Cmp.Lexicographic.{pointwise}
 use Rattle.llb_cache.specs.declared.key.Key.{Key}
@@ -22,23 +22,23 @@ same_mode Locked Locked = true
 abbrev pub same_seed : Seed → Seed → Bool
 same_seed s t = (s.index == t.index) && pointwise nat_eq s.digest t.digest
 
--- whether both are no seed, or both are the same seed
+-- whether both seeds are missing, or both are the same seed
 abbrev pub same_seeds : Option Seed → Option Seed → Bool
 same_seeds None None = true
 same_seeds None (Some t) = false
 same_seeds (Some s) None = false
 same_seeds (Some s) (Some t) = same_seed s t
 
--- the output of that index of the entry of that digest text
+-- the seed with this digest text and this index
 abbrev pub seed_by : List ℕ → ℕ → Seed
 seed_by digest index = record { digest = digest; index = index }
 
--- whether a copy of a key has a byte to copy
+-- whether a seed has a digest text with a byte in it
 abbrev pub has_digest : Option Seed → Bool
 has_digest (Some s) = not (length s.digest == 0)
 has_digest None = false
 
--- whether a key has a text that takes memory
+-- whether a key has a text with a byte in it, so that a copy of the key takes memory
 abbrev pub has_text : Key → Bool
 has_text k = not (length k.id == 0) || has_digest k.seed
 

@@ -9,7 +9,7 @@ use Rattle.llb_cache.specs.declared.key.Seed.{Seed}
 use Rattle.llb_cache.specs.declared.key.Mode.{Mode}
 use Rattle.llb_cache.specs.declared.key.Mode.TheVariants.{Shared, Private, Locked}
 
--- the position of a mode among the modes
+-- the position of a mode in the list of modes
 abbrev pub mode_place : Mode → ℕ
 mode_place Shared = 0
 mode_place Private = 1
@@ -19,6 +19,6 @@ mode_place Locked = 2
 abbrev pub seed_cmp : Seed → Seed → Ordering
 seed_cmp a b = ordering_then (slice_cmp nat_cmp a.digest b.digest) (nat_cmp a.index b.index)
 
--- the order of keys: by ID, then by mode, then by seed, where no seed comes first
+-- the order of keys: by ID, then by mode, then by seed; a key without a seed comes before those with one
 unfoldable pub key_cmp : Key → Key → Ordering
 key_cmp a b = ordering_then (ordering_then (slice_cmp nat_cmp a.id b.id) (nat_cmp (mode_place a.mode) (mode_place b.mode))) (option_cmp seed_cmp a.seed b.seed)

@@ -1,4 +1,4 @@
--- Marks of the instances that leases have: for each key, in the order of the keys, one mark for each number or fewer.
+-- Marks of the instances that leases have: for each row a list of marks by number; a number past its end has no mark.
 use Rattle.std.specs.Prelude.{◌≡◌, ◌⊎◌, Bool, false, List, [], ◌∷◌, length, slice_index_or, if◌then◌else◌}
 use Rattle.std.specs.List.{list_any}
 use Rattle.std.specs.Map.{keys_of}
@@ -17,17 +17,17 @@ marked (k ∷ keys) (m ∷ marks) p = if same_key p.key k then slice_index_or m 
 abbrev pub is_one_of : List Instance → Instance → Bool
 is_one_of ps p = list_any (same_place p) ps
 
--- the instances that pass a test have this mark, and all others the one that they had
+-- an instance has mark b if it passes the test, and otherwise the mark that it had
 abbrev pub Remarks : List Key → List (List Bool) → List Key → List (List Bool) → (Instance → Bool) → Bool → Type 0
 Remarks keys marks keys' marks' test b = (p : Instance) → marked keys' marks' p ≡ (if test p then b else marked keys marks p)
 
--- caches with their marks: there is a list of marks for each key, and of the locked and the private keys the instances that leases have are marked
+-- there is a list of marks for each row, and an instance of a locked or a private key is marked exactly if a lease has it
 pub record IsMarked (c : CachesValue) (marks : List (List Bool)) : Type 0 where
   pub caches : IsCaches c
   pub each : length marks ≡ length c.rows
   pub exact : (p : Instance) → IsExclusive p.key.mode → marked (keys_of c.rows) marks p ≡ is_held c.out p
 
--- a mark is as it was, or its key has no instance left and it has none
+-- each mark is as it was, or the instance's key has no instances now and the mark is removed
 abbrev pub Unmarks : List Row → List (List Bool) → List Row → List (List Bool) → Type 0
 Unmarks rows marks rows' marks' = (p : Instance) → (marked (keys_of rows') marks' p ≡ marked (keys_of rows) marks p)
     ⊎ ((marked (keys_of rows') marks' p ≡ false) × (length (trees_of rows' p.key) ≡ 0))

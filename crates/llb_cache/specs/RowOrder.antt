@@ -1,4 +1,4 @@
--- The numbers of the rows in the order of their keys, and where a key belongs among them.
+-- The numbers of the rows in the order of their keys, and the position of a key among them.
 use Rattle.std.specs.Prelude.{◌≡◌, ℕ, ◌+◌, ◌<◌, ◌≤◌, ◌&&◌, nat_lt, Bool, true, false, List, [], length, slice_index_or, None, vec_len, vec_capacity}
 use Rattle.std.specs.List.{IsDistinct}
 use Rattle.std.specs.Map.{keys_of}
@@ -10,19 +10,19 @@ use Rattle.llb_cache.specs.Caches.{Row}
 use Rattle.llb_cache.specs.Key.{same_key}
 use Rattle.llb_cache.specs.KeyOrder.{key_cmp}
 
--- the key of a row; past the last row the empty one
+-- the key that stands for a missing row
 abbrev pub no_key : Key
 no_key = record { id = []; seed = None; mode = Shared }
 
--- the key of row i
+-- the key of row i; `no_key` past the last row
 abbrev pub key_at : List Row → ℕ → Key
 key_at rows i = slice_index_or (keys_of rows) i no_key
 
--- whether a row is there and has a key
+-- whether row i exists and has this key
 abbrev pub has_key : List Row → ℕ → Key → Bool
 has_key rows i key = nat_lt i (length rows) && same_key key (key_at rows i)
 
--- whether the key of a row comes before a key
+-- whether the key of a row comes before this key
 abbrev pub is_before : List Row → ℕ → Key → Bool
 is_before rows i key = is_lt (key_cmp (key_at rows i) key)
 
@@ -30,23 +30,23 @@ is_before rows i key = is_lt (key_cmp (key_at rows i) key)
 abbrev pub row_at : List ℕ → ℕ → ℕ
 row_at order j = slice_index_or order j 0
 
--- the keys of the rows differ, and the order has each row once and ascends by key
+-- the keys of the rows are distinct, and the order contains each row once, ascending by key
 pub record IsOrdered (rows : List Row) (order : List ℕ) : Type 0 where
   pub distinct : IsDistinct same_key (keys_of rows)
   pub within : (j : ℕ) → j < length order → row_at order j < length rows
   pub each : (i : ℕ) → i < length rows → (j : ℕ) × (j < length order) × (row_at order j ≡ i)
   pub rising : (j k : ℕ) → j < k → k < length order → is_before rows (row_at order j) (key_at rows (row_at order k)) ≡ true
 
--- a position in the order: the rows before it come before a key, and no others do
+-- a position in the order: exactly the rows before it have keys that come before this key
 pub record IsPlace (rows : List Row) (order : List ℕ) (key : Key) (place : ℕ) : Type 0 where
   pub within : place ≤ length order
   pub before : (j : ℕ) → j < place → is_before rows (row_at order j) key ≡ true
   pub behind : (j : ℕ) → place ≤ j → j < length order → is_before rows (row_at order j) key ≡ false
 
--- rows with the order of their keys
+-- the rows are in the order of their keys
 abbrev pub AreOrdered : Rows → Type 0
 AreOrdered rows = IsOrdered rows.entries.items rows.order.items
 
--- there is room for as many rows more
+-- there is room for this many more rows
 abbrev pub HasRoom : Rows → ℕ → Type 0
 HasRoom rows more = (vec_len rows.entries + more ≤ vec_capacity rows.entries) × (vec_len rows.order + more ≤ vec_capacity rows.order)

@@ -22,7 +22,7 @@ use llb_wire::{Many, all_same};
 use std::alloc::Global;
 use std::marker::Model;
 
-/// A lease that is out, by its number.
+/// A current lease, by its number.
 #[derive(Clone, Copy)]
 pub struct Lease {
     pub(crate) number: u32,
@@ -47,15 +47,15 @@ impl Lease {
     }
 }
 
-/// Caches, and the leases of them that are out. Contracts see both as lists.
+/// Caches, and their current leases. Contracts see both as lists.
 pub struct Caches {
     pub(crate) rows: Rows,
-    // For each row the marks of the instances that leases have: those of locked and private keys are exact.
+    // For each row the marks of instances that leases have; for locked and private keys an instance is marked exactly if a lease has it.
     pub(crate) marks: Vec<Marks>,
     pub(crate) out: Vec<Option<Many<Instance>>>,
 }
 
-// Written out, so that the crates above drop one by this one function.
+// Written by hand, so that it is proved once; a derived one is proved again in every function that drops such a value.
 impl Drop for Caches {
     fn drop(self) {
         let Caches {
@@ -94,7 +94,7 @@ impl Caches {
         }
     }
 
-    /// Returns whether a lease of these needs may be requested: their keys differ, and there are fewer than 65,536
+    /// Returns whether a lease of these needs may be requested: their keys are distinct, and there are fewer than 65,536
     /// leases. Does not allocate, and takes time in the square of the number of needs.
     pub fn can_lease(&self, needs: &[Need]) -> bool
         ensures { IsTrue result ↔ (AllPairs (λ n m. n.key ≢ m.key) needs.now × (leases self.now.out < 65536)) }
@@ -106,8 +106,8 @@ impl Caches {
     }
 
     /// Leases an instance for each need, or none at all: for a shared or a locked key instance 0, for a private one the
-    /// least that no lease has. An instance that is not there is made with the tree of its need. The keys of the needs
-    /// differ, and there are fewer than 65,536 leases. Fails with 111 `Held` and the first locked key whose instance a
+    /// least that no lease has. An instance that does not exist is made with the tree of its need. The keys of the needs
+    /// are distinct, and there are fewer than 65,536 leases. Fails with 111 `Held` and the first locked key whose instance a
     /// lease has; else with 112 `Memory`. After a refusal the caches are unchanged.
     pub fn lease(&mut self, needs: Many<Need>) -> Result<Lease, LeaseFault>
         requires differ { AllPairs (λ n m. n.key ≢ m.key) needs }
@@ -120,7 +120,7 @@ impl Caches {
         self.lease_near(needs, &[])
     }
 
-    /// Leases as `lease` does, and fails as it does. For the key of each need, the row whose number `rows` has for it
+    /// Leases as `lease` does, and fails as it does. For the key of need i, row `rows[i]`, if it is given,
     /// is tried first.
     pub fn lease_near(
         &mut self,
@@ -145,7 +145,7 @@ impl Caches {
         Ok(Lease { number })
     }
 
-    /// Returns whether a lease is out. Does not allocate.
+    /// Returns whether a lease is current. Does not allocate.
     pub fn is_out(&self, lease: Lease) -> bool
         ensures { IsTrue result ↔ IsOut self.now.out lease }
     {
@@ -155,7 +155,7 @@ impl Caches {
         }
     }
 
-    /// Returns how many needs a lease has, 0 if it is not out. Does not allocate.
+    /// Returns how many needs a lease has, 0 if it is not current. Does not allocate.
     pub fn needs(&self, lease: Lease) -> usize
         ensures { result ≡ length (places_of self.now.out lease) }
     {
@@ -165,7 +165,7 @@ impl Caches {
         }
     }
 
-    /// Returns the number of the instance that a need of a lease that is out has. Does not allocate.
+    /// Returns the number of the instance that a current lease has for a need. Does not allocate.
     pub fn instance_of(&self, lease: &Lease, need: u32) -> u32
         requires { need < length (places_of self.now.out lease.now) }
         ensures { result ≡ (place_at self.now.out lease.now need).number }
@@ -173,7 +173,7 @@ impl Caches {
         places_at(&self.out, lease.number)[need as usize].number
     }
 
-    /// Returns the tree of the instance that a need of a lease that is out has. Does not allocate.
+    /// Returns the tree of the instance that a current lease has for a need. Does not allocate.
     pub fn content(&self, lease: &Lease, need: u32) -> &Tree
         requires { need < length (places_of self.now.out lease.now) }
         ensures { tree_at self.now.rows (place_at self.now.out lease.now need) ≡ Some result.now }
@@ -192,7 +192,7 @@ impl Caches {
         set_at(&mut self.rows, place, tree);
     }
 
-    /// Frees the instances of a lease that is out. No tree changes. Does not allocate.
+    /// Frees the instances of a current lease. No tree changes. Does not allocate.
     pub fn give_back(&mut self, lease: Lease)
         requires { IsOut self.old.out lease }
         ensures { self.new ≡ given_back self.old lease }
@@ -212,14 +212,14 @@ impl Caches {
         self.holds_locked(key, None)
     }
 
-    /// Returns the number of the instance that a lease of this key would have now. Does not allocate.
+    /// Returns the number of the instance that a lease of this key would take now. Does not allocate.
     pub fn next_instance(&self, key: &Key) -> u32
         ensures { result ≡ number_for self.now.out key.now key.now.mode }
     {
         self.number_for(&key.by_ref(), None)
     }
 
-    /// Returns how many leases are out. Does not allocate.
+    /// Returns how many leases are current. Does not allocate.
     pub fn leases(&self) -> u32
         ensures { result ≡ leases self.now.out }
     {
@@ -275,7 +275,7 @@ impl Caches {
             && all_same(self.out.as_slice(), other.out.as_slice())
     }
 
-    /// Returns whether both have the same keys in the same order with the same trees, whatever leases are out. Does not allocate.
+    /// Returns whether both have the same keys in the same order with the same trees, whatever their leases. Does not allocate.
     pub fn has_same_trees(&self, other: &Caches) -> bool
         ensures { IsTrue result ↔ (self.now.rows ≡ other.now.rows) }
     {
@@ -289,9 +289,9 @@ impl Caches {
         let _rows = &self.rows;
     }
 
-    /// Proves that no two leases have one instance of a locked or a private key, nor have two needs of one lease; that
-    /// what a lease has is there; that no key has more than 65,536 instances; and that the last number of the list of
-    /// leases is that of one that is out, so that the list is empty if none is.
+    /// Proves that no two leases have the same instance of a locked or a private key, nor have two needs of one lease; that
+    /// every instance of a lease exists; that no key has more than 65,536 instances; and that the list of leases ends with
+    /// a current lease, so that it is empty if there is none.
     pub fn is_exclusive(&self)
         ensures { IsCaches self.now }
     {

@@ -1,4 +1,4 @@
-//! Copies of caches and of leases, which share the trees, and whether two are the same.
+//! Copies caches and leases, sharing the trees, and compares two of them.
 
 ghost use Rattle.std.specs.Prelude.{◌≡◌, ◌↔◌, IsTrue, IfOk};
 ghost use Rattle.llb_cache.specs.RowOrder.{AreOrdered};
@@ -44,7 +44,7 @@ pub(crate) fn copied_places(alloc: Global, places: &[Instance]) -> Result<Many<I
     Ok(Many::new(copies))
 }
 
-// Copies the instances of a lease, if it is out.
+// Copies the instances of a lease, if it is current.
 fn copied_lease(
     alloc: Global,
     lease: &Option<Many<Instance>>,

@@ -1,4 +1,4 @@
-//! What a lease of a key adds to the rows, which is known before it is granted, and how a lease is taken back with what it added.
+//! What a lease of a key adds to the rows, which is known before it is granted; and how a lease is taken back together with what it added.
 
 ghost use Rattle.std.specs.Prelude.{◌≡◌, ◌≢◌, List, length, AllPairs};
 ghost use Rattle.std.specs.Map.{keys_of};
@@ -18,11 +18,11 @@ use crate::rows::{Rows, pop_instance, pop_row, row_of};
 /// What a lease of a key adds to the rows.
 #[derive(Clone, Copy)]
 pub enum Growth {
-    /// The instance is there.
+    /// The instance exists already.
     Nothing,
-    /// The key is there, and has one instance more.
+    /// The key has a row, which gets one more instance.
     NewInstance,
-    /// The key is new, and has a row with one instance.
+    /// The key has no row, and gets one with one instance.
     NewRow,
 }
 
@@ -45,7 +45,7 @@ impl Caches {
         }
     }
 
-    /// Takes a lease back that is out, and removes what it added: for each of its needs what `growth` returned before. No other lease may have
+    /// Takes a current lease back, and removes what it added: for each of its needs what `growth` returned before. No other lease may have
     /// one of the instances that are removed. Does not allocate.
     pub fn take_back(&mut self, lease: Lease, growths: &[Growth])
         requires out { IsOut self.old.out lease }
@@ -66,8 +66,8 @@ impl Caches {
         take_back(&mut self.out, lease.number);
     }
 
-    /// Proves that a lease of needs whose keys differ leaves the caches exactly as they were, if it is taken back right
-    /// after it was granted, with what `growth` returned for each need before.
+    /// Proves that a lease of needs with distinct keys, taken back right after it was granted, leaves the caches exactly as
+    /// they were before; `growth` has returned for each need what the lease adds.
     pub fn grants_come_back(&self)
         ensures { (needs : List asked.Need) → AllPairs (λ n m. n.key ≢ m.key) needs → taken_back (granted self.now needs).1 (granted self.now needs).0
             (growths self.now needs) ≡ self.now }

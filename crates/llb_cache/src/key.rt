@@ -1,4 +1,4 @@
-//! The key of a cache: its ID, the output that a new instance begins with, and how leases share it. Two keys are one if
+//! The key of a cache: its ID, the output that a new instance begins with, and how leases share it. Two keys are the same if
 //! all three are equal.
 
 ghost use Rattle.std.specs.Prelude.{◌≡◌, ◌↔◌, IsTrue, IfOk};
@@ -26,7 +26,7 @@ pub struct Seed {
     pub index: u32,
 }
 
-// Written out, so that what owns one drops it by this one function.
+// Written by hand, so that it is proved once; a derived one is proved again in every function that drops such a value.
 impl Drop for Seed {
     fn drop(self) {
         let Seed {
@@ -44,7 +44,7 @@ pub struct Key {
     pub mode: Mode,
 }
 
-// Written out, so that what owns one drops it by this one function.
+// Written by hand, so that it is proved once; a derived one is proved again in every function that drops such a value.
 impl Drop for Key {
     fn drop(self) {
         let Key {

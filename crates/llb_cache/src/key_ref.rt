@@ -88,7 +88,7 @@ impl<'a> KeyRef<'a> {
 }
 
 impl Key {
-    /// Returns the key as one that borrows its texts. Does not allocate.
+    /// Returns a key that borrows this one's texts. Does not allocate.
     pub fn by_ref(&self) -> KeyRef<'_>
         ensures { result ≡ self.now }
     {

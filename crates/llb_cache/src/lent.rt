@@ -1,5 +1,5 @@
-//! A lease that is made ready while memory may be refused, and granted later without allocating. Its instances are
-//! there by then, and no row changes.
+//! A lease that is prepared while memory may be refused, and granted later without allocating. Its instances
+//! exist by then, and no row changes.
 
 ghost use Rattle.std.specs.Prelude.{◌≡◌, ◌<◌, ◌≤◌, true, [], length, vec_capacity, IfOk};
 ghost use Rattle.std.specs.List.{All};
@@ -21,7 +21,7 @@ use llb_wire::Many;
 use std::alloc::Global;
 use std::marker::Model;
 
-/// What a lease of instances that are there is made of without allocating: their keys, the room of their marks, and a
+/// What is needed to lease instances that exist without allocating: their keys, room for their marks, and a
 /// list with room for leases. Contracts see the instances, and how many leases there is room for.
 pub struct Lent {
     places: Many<Instance>,
@@ -29,7 +29,7 @@ pub struct Lent {
     out: Vec<Option<Many<Instance>>>,
 }
 
-// Written out, so that what owns one drops it by this one function.
+// Written by hand, so that it is proved once; a derived one is proved again in every function that drops such a value.
 impl Drop for Lent {
     fn drop(self) {
         let Lent {
@@ -64,7 +64,7 @@ impl Lent {
         Ok(Lent { places, marks, out })
     }
 
-    // Returns the instances, the room of their marks, and an empty list with room for leases.
+    // Returns the instances, the room for their marks, and an empty list with room for leases.
     fn into_parts(self) -> (Many<Instance>, Vec<Marks>, Vec<Option<Many<Instance>>>)
         ensures places { result.0 ≡ self.places }
         ensures marks { FitEach self.places result.1.items }
@@ -76,7 +76,7 @@ impl Lent {
     }
 }
 
-// Makes the room of a mark for each instance.
+// Makes room for a mark of each instance.
 fn rooms_for(alloc: Global, places: &[Instance]) -> Result<Vec<Marks>, Memory>
     ensures { IfOk result (λ ms. FitEach places.now ms.items) }
 {
@@ -88,8 +88,8 @@ fn rooms_for(alloc: Global, places: &[Instance]) -> Result<Vec<Marks>, Memory>
 }
 
 impl Caches {
-    /// Grants a lease of instances that are there, whose keys differ, and of which no lease has one of a private or a
-    /// locked key. There is room for one lease more, and fewer than 65,536 are out. Does not allocate.
+    /// Grants a lease of instances that exist and have distinct keys, and of which no lease has one of a private or a
+    /// locked key. There is room for one more lease, and fewer than 65,536 are current. Does not allocate.
     pub fn lend_again(&mut self, lent: Lent) -> Lease
         requires { CanLend self.old lent }
         ensures number { result ≡ free_lease self.old.out }

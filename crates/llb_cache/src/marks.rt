@@ -1,4 +1,4 @@
-//! Which instances of a key leases have, if one lease at a time has each: a mark for each number, so that a look-up
+//! Which instances of a locked or a private key leases have: a mark for each number, so that a look-up
 //! visits no lease.
 
 ghost use Rattle.std.specs.Prelude.{◌≡◌, ◌<◌, ◌==◌, ℕ, true, false, if◌then◌else◌, length, slice_index_or, IfOk, []};
@@ -12,7 +12,7 @@ pub(crate) struct Marks {
     items: Vec<bool>,
 }
 
-// Written out, so that what owns one drops it by this one function.
+// Written by hand, so that it is proved once; a derived one is proved again in every function that drops such a value.
 impl Drop for Marks {
     fn drop(self) {
         let Marks { items: _ } = self;
@@ -36,7 +36,7 @@ impl Marks {
         }
     }
 
-    // Makes room for the marks up to this number, with none of them set.
+    // Makes room for the marks up to this number, none of which is set.
     pub(crate) fn up_to(alloc: Global, number: u32) -> Result<Marks, Memory>
         ensures room { IfOk result (λ m. number < length m) }
         ensures clear { IfOk result (λ m. (k : ℕ) → slice_index_or m k false ≡ false) }

@@ -1,4 +1,4 @@
-//! What a lease needs, what it has, an instance of a cache for each need, and what a look-up finds of a key.
+//! What a lease needs and has: an instance of a cache for each need; and what a look-up of a key finds.
 
 ghost use Rattle.std.specs.Prelude.{◌≡◌, IfOk};
 
@@ -13,14 +13,14 @@ pub struct Need {
     pub tree: Tree,
 }
 
-/// An instance: a key, and a number among its instances.
+/// An instance: a key, and the number of one of its trees.
 #[derive(Drop)]
 pub struct Instance {
     pub key: Key,
     pub number: u32,
 }
 
-/// What caches have of a key.
+/// What a look-up of a key finds in caches.
 #[derive(Drop)]
 pub struct Found<'a> {
     /// The number of the key's row, `None` if it has none. A later look-up may try that row first.

@@ -22,7 +22,7 @@ pub(crate) struct Rows {
     pub(crate) order: Vec<usize>,
 }
 
-// Written out, so that what owns one drops it by this one function.
+// Written by hand, so that it is proved once; a derived one is proved again in every function that drops such a value.
 impl Drop for Rows {
     fn drop(self) {
         let Rows {
@@ -88,7 +88,7 @@ pub(crate) fn row_of(rows: &Rows, key: &KeyRef<'_>) -> Option<usize>
     }
 }
 
-// Returns whether a row is there and has a key.
+// Returns whether a row exists and has a key.
 fn has_key(rows: &Rows, row: usize, key: &KeyRef<'_>) -> bool
     ensures { result ≡ has_key rows.now.entries.items row key.now }
 {
@@ -98,7 +98,7 @@ fn has_key(rows: &Rows, row: usize, key: &KeyRef<'_>) -> bool
     }
 }
 
-// Returns the number of a key's row: `near`, if that row has the key; else a search finds it.
+// Returns the number of a key's row: `near` if that row has the key; else a search finds it.
 pub(crate) fn row_near(rows: &Rows, key: &KeyRef<'_>, near: Option<usize>) -> Option<usize>
     requires { AreOrdered rows.now }
     ensures at { result ≡ position (same_key key.now) (keys_of rows.now.entries.items) }
@@ -156,7 +156,7 @@ pub(crate) fn reserve(rows: &mut Rows, more: usize) -> Result<(), Memory>
     Ok(())
 }
 
-// Adds the row of a key that has none. There is room for one more.
+// Adds a row for a key that has none. There is room for one more.
 pub(crate) fn add_row(rows: &mut Rows, key: Key, trees: Trees)
     requires order { AreOrdered rows.old }
     requires room { HasRoom rows.old 1 }

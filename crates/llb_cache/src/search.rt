@@ -1,4 +1,4 @@
-//! What leases have, and what is free. A look-up of a key reads its row and the marks beside it, and no lease.
+//! Which instances leases have, and which numbers are free. A look-up of a key reads its row and the marks of that row, and no lease.
 
 ghost use Rattle.std.specs.Prelude.{◌≡◌, ◌≢◌, ◌↔◌, ◌<◌, ◌≤◌, ◌&&◌, false, IsTrue, AllPairs, List, length, map, slice_get, slice_index_or};
 ghost use Rattle.std.specs.Prelude.{IfOk, IfSome, MatchResult, Some, None, option_and_then, option_map, position};
@@ -20,7 +20,7 @@ use crate::rows::{Rows, row_near};
 use crate::trees::Room;
 use llb_wire::Many;
 
-// Returns how many leases are out.
+// Returns how many leases are current.
 pub(crate) fn count(out: &[Option<Many<Instance>>]) -> u32
     requires { length out.now ≤ 65536 }
     ensures { result ≡ leases out.now }
@@ -35,7 +35,7 @@ pub(crate) fn count(out: &[Option<Many<Instance>>]) -> u32
 }
 
 impl Caches {
-    /// Returns what the caches have of a key. The row of number `near` is tried first, at the cost of one comparison;
+    /// Returns what the caches have for a key. The row with number `near` is tried first, at the cost of one comparison;
     /// only if it does not have the key are the rows searched. Does not allocate.
     pub fn look_up(&self, key: &KeyRef<'_>, near: Option<usize>) -> Found<'_>
         ensures row { result.row ≡ position (same_key key.now) (keys_of self.now.rows) }
@@ -76,7 +76,7 @@ impl Caches {
         }
     }
 
-    // Returns the index of the first need whose locked key is held.
+    // Returns the index of the first need whose locked key a lease has.
     fn first_held(&self, needs: &[Need], rows: &[Option<usize>]) -> Option<usize>
         ensures found { find (is_locked_and_held self.now.out) needs.now ≡ option_and_then (slice_get needs.now) result }
         ensures within { IfSome result (λ i. i < length needs.now) }
@@ -89,7 +89,7 @@ impl Caches {
         None
     }
 
-    // Returns the needs, if no locked key of theirs is held; else fails with 111 `Held` and the first such key.
+    // Returns the needs if no lease has a locked key of theirs; else fails with 111 `Held` and the first such key.
     pub(crate) fn admitted(
         &self,
         needs: Vec<Need>,
@@ -108,7 +108,7 @@ impl Caches {
         }
     }
 
-    // Chooses an instance for each need, given the leases that are out, and makes room for it.
+    // Chooses an instance for each need, given the current leases, and makes room for it.
     pub(crate) fn readied(
         &self,
         needs: Vec<Need>,
@@ -140,7 +140,7 @@ impl Caches {
     }
 }
 
-// Returns what is found of a key that has no row.
+// Returns the result of a look-up of a key that has no row.
 fn nothing_found<'a>() -> Found<'a>
     ensures row { result.row ≡ None }
     ensures held { result.is_held ≡ false }
@@ -155,7 +155,7 @@ fn nothing_found<'a>() -> Found<'a>
     }
 }
 
-// Returns what is found in a row, if a lease would have the instance of this number.
+// Returns the result of a look-up that found this row, if a lease would take the instance with this number.
 fn found_in(rows: &Rows, row: usize, number: u32, is_held: bool) -> Found<'_>
     requires { row < length rows.now.entries.items }
     ensures row { result.row ≡ Some row }
@@ -172,7 +172,7 @@ fn found_in(rows: &Rows, row: usize, number: u32, is_held: bool) -> Found<'_>
     }
 }
 
-// Returns the row that is tried first for the need of a number; `None` if none is given for it.
+// Returns the row that is tried first for the need with this number; `None` if none is given for it.
 fn row_for(rows: &[Option<usize>], need: usize) -> Option<usize>
     ensures { result ≡ slice_index_or rows.now need None }
 {
@@ -206,7 +206,7 @@ fn has_key_of(needs: &[Need], need: &Need) -> bool
     false
 }
 
-// Returns whether no two needs have one key.
+// Returns whether no two needs have the same key.
 pub(crate) fn keys_differ(needs: &[Need]) -> bool
     ensures { IsTrue result ↔ AllPairs (λ n m. n.key ≢ m.key) needs.now }
 {

@@ -1,4 +1,4 @@
-//! The instances of one key as the list of their trees, and the room that a new one takes, which is made before anything
+//! The trees of one key's instances, and the room for a new one, which is made before anything
 //! changes.
 
 ghost use Rattle.std.specs.Prelude.{◌≡◌, ◌↔◌, IsTrue, ◌<◌, ◌++◌, List, [], ◌∷◌, length, slice_get, slice_set, option_map, IfOk, Some};
@@ -15,7 +15,7 @@ pub(crate) struct Trees {
     items: Vec<Tree>,
 }
 
-// Written out, so that what owns one drops it by this one function.
+// Written by hand, so that it is proved once; a derived one is proved again in every function that drops such a value.
 impl Drop for Trees {
     fn drop(self) {
         let Trees { items: _ } = self;
@@ -35,7 +35,7 @@ impl Model for Trees {
     ghost view = { λ t. t.items.items };
 }
 
-// An empty list. Contracts see how many trees fit.
+// An empty list with room. Contracts see how many trees fit.
 #[derive(Drop)]
 pub(crate) struct Room {
     items: Vec<Tree>,
@@ -52,7 +52,7 @@ impl Model for Room {
 }
 
 impl Room {
-    // Makes room for the instance of a number and all before it.
+    // Makes room for the instance with this number and all before it.
     pub(crate) fn up_to(alloc: Global, number: u32) -> Result<Room, Memory>
         ensures { IfOk result (λ r. number < r) }
     {
@@ -76,14 +76,14 @@ impl Trees {
         self.items.len()
     }
 
-    // Returns the tree of a number, if there is one.
+    // Returns the tree with this number, if there is one.
     pub(crate) fn get(&self, number: u32) -> Option<&Tree>
         ensures { option_map (λ t. t.now) result ≡ slice_get self.now number }
     {
         self.items.get(number as usize)
     }
 
-    // Returns the tree of a number that is there.
+    // Returns the tree with this number, which exists.
     pub(crate) fn at(&self, number: u32) -> &Tree
         requires { number < length self.now }
         ensures { slice_get self.now number ≡ Some result.now }
@@ -91,7 +91,7 @@ impl Trees {
         &self.items[number as usize]
     }
 
-    // Replaces the tree of a number.
+    // Replaces the tree with this number.
     pub(crate) fn set(&mut self, number: u32, tree: Tree)
         requires { number < length self.old }
         ensures { self.new ≡ slice_set self.old number tree }

@@ -1,4 +1,4 @@
--- The aim of the machine, phrase by phrase: over a text, a definition and its entries, the graph that it is loaded as, a board and a stepper.
+-- The aim of the whole project, phrase by phrase: for a text, a definition and its entries, the graph that it is loaded as, a board and a stepper.
 use Rattle.std.specs.Prelude.{◌≡◌, ◌≤◌, ◌<◌, ℕ, List, length, Some, Ok}
 use Rattle.llb_ops.specs.Definition.{definition_of}
 use Rattle.llb_asm.specs.Lines.{kept}
@@ -23,7 +23,7 @@ pub record IsAccepted (definition : List ℕ) (graph : Numbered) (board : BoardV
   pub board_over : board.build.graph ≡ graph
   pub stepper_over : stepper.board.build.graph ≡ graph
 
--- Each board over the graph whose state some run of the table reaches from the board's opening has the property: on all local trees, with any number of workers
+-- Each board over the graph whose state a run of the table reaches from the board's opening has the property: on all local trees, with any number of workers
 -- and after every interleaving of events.
 abbrev pub AfterAll : Numbered → (BoardValue → Type 0) → Type 0
 AfterAll graph Holds = (b : BoardValue) (replies : List Reply) → b.build.graph ≡ graph
@@ -48,9 +48,9 @@ pub record Aim (text definition : List ℕ) (entries : List (List ℕ)) (graph :
   pub locked_once : AfterAll graph LockedOnce
   -- every settled vertex with no cache mount at or before it has the graph's plain outcome
   pub plain : AfterAll graph SettledArePlain
-  -- assembled text and loaded bytes read as one graph
+  -- assembled text and loaded bytes are read as one graph
   pub one_graph : LoadsAsOne text definition entries graph
-  -- and so does the stepper: its state is the table's on its record, each board that `back` can reach is that of the record without its last events,
+  -- and the stepper is on the same graph: its state is the table's on its record, each board that `back` can reach is that of the record without last events,
   -- its lines are the events and replies of that run, and so are those that a session's `go` prints
   pub stepper_state : Replays stepper.board
   pub stepper_past : PastIsTheRecords stepper

@@ -33,16 +33,16 @@ use Rattle.llb_commands.specs.GraphText.{graph_text}
 abbrev pub build_of : List Local → Numbered → Build
 build_of locals g = record { graph = g; locals = locals }
 
--- the opening of a run: a number of workers, and caches that are empty
+-- the opening of a run: this number of workers, and caches without instances
 abbrev pub run_opening : ℕ → Opening
 run_opening workers = record { workers = workers; store = no_instances }
 
--- One worker does the chosen events in the order of the claims, and no run that does so ends in another state.
+-- One worker does the chosen events, which end as the order of their claims says; and no run that does so ends in another state.
 pub record IsAlone (b : Build) (s : State) (events : List Event) : Type 0 where
   pub ends : EndsInClaimOrder b (run_opening 1) events s
   pub only : (es : List Event) (t : State) → EndsInClaimOrder b (run_opening 1) es t → t ≡ s
 
--- A state in which a run of a build by a number of workers ends: granted events lead to it, and nothing is left to do. Without caches each vertex
+-- A state in which a run of a build by this number of workers ends: granted events lead to it, and the run is complete. Without caches each vertex
 -- has its plain outcome there, for any number of workers.
 pub record IsEnd (workers : ℕ) (b : Build) (s : State) : Type 0 where
   pub events : List Event
@@ -56,11 +56,11 @@ pub record IsEnd (workers : ℕ) (b : Build) (s : State) : Type 0 where
 abbrev pub result_in : State → Numbered → Option TreeMap
 result_in s g = output_in (ending_at s.statuses g.result.vertex) g.result.index
 
--- the tree of a graph's result by the plain outcomes
+-- the tree of a graph's result, by the plain outcomes
 abbrev pub plain_result : Build → Option TreeMap
 plain_result b = output_in (ending_in (outcome b b.graph.result.vertex)) b.graph.result.index
 
--- bytes that are the definition of a graph whose result, where a run on these local trees by these workers has ended, is a tree of that text; then no
+-- bytes that are the definition of a graph; a run of it on these local trees by these workers has ended, and the result is a tree with this text; so no
 -- vertex has failed, and without caches it is the result's tree by the plain outcomes
 pub record Yields (workers : ℕ) (locals : List Local) (bytes text : List ℕ) : Type 0 where
   pub graph : Numbered
@@ -73,14 +73,14 @@ pub record Yields (workers : ℕ) (locals : List Local) (bytes text : List ℕ) 
   pub none_failed : (v : ℕ) (f : VertexFault) → ending_at state.statuses v ≡ Some (Failed f) → ⊥
   pub printed : text ≡ tree_text tree
 
--- a vertex at or before one has failed
+-- a vertex at or before v has failed
 pub record FailsBy (s : State) (v : ℕ) : Type 0 where
   pub vertex : ℕ
   pub before : vertex ≤ v
   pub fault : VertexFault
   pub failed : ending_at s.statuses vertex ≡ Some (Failed fault)
 
--- bytes that are the definition of a graph whose result is no tree when a run has ended, since a vertex has failed
+-- bytes that are the definition of a graph; after a run of it the result is no tree, because a vertex has failed
 pub record YieldsNone (workers : ℕ) (locals : List Local) (bytes : List ℕ) : Type 0 where
   pub graph : Numbered
   pub loaded : IsGraphIn bytes graph
@@ -89,17 +89,17 @@ pub record YieldsNone (workers : ℕ) (locals : List Local) (bytes : List ℕ) :
   pub result : result_in state graph ≡ None
   pub fails : FailsBy state graph.result.vertex
 
--- bytes that are no definition of a graph, and the fault that says why
+-- bytes that are refused as the definition of a graph, and the fault that says why
 abbrev pub IsRefused : ProgramFault → List ℕ → Type 0
 IsRefused p bytes = (e : LoadFault) × IsRefusalIn bytes e × (p ≡ fault.Refused e)
 
--- no board is opened on a graph, and why: the first local source without a tree; or all have one, and the number of workers is 0 or more than 64
+-- no board can be opened on the graph, and why: the first local source without a tree; or all have one, and the number of workers is 0 or more than 64
 abbrev pub IsUnopened : List Local → Numbered → ℕ → ProgramFault → Type 0
 IsUnopened locals g workers (fault.MissingLocal name) = missing_local locals g.vertices ≡ Some name
 IsUnopened locals g workers fault.Workers = (missing_local locals g.vertices ≡ None) × (may_work workers ≡ false)
 IsUnopened locals g workers _ = ⊥
 
--- bytes that are no definition of a graph, or of one on which no board is opened, and so no run begun, and why
+-- bytes that are refused as a definition, or that are the definition of a graph on which no board can be opened; so no run begins; and the fault
 abbrev pub IsNotRun : ℕ → List Local → ProgramFault → List ℕ → Type 0
 IsNotRun workers locals p bytes = IsRefused p bytes ⊎ ((g : Numbered) × IsGraphIn bytes g × IsUnopened locals g workers p)
 
@@ -107,7 +107,7 @@ IsNotRun workers locals p bytes = IsRefused p bytes ⊎ ((g : Numbered) × IsGra
 abbrev pub YieldsPart : ℕ → List Local → Stream → List ℕ → Type 0
 YieldsPart workers locals output bytes = (text : List ℕ) × Yields workers locals bytes text × IsPartWritten output text
 
--- the text is written, and nothing else
+-- the text that the bytes yield is written, and nothing else
 abbrev pub YieldsAll : ℕ → List Local → Stream → List ℕ → Type 0
 YieldsAll workers locals output bytes = (text : List ℕ) × Yields workers locals bytes text × IsWritten output text
 
@@ -128,7 +128,7 @@ abbrev pub FailsAll : ℕ → List Local → Stream → List ℕ → Type 0
 FailsAll workers locals errors bytes = (y : YieldsNone workers locals bytes)
     × IsWritten errors (failed_lines (build_of locals y.graph) y.state (length y.graph.vertices))
 
--- How a run by a number of workers ends. 0: the text of the result is written, and nothing else. 1: a vertex failed, so that the result is no tree, and
+-- How a run by a number of workers ends. Status 0: the text of the result is written, and nothing else. 1: a vertex failed, so that the result is no tree, and
 -- nothing is written but the lines of the failures. 2: the bytes are refused, a local tree is missing, or there are no workers or too many, and nothing is
 -- written but the line that says which. 3: a device, a thread or memory failed; nothing is written, or a prefix of the text.
 abbrev pub Runs : ℕ → List Local → Io → ℕ → Type 0
@@ -142,12 +142,12 @@ Runs workers locals io status =
 abbrev pub DrawsAll : Stream → List ℕ → Type 0
 DrawsAll output bytes = (g : Numbered) × IsGraphIn bytes g × IsWritten output (graph_text g)
 
--- a prefix of it is written, and no more
+-- a prefix of the text of the graph is written, and no more
 abbrev pub DrawsPart : Stream → List ℕ → Type 0
 DrawsPart output bytes = (g : Numbered) × IsGraphIn bytes g × IsPartWritten output (graph_text g)
 
--- How a show ends. 0: the text of the graph is written, and nothing else. 2: the bytes are refused, and nothing is written but the line that says why. 3: a
--- device or memory failed; nothing is written, or a prefix of the text.
+-- How a show ends. Status 0: the text of the graph is written, and nothing else. 2: the bytes are refused, and nothing is written but the line that says why.
+-- 3: a device or memory failed; nothing is written, or a prefix of the text.
 abbrev pub Draws : Io → ℕ → Type 0
 Draws io status =
     ((status ≡ 0) × IsKept io.errors × IfSome io.input.before (DrawsAll io.output))

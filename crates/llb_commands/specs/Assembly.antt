@@ -1,4 +1,4 @@
--- Between a text and the definition of its entries: what assembling and disassembling write.
+-- What assembling writes for a text of entries, and disassembling for a definition.
 use Rattle.std.specs.Prelude.{◌≡◌, ◌⊎◌, ◌<◌, ℕ, List, length, Ok, Err, Bool, true, false, IfSome}
 use Rattle.llb_ops.specs.declared.fault.OpFault.{OpFault}
 use Rattle.llb_ops.specs.Definition.{definition_of, definition_bytes}
@@ -24,22 +24,22 @@ pub record IsAssembled (text definition : List ℕ) : Type 0 where
   pub stands : SpellsEntries (kept text) entries
   pub same : definition ≡ definition_bytes entries
 
--- a fault that refuses a line
+-- whether a fault of the assembler refuses a line
 abbrev pub refuses_a_line : AsmFault → Bool
 refuses_a_line (Line n rule) = true
 refuses_a_line (UnknownLabel n) = true
 refuses_a_line Memory = false
 refuses_a_line Write = false
 
--- a line of a text is refused: the first one, with its first fault
+-- the fault is that of the first faulty line of the text, the first that the line has
 abbrev pub HasFaultyLine : ProgramFault → List ℕ → Type 0
 HasFaultyLine p text = (e : AsmFault) × (refuses_a_line e ≡ true) × asm.Assembles text (Err e) × (p ≡ fault.Assembling e)
 
--- a text that is read as no entries, and why: it is too long, or one of its lines is refused
+-- a text that can't be assembled, and why: it is too long, or one of its lines is refused
 abbrev pub IsNoText : ProgramFault → List ℕ → Type 0
 IsNoText p text = ((limit < length text) × (p ≡ fault.TooLong)) ⊎ HasFaultyLine p text
 
--- the text that is written of the entries of a definition
+-- the text that is written for the entries of a definition
 pub record IsDisassembled (definition text : List ℕ) : Type 0 where
   pub entries : List (List ℕ)
   pub read : definition_of definition ≡ Ok entries
@@ -47,36 +47,36 @@ pub record IsDisassembled (definition text : List ℕ) : Type 0 where
   pub are : AreFormed entries forms
   pub same : text ≡ plain_text forms
 
--- a definition that does not read, and why: its own fault, or that of a graph's definition where it is too long to be looked at
+-- bytes that are no definition, and why: the fault of reading them; or 81 13 if they are too long to be read at all
 abbrev pub IsUnread : ProgramFault → List ℕ → Type 0
 IsUnread p definition = ((e : OpFault) × (definition_of definition ≡ Err e) × (p ≡ fault.Unread e))
     ⊎ ((limit < length definition) × (p ≡ fault.Refused (Definition OverLimit)))
 
--- the bytes made from the input are written, and nothing else
+-- what a command makes of its input is written, and nothing else
 abbrev pub IsOut : (List ℕ → List ℕ → Type 0) → Stream → List ℕ → Type 0
 IsOut Comes output input = (text : List ℕ) × Comes input text × IsWritten output text
 
--- a prefix of them is written, and no more
+-- a prefix of what a command makes of its input is written, and no more
 abbrev pub IsPartOut : (List ℕ → List ℕ → Type 0) → Stream → List ℕ → Type 0
 IsPartOut Comes output input = (text : List ℕ) × Comes input text × IsPartWritten output text
 
--- How a command ends that writes what it makes from its input. 0: all of it is written, and nothing else. 2: the input is refused, and nothing is written but
--- the line that says why. 3: a device or memory failed; nothing is written, or a prefix of it.
+-- How a command ends that writes what it makes from its input. Status 0: all of it is written, and nothing else. 2: the input is refused, and nothing is
+-- written but the line that says why. 3: a device or memory failed; nothing is written, or a prefix of it.
 abbrev pub Ends : (List ℕ → List ℕ → Type 0) → (ProgramFault → List ℕ → Type 0) → Io → ℕ → Type 0
 Ends Comes IsRefused io status =
     ((status ≡ 0) × IsKept io.errors × IfSome io.input.before (IsOut Comes io.output))
     ⊎ (((status ≡ 2) × IsKept io.output × TellsWhy IsRefused io.input.before io.errors)
     ⊎ ((status ≡ 3) × (IsKept io.output ⊎ IfSome io.input.before (IsPartOut Comes io.output))))
 
--- a text is assembled to the definition of the entries that it is read as
+-- how assembling ends: it writes the definition of the entries that a text is read as
 abbrev pub Assembles : Io → ℕ → Type 0
 Assembles = Ends IsAssembled IsNoText
 
--- a definition is written as the text of its entries
+-- how disassembling ends: it writes the text of a definition's entries
 abbrev pub Disassembles : Io → ℕ → Type 0
 Disassembles = Ends IsDisassembled IsUnread
 
--- the definition that a text is assembled to, and any bytes whose entries are those that the text is read as, run to the same text of the result
+-- the definition that a text is assembled to, and any bytes whose entries are those of the text, run to the same text of the result
 abbrev pub RunsAlike : List ℕ → List (List ℕ) → List ℕ → Type 0
 RunsAlike text entries bytes =
     SpellsEntries (kept text) entries → definition_of bytes ≡ Ok entries → (locals : List Local) (definition one other : List ℕ)

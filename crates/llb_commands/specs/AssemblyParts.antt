@@ -1,4 +1,4 @@
--- The parts of assembling and disassembling, each with what it says of the input.
+-- The steps of assembling and disassembling, and what the result of each says of the input.
 use Rattle.std.specs.Prelude.{◌≡◌, ◌⊎◌, ℕ, List, Option, Result, Ok, Err, IfSome, if◌then◌else◌}
 use Rattle.llb_ops.specs.declared.fault.OpFault.{OpFault}
 use Rattle.llb_ops.specs.Faults as ops
@@ -13,14 +13,14 @@ use Rattle.llb_commands.specs.Io.{Stream, IsKept}
 use Rattle.llb_commands.specs.Running.{IsRefusal, TellsRefusal}
 use Rattle.llb_commands.specs.Assembly.{IsOut, IsPartOut, IsAssembled, IsNoText, IsUnread}
 
--- how a fault of the assembler is passed on: a refusal of a line is one of the program
+-- the program's fault for a fault of the assembler; a refused line keeps its number and its rule
 abbrev pub assembling_fault : AsmFault → ProgramFault
 assembling_fault (asm.Line n rule) = fault.Assembling (asm.Line n rule)
 assembling_fault (asm.UnknownLabel n) = fault.Assembling (asm.UnknownLabel n)
 assembling_fault asm.Memory = fault.Text asm.Memory
 assembling_fault asm.Write = fault.Text asm.Write
 
--- how a fault of reading entries is passed on
+-- the program's fault for a fault of reading entries
 abbrev pub entries_fault : OpFault → ProgramFault
 entries_fault e = if ops.is_memory e then fault.Entries else fault.Unread e
 
@@ -36,17 +36,17 @@ abbrev pub EndsIn : (List ℕ → List ℕ → Type 0) → (ProgramFault → Lis
 EndsIn Comes IsRefused input output (Ok u) = IfSome input (IsOut Comes output)
 EndsIn Comes IsRefused input output (Err e) = (IsKept output × TellsRefusal IsRefused input e) ⊎ ((¬ IsRefusal e) × IfSome input (IsPartOut Comes output))
 
--- the definition that a text is assembled to, or why there is none
+-- the definition that a text is assembled to, or why it can't be assembled
 abbrev pub IsDefinitionOf : List ℕ → Result (List ℕ) ProgramFault → Type 0
 IsDefinitionOf text (Ok definition) = IsAssembled text definition
 IsDefinitionOf text (Err e) = IsRefusal e → IsNoText e text
 
--- the same of an input
+-- the definition that the bytes of an input are assembled to, or why they can't be; nothing is known of it if the bytes are not known
 abbrev pub IsDefinitionIn : Option (List ℕ) → Result (List ℕ) ProgramFault → Type 0
 IsDefinitionIn input (Ok definition) = IfSome input (λ text. IsAssembled text definition)
 IsDefinitionIn input (Err e) = TellsRefusal IsNoText input e
 
--- the entries of an input, or why there are none
+-- the entries of an input, or why it has none
 abbrev pub AreEntriesIn : Option (List ℕ) → Result (List (List ℕ)) ProgramFault → Type 0
 AreEntriesIn input (Ok entries) = IfSome input (λ bytes. definition_of bytes ≡ Ok entries)
 AreEntriesIn input (Err e) = TellsRefusal IsUnread input e

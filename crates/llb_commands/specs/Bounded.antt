@@ -1,22 +1,22 @@
--- What a bounded reading returns.
+-- What a read of a whole input within bounds returns.
 use Rattle.std.specs.Prelude.{◌≡◌, ◌≤◌, ◌<◌, ◌+◌, ℕ, List, length, Option, Result, Ok, Err, IfSome, Vec}
 use Rattle.std.specs.Io.KnownBytes.{Consumes, IsAtEnd}
 use Rattle.std.specs.Global.{Global}
 use Rattle.llb_commands.specs.declared.bounded.ReadFault.{ReadFault}
 use Rattle.llb_commands.specs.declared.bounded.ReadFault.TheVariants.{TooLong, Failed, Unending, Memory}
 
--- bytes within the limit were read, and what is left is what followed them
+-- at most `limit` bytes were read, and the rest of the input is what followed them
 pub record Took (limit : ℕ) (left left' : Option (List ℕ)) : Type 0 where
   pub bytes : List ℕ
   pub few : length bytes ≤ limit
   pub rest : Consumes left left' bytes
 
--- bytes within the limit were read, and each of the reads returned one of them or was interrupted
+-- at most `limit` bytes were read, and each read returned one of them or was interrupted
 pub record TookIn (reads limit interrupted : ℕ) (left left' : Option (List ℕ)) : Type 0 where
   pub took : Took limit left left'
   pub each : reads ≤ length took.bytes + interrupted
 
--- All that was left, within the limit. Or more than the limit was left, a read failed, or the bound on reads was met before the end.
+-- All the rest of the input was read, within the limit. Or there was more than the limit, a read failed, or the bound on reads was met before the end.
 abbrev pub ReadsAll : ℕ → ℕ → Option (List ℕ) → Option (List ℕ) → Result (Vec ℕ Global) ReadFault → Type 0
 ReadsAll limit reads left left' (Ok bytes) = (length bytes.items ≤ limit) × IfSome left (λ xs. bytes.items ≡ xs) × IsAtEnd left'
 ReadsAll limit reads left left' (Err TooLong) = IfSome left (λ xs. limit < length xs)

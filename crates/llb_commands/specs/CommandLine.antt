@@ -1,4 +1,4 @@
--- The command line of the program, as `clap` sees it, and what its words say.
+-- The command line of the program, as it is given to `clap`, and what its words ask for.
 use Rattle.std.specs.Prelude.{◌≡◌, ◌≢◌, ◌⊎◌, ◌==◌, ℕ, nat_lt, pos, Bool, true, not, if◌then◌else◌, List, [], ◌++◌, length, map, find, codes}
 use Rattle.std.specs.Prelude.{Option, Some, None, is_some, option_map, option_and_then, unwrap_or, Result, Ok, Err}
 use Rattle.std.specs.Borrow.{Bor}
@@ -18,22 +18,22 @@ use Rattle.llb_commands.specs.declared.words.Local.{Local}
 use Rattle.llb_commands.specs.declared.words.WordsFault.{WordsFault}
 use Rattle.llb_commands.specs.declared.words.WordsFault.TheVariants.{Words, Memory}
 
--- the program's name is no word of its own, `help` is no command, and the version can be asked for
+-- the program without its commands: the words begin after the program's name, there is no command `help`, and the version can be asked for
 abbrev pub base_app : App
 base_app = record {
   top = record (new_app (codes "llbm")).top { has_version = true; no_binary_name = true; disable_help_subcommand = true };
   subs = [];
 }
 
--- words that name local sources, as many as there are
+-- the words for local sources, any number of them
 abbrev pub local_rule : Rule
 local_rule = record (new_rule (codes "local")) { action = Some Append; value_names = 1 }
 
--- the file of the definition, which has to be there
+-- the word for the file of the definition, which is required
 abbrev pub file_rule : Rule
 file_rule = record (new_rule (codes "file")) { action = Some Set; required = true; value_names = 1 }
 
--- the number of workers, one of 32 bits, after `--workers`
+-- the option `--workers` with a number of 32 bits
 abbrev pub workers_rule : Rule
 workers_rule = record (new_rule (codes "workers")) {
   long = Some (codes "workers");
@@ -42,23 +42,23 @@ workers_rule = record (new_rule (codes "workers")) {
   parser = Some (Signed (pos 0) (pos 4294967295));
 }
 
--- the command line of run
+-- the command `run`
 abbrev pub run_app : App
 run_app = with_rule (with_rule (new_app (codes "run")) workers_rule) local_rule
 
--- the file comes before the local sources
+-- the command `step`, with its file before the local sources
 abbrev pub step_app : App
 step_app = with_rule (with_rule (with_rule (new_app (codes "step")) workers_rule) file_rule) local_rule
 
--- a command that takes no word
+-- a command that takes no words
 abbrev pub with_plain : App → Text → App
 with_plain app name = with_subcommand app (new_app name).top
 
--- the commands on graphs
+-- the commands `run`, `show` and `step`
 abbrev pub graph_app : App
 graph_app = with_subcommand (with_plain (with_subcommand base_app run_app.top) (codes "show")) step_app.top
 
--- the commands: `run` takes workers and local sources, `step` a file, workers and local sources, and the others no word
+-- all commands: `run` takes workers and local sources, `step` a file, workers and local sources, and the others take no words
 abbrev pub llbm_app : App
 llbm_app = with_plain (with_plain graph_app (codes "asm")) (codes "dis")
 
@@ -70,7 +70,7 @@ name_of Step = codes "step"
 name_of Assemble = codes "asm"
 name_of Disassemble = codes "dis"
 
--- the name of a command
+-- a text is the name of a command
 abbrev pub IsName : Text → Type 0
 IsName name = (name ≡ codes "run") ⊎ ((name ≡ codes "show") ⊎ ((name ≡ codes "step") ⊎ ((name ≡ codes "asm") ⊎ (name ≡ codes "dis"))))
 
@@ -78,19 +78,19 @@ IsName name = (name ≡ codes "run") ⊎ ((name ≡ codes "show") ⊎ ((name ≡
 abbrev pub is_equals : ℕ → Bool
 is_equals b = b == 61
 
--- the name before the first `=` of a word and the file after it, and none if the word has no `=`
+-- the name before the first `=` of a word and the file after it; nothing if the word has no `=`
 abbrev pub split_word : Text → Option (Text × Text)
 split_word word = if nat_lt (position_or_len is_equals word) (length word) then Some (before_first is_equals word, after_first is_equals word) else None
 
--- a local tree by its name, and its file
+-- the name and the file of a local source
 abbrev pub named_file : Local → Option (Text × Text)
 named_file l = Some (l.name.now, l.file.now)
 
--- the words are split into these, in their order
+-- the words are split at their first `=` into these local sources, in their order
 abbrev pub AreSplit : List Text → List Local → Type 0
 AreSplit words locals = map split_word words ≡ map named_file locals
 
--- whether a word has no =
+-- whether a word has no `=`
 abbrev pub is_unsplit : Text → Bool
 is_unsplit word = not (is_some (split_word word))
 
@@ -98,7 +98,7 @@ is_unsplit word = not (is_some (split_word word))
 abbrev pub IsUnsplit : List Text → Text → Type 0
 IsUnsplit words word = find is_unsplit words ≡ Some word
 
--- the command that is named in the matches; no words are the command run
+-- the name of the command in the matches of `clap`; `run` if there are no words
 abbrev pub named : Option (Text × List Row) → Text
 named None = codes "run"
 named (Some p) = p.0
@@ -112,50 +112,50 @@ abbrev pub named_local_words : Option (Text × List Row) → List Text
 named_local_words None = []
 named_local_words (Some p) = local_words p.1
 
--- the number that a text is read as, if it is one of 32 bits: digits, after a plus or none
+-- the number that a text is read as, if it has 32 bits: digits, which may follow a plus
 abbrev pub number_of : Text → Option ℕ
 number_of text = if is_unsigned_in 0 4294967295 text then Some (digits_value 10 (without_leading_plus text)) else None
 
--- The workers are as many as the word for them says; if there is none, 1 for a run and 2 for a session. No other command takes a number.
--- `clap` reads the word without a hyphen before it, and takes one there only at 0.
+-- The number of workers is the one given; if none is given, 1 for `run` and 2 for `step`. No other command takes a number.
+-- `clap` reads no number after a hyphen but 0.
 abbrev pub IsWorkers : Command → List Row → ℕ → Type 0
 IsWorkers Run rows n = n ≡ unwrap_or (option_and_then number_of (one_of (codes "workers") rows)) 1
 IsWorkers Step rows n = n ≡ unwrap_or (option_and_then number_of (one_of (codes "workers") rows)) 2
 IsWorkers _ rows n = n ≡ 1
 
--- the file is the word for it; no other command takes one
+-- the file is the one given; only `step` takes one
 abbrev pub IsFile : Command → List Row → Option (Bor Text) → Type 0
 IsFile Step rows file = option_map (λ w. w.now) file ≡ first_of (codes "file") rows
 IsFile _ rows file = file ≡ None
 
--- the command of that name, with these matches
+-- the command line asks for the command of this name, with what these matches give
 pub record SaysCommand (name : Text) (rows : List Row) (line : Line) : Type 0 where
   pub command : name_of line.command ≡ name
   pub workers : IsWorkers line.command rows line.workers
   pub file : IsFile line.command rows line.file
   pub locals : AreSplit (local_words rows) line.locals
 
--- the matches of the command that is named
+-- the matches of the named command; none without a command
 abbrev pub matches_named : Option (Text × List Row) → List Row
 matches_named None = []
 matches_named (Some p) = p.1
 
--- what a line says, by the subcommand in the matches
+-- what the words ask for, by the subcommand in the matches
 abbrev pub Says : Option (Text × List Row) → Line → Type 0
 Says met line = SaysCommand (named met) (matches_named met) line
 
--- No word is named where `clap` refuses for another cause than memory. Where it does not, a word is: the first for a local source that has no `=`.
+-- If `clap` refuses the words for another cause than memory, the fault names no word. If it does not, the fault names the first local source without `=`.
 abbrev pub Refuses : Kinds → List Text → WordsFault → Type 0
 Refuses kinds words (Words None) = kinds ≢ []
 Refuses kinds words (Words (Some w)) = (kinds ≡ []) × IsUnsplit words w.now
 Refuses kinds words Memory = Unit {0}
 
--- there is no other refusal
+-- what reading the words returns: what they ask for, if `clap` does not refuse them; or one of the refusals above
 abbrev pub IsByWords : Kinds → List Text → Result Line WordsFault → Type 0
 IsByWords kinds words (Ok line) = kinds ≡ []
 IsByWords kinds words (Err e) = Refuses kinds words e
 
--- a word for a local source is refused, or memory
+-- the refusal is of a word for a local source, or for want of memory
 abbrev pub RefusesWord : List Text → WordsFault → Type 0
 RefusesWord words (Words None) = ⊥
 RefusesWord words (Words (Some w)) = IsUnsplit words w.now

@@ -1,4 +1,4 @@
--- How each command ends, and the program.
+-- How each command ends, and how the program ends.
 use Rattle.std.specs.Prelude.{◌⊎◌, ℕ, List, [], Option, Some, None, Ok, Err}
 use Rattle.std.specs.Borrow.{Bor}
 use Rattle.clap.specs.Words.{Text, fault_of, subcommand_of}
@@ -17,16 +17,16 @@ use Rattle.llb_commands.specs.declared.words.Line.{Line}
 use Rattle.llb_commands.specs.declared.words.WordsFault.{WordsFault}
 use Rattle.llb_commands.specs.declared.words.WordsFault.TheVariants.{Words}
 
--- what files hold, if it is known
+-- what each file has, if that is known
 abbrev pub Shelf : Type 0
 Shelf = List ℕ → Option (List ℕ)
 
--- a session over the definition in a file; if no file is named, or it is not opened or not read, nothing is written but the line that says so
+-- a session over the definition in a file; if no file is named, or it can't be opened or read, nothing is written but the line that says so
 abbrev pub StepsAt : Shelf → Option (Bor (List ℕ)) → ℕ → List Local → Io → ℕ → Type 0
 StepsAt files None workers locals io status = IsKept io.output × TellsWords io.errors.before io.errors.after (Words None) status
 StepsAt files (Some file) workers locals io status = Steps workers locals (files file.now) io status
 
--- the command ends as it does by itself, on the line's workers and file
+-- how the named command ends, with the workers and the file that the words name
 abbrev pub PerformsAs : Shelf → Command → Line → List Local → Io → ℕ → Type 0
 PerformsAs files Run line locals io = Runs line.workers locals io
 PerformsAs files Show line locals io = Draws io
@@ -34,11 +34,11 @@ PerformsAs files Step line locals io = StepsAt files line.file line.workers loca
 PerformsAs files Assemble line locals io = Assembles io
 PerformsAs files Disassemble line locals io = Disassembles io
 
--- a command has done what its line asks for, and its status is this
+-- the command that the words ask for has ended with this status
 abbrev pub Performs : Shelf → Line → List Local → Io → ℕ → Type 0
 Performs files line = PerformsAs files line.command line
 
--- The words are refused, and a line says so; the page that they ask for follows it.
+-- The words are refused: their line is written, and below it the page that they ask for.
 pub record IsRefusedByWords (words : List Text) (io : Io) (status : ℕ) : Type 0 where
   pub fault : WordsFault
   pub page : Text
@@ -47,26 +47,26 @@ pub record IsRefusedByWords (words : List Text) (io : Io) (status : ℕ) : Type 
   pub none : IsKept io.output
   pub told : TellsWithPage io.errors.before io.errors.after fault page status
 
--- The words name a local source that has no tree, and a line says why.
+-- The words name a local source that has no tree: the line that says why is written.
 pub record LacksSource (files : Shelf) (line : Line) (io : Io) (status : ℕ) : Type 0 where
   pub fault : SourceFault
   pub gathered : Gathers files line.locals [] (Err fault)
   pub none : IsKept io.output
   pub told : TellsSource io.errors.before io.errors.after fault status
 
--- The command is done on the trees of the local sources.
+-- All local sources have their trees, and the command has ended on these.
 pub record IsDone (files : Shelf) (line : Line) (io : Io) (status : ℕ) : Type 0 where
   pub locals : List Local
   pub gathered : Gathers files line.locals [] (Ok locals)
   pub done : Performs files line locals io status
 
--- The words are a line, and what it asks for is done, or cannot be for want of a local source's tree.
+-- The words ask for a command, and it has ended; or a local source of it has no tree.
 pub record IsAsked (files : Shelf) (words : List Text) (io : Io) (status : ℕ) : Type 0 where
   pub line : Line
   pub taken : IsByWords (fault_of llbm_app words) (named_local_words (subcommand_of llbm_app words)) (Ok line)
   pub says : Says (subcommand_of llbm_app words) line
   pub does : LacksSource files line io status ⊎ IsDone files line io status
 
--- the whole program
+-- how the whole program ends: the words are refused, or their command has ended
 abbrev pub IsProgram : Shelf → List Text → Io → ℕ → Type 0
 IsProgram files words io status = IsRefusedByWords words io status ⊎ IsAsked files words io status

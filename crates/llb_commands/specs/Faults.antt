@@ -14,7 +14,7 @@ use Rattle.llb_commands.specs.declared.fault.ProgramFault.TheVariants as fault
 use Rattle.llb_commands.specs.declared.sources.SourceFault.{SourceFault}
 use Rattle.llb_commands.specs.declared.sources.SourceFault.TheVariants as source
 
--- the text of a fault of the output
+-- the text of a fault of writing the output
 abbrev pub output_text : OutputFault → List ℕ
 output_text output.Write = codes "182"
 output_text output.Memory = codes "184"
@@ -37,7 +37,7 @@ program_text fault.TooLong = codes "185"
 program_text fault.Read = codes "181"
 program_text fault.Memory = codes "184"
 
--- the text of a fault of what is read
+-- the text of a fault of reading a local source
 abbrev pub source_text : SourceFault → List ℕ
 source_text source.Read = codes "181"
 source_text source.TooLong = codes "185"
@@ -63,10 +63,10 @@ status_of _ = 3
 abbrev pub TellsLine : Option (List ℕ) → Option (List ℕ) → List ℕ → ℕ → ℕ → Type 0
 TellsLine err err' text of_fault status = ((status ≡ of_fault) × Appends err err' (fault_line text)) ⊎ (status ≡ 3)
 
--- standard error has the line of a fault
+-- the line of a fault of the program is written to standard error, and the status is the fault's
 abbrev pub Tells : Option (List ℕ) → Option (List ℕ) → ProgramFault → ℕ → Type 0
 Tells err err' e = TellsLine err err' (program_text e) (status_of e)
 
--- the input is refused, and the line of the fault that says why is written
+-- the input is refused, and the line that says why is written
 abbrev pub TellsWhy : (ProgramFault → List ℕ → Type 0) → Option (List ℕ) → Stream → Type 0
 TellsWhy IsRefused input errors = (e : ProgramFault) × IfSome input (IsRefused e) × IsWritten errors (fault_line (program_text e))

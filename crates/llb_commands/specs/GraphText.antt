@@ -15,11 +15,11 @@ use Rattle.llb_commands.specs.declared.fault.OutputFault.TheVariants.{Write, Mem
 abbrev pub edge_text : Edge → List ℕ
 edge_text e = decimal e.vertex ++ (codes "." ++ decimal e.index)
 
--- the text of an input: a space before each, and a dash for none
+-- an input in the graph's text, with a space before it
 abbrev pub input_text : Edge → List ℕ
 input_text e = codes " " ++ edge_text e
 
--- the inputs of a vertex in the graph's text
+-- the inputs of a vertex in the graph's text; a dash if there are none
 abbrev pub inputs_text : List Edge → List ℕ
 inputs_text [] = codes " -"
 inputs_text (e ∷ es) = flat_map input_text (e ∷ es)
@@ -33,7 +33,7 @@ vertex_line number v = decimal number ++ (codes " " ++ (kind_text v.op.kind ++ (
 abbrev pub numbered_line : ℕ × Vertex → List ℕ
 numbered_line v = vertex_line v.0 v.1
 
--- the lines of the vertices under their numbers
+-- the lines of the vertices with their numbers
 abbrev pub vertex_lines : List Vertex → List ℕ
 vertex_lines vertices = flat_map numbered_line (enumerate_from 0 vertices)
 
@@ -50,10 +50,10 @@ abbrev pub is_memory : OutputFault → Bool
 is_memory Memory = true
 is_memory Write = false
 
--- a result is what the rule returns, but for want of memory
+-- the call returns what the rule does, or it fails for want of memory
 abbrev pub Gives : {X Y : Type 0} → (X → Y) → Result X OutputFault → Result Y OutputFault → Type 0
 Gives = answer.Gives is_memory
 
--- a sink has taken a text, or refused
+-- a sink has taken a text, or it has failed
 abbrev pub Writes : Option (List ℕ) → Option (List ℕ) → Bool → List ℕ → Result (Unit {0}) OutputFault → Type 0
 Writes = output.Writes is_memory

@@ -1,4 +1,4 @@
--- What the streams of a call hold, if it is known, each before the call and after it.
+-- What the streams of a call hold before it and after it, if that is known.
 pub use Rattle.llb_session.specs.Streams.{Stream, IsKept, IsPartWritten, IsWritten}
 
 -- what a call reads, what it writes, and where it writes the lines of faults and failures

@@ -1,4 +1,4 @@
--- How much of a text that was to be written is written.
+-- How much of a text is written by a call that may fail.
 use Rattle.std.specs.Prelude.{ℕ, List, Option, Result, Ok, Err}
 use Rattle.std.specs.Io.KnownBytes.{Appends}
 use Rattle.llb_wire.specs.Sink.{PartOut}

@@ -1,4 +1,4 @@
--- The page that follows the line of refused words: that of help or of the version, if `clap` refuses the words because they ask for it.
+-- The page that follows the line of refused words: the help or the version, if the words ask for it; `clap` reports this as a refusal.
 use Rattle.std.specs.Prelude.{◌≡◌, ◌⊎◌, ℕ, if◌then◌else◌, List, [], ◌∷◌, ◌++◌, codes, Option, Some, None, Result, Ok, Err}
 use Rattle.std.specs.Io.KnownBytes.{Appends}
 use Rattle.std.specs.Str.{bytes_eq}
@@ -15,7 +15,7 @@ use Rattle.llb_commands.specs.declared.words.Refusal.{Refusal}
 use Rattle.llb_commands.specs.declared.words.WordsFault.{WordsFault}
 use Rattle.llb_commands.specs.declared.words.WordsFault.TheVariants.{Words}
 
--- the command of a name
+-- the command with a name
 abbrev pub command_named : Text → Option Command
 command_named name =
     if bytes_eq name (codes "run") then Some Run
@@ -38,23 +38,23 @@ help_page (Some Step) = STEP_PAGE.now
 help_page (Some Assemble) = ASM_PAGE.now
 help_page (Some Disassemble) = DIS_PAGE.now
 
--- the page for a kind of refusal by `clap`; only requests have one
+-- the page for a kind of refusal by `clap`; only a request for help or the version has one
 abbrev pub page_for : ErrorKind → Option Command → Text
 page_for DisplayHelp command = help_page command
 page_for DisplayVersion command = VERSION_PAGE.now
 page_for _ command = []
 
--- what follows the line of a fault: where `clap` refuses, the page for a kind that its refusal can have
+-- what follows the line of a fault: if `clap` refuses the words, the page for one of the kinds that its refusal can have
 abbrev pub HasPage : Kinds → List Text → WordsFault → Text → Type 0
 HasPage kinds words (Words None) page = (k : ErrorKind) × IsAmong k kinds × (page ≡ page_for k (named_first words))
 HasPage kinds words _ page = page ≡ []
 
--- the result for words, with the page of a refusal
+-- the result of reading the words, with the page of a refusal
 abbrev pub IsByWordsWithPage : Kinds → List Text → List Text → Result Line Refusal → Type 0
 IsByWordsWithPage kinds locals words (Ok line) = kinds ≡ []
 IsByWordsWithPage kinds locals words (Err r) = Refuses kinds locals r.fault × HasPage kinds words r.fault r.page.now
 
--- the line of the fault is written and the page below it, and the status is the fault's; or they could not be written, and the status is 3
+-- the line of the fault and the page below it are written, and the status is the fault's; or they could not be written, and the status is 3
 abbrev pub TellsWithPage : Option (List ℕ) → Option (List ℕ) → WordsFault → Text → ℕ → Type 0
 TellsWithPage err err' fault page status =
     ((status ≡ words_status fault) × Appends err err' (fault_line (words_text fault) ++ page)) ⊎ (status ≡ 3)

@@ -1,4 +1,4 @@
--- The parts of a run, each with what it says of the bytes.
+-- The steps of a run, and what the result of each says of the input's bytes.
 use Rattle.std.specs.Prelude.{◌≡◌, ◌⊎◌, ℕ, List, [], length, Option, Some, None, Result, Ok, Err, IfSome, ⊤, if◌then◌else◌}
 use Rattle.llb_tree.specs.Tree.{TreeMap}
 use Rattle.llb_loader.specs.Graph.{Numbered}
@@ -23,7 +23,7 @@ use Rattle.llb_loader.specs.declared.fault.LoadFault.TheVariants.{Definition}
 use Rattle.llb_loader.specs.declared.fault.LoadFault.{LoadFault}
 use Rattle.llb_loader.specs.Faults.{is_memory}
 
--- how a fault of the loader is passed on
+-- the program's fault for a fault of the loader
 abbrev pub passed_on : LoadFault → ProgramFault
 passed_on e = if is_memory e then Loading else Refused e
 
@@ -34,7 +34,7 @@ unread_as (reading.Failed kind) = Read
 unread_as (reading.Unending interrupted) = Read
 unread_as reading.Memory = Memory
 
--- a fault that refuses the input
+-- a fault is a refusal of the input
 abbrev pub IsRefusal : ProgramFault → Type 0
 IsRefusal (Refused e) = ⊤
 IsRefusal (MissingLocal name) = ⊤
@@ -44,7 +44,7 @@ IsRefusal (Assembling e) = ⊤
 IsRefusal TooLong = ⊤
 IsRefusal _ = ⊥
 
--- the input is refused only if it has this cause of a refusal
+-- if the fault is a refusal, the input has this cause for it
 abbrev pub TellsRefusal : (ProgramFault → List ℕ → Type 0) → Option (List ℕ) → ProgramFault → Type 0
 TellsRefusal IsSo input e = IsRefusal e → IfSome input (IsSo e)
 
@@ -69,18 +69,18 @@ abbrev pub Finishes : ℕ → List Local → Option (List ℕ) → Result BoardV
 Finishes workers locals input (Ok b) = (g : Numbered) × IfSome input (λ bytes. IsGraphIn bytes g) × IsFinished workers locals g b
 Finishes workers locals input (Err e) = TellsRefusal (IsNotRun workers locals) input e
 
--- a run is whole if no fault cut it short; a fault that did refuses no input
+-- a run was not cut short by a fault; if it was, that fault is no refusal of the input
 abbrev pub IsWhole : BoardValue → Option RunFault → Result BoardValue ProgramFault → Type 0
 IsWhole board fault (Ok b) = (b ≡ board) × (fault ≡ None)
 IsWhole board fault (Err e) = ¬ IsRefusal e
 
--- a tree is written if there is one; if there is none, the board is handed back
+-- the text of the tree is written if there is a tree; if there is none, the board is returned
 abbrev pub Shows : BoardValue → Stream → Option TreeMap → Result Ended ProgramFault → Type 0
 Shows board output tree (Ok Printed) = (t : TreeMap) × (tree ≡ Some t) × IsWritten output (tree_text t)
 Shows board output tree (Ok (Failed b)) = (b ≡ board) × (tree ≡ None) × IsKept output
 Shows board output tree (Err e) = (¬ IsRefusal e) × ((t : TreeMap) × (tree ≡ Some t) × IsPartWritten output (tree_text t))
 
--- a board on which a run has ended whose result is no tree
+-- a board on which a run has ended without a tree as its result
 abbrev pub YieldsNoneOn : ℕ → List Local → BoardValue → List ℕ → Type 0
 YieldsNoneOn workers locals b bytes = (y : YieldsNone workers locals bytes) × (y.state ≡ b.state) × (build_of locals y.graph ≡ b.build)
 
@@ -91,7 +91,7 @@ Answers workers locals input output (Ok (Failed b)) = IsKept output × IfSome in
 Answers workers locals input output (Err e) =
     (IsKept output × TellsRefusal (IsNotRun workers locals) input e) ⊎ ((¬ IsRefusal e) × IfSome input (YieldsPart workers locals output))
 
--- the exit status for a result, with its lines: 0 for a text that is written, 1 if there is none, 2 for a refusal, and 3 if a device fails after any
+-- the exit status for a result, with its lines: 0 if the text is written, 1 if there is no tree, 2 for a refusal, and 3 if a device fails after all
 abbrev pub Ends : Stream → Stream → Result Ended ProgramFault → ℕ → Type 0
 Ends output errors (Ok Printed) status = IsKept output × (((status ≡ 0) × IsKept errors) ⊎ (status ≡ 3))
 Ends output errors (Ok (Failed b)) status =

@@ -1,4 +1,4 @@
--- What is read of the files of local sources.
+-- What is read from the files of local sources.
 use Rattle.std.specs.Prelude.{◌≡◌, ◌<◌, ◌≤◌, ◌⊎◌, ℕ, List, [], ◌∷◌, length, if◌then◌else◌, Option, Result, Ok, Err, IfSome}
 use Rattle.llb_tree.specs.Tree.{TreeMap}
 use Rattle.llb_treetext.specs.declared.fault.TextFault.{TextFault}
@@ -15,7 +15,7 @@ use Rattle.llb_commands.specs.declared.sources.SourceFault.TheVariants.{Read, To
 abbrev pub limit : ℕ
 limit = 67108864
 
--- the most reads in which the end of an input has to be met
+-- the most reads that may be made to the end of an input
 abbrev pub most_reads : ℕ
 most_reads = 134217728
 
@@ -29,21 +29,21 @@ ReadsTree bytes (Err Read) = Unit {0}
 ReadsTree bytes (Err Reading) = Unit {0}
 ReadsTree bytes (Err Adding) = (length bytes ≤ limit) × ((t : TreeMap) × Answers bytes (Ok t))
 
--- the reading of a text, as that of a source
+-- the result of reading a text, as that of a local source
 abbrev pub told : Result TreeMap TextFault → Result TreeMap SourceFault
 told (Ok t) = Ok t
 told (Err e) = Err (Text e)
 
--- the same, if the bytes are known
+-- the result of reading a file as a tree: `ReadsTree` for its bytes, if they are known
 abbrev pub Reads : Option (List ℕ) → Result TreeMap SourceFault → Type 0
 Reads known r = IfSome known (λ bytes. ReadsTree bytes r)
 
--- the text is read as a tree, which is added under the name; or it is not, and nothing is added
+-- the text is read as a tree, which is added under the name; or it is no tree, and nothing is added
 abbrev pub Adds : List ℕ → Option (List ℕ) → List given.Local → List given.Local → Result (Unit {0}) SourceFault → Type 0
 Adds name known old new (Ok u) = (t : TreeMap) × Reads known (Ok t) × (new ≡ with_local old name t)
 Adds name known old new (Err e) = Reads known (Err e) × (new ≡ old)
 
--- the trees that files hold for local sources, one after another, each over the trees of those before it: the first fault, or all their trees
+-- the trees of local sources, read from their files one after another: the first fault, or all trees added to those given before
 abbrev pub Gathers : (List ℕ → Option (List ℕ)) → List Local → List given.Local → Result (List given.Local) SourceFault → Type 0
 Gathers files [] trees r = r ≡ Ok trees
 Gathers files (l ∷ ls) trees r = ((e : SourceFault) × Reads (files l.file.now) (Err e) × (r ≡ Err e))

@@ -17,7 +17,7 @@ use Rattle.llb_commands.specs.declared.fault.OutputFault.TheVariants as output
 use Rattle.llb_commands.specs.declared.fault.ProgramFault.{ProgramFault}
 use Rattle.llb_commands.specs.declared.fault.ProgramFault.TheVariants as fault
 
--- a stepper over a graph, on a board with a number of workers and caches that are empty at first
+-- a stepper over a graph, on a board with this number of workers and caches without instances
 abbrev pub begun : List Local → Numbered → ℕ → Stepping
 begun locals g workers = record { board = opened (build_of locals g) workers []; past = []; breaks = [] }
 
@@ -39,7 +39,7 @@ pub record IsSession (workers : ℕ) (locals : List Local) (commands output : St
   pub end : Stepping
   pub talks : Converses (conversation locals graph workers end commands output) result
 
--- how a fault of a session is passed on
+-- the program's fault for a fault of a session
 abbrev pub session_fault : SessionFault → ProgramFault
 session_fault (session.Failed kind) = fault.Read
 session_fault (session.Unending interrupted) = fault.Read
@@ -47,7 +47,7 @@ session_fault session.Write = fault.Output output.Write
 session_fault session.Memory = fault.Memory
 session_fault session.TooLong = fault.TooLong
 
--- a session went on to its end; or there is none, and nothing is written; or it ended with a fault
+-- the session went on to its end; or none began, and nothing is written; or it ended with a fault
 abbrev pub StepsIn : ℕ → List Local → Option (List ℕ) → Stream → Stream → Result (Unit {0}) ProgramFault → Type 0
 StepsIn workers locals file commands output (Ok u) = IfSome file (IsSession workers locals commands output (Ok u))
 StepsIn workers locals file commands output (Err e) =
@@ -58,9 +58,9 @@ StepsIn workers locals file commands output (Err e) =
 abbrev pub IsBroken : ℕ → List Local → Stream → Stream → List ℕ → Type 0
 IsBroken workers locals commands output bytes = (f : SessionFault) × IsSession workers locals commands output (Err f) bytes
 
--- How the command ends, by the definition in a file, with the commands as its input. 0: the session went on to its end. 2: the bytes are refused, a local
--- tree is missing, or the number of workers is not 1 to 64, and nothing is written but the line that says which; or there were too many bytes of commands,
--- which a line says. 3: a device or memory failed; nothing is written, or the replies up to there.
+-- How the command ends, by the definition in a file, with the commands as its input. Status 0: the session went on to its end. 2: the bytes are refused, a
+-- local tree is missing, or the number of workers is not 1 to 64, and nothing is written but the line that says which; or there were too many bytes of
+-- commands, which a line says. 3: a device or memory failed; nothing is written, or the replies up to there.
 abbrev pub Steps : ℕ → List Local → Option (List ℕ) → Io → ℕ → Type 0
 Steps workers locals file io status =
     ((status ≡ 0) × IsKept io.errors × IfSome file (IsSession workers locals io.input io.output (Ok tt)))

@@ -1,4 +1,4 @@
-//! From a text to the definition of the entries that it is read as: read, assemble, write.
+//! The command `asm`: reads a text of entries, and writes the definition.
 
 ghost use Rattle.std.specs.Prelude.{◌≡◌};
 ghost use Rattle.llb_commands.specs.Assembly.{Assembles, IsAssembled, IsNoText};
@@ -13,7 +13,7 @@ use llb_wire::{Bytes, Over, write_all};
 use std::alloc::Global;
 use std::io::{Read, Write};
 
-// Returns the program's fault for one of the assembler: a refusal for one of a line.
+// Returns the program's fault for one of the assembler; a refused line keeps its number and its rule.
 fn assembling_fault(fault: AsmFault) -> ProgramFault
     ensures { result ≡ assembling_fault fault }
 {
@@ -34,7 +34,7 @@ fn text_unread(fault: ReadFault) -> ProgramFault
     }
 }
 
-// Returns the definition of the entries that a text is read as.
+// Assembles a text to the definition of its entries.
 fn definition_of(alloc: Global, text: &[u8]) -> Result<Bytes, ProgramFault>
     ensures { IsDefinitionOf text.now result }
 {
@@ -47,7 +47,7 @@ fn definition_of(alloc: Global, text: &[u8]) -> Result<Bytes, ProgramFault>
     }
 }
 
-// Does the same for a text that is read to its end.
+// Reads a text to its end and assembles it.
 fn definition_from<R: Read>(alloc: Global, input: &mut R) -> Result<Bytes, ProgramFault>
     ensures { IsDefinitionIn (R.remaining input.old) result }
 {

@@ -10,7 +10,7 @@ use std::io::{ErrorKind, Read};
 /// The most bytes that a definition, the text of a tree or a text of entries may have.
 pub(crate) const LIMIT: usize = 67_108_864;
 
-/// The most reads in which the end of one of them has to be met.
+/// The most reads that may be made to the end of one of them.
 pub(crate) const READS: u64 = 134_217_728;
 
 const PIECE: usize = 4096;
@@ -20,7 +20,7 @@ const PIECE: usize = 4096;
 pub enum ReadFault {
     /// There were more bytes than the limit.
     TooLong,
-    /// A read failed, in this way.
+    /// A read failed; holds the kind of its error.
     Failed(ErrorKind),
     /// The bound on reads was met; holds how many of the reads were interrupted.
     Unending(u64),
@@ -28,7 +28,7 @@ pub enum ReadFault {
     Memory,
 }
 
-/// Reads all that is left, if it is no more than `limit` bytes and its end is met in `reads` reads. An interrupted read
+/// Reads the rest of an input, if it has no more than `limit` bytes and its end is met in `reads` reads. An interrupted read
 /// is done again, and counts.
 pub fn read_bounded<R: Read>(
     alloc: Global,

@@ -1,5 +1,5 @@
-//! The command line, which `clap` reads: no words or `run`, which takes the number of workers and local sources as NAME=FILE, `step`,
-//! which takes a file too, and `show`, `asm` and `dis`. The texts for its pages of help are those of `pages`.
+//! The command line, which `clap` reads: no words or `run`, which takes the number of workers and local sources as NAME=FILE; `step`,
+//! which takes a file too; and `show`, `asm` and `dis`. The texts for its pages of help are those of `pages`.
 
 ghost use Rattle.std.specs.Prelude.{◌≡◌, false, map, IfOk, IfErr};
 ghost use Rattle.clap.specs.Words.{app_of, kind_of, fault_of, found_of, new_app, rows_of, rule_of, subcommand_of};
@@ -47,7 +47,7 @@ fn local_arg<'a>(alloc: Global) -> Arg<'a>
         .action(ArgAction::Append)
 }
 
-// Returns the rule of the word for the file of the definition, which has to be there.
+// Returns the rule of the word for the file of the definition, which is required.
 fn file_arg<'a>(alloc: Global) -> Arg<'a>
     ensures rule { rule_of result ≡ file_rule }
     ensures plain { result.global ≡ false }
@@ -95,7 +95,7 @@ fn step_command<'a>(alloc: Global) -> Result<clap::Command<'a>, AllocError>
         .arg(local_arg(alloc))
 }
 
-// Returns a command that takes no word.
+// Returns a command that takes no words.
 fn plain_command<'a>(alloc: Global, name: &'a str, about: &'a str) -> clap::Command<'a>
     ensures app { app_of result ≡ new_app name.now }
     ensures plain { (fields_of result).has_globals ≡ false }
@@ -103,7 +103,7 @@ fn plain_command<'a>(alloc: Global, name: &'a str, about: &'a str) -> clap::Comm
     clap::Command::new(alloc, name).about(about)
 }
 
-// Returns the program before its commands.
+// Returns the program without its commands.
 fn base_command<'a>(alloc: Global) -> Result<clap::Command<'a>, AllocError>
     ensures app { IfOk result (λ c. app_of c ≡ base_app) }
     ensures plain { IfOk result (λ c. (fields_of c).has_globals ≡ false) }
@@ -117,7 +117,7 @@ fn base_command<'a>(alloc: Global) -> Result<clap::Command<'a>, AllocError>
         .bin_name("llbm")
 }
 
-// Returns the program with its commands on graphs.
+// Returns the program with the commands `run`, `show` and `step`.
 fn graph_commands<'a>(alloc: Global) -> Result<clap::Command<'a>, AllocError>
     ensures { IfOk result (λ c. app_of c ≡ graph_app) }
 {
@@ -132,7 +132,7 @@ fn graph_commands<'a>(alloc: Global) -> Result<clap::Command<'a>, AllocError>
         .subcommand(step_command(alloc)?)
 }
 
-/// Returns the command line as `clap` takes it, with all commands.
+/// Returns the command line as it is given to `clap`, with all commands.
 pub fn llbm_command<'a>(alloc: Global) -> Result<clap::Command<'a>, AllocError>
     ensures { IfOk result (λ c. app_of c ≡ llbm_app) }
 {
@@ -149,7 +149,7 @@ pub fn llbm_command<'a>(alloc: Global) -> Result<clap::Command<'a>, AllocError>
     graph_commands(alloc)?.subcommand(asm)?.subcommand(dis)
 }
 
-// Returns the command of that name; there is one.
+// Returns the command with this name; there is one.
 fn command_named(name: &str) -> Command
     requires { IsName name.now }
     ensures { name_of result ≡ name.now }
@@ -270,8 +270,8 @@ pub(crate) fn line_or_page<'a, S: AsStr>(
     }
 }
 
-/// Returns what the words after the program's name say: no words are `run`. Fails with 183 without a word if `clap` refuses them, a
-/// request for help among them; with 183 and the first word for a local source that has no `=`; with 184.
+/// Returns what the words after the program's name ask for; no words are `run`. Fails with 183 without a word if `clap` refuses them, which is also its
+/// answer to a request for help; with 183 and the first word for a local source that has no `=`; with 184.
 pub fn command_of<'a, S: AsStr>(alloc: Global, words: &'a [S]) -> Result<Line<'a>, WordsFault<'a>>
     ensures says { IfOk result (Says (subcommand_of llbm_app (map S.text words.entry.now))) }
     ensures refuses { IsByWords (fault_of llbm_app (map S.text words.entry.now))

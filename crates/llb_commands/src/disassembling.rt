@@ -1,4 +1,4 @@
-//! From the bytes of a definition to the text of its entries: read, disassemble.
+//! The command `dis`: reads a definition, and writes the text of its entries.
 
 ghost use Rattle.std.specs.Prelude.{◌≡◌, List};
 ghost use Rattle.llb_asm.specs.Plain.{Formed, AreFormed, plain_text};
@@ -15,7 +15,7 @@ use llb_wire::Over;
 use std::alloc::Global;
 use std::io::{Read, Write};
 
-// Returns the program's fault for one of reading a definition: a refusal, but for the want of memory.
+// Returns the program's fault for one of reading a definition: a refusal, unless memory was refused.
 fn entries_fault(fault: OpFault) -> ProgramFault
     ensures { result ≡ entries_fault fault }
 {

@@ -14,7 +14,7 @@ use std::alloc::AllocError;
 use std::io::Write;
 use std::{error, fmt};
 
-/// Why a text of the program's own is not out.
+/// Why a text that the program itself makes is not written.
 #[derive(Clone, Copy, Debug, PartialEq, Eq)]
 pub enum OutputFault {
     /// 182: the writer failed.
@@ -61,11 +61,11 @@ pub enum ProgramFault {
     /// 123: memory was refused while the board was opened.
     Opening,
     /// 151: memory was refused in the run; 153: a thread could not be started. 152 and 154 mean a gate that stops and another
-    /// board than the given one: no run of the program ends so.
+    /// board than the given one: no run of the program ends with these.
     Run(RunFault),
-    /// 34 and 35: the result's text is not out.
+    /// 34 and 35: the result's text was not written, or not all of it.
     Print(PrintFault),
-    /// 182 and 184: a text of the program's own is not out.
+    /// 182 and 184: a text of the program's own was not written, or not all of it.
     Output(OutputFault),
     /// 1 to 4 and 11 to 13: a definition that is to be written as a text does not read.
     Unread(OpFault),
@@ -73,7 +73,7 @@ pub enum ProgramFault {
     Entries,
     /// 161 and 162: a line of a text is refused.
     Assembling(AsmFault),
-    /// 163 and 164: memory was refused while a text was read, or it is not out.
+    /// 163 and 164: memory was refused for a text of entries, or a write of it failed.
     Text(AsmFault),
     /// 185: a text, or the commands of a session, have more than 67,108,864 bytes.
     TooLong,

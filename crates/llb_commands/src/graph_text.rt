@@ -1,4 +1,4 @@
-//! A graph is one text: a line for each vertex by number, and a line for the result. It is written to a sink, a line at a
+//! The text of a graph: a line for each vertex by number, and a line for the result. It is written to a sink, a line at a
 //! time.
 
 ghost use Rattle.std.specs.Prelude.{◌≡◌, ◌++◌, Ok, string_bytes};
@@ -33,7 +33,7 @@ fn push_inputs(line: &mut String, inputs: &[Edge]) -> Result<(), OutputFault>
     Ok(())
 }
 
-// Returns the line of the vertex of that number.
+// Returns the line of the vertex with this number.
 fn vertex_line(alloc: Global, number: usize, vertex: &Vertex) -> Result<String, OutputFault>
     ensures { Gives (λ s. string_bytes s) result (Ok (vertex_line number vertex.now)) }
 {
@@ -54,7 +54,7 @@ fn result_line(alloc: Global, edge: Edge) -> Result<String, OutputFault>
     Ok(line)
 }
 
-// Writes a line that is there.
+// Writes a line to a sink.
 fn write_line<W: Sink>(line: &str, out: &mut W) -> Result<(), OutputFault>
     ensures writes { Writes (W.taken out.old) (W.taken out.new) (W.failed out.new) line.now result }
     ensures same { W.lender out.new ≡ W.lender out.old }

@@ -1,4 +1,4 @@
-//! The definition that is read, and its graph.
+//! Reads the definition and loads its graph.
 
 ghost use Rattle.std.specs.Prelude.{◌≡◌};
 ghost use Rattle.llb_commands.specs.Running.{passed_on, unread_as, Loads};
@@ -10,7 +10,7 @@ use llb_ops::OpFault;
 use std::alloc::Global;
 use std::io::Read;
 
-// Returns the program's fault for one of the loader: a refusal, but for the want of memory.
+// Returns the program's fault for one of the loader: a refusal, unless memory was refused.
 fn passed_on(fault: LoadFault) -> ProgramFault
     ensures { result ≡ passed_on fault }
 {

@@ -18,7 +18,7 @@ use llb_stepper::{
 use llb_wire::Bytes;
 use std::alloc::Global;
 
-/// Proves that for a text that is read as some entries, the definition that it is assembled to, and any bytes that have these entries, run on
+/// Proves that for a text of some entries, the definition that it is assembled to, and any bytes that have the same entries, run on
 /// the same local trees to the text of one and the same result.
 pub fn assembled_runs_alike(text: &[u8], entries: &Entries, bytes: &Bytes)
     ensures { RunsAlike text.now entries.now bytes.now }
@@ -60,14 +60,14 @@ pub fn aim(
     replay_is_the_run(board);
 }
 
-/// What a board is opened with beside its graph.
+/// What a board is opened with besides its graph.
 #[derive(Drop)]
 pub struct BoardOptions {
     pub locals: Locals,
     pub workers: u32,
 }
 
-/// Calls `aim`: the results of the calls that load a definition, open boards over its graph and make a stepper meet its premises.
+/// Meets the premises of `aim`: loads a definition, opens boards over its graph, makes a stepper, and calls `aim` on them.
 pub fn aim_is_met(
     alloc: Global,
     text: &[u8],

@@ -1,4 +1,4 @@
-//! The board on which the graph of a definition is run.
+//! Opens the board on which the graph of a definition is run.
 
 ghost use Rattle.std.specs.Prelude.{◌≡◌, [], IfOk, IfErr};
 ghost use Rattle.llb_board.specs.Seen.{opened};
@@ -13,7 +13,7 @@ use llb_loader::{Graph, Locals};
 use std::alloc::Global;
 use std::io::Read;
 
-/// Opens a board with this number of workers and no caches, or fails with why there is none.
+/// Opens a board with this number of workers and no caches, or returns why none can be opened.
 pub(crate) fn opened(
     alloc: Global,
     graph: Graph,

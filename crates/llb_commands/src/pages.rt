@@ -1,5 +1,5 @@
-//! The pages that follow the line of words that ask for help or for the version. They are the texts that `clap` renders for the command line,
-//! of which no contract speaks: so they are constants here, and a test of the program holds them against `clap`.
+//! The pages that follow the line of words that ask for help or for the version. They are the texts that `clap` renders for the command line;
+//! no contract speaks of those, so they are constants here, and a test of the program compares them with `clap`'s.
 
 ghost use Rattle.std.specs.Prelude.{◌≡◌, map};
 ghost use Rattle.llb_commands.specs.Pages.{command_named, help_page, named_first, page_for};
@@ -80,7 +80,7 @@ Options:
   -h, --help  Print help
 ";
 
-/// Returns the command of that name.
+/// Returns the command with this name.
 pub(crate) fn named(name: &str) -> Option<Command>
     ensures { result ≡ command_named name.now }
 {
@@ -123,7 +123,7 @@ fn help_page(command: Option<Command>) -> &'static str
     }
 }
 
-/// Returns the page that words ask for which `clap` refuses so, by the command that the first names; it is empty if they ask for none.
+/// Returns the page that words ask for, by the kind of `clap`'s refusal and the command that the first word names; an empty one if they ask for none.
 pub(crate) fn page_for(kind: ErrorKind, command: Option<Command>) -> &'static str
     ensures { result.now ≡ page_for kind command }
 {

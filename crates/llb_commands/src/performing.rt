@@ -1,4 +1,4 @@
-//! Dispatches a command line: one of the commands, over the program's streams and the local trees; and the program whole.
+//! Does what a command line asks for: one of the commands, on the program's streams and the local trees; and the whole program.
 
 ghost use Rattle.std.specs.Prelude.{map};
 ghost use Rattle.llb_commands.specs.Commands.{IsProgram, Performs};
@@ -30,7 +30,7 @@ pub struct Streams<R, W, E> {
     pub err: E,
 }
 
-// Opens the board of the definition in a file, which is read to its end and closed. Fails with 181 if the file is not opened.
+// Opens the board of the definition in a file, which is read to its end and closed. Fails with 181 if the file can't be opened.
 fn board_of<S: Sources>(
     alloc: Global,
     sources: &S,
@@ -47,8 +47,8 @@ fn board_of<S: Sources>(
 }
 
 // Does what the line says on the local trees, which are those of its local sources, and returns the exit status: that of the
-// command's own call. A session's definition is read from the line's file, to its end, before the first of its commands: if none is
-// named, `fault 183` and 2, and if it is not opened, `fault 181` and 3. It may wait if the command is `run` with more than one worker.
+// command's own call. A session's definition is read from the line's file, to its end, before the first of its commands: if no file is
+// named, `fault 183` and 2, and if it can't be opened, `fault 181` and 3. It may wait for threads if the command is `run` with more than one worker.
 fn perform<T: Threads + Wait + Sync, S: Sources, R: Read, W: Write, E: Write>(
     rt: &T,
     alloc: Global,
@@ -79,9 +79,9 @@ fn perform<T: Threads + Wait + Sync, S: Sources, R: Read, W: Write, E: Write>(
     }
 }
 
-/// Runs the program: does what the words after its name say, and returns the exit status. Words that say nothing end it with a line (183, 184),
+/// Runs the program: does what the words after its name ask for, and returns the exit status. Refused words end it with a line (183, 184),
 /// and below it the page that they ask for, if they ask for help or for the version; so does the first local source that has no tree
-/// (31 to 34, 92, 181, 184, 185); else the command is done on their trees, and the status is its own. It may wait if the command is `run`
+/// (31 to 34, 92, 181, 184, 185); else the command is done on their trees, and the status is its own. It may wait for threads if the command is `run`
 /// with more than one worker.
 pub fn program<T: Threads + Wait + Sync, A: AsStr, S: Sources, R: Read, W: Write, E: Write>(
     rt: &T,

@@ -1,4 +1,4 @@
-//! From the bytes of a definition to the text of its result: read, load, open a board, run it with one worker or with several, print.
+//! The command `run`: reads a definition, loads it, opens a board, runs it with one worker or with several, and prints the text of its result.
 
 ghost use Rattle.std.specs.Prelude.{ℕ, List, Option, length, OnOk};
 ghost use Rattle.std.specs.Io.KnownBytes.{Appends};
@@ -26,7 +26,7 @@ use std::io::{Read, Write};
 use std::sync::Wait;
 use std::thread::Threads;
 
-// A gate that every worker passes.
+// A gate that stops no worker.
 struct Open;
 
 impl Gate for Open {
@@ -39,7 +39,7 @@ impl Gate for Open {
     }
 }
 
-// How a run ended that no fault cut short.
+// How a run ended that was not cut short by a fault.
 #[derive(Drop)]
 enum Ended {
     // The text of its result is written.
@@ -48,7 +48,7 @@ enum Ended {
     Failed(Board),
 }
 
-// Returns the board of a run, if no fault cut it short.
+// Returns the board of a run, if the run was not cut short by a fault.
 fn whole(board: Board, fault: Option<RunFault>) -> Result<Board, ProgramFault>
     ensures { IsWhole board fault result }
 {
@@ -58,7 +58,7 @@ fn whole(board: Board, fault: Option<RunFault>) -> Result<Board, ProgramFault>
     }
 }
 
-// Runs a board that was opened to its end with one worker, or passes on why there is none.
+// Runs a board that was opened to its end with one worker; if none was opened, returns the fault.
 fn finished(opened: Result<Board, ProgramFault>) -> Result<Board, ProgramFault>
     ensures { (locals : List Local) (input : Option (List ℕ)) → Opens 1 locals input opened → Finishes 1 locals input result }
 {
@@ -69,7 +69,7 @@ fn finished(opened: Result<Board, ProgramFault>) -> Result<Board, ProgramFault>
     whole(board, fault)
 }
 
-// Does the same with this number of workers, several of them each in a thread of its own.
+// Runs a board that was opened to its end with this number of workers; if there are several, each has a thread.
 fn finished_by<T: Threads + Wait + Sync>(
     rt: &T,
     alloc: Global,
@@ -115,7 +115,7 @@ fn print_output<W: Write>(
     }
 }
 
-// Writes the text of the result of a run that has ended, whatever its definition was read from.
+// Writes the text of the result of a run that has ended, wherever its definition was read from.
 fn print_result<W: Write>(
     alloc: Global,
     board: Result<Board, ProgramFault>,
@@ -152,7 +152,7 @@ fn print_failures<E: Write>(board: &Board, err: &mut E) -> io::Result<()>
     Ok(())
 }
 
-// Writes the lines of how a run ended, and returns its exit status.
+// Writes the lines for the end of a run, and returns its exit status.
 fn exit_status<W: Write, E: Write>(
     ended: Result<Ended, ProgramFault>,
     out: &mut W,
@@ -176,7 +176,7 @@ fn exit_status<W: Write, E: Write>(
     }
 }
 
-// Writes what a run on a board prints, or why there is none, and returns the exit status.
+// Writes what a run on a board prints, or the line of the fault if no board was opened, and returns the exit status.
 fn print_end<W: Write, E: Write>(
     alloc: Global,
     board: Result<Board, ProgramFault>,
@@ -193,7 +193,7 @@ fn print_end<W: Write, E: Write>(
     exit_status(ended, out, err)
 }
 
-/// Reads a definition from `input`, runs it on the local trees with one worker and caches that are empty at first, and writes
+/// Reads a definition from `input`, runs it on the local trees with one worker and caches without instances, and writes
 /// the text of its result to `out`; refusals and failures go to `err`, a line each. Returns the exit status: 0 if the whole
 /// text is written; 1 if a vertex failed; 2 if the definition is refused, or a local source has no tree (`fault 121` and its
 /// name); 3 if a read, a write or memory failed. But for 0, nothing is written to `out`, or, for 3, a prefix of the text.
@@ -215,7 +215,7 @@ pub fn run_over<R: Read, W: Write, E: Write>(
     print_end(alloc, finished(opened), out, err)
 }
 
-/// Does the same with this number of workers, several of them each in a thread of its own, which it waits for. If no cache is mounted,
+/// Does what `run_over` does with this number of workers; if there are several, each has a thread, and the call waits for them. If no cache is mounted,
 /// the text is that of the plain outcomes, for any number of workers. The status is 2 also if the number is 0, or more than 64 (`fault 122`),
 /// and 3 also if a thread could not be started (`fault 153`).
 pub fn run_many_over<T: Threads + Wait + Sync, R: Read, W: Write, E: Write>(

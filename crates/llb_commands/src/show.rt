@@ -1,4 +1,4 @@
-//! From the bytes of a definition to the text of its graph: read, load, print.
+//! The command `show`: reads a definition, loads it, and prints the text of its graph.
 
 ghost use Rattle.std.specs.Prelude.{◌≡◌};
 ghost use Rattle.llb_commands.specs.Answer.{Draws};

@@ -1,5 +1,5 @@
-//! The trees of local sources, read from the texts of their files. A trait says which files there are, so that
-//! the program's are the only ones whose bytes are not known here.
+//! The trees of local sources, read from the texts of their files. Files are opened through a trait; contracts know the bytes of
+//! its files, but not those of the program's own files.
 
 ghost use Rattle.std.specs.Prelude.{◌≡◌, ℕ, List, [], Option, Some, IfOk, IfSome};
 ghost use Rattle.llb_commands.specs.Faults.{source_text};

@@ -1,4 +1,4 @@
-//! A stepping session over the run of a definition: read, load, open a board, reply to the commands.
+//! The command `step`: reads a definition, loads it, opens a board, and replies to the commands of a session.
 
 ghost use Rattle.std.specs.Prelude.{◌≡◌, ℕ, List, Option};
 ghost use Rattle.llb_loader.specs.Locals.{Local};
@@ -27,7 +27,7 @@ fn session_fault(fault: SessionFault) -> ProgramFault
     }
 }
 
-// Holds the whole session on a board, whatever its definition was read from.
+// Holds the whole session on a board, wherever its definition was read from.
 fn stepped<C: Read, W: Write>(
     alloc: Global,
     board: Result<Board, ProgramFault>,
@@ -46,7 +46,7 @@ fn stepped<C: Read, W: Write>(
     }
 }
 
-/// Runs a session on a board that was opened, whatever its definition was read from; or passes on why there is none. Returns the exit status.
+/// Runs a session on a board that was opened; if none was opened, writes the fault. Returns the exit status.
 pub(crate) fn session_over<C: Read, W: Write, E: Write>(
     alloc: Global,
     board: Result<Board, ProgramFault>,
@@ -66,7 +66,7 @@ pub(crate) fn session_over<C: Read, W: Write, E: Write>(
     }
 }
 
-/// Reads a definition from `file`, and replies to the lines of `commands` on a board with this number of workers and caches that are empty at first:
+/// Reads a definition from `file`, and replies to the lines of `commands` on a board with this number of workers and caches without instances:
 /// what they print goes to `out`, line by line, refusals of commands too. A refusal of the definition goes to `err`, as a line. Returns the
 /// exit status: 0 if the session ended, by a line `quit` or with the commands; 2 if the definition is refused (81 to 90), a local
 /// source has no tree (121), or the number of workers is 0 or more than 64 (122), and nothing is written to `out`, or if the commands

@@ -1,4 +1,4 @@
-//! What the words of the command line say, or why they are rejected.
+//! What the words of the command line ask for, or why they are refused.
 
 ghost use Rattle.std.specs.Prelude.{◌≡◌, Some};
 ghost use Rattle.llb_commands.specs.CommandLine.{words_status, words_text, TellsWords};
@@ -9,29 +9,29 @@ use std::alloc::{AllocError, AllocFailed};
 use std::fmt;
 use std::io::Write;
 
-/// What the program is to do.
+/// The command that the program is to do.
 #[derive(Clone, Copy, Debug, PartialEq, Eq)]
 pub enum Command {
-    /// To run a definition and print the tree of its result.
+    /// Runs a definition and prints the tree of its result.
     Run,
-    /// To print the graph of a definition.
+    /// Prints the graph of a definition.
     Show,
-    /// To step through the run of a definition.
+    /// Steps through the run of a definition.
     Step,
-    /// To write the definition of the entries that a text is read as.
+    /// Writes the definition of the entries that a text is read as.
     Assemble,
-    /// To write the entries of a definition as text.
+    /// Writes the entries of a definition as text.
     Disassemble,
 }
 
-/// The tree text of a local source: its name, and the file in which the text lies.
+/// A local source: its name, and the file that has its tree's text.
 #[derive(Clone, Copy, Debug)]
 pub struct Local<'a> {
     pub name: &'a str,
     pub file: &'a str,
 }
 
-/// What the words say.
+/// What the words ask for.
 #[derive(Debug, Drop)]
 pub struct Line<'a> {
     pub command: Command,
@@ -98,7 +98,7 @@ impl WordsFault<'_> {
     }
 }
 
-/// Writes the line of words that say nothing, and returns their fault's status; 3 if the line can't be written.
+/// Writes the line of refused words, and returns their fault's status; 3 if the line can't be written.
 pub fn words_refusal<E: Write>(fault: &WordsFault<'_>, err: &mut E) -> u8
     ensures { TellsWords (E.contents err.old) (E.contents err.new) fault.now result }
 {
@@ -108,7 +108,7 @@ pub fn words_refusal<E: Write>(fault: &WordsFault<'_>, err: &mut E) -> u8
     fault.status()
 }
 
-/// Words that say nothing: why, and the page that they ask for, an empty one if they ask for none.
+/// Refused words: why, and the page that they ask for, an empty one if they ask for none.
 #[derive(Clone, Copy, Debug)]
 pub(crate) struct Refusal<'a> {
     pub(crate) fault: WordsFault<'a>,
@@ -136,7 +136,7 @@ impl From<AllocError> for Refusal<'_> {
     }
 }
 
-/// Writes the line of refused words, and below it the page that they ask for; returns the fault's status, or 3 where they can't be
+/// Writes the line of refused words, and below it the page that they ask for; returns the fault's status, or 3 if they can't be
 /// written.
 pub(crate) fn tell_refusal<E: Write>(refusal: &Refusal<'_>, err: &mut E) -> u8
     ensures { TellsWithPage (E.contents err.old) (E.contents err.new) refusal.now.fault refusal.now.page.now result }

@@ -1,4 +1,4 @@
--- What two boards over one graph have settled, if their local trees differ in contents alone.
+-- How vertices ended on two boards over one graph whose local trees differ only in contents.
 use Rattle.std.specs.Prelude.{◌≡◌, ℕ, Bool, true, List, Some, slice_get}
 use Rattle.llb_model.specs.Outcome.{Ending, is_plain}
 use Rattle.llb_model.specs.State.{Settled}
@@ -13,12 +13,12 @@ pub record AreSettled (b c : BoardValue) (v : ℕ) (d e : Ending) : Type 0 where
   pub first : slice_get b.state.statuses v ≡ Some (Settled d)
   pub second : slice_get c.state.statuses v ≡ Some (Settled e)
 
--- vertices that both boards have settled ended alike: failed with the same fault, or done with as many outputs, which are alike
+-- a vertex that both boards have settled ended alike: failed with the same fault, or done with equally many outputs, which are alike
 abbrev pub SettleAlike : BoardValue → BoardValue → Type 0
 SettleAlike b c = (test : List ℕ → List ℕ → Bool) → IsKept (By test) → (v : ℕ) (d e : Ending) → AreSettled b c v d e
     → RelatesWritten (By test) b.build.graph v → HaveAlikeSources (By test) b.build.graph v b.build.locals c.build.locals → AreAlikeEndings (By test) d e
 
--- the same if pieces of contents are exchanged and no digest is made
+-- two boards settle a vertex alike if their local trees differ only in pieces of contents that are replaced, and no digest is made
 abbrev pub SettleExchanged : BoardValue → BoardValue → Type 0
 SettleExchanged b c = (pairs : List (List ℕ × List ℕ)) (v : ℕ) (d e : Ending) → AreSettled b c v d e
     → MakesNoDigest b.build.graph v → HaveAlikeSources (AreExchanged pairs) b.build.graph v b.build.locals c.build.locals

@@ -1,4 +1,4 @@
--- What contents a graph hands on from its local sources to its outcomes.
+-- How the contents of local sources reappear in the outcomes of a graph.
 use Rattle.std.specs.Prelude.{◌≡◌, ◌⊎◌, ℕ, zero, suc, ◌+◌, ◌*◌, ◌==◌, Bool, true, false, if◌then◌else◌, List, [], ◌∷◌, ◌++◌, Option, Some, None, option_map}
 use Rattle.std.specs.Prelude.{slice_get}
 use Rattle.std.specs.List.{All, Contains, flat_map, list_any}
@@ -20,29 +20,29 @@ use Rattle.llb_model.specs.Program.{MicroStep, ReadLocal, Act, LayInput, Run, pr
 use Rattle.llb_model.specs.Outcome.{outcome}
 use Rattle.llb_contents.specs.Alike.{BothResults, AreAlikeViews, RelatesTexts, RelatesBody, IsKept, BothOptions, AreAlike, AreAlikeOutcomes, RelatesStep}
 
--- ---- parts
+-- ---- steps of a run
 
--- a relation by a test
+-- the relation that a test decides
 abbrev pub By : (List ℕ → List ℕ → Bool) → List ℕ → List ℕ → Type 0
 By test a b = test a b ≡ true
 
--- a tree laid over another: laid alike trees are alike
+-- laying alike trees over alike trees results in alike trees
 abbrev pub LaysAlike : TreeMap → TreeMap → Type 0
 LaysAlike t v = (test : List ℕ → List ℕ → Bool) (u w : TreeMap) → AreAlike (By test) t u → AreAlike (By test) v w → AreAlike (By test) (lay t v) (lay u w)
 
--- an action on a base, with a second tree: on alike trees it fails with the same fault, or leaves alike trees
+-- an action on a base, with a second tree: on alike trees it fails with the same fault, or results in alike trees
 abbrev pub ActsAlike : Option ActionKind → TreeMap → TreeMap → Type 0
 ActsAlike a t v = (test : List ℕ → List ℕ → Bool) (u w : TreeMap) → RelatesBody (By test) a → AreAlike (By test) t u → AreAlike (By test) v w
     → BothResults (AreAlike (By test)) (act a t v) (act a u w)
 
--- a command in a setting on a view: on alike views it fails, or leaves alike views
+-- a command in this setting on this view: on an alike view it fails too, or both results are alike
 abbrev pub RunsAlike : Setting → List Shown → Command → Type 0
 RunsAlike s v c = (test : List ℕ → List ℕ → Bool) (w : List Shown) → IsKept (By test) → RelatesTexts (By test) s c → AreAlikeViews (By test) v w
     → BothOptions (AreAlikeViews (By test)) (run s v c) (run s w c)
 
--- ---- by any relation
+-- ---- a law for each relation between contents
 
--- what the vertices at or before vertex v write of their own is related to itself
+-- every content that a micro-step of a vertex at or before vertex v writes by itself is related to itself
 abbrev pub RelatesWritten : (List ℕ → List ℕ → Type 0) → Numbered → ℕ → Type 0
 RelatesWritten R g v = (k : ℕ) (x : Vertex) → Reached (links g.vertices) v k → slice_get g.vertices k ≡ Some x → All (RelatesStep R) (program_of x).steps
 
@@ -54,40 +54,40 @@ pub record IsSourceOf (g : Numbered) (v : ℕ) (name : List ℕ) : Type 0 where
   pub there : slice_get g.vertices number ≡ Some source
   pub named : local_name source.op ≡ Some name
 
--- each local source at or before vertex v has alike trees in both, or none in both
+-- each local source at or before vertex v has alike trees in both lists, or none in both
 abbrev pub HaveAlikeSources : (List ℕ → List ℕ → Type 0) → Numbered → ℕ → List Local → List Local → Type 0
 HaveAlikeSources R g v ls ms = (name : List ℕ) → IsSourceOf g v name → BothOptions (AreAlike R) (tree_of_local ls name) (tree_of_local ms name)
 
--- a vertex has alike plain outcomes with these local trees and with those: it is blocked in both, failed in both with the same fault, or done in both with as
+-- a vertex has alike plain outcomes with both lists of local trees: it is blocked in both, failed in both with the same fault, or done in both with as
 -- many outputs, which are alike
 abbrev pub HasAlikeOutcomes : (List ℕ → List ℕ → Type 0) → Numbered → List Local → List Local → ℕ → Type 0
 HasAlikeOutcomes R g ls ms v = BothOptions (AreAlikeOutcomes R) (outcome (record { graph = g; locals = ls }) v) (outcome (record { graph = g; locals = ms }) v)
 
--- if local trees differ in contents alone, by a relation, so do the outcomes
+-- if local trees differ only in contents, by the relation R, so do the outcomes
 abbrev pub HandsOn : (List ℕ → List ℕ → Type 0) → Numbered → Type 0
 HandsOn R g = (ls ms : List Local) (v : ℕ) → RelatesWritten R g v → HaveAlikeSources R g v ls ms → HasAlikeOutcomes R g ls ms v
 
--- contents are handed on, whatever relation they are in
+-- `HandsOn` holds for every relation that a test decides and that appending keeps
 abbrev pub HandsRelationsOn : Numbered → Type 0
 HandsRelationsOn g = (test : List ℕ → List ℕ → Bool) → IsKept (By test) → HandsOn (By test) g
 
--- ---- by what contents expand to
+-- ---- a law for contents that expand to others
 
 -- the second content is what the first one expands to
 abbrev pub ExpandsTo : (List ℕ → Option (List ℕ)) → List ℕ → List ℕ → Type 0
 ExpandsTo expand a b = expand a ≡ Some b
 
--- if contents that are expanded by parts are put in local trees, the outcome with the expanded contents is the expanded outcome
+-- if contents of local trees expand to others, the contents of the outcomes expand to those of the others' outcomes, for each expansion that appending keeps
 abbrev pub HandsExpansionsOn : Numbered → Type 0
 HandsExpansionsOn g = (expand : List ℕ → Option (List ℕ)) → IsKept (ExpandsTo expand) → HandsOn (ExpandsTo expand) g
 
--- a tree expands to one tree at most: so the outcome on short contents determines the one on long contents
+-- a tree expands to at most one tree: so the outcome on short contents determines the outcome on long contents
 abbrev pub ExpandsToOne : TreeMap → Type 0
 ExpandsToOne t = (expand : List ℕ → Option (List ℕ)) (u w : TreeMap) → AreAlike (ExpandsTo expand) t u → AreAlike (ExpandsTo expand) t w → u ≡ w
 
--- what the rest of a content expands to, where `left` bytes of a token are still to be read and n is its number so far. The byte 255, which UTF-8 does not
--- have,
--- begins a token; the four bytes after it are its number, the most significant first; each other byte expands to itself
+-- what the rest of a content expands to, while `left` bytes of a token are still to be read and n is its number so far. The byte 255, which no text in UTF-8
+-- has, begins a token;
+-- the four bytes after it are its number, the most significant first; each other byte expands to itself
 abbrev pub spelled_from : (ℕ → List ℕ) → List ℕ → ℕ → ℕ → Option (List ℕ)
 spelled_from table [] zero n = Some []
 spelled_from table [] (suc left) n = None
@@ -96,7 +96,7 @@ spelled_from table (b ∷ bytes) zero n =
 spelled_from table (b ∷ bytes) (suc zero) n = option_map (λ rest. table (n * 256 + b) ++ rest) (spelled_from table bytes 0 0)
 spelled_from table (b ∷ bytes) (suc (suc left)) n = spelled_from table bytes (suc left) (n * 256 + b)
 
--- what a content with tokens expands to
+-- what a content with tokens expands to, given the contents by number
 abbrev pub spelled : (ℕ → List ℕ) → List ℕ → Option (List ℕ)
 spelled table bytes = spelled_from table bytes 0 0
 
@@ -104,7 +104,7 @@ spelled table bytes = spelled_from table bytes 0 0
 abbrev pub has_mark : List ℕ → Bool
 has_mark bytes = list_any (λ b. b == 255) bytes
 
--- whether a command makes a digest of contents, the one thing that looks at them
+-- whether a command makes a digest of contents; no other command looks at contents
 abbrev pub digests : Command → Bool
 digests (command.Sha256 path out) = true
 digests command.True = false
@@ -127,7 +127,7 @@ step_digests ReadLocal = false
 step_digests (Act action) = false
 step_digests (LayInput i) = false
 
--- whether a command may write the byte that begins tokens; a listing writes names of any trees, and a digest has none
+-- whether a command may write the byte that begins tokens; a listing may, by the names of a tree, and a digest does not
 abbrev pub writes_mark : Setting → Command → Bool
 writes_mark setting (command.Write path word) = has_mark (line word)
 writes_mark setting (command.Append path word) = has_mark (line word)
@@ -163,43 +163,43 @@ abbrev pub WritesNoMark : Numbered → ℕ → Type 0
 WritesNoMark g v = (k : ℕ) (x : Vertex) → Reached (links g.vertices) v k → slice_get g.vertices k ≡ Some x
     → list_any step_writes_mark (program_of x).steps ≡ false
 
--- a content given by value: it is the same in both, without the byte that begins tokens
+-- a content given by value: the same in both, and without the byte that begins tokens
 pub record IsLiteral (a b : List ℕ) : Type 0 where
   pub same : a ≡ b
   pub plain : has_mark a ≡ false
 
--- each vertex at or before vertex v that makes a digest has its sources by value: those at or before it have the same contents in both, none of which has the
+-- each vertex at or before vertex v that makes a digest has its sources by value: those at or before it have the same contents in both, and none has the
 -- byte that begins tokens
 abbrev pub DigestsLiterals : Numbered → List Local → List Local → ℕ → Type 0
 DigestsLiterals g ls ms v = (k : ℕ) (x : Vertex) → Reached (links g.vertices) v k → slice_get g.vertices k ≡ Some x
     → (list_any step_digests (program_of x).steps ≡ false) ⊎ HaveAlikeSources IsLiteral g k ls ms
 
--- with tokens for contents in local trees, the outcome is the one with the contents, with tokens for them
+-- with tokens in place of contents in local trees, the outcome is the one with the contents, but with tokens in their place
 abbrev pub HandsTokensOn : Numbered → Type 0
 HandsTokensOn g = (table : ℕ → List ℕ) (ls ms : List Local) (v : ℕ) → WritesNoMark g v → DigestsLiterals g ls ms v
     → HaveAlikeSources (ExpandsTo (spelled table)) g v ls ms → HasAlikeOutcomes (ExpandsTo (spelled table)) g ls ms v
 
--- ---- where no digest is made
+-- ---- the law if no vertex makes a digest
 
 -- no vertex at or before vertex v makes a digest of contents
 abbrev pub MakesNoDigest : Numbered → ℕ → Type 0
 MakesNoDigest g v = (k : ℕ) (x : Vertex) → Reached (links g.vertices) v k → slice_get g.vertices k ≡ Some x → list_any step_digests (program_of x).steps ≡ false
 
--- the same as `HandsOn`, with no premise on what is written: for relations that relate each content to itself
+-- the same as `HandsOn`, without a premise on what is written; for relations that relate each content to itself
 abbrev pub HandsOnUndigested : (List ℕ → List ℕ → Type 0) → Numbered → Type 0
 HandsOnUndigested R g = (ls ms : List Local) (v : ℕ) → MakesNoDigest g v → HaveAlikeSources R g v ls ms → HasAlikeOutcomes R g ls ms v
 
--- a relation that relates each content to itself is handed on, if no digest is made
+-- `HandsOnUndigested` holds for every relation that appending keeps and that relates each content to itself, if no digest is made
 abbrev pub HandsUndigestedOn : Numbered → Type 0
 HandsUndigestedOn g = (test : List ℕ → List ℕ → Bool) → IsKept (By test) → ((a : List ℕ) → By test a a) → HandsOnUndigested (By test) g
 
--- a content is another with some pieces exchanged, each for its partner in a list of pairs
+-- b is a with some pieces replaced, each by its partner in a list of pairs
 pub record AreExchanged (pairs : List (List ℕ × List ℕ)) (a b : List ℕ) : Type 0 where
   pub pieces : List (List ℕ × List ℕ)
   pub each : All (λ p. (p.0 ≡ p.1) ⊎ Contains pairs p) pieces
   pub first : a ≡ flat_map (λ p. p.0) pieces
   pub second : b ≡ flat_map (λ p. p.1) pieces
 
--- if pieces of local trees' contents are exchanged, the outcome is the same but for such exchanges in its contents, if no digest is made
+-- if pieces of local trees' contents are replaced, the outcome is the same but for such replacements in its contents, if no digest is made
 abbrev pub HandsContentsOn : Numbered → Type 0
 HandsContentsOn g = (pairs : List (List ℕ × List ℕ)) → HandsOnUndigested (AreExchanged pairs) g

@@ -1,5 +1,5 @@
--- Read first Alike: trees, views and outcomes that differ in file contents alone, by a relation. Laws is what a graph hands on of them, and Boards
--- what two boards have settled of them.
+-- Read first Alike: trees, views and outcomes that differ only in the contents of files, by a relation. Laws is how contents reappear in outcomes of a graph,
+-- and Boards the same for what two boards have settled.
 pub mod Alike
 pub mod Laws
 pub mod Boards

@@ -10,7 +10,7 @@ use llb_loader::Graph;
 use llb_ops::Action;
 use llb_tree::Tree;
 
-/// Proves that alike trees, which differ in contents alone, are alike after they are laid over alike trees.
+/// Proves that laying alike trees, which differ only in contents, over alike trees results in alike trees.
 pub fn lays_alike(lower: &Tree, upper: &Tree)
     ensures { LaysAlike lower.now upper.now }
 {
@@ -18,7 +18,7 @@ pub fn lays_alike(lower: &Tree, upper: &Tree)
     let _ = upper;
 }
 
-/// Proves that an action fails with the same fault on alike trees, or leaves alike trees.
+/// Proves that an action on alike trees fails with the same fault, or results in alike trees.
 pub fn acts_alike(action: &Action, base: &Tree, second: &Tree)
     ensures { ActsAlike action.now.kind base.now second.now }
 {
@@ -27,7 +27,7 @@ pub fn acts_alike(action: &Action, base: &Tree, second: &Tree)
     let _ = second;
 }
 
-/// Proves that a command fails on alike views, or leaves alike views.
+/// Proves that a command on alike views fails on both, or results in alike views.
 pub fn runs_alike(setting: &Setting, view: &View, command: &Command)
     ensures { RunsAlike setting.now view.now command.now }
 {
@@ -36,14 +36,14 @@ pub fn runs_alike(setting: &Setting, view: &View, command: &Command)
     let _ = command;
 }
 
-/// Proves that if local trees differ in contents alone, so do the plain outcomes of a vertex: it is blocked in both,
-/// failed in both with the same fault, or done in both with as many outputs. `relations`: the contents are in any
-/// relation that is kept by appending, if what the ops write of their own is related to itself, and the digests of
+/// Proves that if local trees differ only in contents, so do the plain outcomes of a vertex: it is blocked in both,
+/// failed in both with the same fault, or done in both with equally many outputs. `relations`: the contents are in any
+/// relation that appending keeps, if what the ops themselves write is related to itself, and digests of
 /// related contents are related. `expansions`: one is what the other expands to. `tokens`: the same for tokens, the
 /// byte 255 and a number of four bytes, if no exec at or before the vertex makes a listing, nothing there writes the
 /// byte 255, and the sources at or before each exec that makes a digest are given by value: the same in both, without
 /// the byte 255. `undigested`: the relation relates each content to itself, and no exec at or before the vertex makes a
-/// digest. `contents`: the same if pieces of the contents are exchanged for their partners.
+/// digest. `contents`: the same if pieces of the contents are replaced by their partners in a list of pairs.
 pub fn contents_are_handed_on(graph: &Graph)
     ensures relations { HandsRelationsOn graph.now }
     ensures expansions { HandsExpansionsOn graph.now }
@@ -54,14 +54,14 @@ pub fn contents_are_handed_on(graph: &Graph)
     graph.is_graph();
 }
 
-/// Proves that a tree expands to at most one tree, by what its contents expand to.
+/// Proves that a tree expands to at most one tree, given what its contents expand to.
 pub fn expands_to_one(tree: &Tree)
     ensures { ExpandsToOne tree.now }
 {
     let _ = tree;
 }
 
-/// Proves that on two boards over one graph, whose local trees differ in contents alone, vertices that are done or
+/// Proves that on two boards over one graph, whose local trees differ only in contents, vertices that are done or
 /// failed on both ended alike, failures included, if no cache mount is at or before them; by any workers and any order
 /// of events.
 pub fn boards_settle_alike(board: &Board, other: &Board)

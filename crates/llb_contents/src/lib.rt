@@ -1,11 +1,11 @@
-//! Laws of contents: if the local trees of two runs differ in the contents of files alone, by a relation that appending keeps, then so do the
-//! outcomes. There is no code but laws. `tools/build` rests on them: it gives the program a short token for each content. It is built on
+//! Laws of contents: if the local trees of two runs differ only in the contents of files, by a relation that appending keeps, then so do the
+//! outcomes. There is no code but the laws. `tools/build` relies on them: it gives the program a short token for each content. It is built on
 //! `llb_board`.
 //!
 //! Types: none; `specs/Laws.antt` has the relation on trees, views and outcomes.
 //! Promise: `laws::contents_are_handed_on` (`tokens`, `contents`): if no exec at or before a vertex makes a listing, none there writes the byte
 //! 255, and each that makes a digest has its sources by value, tokens in the sources come out as the same tokens in the outcome.
-//! `laws::boards_settle_alike` says the like of two boards.
+//! `laws::boards_settle_alike` says the same of what two boards have settled.
 //!
 //! A caller:
 //!

@@ -1,6 +1,6 @@
--- What a copy to the front of a buffer leaves there.
+-- What a buffer has after a copy to its front.
 use Rattle.std.specs.Prelude.{ℕ, min, List, ◌++◌, length, take, drop}
 
--- the first bytes of bs, as many as fit, in the place of the first of old
+-- `old` after its first bytes are replaced by those of `bs`, as many as fit
 abbrev pub copied : List ℕ → List ℕ → List ℕ
 copied bs old = take (min (length bs) (length old)) bs ++ drop (min (length bs) (length old)) old

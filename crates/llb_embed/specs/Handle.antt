@@ -1,4 +1,4 @@
--- What a handle holds, as its owner sees it, and what a call leaves there.
+-- What a handle holds, as its owner sees it, and what it holds after a call.
 use Rattle.std.specs.Prelude.{◌≡◌, ℕ, true, if◌then◌else◌, List, [], Option, None, Some}
 use Rattle.llb_embed.specs.declared.held.Held.{Held}
 use Rattle.llb_embed.specs.declared.handle.Llb.{Llb}
@@ -8,11 +8,11 @@ use Rattle.llb_embed.specs.Kept.{IsKept}
 abbrev pub held_in : Llb → Option Held
 held_in h = if h.is_set then h.kept.value else None
 
--- a value that is said to be set is there
+-- if the handle says that a value is set, it has one
 abbrev pub IsSound : Llb → Type 0
 IsSound h = h.is_set ≡ true → IsKept h.kept.value
 
--- no tree, no session, and nothing was written
+-- no trees, no session, and no output or messages
 pub record IsEmpty (h : Held) : Type 0 where
   pub locals : h.locals ≡ []
   pub session : h.session ≡ None
@@ -20,18 +20,18 @@ pub record IsEmpty (h : Held) : Type 0 where
   pub output : h.output.items ≡ []
   pub messages : h.messages.items ≡ []
 
--- a call starts with what is held, or else with nothing
+-- a call starts with what the handle holds, or with an empty value if it holds nothing
 abbrev pub StartsWith : Option Held → Held → Type 0
 StartsWith None start = IsEmpty start
 StartsWith (Some h) start = start ≡ h
 
--- A call leads from what was held to what is held, by a relation; or memory for the handle itself was refused, the status is 3, and nothing is held before
+-- A call changes what the handle holds as a relation says; or memory for the handle itself was refused, the status is 3, and it holds nothing before
 -- and after.
 abbrev pub Calls : (Held → Held → ℕ → Type 0) → Option Held → Option Held → ℕ → Type 0
 Calls Leads old None status = (status ≡ 3) × (old ≡ None)
 Calls Leads old (Some new) status = (start : Held) × StartsWith old start × Leads start new status
 
--- what the last call wrote as its output, and as its messages: nothing, where nothing is held
+-- the output and the messages of the last call; empty if the handle holds nothing
 abbrev pub output_in : Option Held → List ℕ
 output_in None = []
 output_in (Some h) = h.output.items

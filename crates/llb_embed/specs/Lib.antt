@@ -1,4 +1,4 @@
--- Read first Working (what each call does, by the definition of the program's command), then Handle (what a handle holds, and what a call leaves there), Copied
+-- Read first Working (what each call does, by the definition of the program's command), then Handle (what a handle holds before and after a call), Copied
 -- (what a copy leaves in a buffer) and Kept (what the handle's pointer owns).
 pub mod Kept
 pub mod Handle

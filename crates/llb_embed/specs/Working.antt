@@ -1,4 +1,4 @@
--- What each call does to what is held, by the definition of the program's own command: from what the call starts with to what it leaves, and its status.
+-- What each call does to the value in the handle, by the definition of the program's own command: the value before and after the call, and the status.
 use Rattle.std.specs.Prelude.{◌≡◌, ◌+◌, ◌⊎◌, ℕ, List, [], Option, Some, None, Ok, Err, MatchOption, IsUtf8}
 use Rattle.llb_tree.specs.Tree.{TreeMap}
 use Rattle.llb_loader.specs.Graph.{Numbered}
@@ -19,11 +19,11 @@ use Rattle.llb_commands.specs.Sources.{ReadsTree, TellsSource}
 use Rattle.llb_commands.specs.Stepping.{begun}
 use Rattle.llb_embed.specs.declared.held.Held.{Held}
 
--- bytes in the place of what the call before wrote
+-- bytes written to a stream that was empty
 abbrev pub written : List ℕ → Stream
 written bytes = record { before = Some []; after = Some bytes }
 
--- what a command reads and writes: it reads these bytes, and the rest of them are left
+-- what a command reads and writes: it reads these bytes, of which the rest remains, and writes the output and messages of the new value
 abbrev pub streams : List ℕ → Option (List ℕ) → Held → Io
 streams bytes rest new = record {
   input = record { before = Some bytes; after = rest };
@@ -31,13 +31,13 @@ streams bytes rest new = record {
   errors = written new.messages.items;
 }
 
--- the local trees and the session are as they were
+-- the local trees and the session are unchanged
 abbrev pub KeepsRest : Held → Held → Type 0
 KeepsRest old new = (new.locals ≡ old.locals) × (new.session ≡ old.session) × (new.lines ≡ old.lines)
 
 -- ---- whole commands
 
--- a command on these bytes ends so, and the local trees and the session are as they were
+-- a command on these bytes has ended with this status, and the local trees and the session are unchanged
 abbrev pub EndsBy : (Io → ℕ → Type 0) → List ℕ → Held → Held → ℕ → Type 0
 EndsBy Ends bytes old new status = KeepsRest old new × ((rest : Option (List ℕ)) × Ends (streams bytes rest new) status)
 
@@ -59,13 +59,13 @@ Disassembled = EndsBy Disassembles
 
 -- ---- local trees
 
--- why nothing is added, with its line and its status: a name that is not UTF-8, or a text that is read as no tree
+-- why no tree is added, with its line and status: the name is not UTF-8, or the text is no tree's
 abbrev pub TellsWhyNot : List ℕ → List ℕ → Held → ℕ → Type 0
 TellsWhyNot name text new status =
     ((¬ (IsUtf8 name)) × TellsWords (Some []) (Some new.messages.items) (Words None) status)
     ⊎ ((e : SourceFault) × ReadsTree text (Err e) × TellsSource (Some []) (Some new.messages.items) e status)
 
--- 0: the tree of the text is added under the name. Else the local trees are as they were, and the messages have a line that says why.
+-- Status 0: the tree of the text is added under the name. Any other: the local trees are unchanged, and the messages have a line that says why.
 abbrev pub Added : List ℕ → List ℕ → Held → Held → ℕ → Type 0
 Added name text old new status = (new.session ≡ old.session) × (new.lines ≡ old.lines) × (new.output.items ≡ []) × (
     ((status ≡ 0) × (new.messages.items ≡ []) × ((t : TreeMap) × ReadsTree text (Ok t) × (new.locals ≡ with_local old.locals name t)))
@@ -77,19 +77,19 @@ Added name text old new status = (new.session ≡ old.session) × (new.lines ≡
 abbrev pub IsBegun : List ℕ → ℕ → Held → Held → Type 0
 IsBegun definition workers old new = (g : Numbered) × IsGraphIn definition g × (new.session ≡ Some (begun old.locals g workers)) × (new.lines ≡ 0)
 
--- 0: a session is begun. Else the session is the one that was, if any: 2, and the messages have the line that says why, or 3.
+-- Status 0: a session is begun. Else the session is the one from before, if any, and the status is 2, with a line in the messages that says why, or 3.
 abbrev pub Opened : List ℕ → ℕ → Held → Held → ℕ → Type 0
 Opened definition workers old new status = (new.locals ≡ old.locals) × (new.output.items ≡ []) × (
     ((status ≡ 0) × (new.messages.items ≡ []) × IsBegun definition workers old new)
     ⊎ ((new.session ≡ old.session) × (new.lines ≡ old.lines)
     × (((status ≡ 2) × TellsWhy (IsNotRun workers old.locals) (Some definition) (written new.messages.items)) ⊎ (status ≡ 3))))
 
--- line n of session s leads to a session, and the output is its whole reply
+-- line n of session s does not end it, and the output is the whole reply
 abbrev pub GoesOn : List ℕ → Stepping → ℕ → Held → Type 0
 GoesOn line s n new = (t : Stepping) × (new.session ≡ Some t) × (new.lines ≡ n) × (¬ Quits line) × RespondsAs (request_in line) s n new.output.items t
 
--- A line is sent to session s. 0: its reply is the output. 1: it ends the session, and none is open. Else nothing is changed, and the messages have a line that
--- says why: memory was refused for the line of a refusal; or the line would be one more than the 2^64 - 1 lines that a session has.
+-- A line is sent to session s. Status 0: its reply is the output. 1: it ends the session, and none is open. Else nothing is changed, and the messages have a
+-- line that says why: memory was refused for the line of a refusal; or the line would be one more than the 2^64 - 1 lines that a session has.
 abbrev pub RepliesOn : List ℕ → Stepping → Held → Held → ℕ → Type 0
 RepliesOn line s old new status =
     ((status ≡ 0) × (new.messages.items ≡ []) × GoesOn line s (old.lines + 1) new)
@@ -98,7 +98,7 @@ RepliesOn line s old new status =
     × ((MayFail (request_in line) × Tells (Some []) (Some new.messages.items) fault.Memory status)
     ⊎ ((old.lines ≡ 18446744073709551615) × Tells (Some []) (Some new.messages.items) fault.TooLong status))))
 
--- a line is sent to the session; 4: none is open, and nothing is changed
+-- a line is sent to the session; if none is open, the status is 4 and nothing is changed
 abbrev pub Replied : List ℕ → Held → Held → ℕ → Type 0
 Replied line old new status = (new.locals ≡ old.locals) × MatchOption old.session
     ((status ≡ 4) × KeepsRest old new × (new.output.items ≡ []) × (new.messages.items ≡ []))

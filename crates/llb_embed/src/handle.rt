@@ -16,7 +16,7 @@ pub struct Llb {
     kept: Kept,
 }
 
-/// Takes out what is held.
+/// Takes out the value that the handle holds, if any.
 pub(crate) fn take(it: &mut Llb, alloc: Global) -> Option<Box<Held>>
     requires { IsSound it.old }
     ensures sound { IsSound it.new }
@@ -31,7 +31,7 @@ pub(crate) fn take(it: &mut Llb, alloc: Global) -> Option<Box<Held>>
     Some(kept.into_box(alloc))
 }
 
-/// Holds a value. What was held has been taken out.
+/// Puts a value into the handle, whose value was taken out before.
 pub(crate) fn put(it: &mut Llb, held: Box<Held>)
     ensures sound { IsSound it.new }
     ensures holds { held_in it.new ≡ Some held.value }
@@ -40,7 +40,7 @@ pub(crate) fn put(it: &mut Llb, held: Box<Held>)
     it.is_set = true;
 }
 
-/// Takes out what is held, or makes a new box if nothing is held; returns `None` if memory for the box is refused.
+/// Takes out the value that the handle holds, or makes an empty one if it holds none; returns `None` if memory for that is refused.
 pub(crate) fn start(it: &mut Llb, alloc: Global) -> Option<Box<Held>>
     requires { IsSound it.old }
     ensures sound { IsSound it.new }

@@ -15,7 +15,7 @@ pub struct Held {
     pub messages: Vec<u8>,
 }
 
-// Written out, so that a proof by hand can name it.
+// Written by hand, so that a proof by hand can name it.
 impl Drop for Held {
     fn drop(self) {
         let Held {
@@ -29,7 +29,7 @@ impl Drop for Held {
 }
 
 impl Held {
-    /// Returns what a handle holds at first: no tree, no session, no output. Does not allocate.
+    /// Returns an empty value: no trees, no session, no output. Does not allocate.
     pub fn new(alloc: Global) -> Held
         ensures { IsEmpty result }
     {

@@ -1,4 +1,4 @@
-//! A value behind a pointer that C keeps: none, or a box that was taken apart.
+//! A value behind a pointer that C keeps: none, or the content of a box whose pointer was taken.
 
 ghost use Rattle.std.specs.Prelude.{◌≡◌};
 ghost use Rattle.std.specs.declared.option.Option.{Option};
@@ -25,7 +25,7 @@ impl Model for Kept {
 }
 
 impl Kept {
-    /// Takes a box apart.
+    /// Takes the pointer of a box; the value stays where it is.
     pub fn of(value: Box<Held>) -> Kept
         ensures { result.value ≡ Some value.value }
     {
@@ -33,7 +33,7 @@ impl Kept {
         Kept { at: at as *mut u8 }
     }
 
-    /// Makes the box again.
+    /// Makes the box again from the pointer.
     pub fn into_box(self, alloc: Global) -> Box<Held>
         requires { IsKept self.value }
         ensures { self.value ≡ Some result.value }

@@ -1,7 +1,7 @@
 //! The library for C: a handle holds local trees, a session and what the last call wrote, and each call has the contract of the program's
 //! command. It is built on `llb_commands`, and is linked as a static library; what its caller has to promise is in bindings/llbm.h.
 //!
-//! Types: `Llb`, a handle: a struct of zeroes, or what a call left there.
+//! Types: `Llb`, a handle: a struct of zeroes until a call puts a value into it.
 //! Promise: each export does what the program's command does, on the bytes handed in and what the handle holds (`ran`, `opened`, `replied` and
 //! the like); output and messages are copied as far as they fit, and the length of the whole is returned (`copied`, `all`).
 //!
@@ -180,7 +180,7 @@ pub extern "C" fn llb_messages(alloc: Global, it: &mut Llb, out: &mut [u8]) -> u
     }
 }
 
-/// Frees what is held. The handle may be used again, and closed again.
+/// Frees what the handle holds. The handle may be used again, and closed again.
 #[unsafe(no_mangle)]
 pub extern "C" fn llb_close(alloc: Global, it: &mut Llb)
     requires { IsSound it.old }

@@ -1,4 +1,4 @@
-//! What the exports do to what is held.
+//! What the exported calls do to the value in the handle.
 
 ghost use Rattle.std.specs.Prelude.{◌≡◌, length, []};
 ghost use Rattle.llb_embed.specs.Copied.{copied};
@@ -33,7 +33,7 @@ pub(crate) fn copy_out(bytes: &[u8], out: &mut [u8]) -> usize
     whole
 }
 
-// Removes what the last call wrote.
+// Clears the output and the messages of the last call.
 fn clear(held: &mut Held)
     ensures rest { held.new ≡ record held.old { output = held.new.output; messages = held.new.messages } }
     ensures output { held.new.output.items ≡ [] }
@@ -43,7 +43,7 @@ fn clear(held: &mut Held)
     held.messages.clear();
 }
 
-/// Adds a local tree, or writes why it is not added to the messages.
+/// Adds a local tree; if that fails, writes the reason to the messages.
 pub(crate) fn local(alloc: Global, held: &mut Held, name: &[u8], text: &[u8]) -> u8
     ensures { Added name.now text.now held.old held.new result }
 {
@@ -58,7 +58,7 @@ pub(crate) fn local(alloc: Global, held: &mut Held, name: &[u8], text: &[u8]) ->
     }
 }
 
-/// Opens a session in the place of the one that is open, if any; or writes why it is not opened to the messages.
+/// Opens a session in place of the one that is open, if any; if that fails, writes the reason to the messages.
 pub(crate) fn open(alloc: Global, held: &mut Held, definition: &[u8], workers: u32) -> u8
     ensures { Opened definition.now workers held.old held.new result }
 {
@@ -77,7 +77,7 @@ pub(crate) fn open(alloc: Global, held: &mut Held, definition: &[u8], workers: u
     }
 }
 
-/// Replies to a line of the session that is open, if any; or writes why it is not done to the messages.
+/// Replies to a line of the session that is open, if any; if that fails, writes the reason to the messages.
 pub(crate) fn reply(alloc: Global, held: &mut Held, line: &[u8]) -> u8
     ensures { Replied line.now held.old held.new result }
 {

@@ -1,5 +1,5 @@
--- The text after the word `fault` when a board refuses an event: the number, and the key of a cache that is held. And how the results of events are specified:
--- what the table returns, or memory was refused.
+-- The text after the word `fault` when a board refuses an event: the number, and the key of a cache that is held. And how the results of events are
+-- specified: they are what the table returns, or the call fails for want of memory.
 use Rattle.std.specs.Prelude.{ℕ, Bool, true, false, List, ◌++◌, Result, Ok, Err, codes}
 use Rattle.llb_wire.specs.Answer as answer
 use Rattle.llb_cache.specs.Key.{has_text}
@@ -39,7 +39,7 @@ abbrev pub cancel_text : CancelFault → List ℕ
 cancel_text cancel.NoWorker = codes "131"
 cancel_text cancel.NotRunning = codes "136"
 
--- ---- memory that a claim may want
+-- ---- memory that a claim may need
 
 -- whether memory may be needed: if there is no other cause, or for the text of the key that is held
 abbrev pub claim_may_want : {A : Type 0} → Result A ClaimFault → Bool
@@ -60,7 +60,7 @@ claim_memory claim.NoVertex = false
 claim_memory claim.NotReady = false
 claim_memory (claim.Held key) = false
 
--- a result of a claim is what the rule returns, but for want of memory
+-- a claim returns what the rule does, or it fails for want of memory
 abbrev pub GivesClaim : {X Y : Type 0} → (X → Y) → Result X ClaimFault → Result Y ClaimFault → Type 0
 GivesClaim = answer.Gives claim_memory
 
@@ -73,13 +73,13 @@ step_memory step.NoWorker = false
 step_memory step.NotRunning = false
 step_memory step.NothingLeft = false
 
--- a step's result is what the table returns, or memory was refused
+-- a step returns what the table does, or it fails for want of memory
 abbrev pub GivesStep : {X Y : Type 0} → (X → Y) → Result X StepFault → Result Y StepFault → Type 0
 GivesStep = answer.Gives step_memory
 
 -- ---- settles
 
--- no settle wants memory
+-- no settle needs memory
 abbrev pub settle_memory : SettleFault → Bool
 settle_memory e = false
 
@@ -89,7 +89,7 @@ GivesSettle = answer.Gives settle_memory
 
 -- ---- cancels
 
--- no cancel wants memory
+-- no cancel needs memory
 abbrev pub cancel_memory : CancelFault → Bool
 cancel_memory e = false
 

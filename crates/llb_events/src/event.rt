@@ -1,16 +1,16 @@
-//! What changes a board.
+//! The events that change a board, and the replies to them.
 
 use crate::fault::VertexFault;
 use llb_wire::Same;
 
-/// What a worker does on the board.
+/// An event: what a worker does on the board.
 #[derive(Clone, Copy, Debug, PartialEq, Eq)]
 pub enum Event {
     /// Worker and vertex: an idle worker takes a Ready vertex.
     Claim(u32, u32),
     /// The next micro-step of what the worker runs is done.
     Step(u32),
-    /// What the worker runs is finished, and the worker is idle again.
+    /// The worker ends what it runs, which is finished, and is idle again.
     Settle(u32),
     /// The worker gives up what it runs, and the vertex waits again.
     Cancel(u32),
@@ -21,19 +21,19 @@ pub enum Event {
 pub enum Stepped {
     /// The local tree is read.
     Read,
-    /// The action of that number is done.
+    /// The action with this number is done.
     Acted(u32),
-    /// The input of that number among the merge's is laid over those before it.
+    /// The input with this number among the merge's is laid over those before it.
     Merged(u32),
-    /// The command of that number has ended with that status.
+    /// The command with this number has ended with this status.
     Ran(u32, u32),
-    /// The command of that number was skipped, by its join and the last status.
+    /// The command with this number was skipped, by its join and the last status.
     Skipped(u32),
     /// The micro-step faulted.
     Fault(VertexFault),
 }
 
-/// How the vertex of that number was settled.
+/// How the vertex with this number was settled.
 #[derive(Clone, Copy, Debug, PartialEq, Eq)]
 pub enum Settled {
     /// The execution of the vertex had no fault: it has its outputs.

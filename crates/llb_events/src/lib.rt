@@ -1,5 +1,5 @@
-//! The words in which a board is asked and replies: events, replies, why an event is refused, and why a vertex fails. They are types and their
-//! texts alone; which event is granted is the table's (`llb_model`). It is built on `llb_cache`.
+//! The types of a board's interface: events, replies, why an event is refused, and why a vertex fails. They are types and their
+//! texts alone; which event is granted is what the table says (`llb_model`). It is built on `llb_cache`.
 //!
 //! Types: `Event`, `Stepped`, `Settled`, `Cancelled`; `ClaimFault`, `StepFault`, `SettleFault`, `CancelFault` (131 to 138, 141); `VertexFault`.
 //! Promise: Each refusal prints its number, and 135 the ID of the held key too: contracts have these texts (`claim_text` and its kin in

@@ -1,4 +1,4 @@
-//! Scripts that are run on views, of one mount and of more.
+//! Scripts that are run on views, with one mount and with more.
 
 use super::stage::are_told;
 
@@ -203,7 +203,7 @@ fn applets_do_what_they_say_on_one_tree(rt: HostRuntime) {
     are_told(&rt, rt.alloc(), ON_ONE_TREE);
 }
 
-// From one mount to another, below read-only ones, and on selectors.
+// From one mount to another, below read-only mounts, and with selectors.
 const ON_MORE_MOUNTS: &str = r#"
     # From mount to mount.
     > new

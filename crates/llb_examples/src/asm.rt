@@ -1,5 +1,5 @@
-//! The assembler's calls, each once, on two entries of one definition: what texts are read as and how entries are written is tested by the program
-//! (the tests of `asm` and `dis` in `llbm`).
+//! Each call of the assembler once, on the two entries of one definition: what texts are read as and how entries are written is tested by the program's tests
+//! of `asm` and `dis` (in `llbm`).
 
 use super::told::is_so;
 use llb_asm::{assemble, disassemble, one_answer, reads_back};
@@ -8,7 +8,7 @@ use llb_wire::Over;
 use std::alloc::Global;
 use std::process::Abort;
 
-// A merge of nothing with a platform and constraints, 33 bytes long, and an op whose bytes are longer than they need be.
+// A merge of nothing with a platform and constraints, 33 bytes long, and an op whose bytes are longer than they need to be.
 const DEFINITION: &[u8] = b"\x0a\x21\x32\x0d\x0a\x0b\x08\xff\xff\xff\xff\xff\xff\xff\xff\xff\x01\
     \x52\x0e\x0a\x05amd64\x12\x05linux\x5a\x00\x0a\x03\xb2\x00\x00";
 

@@ -1,4 +1,4 @@
-//! What faults print: what comes after the word `fault` in a refusal. Those of records and messages, the loader's other refusals, each feature
+//! What faults print, after the word `fault` in a refusal. Faults of records and messages, the loader's other refusals, each feature
 //! and each rule are printed in `loader` and by the program (`show`, `taken_ops`, `taken_executions` and `taken_caches` in `llbm`).
 
 use super::told::prints;
@@ -48,7 +48,7 @@ fn refusals_of_a_definition(rt: HostRuntime) {
     prints(&rt, alloc, &llb_loader::Memory, "92");
 }
 
-// The fault of a word that names no applet.
+// Returns the fault of a word that names no applet.
 fn no_applet(rt: &impl Abort, alloc: Global) -> ScriptFault {
     ScriptFault::NoApplet(Text::from_str(alloc, "apk").expect(rt, "memory"))
 }

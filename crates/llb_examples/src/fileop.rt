@@ -1,4 +1,4 @@
-//! File actions by calls. What they leave of trees, and by which faults they fail, is tested by the program (`file_actions` in `llbm`).
+//! Calls for file actions. The trees after them, and the faults with which they fail, are tested by the program (`file_actions` in `llbm`).
 
 use super::ops::{COPY, MAKES_A};
 use super::told::{is_same, say, say_fault, say_path, say_tree};
@@ -8,7 +8,7 @@ use llb_tree::Tree;
 use std::alloc::Global;
 use std::process::Abort;
 
-// The path that a text leads to, and whether it ends in a slash.
+// Returns the path that a text reads as, and whether the text ends in a slash.
 fn resolved(rt: &impl Abort, alloc: Global, text: &str) -> String {
     let (path, ends) = resolve(alloc, text).expect(rt, "a path");
     let mut told = String::new(alloc);
@@ -40,12 +40,12 @@ fn action_in(op: &Op) -> Option<&Action> {
     }
 }
 
-// On the empty tree, without a second one.
+// Does an action on a tree, without a second tree.
 fn act_alone(alloc: Global, action: &Action, tree: &Tree) -> Result<Tree, ActFault> {
     act(alloc, action, tree, None)
 }
 
-// What the action of an entry leaves of the empty tree, or its fault.
+// Returns the tree after the action of an entry on the empty tree, or its fault.
 fn acted(rt: &impl Abort, alloc: Global, entry: &[u8]) -> String {
     let op = read_op(alloc, entry).expect(rt, "an op");
     let action = action_in(&op).expect(rt, "an action");

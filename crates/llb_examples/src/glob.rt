@@ -1,4 +1,4 @@
-//! Patterns. A row is the text of a pattern and the text of a path.
+//! Patterns. A case is the text of a pattern, the text of a path, and whether they match.
 
 use super::told::{holds, repeated, row_holds};
 use llb_glob::{Pattern, PatternFault};
@@ -10,7 +10,7 @@ fn read(alloc: Global, pattern: &str) -> Result<Pattern, PatternFault> {
     Pattern::read(alloc, pattern)
 }
 
-// Whether the path of a text matches a pattern.
+// Returns whether the path of a text matches a pattern.
 fn answer(rt: &impl Abort, alloc: Global, pattern: &str, path: &str) -> Result<bool, PatternFault> {
     let pattern = read(alloc, pattern)?;
     let path = Path::read(alloc, path).expect(rt, "a path");
@@ -23,7 +23,7 @@ type Case = (&'static str, &'static str, Result<bool, PatternFault>);
 
 // Patterns, paths, and whether they match.
 const CASES: &[Case] = &[
-    // A name matches a part, and a path part by part.
+    // A name matches a part, and a path matches part by part.
     ("a*", "/ab", Ok(true)),
     ("a*", "/a", Ok(true)),
     ("*", "/a", Ok(true)),
@@ -77,7 +77,7 @@ const CASES: &[Case] = &[
     ("[^a-c]", "/b", Ok(false)),
     ("[^^]", "/^", Ok(false)),
     ("[*]", "/a", Ok(false)),
-    // No pattern.
+    // These are no patterns.
     ("a\\", "/a", REFUSED),
     ("[]", "/a", REFUSED),
     ("[^]", "/^", REFUSED),
@@ -102,7 +102,7 @@ fn a_path_matches_part_by_part_and_a_bad_pattern_is_refused(rt: HostRuntime) {
     }
 }
 
-// A text a number of times and then a rest, another one a number of times, and whether they match.
+// A part of the pattern's text, how often it is repeated, and the rest; the same three for the path's text; and whether they match.
 type Long = (
     &'static str,
     usize,

@@ -1,4 +1,4 @@
-//! Keys of caches: what is the same key, and what faults print of one.
+//! Keys of caches: which keys are the same, and what faults print for a key.
 
 use super::leases::{Row, key_of};
 use super::told::{prints, row_holds};
@@ -14,7 +14,7 @@ const P: Row<'static> = ("p", Mode::Private, Some(0), "f");
 
 const S: Row<'static> = ("s", Mode::Shared, None, "");
 
-// The same key, from one that borrows its texts.
+// Returns the same key again, made from one that borrows its texts.
 fn again(rt: &impl Abort, alloc: Global, row: &Row<'_>) -> Key {
     let (id, mode, index, _) = *row;
     let seed = match index {
@@ -25,7 +25,7 @@ fn again(rt: &impl Abort, alloc: Global, row: &Row<'_>) -> Key {
     key.to_key(alloc).expect(rt, "memory")
 }
 
-// Whether a key's copy is the key, and whether it is the other key.
+// Returns whether a copy of a key is the same key, and whether it is the same as the other key.
 fn compared(rt: &impl Abort, alloc: Global, row: &Row<'_>, other: &Row<'_>) -> (bool, bool) {
     let (key, other) = (key_of(rt, alloc, row), again(rt, alloc, other));
     let copy = key.copy().expect(rt, "memory");

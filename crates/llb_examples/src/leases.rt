@@ -1,10 +1,10 @@
-//! Caches, as transcripts. A line with `> ` first is a call, and the lines after it are its result; one with `# ` first says what the
-//! next calls show. A need is the ID and the way of its key, the index of its seed or `-`, and the name of the one file in its tree, where it
+//! Caches, as transcripts. A line that begins with `> ` is a call, and the lines after it are its result; one that begins with `# ` describes the
+//! next calls. A need is the ID and the mode of its key, the index of its seed or `-`, and the name of the one file in its tree, if it
 //! has one. `lease NEED, ..` prints the number of the lease and of the instance of each need, or the fault; `see LEASE NEED` the name of the
-//! file in what a lease has there, which `set LEASE NEED NAME` changes, and `back LEASE` releases a lease; leases are named by their position
-//! among those granted. `count NEED` prints how many instances a key has, how many leases are out, and each instance's file; `next NEED` the
-//! instance that a lease would have now, or `shut`; `look ROW NEED` what a look-up finds of a key that tries row ROW first (`-` for none): its
-//! row, `held` or `free`, the number of the instance that a lease would have, and that instance's file, where it is there; `near ROW NEED, ..`
+//! file in the tree of that instance; `set LEASE NEED NAME` changes it, and `back LEASE` gives a lease back; leases are named by their position
+//! among those granted. `count NEED` prints how many instances a key has, how many leases are current, and each instance's file; `next NEED` the
+//! instance that a lease would take now, or `shut`; `look ROW NEED` what a look-up of a key finds that tries row ROW first (`-` for none): its
+//! row, `held` or `free`, the number of the instance that a lease would take, and that instance's file, if it exists; `near ROW NEED, ..`
 //! leases as `lease` does, and tries that row first for each key; `grow NEED` what a lease would add. There are no caches after `new`.
 
 use super::told::{file, made, row_holds, say, say_fault, say_number};
@@ -44,7 +44,7 @@ fn row_of(need: &str) -> Row<'_> {
     (id, mode_of(way), seed.parse::<u32>().ok(), name)
 }
 
-// The tree with an empty file of that name, or with none.
+// Returns the tree with one empty file with this name, or without files.
 fn marked(rt: &impl Abort, alloc: Global, name: &str) -> Tree {
     if name.is_empty() {
         return Tree::empty(alloc).expect(rt, "memory");
@@ -80,7 +80,7 @@ fn needs_of(rt: &impl Abort, alloc: Global, words: &str) -> Vec<Need> {
     needs
 }
 
-// The names of a tree's files, or `-`.
+// Appends the names of a tree's files, or `-`.
 fn say_files(rt: &impl Abort, alloc: Global, text: &mut String, tree: &Tree) {
     let names = tree.list(&Path::root(alloc)).expect(rt, "memory");
     for name in names.as_slice() {
@@ -91,9 +91,9 @@ fn say_files(rt: &impl Abort, alloc: Global, text: &mut String, tree: &Tree) {
     }
 }
 
-// ---- the calls, each in a function without clauses: a story compares values, and what a call promises besides need not be carried through it
+// ---- the calls, each in a function without clauses, since a test compares values and needs nothing else of what a call promises
 
-// None where two needs have one key.
+// Returns nothing if two needs have the same key.
 fn leased(caches: &mut Caches, needs: Vec<Need>) -> Option<Result<Lease, LeaseFault>> {
     if !caches.can_lease(&needs) {
         return None;
@@ -139,7 +139,7 @@ fn instances(caches: &Caches, key: &Key) -> u32 {
     caches.instances(key)
 }
 
-// None where a lease of the key would be refused.
+// Returns nothing if a lease of the key would be refused.
 fn next_instance(caches: &Caches, key: &Key) -> Option<u32> {
     if caches.is_locked_and_held(&key.by_ref()) {
         return None;
@@ -155,7 +155,7 @@ fn growth(caches: &Caches, key: &Key) -> Growth {
     caches.growth(&key.by_ref())
 }
 
-// None where two needs have one key.
+// Returns nothing if two needs have the same key.
 fn leased_near(
     caches: &mut Caches,
     needs: Vec<Need>,
@@ -169,7 +169,7 @@ fn leased_near(
 
 // ---- their results
 
-// The number of a lease, and of the instance of each of its needs.
+// Appends the number of a lease, and of the instance of each of its needs.
 fn say_lease(rt: &impl Abort, text: &mut String, caches: &Caches, lease: Lease) {
     say_number(rt, text, lease.number());
     say(rt, text, ":");
@@ -186,7 +186,7 @@ fn ask(rt: &impl Abort, alloc: Global, text: &mut String, stage: &mut Stage, wor
     say_asked(rt, text, stage, asked);
 }
 
-// The same, where the row of this number is tried first for each key.
+// Asks for a lease as `ask` does, with this row tried first for each key.
 fn ask_near(rt: &impl Abort, alloc: Global, text: &mut String, stage: &mut Stage, words: &str) {
     let (row, needs) = word_and_rest(words);
     let row = row.parse::<usize>().ok();
@@ -232,7 +232,7 @@ fn say_count(rt: &impl Abort, alloc: Global, text: &mut String, caches: &Caches,
     say(rt, text, "\n");
 }
 
-// Prints the number of the instance that a lease of the key would have, or `shut` if it would be refused.
+// Appends the number of the instance that a lease of the key would take, or `shut` if it would be refused.
 fn say_next(rt: &impl Abort, alloc: Global, text: &mut String, caches: &Caches, need: &str) {
     let key = key_of(rt, alloc, &row_of(need));
     match next_instance(caches, &key) {
@@ -242,7 +242,7 @@ fn say_next(rt: &impl Abort, alloc: Global, text: &mut String, caches: &Caches, 
     say(rt, text, "\n");
 }
 
-// The row of a key, whether it is held, the instance that a lease would have, and its file.
+// Appends the row of a key, whether it is held, the instance that a lease would take, and its file.
 fn say_found(rt: &impl Abort, alloc: Global, text: &mut String, caches: &Caches, words: &str) {
     let (row, need) = word_and_rest(words);
     let key = key_of(rt, alloc, &row_of(need));
@@ -260,7 +260,7 @@ fn say_found(rt: &impl Abort, alloc: Global, text: &mut String, caches: &Caches,
     say(rt, text, "\n");
 }
 
-// What a lease of the key would add.
+// Appends what a lease of the key would add.
 fn say_growth(rt: &impl Abort, alloc: Global, text: &mut String, caches: &Caches, need: &str) {
     let key = key_of(rt, alloc, &row_of(need));
     let word = match growth(caches, &key) {
@@ -271,7 +271,7 @@ fn say_growth(rt: &impl Abort, alloc: Global, text: &mut String, caches: &Caches
     say(rt, text, word);
 }
 
-// The lease at a place, the number of a need, and what comes after both.
+// Returns the lease at a position, the number of a need, and the words after both.
 fn lease_at<'a>(rt: &impl Abort, stage: &Stage, words: &'a str) -> (Lease, u32, &'a str) {
     let (place, rest) = word_and_rest(words);
     let (need, name) = word_and_rest(rest);
@@ -345,7 +345,7 @@ fn stage_after(rt: &impl Abort, alloc: Global, calls: &str) -> Stage {
     stage
 }
 
-// Whether a copy of the caches after some calls is, once more calls were done on the caches, what they are after others.
+// Returns whether a copy of the caches that is made after `calls`, before `more` is done on the caches, equals the caches after `others`.
 pub(crate) fn is_copy(
     rt: &impl Abort,
     alloc: Global,

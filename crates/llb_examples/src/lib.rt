@@ -1,4 +1,4 @@
-//! Worked examples of the libraries below the board, by their calls: tests, and nothing else. What a library does that the program prints is tested
+//! Worked examples of the libraries below the board: tests of their calls, and nothing else. What a library does that the program prints is tested
 //! by the program's transcripts (`crates/llbm/src/tests`). The values are written out from the rules by hand.
 #![tactic(auto)]
 

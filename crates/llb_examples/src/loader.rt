@@ -1,5 +1,5 @@
-//! Rows under digest texts of any kind: the graph that they are, or why they are refused. Rows are written as `DIGEST = NAME`, with `; ` between
-//! them, NAME being that of an entry of `llb_samples`.
+//! Rows with digest texts of any kind: the graph that they make, or why they are refused. Rows are written as `DIGEST = NAME`, with `; ` between
+//! them; NAME is that of an entry of `llb_samples`.
 
 use super::told::{is_same, prints, say};
 use llb_loader::{Graph, LoadFault, Row, link};
@@ -28,7 +28,7 @@ fn push_given(rt: &impl Abort, rows: &mut Vec<Row>, given: &str) {
     push_row(rt, rows, digest, entry.as_slice());
 }
 
-// The graph of rows, or why they are none.
+// Returns the graph of rows, or why they are refused.
 fn graph_of(rt: &impl Abort, alloc: Global, given: &str) -> Result<Graph, LoadFault> {
     let mut rows = Vec::new(alloc);
     for one in given.split("; ") {
@@ -42,15 +42,15 @@ fn refusal(rt: &impl Abort, alloc: Global, given: &str) -> LoadFault {
     graph_of(rt, alloc, given).err().expect(rt, "a refusal")
 }
 
-// Rows, and what is refused of them.
+// Rows, and the refusal of each.
 const REFUSED: &[(&str, &str)] = &[
-    // Inputs name rows without a cycle.
+    // Inputs lead from row to row in a cycle; then there is none.
     ("A = ON_B; B = ON_A; T = NAMES_A", "87"),
     ("A = ON_B; B = ON_C; T = NAMES_A", "86 1 0"),
     ("A = D_ON_T; T = NAMES_A", "86 0 0"),
-    // A later row's feature comes before a broken rule.
+    // An unsupported feature of a later row is reported before a broken rule of an earlier one.
     ("A = NAMES_B; B = DIFF; T = NAMES_A", "88 1 DiffOp"),
-    // Rows that are dropped are counted.
+    // Rows that are dropped count in the numbers of rows.
     (
         "T = NAMES_INDEX_ONE_OF_ROW_A; A = MAKES_A; A = MAKES_A; T = NAMES_INDEX_ONE_OF_ROW_A",
         "90 0 0",
@@ -59,11 +59,11 @@ const REFUSED: &[(&str, &str)] = &[
         "A = MAKES_A; A = MAKES_A; B = D_ON_C; T = NAMES_B",
         "86 2 0",
     ),
-    // Collisions and rows that are not read come first.
+    // Collisions, and rows that can't be read as ops, are reported first.
     ("A = MAKES_A; A = DIFF; T = NAMES_A", "84 1"),
     ("A = MAKES_A; A = DIFF; B = FIELD_ZERO", "82 2 3"),
     ("A = MAKES_A; B = DIFF", "85"),
-    // Of two rows that break rules the least is named.
+    // Of two rows that break rules the one with the least number is named.
     (
         "A = LOCKS_TWICE_ON_B; B = MOUNTS_BARE; T = NAMES_A",
         "89 0 CacheTwice",
@@ -81,7 +81,7 @@ fn rows_are_refused_by_their_first_fault(rt: HostRuntime) {
     }
 }
 
-// How many vertices there are, the digest text of the first, and the vertex of the result.
+// Returns how many vertices there are, the digest text of the first, and the vertex of the result.
 fn ends_told(rt: &impl Abort, alloc: Global, graph: &Graph) -> String {
     graph.is_graph();
     let (count, last) = (graph.vertices().len(), graph.result().vertex);
@@ -90,11 +90,11 @@ fn ends_told(rt: &impl Abort, alloc: Global, graph: &Graph) -> String {
     format!(in alloc; "{count} {first} {last}").expect(rt, "memory")
 }
 
-// Rows, and the graph that they are.
+// Rows, and the graph that they make.
 const GRAPHS: &[(&str, &str)] = &[
     // A cycle that is not reached is no fault.
     ("B = ON_C; A = MAKES_A; C = ON_B; T = NAMES_A", "1 A 0"),
-    // Two executions may mount one cache.
+    // Two executions may mount the same cache.
     ("A = LOCKS_ON_B; B = LOCKS; T = NAMES_A", "2 B 1"),
 ];
 
@@ -110,7 +110,7 @@ fn rows_are_graphs(rt: HostRuntime) {
     }
 }
 
-// An op of a chain, which reads the output of the op of that number.
+// Appends an op of a chain, which reads the output of the op with this number.
 fn push_op(rt: &impl Abort, text: &mut String, below: u32) {
     write!(
         text,
@@ -119,7 +119,7 @@ fn push_op(rt: &impl Abort, text: &mut String, below: u32) {
     .expect(rt, "memory");
 }
 
-// A chain of ops, the last of which makes `/a`, and the terminal on the first.
+// Returns the text of a chain of ops, the last of which makes `/a`, and the terminal that names the first.
 fn chain_text(rt: &impl Abort, alloc: Global, count: u32) -> String {
     let mut text = String::new(alloc);
     for at in 1..count {

@@ -1,4 +1,4 @@
-//! A tree of a thousand files and its copies: changes of one are not in the others. Trees are compared by their whole texts.
+//! A tree of a thousand files and its copies: a change in one is not seen in the others. Trees are compared by their whole texts.
 
 use super::overlay::copied;
 use super::told::{dir, file, is_so, made, put, say};
@@ -16,7 +16,7 @@ fn put_file(alloc: Global, tree: &mut Tree, at: u16, content: &str) -> Result<()
     put(alloc, tree, &file(path.as_str(), content))
 }
 
-// The tree once each of the files has the content.
+// Returns the tree after each of the files gets the content.
 fn filled(alloc: Global, mut tree: Tree, content: &str) -> Result<Tree, TreeFault> {
     for at in 0..FILES {
         put_file(alloc, &mut tree, at, content)?;
@@ -24,12 +24,12 @@ fn filled(alloc: Global, mut tree: Tree, content: &str) -> Result<Tree, TreeFaul
     Ok(tree)
 }
 
-// The empty files `/d/000` to `/d/999`.
+// Returns the tree with the empty files `/d/000` to `/d/999`.
 fn many(rt: &impl Abort, alloc: Global) -> Tree {
     filled(alloc, made(rt, alloc, &[dir("/d")]), "").expect(rt, "memory")
 }
 
-// The text of such a tree, by the digits of the file 500 and those of all others.
+// Returns the text of such a tree, with these digits as the content of file 500 and of all others.
 fn wanted(rt: &impl Abort, alloc: Global, others: &str, of_500: &str) -> String {
     let mut text = String::new(alloc);
     say(rt, &mut text, "d 0755 0 0 /\nd 0755 0 0 /d\n");
@@ -40,14 +40,14 @@ fn wanted(rt: &impl Abort, alloc: Global, others: &str, of_500: &str) -> String 
     text
 }
 
-// Whether a tree has that text.
+// Returns whether a tree has this text.
 fn prints(rt: &impl Abort, alloc: Global, tree: &Tree, others: &str, of_500: &str) -> bool {
     let text = printed(alloc, tree).expect(rt, "memory");
     text.as_slice() == wanted(rt, alloc, others, of_500).as_bytes()
 }
 
-// One file of a tree gets one byte, and the tree goes before its copy of before, or after it. Whether what is looked at then
-// has the text that it should: the tree another one in one line, and its copy the old one.
+// Puts one byte into file 500 of a tree, and drops the tree before its older copy or after it. Returns whether the one that
+// remains has the text that it should: the tree differs in one line, and its copy not at all.
 fn one_byte(rt: &impl Abort, alloc: Global, mut first: Tree, first_goes: bool) -> bool {
     let copied = copied(rt, &first);
     put_file(alloc, &mut first, 500, "!").expect(rt, "memory");
@@ -68,7 +68,7 @@ fn one_byte_in_one_of_a_thousand_files_is_not_in_the_copy(rt: HostRuntime) {
     }
 }
 
-// The same by two threads at once, each on a copy of one tree of its own; one drops its tree first, the other its copy.
+// Calls `one_byte` in two threads at once, each on its own copy of one tree; one drops its tree first, the other its copy.
 fn one_byte_each<R: Abort + Threads + Sync>(rt: &R, alloc: Global, tree: &Tree) -> (bool, bool) {
     let (one, other) = (copied(rt, tree), copied(rt, tree));
     thread::join(
@@ -86,7 +86,7 @@ fn two_threads_put_a_byte_each_into_copies_of_one_tree(rt: HostRuntime) {
     is_so(&rt, prints(&rt, rt.alloc(), &tree, "-", "-"));
 }
 
-// The tree where each file has `1`, and where each has `2`, by a thread each.
+// Returns a copy of the tree in which each file has `1`, and one in which each has `2`, made by two threads at once.
 fn filled_at_once(
     rt: &impl Threads,
     alloc: Global,
@@ -101,7 +101,7 @@ fn filled_at_once(
     Ok((one?, other?))
 }
 
-// Whether the tree and what two threads made of it have their texts.
+// Returns whether the tree and the two that the threads made have their texts.
 fn all_print(rt: &impl Abort, alloc: Global, tree: &Tree, one: &Tree, other: &Tree) -> bool {
     prints(rt, alloc, tree, "-", "-")
         && prints(rt, alloc, one, "31", "31")

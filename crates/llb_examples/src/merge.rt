@@ -1,4 +1,4 @@
-//! One tree laid over another: three of them, and what is known of any two. The outputs of merges of inputs are tested by the program (`layers` in
+//! One tree laid over another: three of them, and what is known of any two. The results of merges of inputs are tested by the program (`layers` in
 //! `llbm`).
 
 use super::overlay::lent;
@@ -26,13 +26,13 @@ fn over(rt: &impl Abort, alloc: Global, lower: &Tree, upper: &Tree) -> Tree {
     lent(rt, alloc, lower, upper)
 }
 
-// The trees of rows one over the other.
+// Returns a tree with the tree of these rows laid over it.
 fn over_rows(rt: &impl Abort, alloc: Global, lower: &Tree, rows: &[Row<'_>]) -> Tree {
     let upper = made(rt, alloc, rows);
     over(rt, alloc, lower, &upper)
 }
 
-// The second tree with the third over it, over the first.
+// Returns the third tree laid over the second, and the result laid over the first.
 fn upper_two_first(rt: &impl Abort, alloc: Global) -> Tree {
     let second = made(rt, alloc, FILE);
     let both = over_rows(rt, alloc, &second, R);

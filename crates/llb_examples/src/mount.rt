@@ -33,7 +33,7 @@ fn mounts_of(rt: &impl Abort, alloc: Global, rows: &[Row]) -> Vec<Shown> {
     mounts
 }
 
-// The view of the mounts, where they make one.
+// Returns the view of the mounts, if they make one.
 fn view_of(rt: &impl Abort, alloc: Global, rows: &[Row]) -> Option<View> {
     let mounts = mounts_of(rt, alloc, rows);
     if !View::can_make(&mounts) {
@@ -66,20 +66,20 @@ fn one_mount_is_at_the_root_and_no_two_at_one_dest(rt: HostRuntime) {
     }
 }
 
-// Where the view of the mounts routes the path of a text.
+// Returns the mount to which the path of a text leads on the view of these mounts.
 fn route(rt: &impl Abort, alloc: Global, rows: &[Row], text: &str) -> Option<(u32, u32)> {
     let view = view_of(rt, alloc, rows)?;
     Some(view.route(&path_of(rt, alloc, text)))
 }
 
-// The root may be the last mount.
+// The mounts of `THREE` with the root as the last one.
 const TURNED: &[Row] = &[
     ("/t/in", "/", false, "a"),
     ("/t", "/", false, "b"),
     ("/", "/", false, "c"),
 ];
 
-// More mounts than a view looks through one by one.
+// More mounts than a view compares one by one.
 const WIDE: &[Row] = &[
     ("/a/b/c/d/e", "/", false, "a"),
     ("/a", "/", false, "b"),
@@ -92,7 +92,7 @@ const WIDE: &[Row] = &[
     ("/b", "/", false, "i"),
 ];
 
-// Mounts, a path, and where it is routed: the mount, and how many names are dropped.
+// Mounts, a path, and to which mount it leads, with the number of names that are dropped.
 const ROUTES: &[(&[Row], &str, u32, u32)] = &[
     (THREE, "/t/in/f", 2, 2),
     (THREE, "/t", 1, 1),
@@ -123,21 +123,21 @@ fn a_path_is_routed_to_the_longest_dest(rt: HostRuntime) {
     }
 }
 
-// A step of a story: a tree is put into a mount by its number.
+// A step of a story: a tree is put into the mount with a number.
 #[derive(Clone, Copy)]
 enum Step {
     Set(u32, &'static str),
     Swap(u32, &'static str),
 }
 
-// The names of a tree's files, and a space.
+// Appends the names of a tree's files, and a space.
 fn say_files(rt: &impl Abort, alloc: Global, text: &mut String, tree: &Tree) {
     let names = tree.list(&Path::root(alloc)).expect(rt, "memory");
     say_names(rt, text, "", names.as_slice());
     say(rt, text, " ");
 }
 
-// What the mounts are: dest, `:` and selector, `!` where it is read-only, `=` and the files.
+// Appends each mount: dest, `:` and selector, `!` if it is read-only, `=` and the files.
 fn say_mounts(rt: &impl Abort, alloc: Global, text: &mut String, view: &View) {
     for i in 0..view.mounts().len() as u32 {
         say_path(rt, text, view.dest(i));
@@ -148,7 +148,7 @@ fn say_mounts(rt: &impl Abort, alloc: Global, text: &mut String, view: &View) {
     }
 }
 
-// What a mount's tree is set to, or the fault and the tree that is handed back.
+// Appends the result of setting a mount's tree, or the fault and the tree that is returned with it.
 fn say_set(rt: &impl Abort, alloc: Global, text: &mut String, answer: Result<(), ReadOnly>) {
     match answer {
         Ok(()) => say(rt, text, "ok "),
@@ -175,7 +175,7 @@ fn take_steps(rt: &impl Abort, alloc: Global, text: &mut String, view: &mut View
     }
 }
 
-// The story of the steps, and then a view of the mounts of a copy that was made before them.
+// Returns the result of each step, and then the mounts of a copy of the view that was made before them.
 fn story(rt: &impl Abort, alloc: Global, steps: &[Step]) -> String {
     let mut text = String::new(alloc);
     let mut view = view_of(rt, alloc, THREE).expect(rt, "a view");
@@ -189,7 +189,7 @@ fn story(rt: &impl Abort, alloc: Global, steps: &[Step]) -> String {
 }
 
 const STORIES: &[(&[Step], &str)] = &[
-    // A tree is set where the mount is not read-only.
+    // A tree is set if the mount is not read-only.
     (
         &[Step::Set(1, "x"), Step::Set(0, "y"), Step::Set(1, "z")],
         "ok ok ok :=y /t:=z /t/in:/sub!=c | :=a /t:=b /t/in:/sub!=c ",
@@ -198,7 +198,7 @@ const STORIES: &[(&[Step], &str)] = &[
         &[Step::Set(2, "x")],
         "61x :=a /t:=b /t/in:/sub!=c | :=a /t:=b /t/in:/sub!=c ",
     ),
-    // A tree is exchanged in any mount.
+    // A tree is swapped in any mount.
     (
         &[Step::Swap(2, "x"), Step::Swap(0, "y"), Step::Swap(2, "z")],
         "c a x :=y /t:=b /t/in:/sub!=z | :=a /t:=b /t/in:/sub!=c ",

@@ -1,4 +1,4 @@
-//! The nodes of a tree, the walks over it, and the paths below which it fits.
+//! The nodes of a tree, walks through it, and the paths below which it fits.
 
 use super::told::{Row, is_same, made, row_holds, say, say_node, say_path, say_tree};
 use super::tree::{deep_tree, path_with};
@@ -17,7 +17,7 @@ const NESTED: &[Row<'static>] = &[
 
 const TWO: &[Row<'static>] = &[("/e", 0o755, 0, 0, None), ("/f", 0o644, 0, 0, Some("x"))];
 
-// The path of a child.
+// Returns the path of a child.
 fn path_below(rt: &impl Abort, alloc: Global, names: &str, name: &str) -> String {
     let mut path = String::from_str(alloc, names).expect(rt, "memory");
     say(rt, &mut path, "/");
@@ -25,7 +25,7 @@ fn path_below(rt: &impl Abort, alloc: Global, names: &str, name: &str) -> String
     path
 }
 
-// The children of a node by their paths, the last one first.
+// Appends the children of a node with their paths, the last child first.
 fn leave_children<'a>(
     rt: &impl Abort,
     alloc: Global,
@@ -43,7 +43,7 @@ fn leave_children<'a>(
     }
 }
 
-// The entry at each node, before what is below it.
+// Appends the entry at each node, before the entries below it.
 fn say_nodes(rt: &impl Abort, alloc: Global, text: &mut String, root: &Node) {
     let mut left = Vec::new(alloc);
     left.push((String::new(alloc), root)).expect(rt, "memory");
@@ -56,7 +56,7 @@ fn say_nodes(rt: &impl Abort, alloc: Global, text: &mut String, root: &Node) {
     }
 }
 
-// The text of a tree by its nodes, and after a bar by a walk.
+// Returns the text of a tree as read from its nodes and, after a bar, as read by a walk.
 fn told(rt: &impl Abort, alloc: Global, rows: &[Row<'_>]) -> String {
     let tree = made(rt, alloc, rows);
     let mut text = String::new(alloc);
@@ -66,7 +66,7 @@ fn told(rt: &impl Abort, alloc: Global, rows: &[Row<'_>]) -> String {
     text
 }
 
-// Trees, and their texts by the nodes and by a walk.
+// Trees, and their texts as read from the nodes and by a walk.
 const TOLD: &[(&[Row<'static>], &str)] = &[
     (&[], " d| d"),
     (TWO, " d d/e f/f=x| d d/e f/f=x"),
@@ -84,7 +84,7 @@ fn nodes_and_a_walk_tell_the_same_entries(rt: HostRuntime) {
     }
 }
 
-// Where a walk is.
+// Appends the current path of a walk.
 fn say_place(rt: &impl Abort, text: &mut String, walk: &Walk<'_>) {
     match walk.at() {
         None => say(rt, text, "end"),
@@ -93,7 +93,7 @@ fn say_place(rt: &impl Abort, text: &mut String, walk: &Walk<'_>) {
     say(rt, text, "|");
 }
 
-// Goes on, `a` to the next entry and `s` after what is below.
+// Does a step of a walk: `a` goes to the next entry, and `s` past what is below the current one.
 fn go(rt: &impl Abort, walk: &mut Walk<'_>, step: char) {
     match step {
         'a' => walk.advance().expect(rt, "memory"),
@@ -101,7 +101,7 @@ fn go(rt: &impl Abort, walk: &mut Walk<'_>, step: char) {
     }
 }
 
-// Where the walk is at first, and after each step.
+// Returns the path of the walk at first, and after each step.
 fn walked(rt: &impl Abort, alloc: Global, rows: &[Row<'_>], steps: &str) -> String {
     let mut text = String::new(alloc);
     let tree = made(rt, alloc, rows);
@@ -114,7 +114,7 @@ fn walked(rt: &impl Abort, alloc: Global, rows: &[Row<'_>], steps: &str) -> Stri
     text
 }
 
-// Trees, the steps of a walk, and where it is.
+// Trees, the steps of a walk, and its path at first and after each step.
 const WALKED: &[(&[Row<'static>], &str, &str)] = &[
     (&[], "aa", "|end|end|"),
     (&[], "ss", "|end|end|"),
@@ -142,7 +142,7 @@ fn cut_at(rt: &impl Abort, tree: &mut Tree, path: &Path) {
     tree.remove(path).expect(rt, "what is there");
 }
 
-// Whether a tree of `levels` levels, without those at or after `cut`, fits below a path of `names` names.
+// Returns whether a tree of `levels` levels, whose levels from `cut` on are removed, fits below a path of `names` names.
 fn fits(
     rt: &impl Abort,
     alloc: Global,
@@ -157,7 +157,7 @@ fn fits(
     tree.fits(&path_with(rt, alloc, names))
 }
 
-// The levels of a tree, those from which on they are gone, the names above, and whether it fits.
+// The number of levels, the level from which on they are removed, the number of names above, and whether the tree fits.
 const DEPTHS: &[(usize, Option<usize>, usize, Result<(), TreeFault>)] = &[
     (0, None, 128, Ok(())),
     (1, None, 127, Ok(())),

@@ -1,4 +1,4 @@
-//! One tree laid over another, with the modes and owners that a `Way` sets: shown by the entries of the result.
+//! One tree laid over another, with the modes and owners that a `Way` sets; the entries of the result are shown.
 
 use super::stage::are_told;
 use super::told::{Row, is_so, made, row_holds};
@@ -43,7 +43,7 @@ fn a_way_has_a_mode_of_at_most_4095(rt: HostRuntime) {
     }
 }
 
-// The upper tree is made first, then the lower one.
+// In each story the upper tree is made first, then the lower one.
 const LAID: &str = "
     # Nothing is laid.
     > new
@@ -206,7 +206,7 @@ fn overlaid(rt: &impl Abort, lower: Tree, way: &Way, upper: &Tree) -> Tree {
     lower.overlaid(way, upper).expect(rt, "memory")
 }
 
-// Whether a tree that was laid over another, and a copy of the lower one, are what they were.
+// Returns whether the upper tree, and the lower tree of which a copy was used, are unchanged after a laying.
 fn both_stay(rt: &impl Abort, alloc: Global) -> bool {
     let (lower, upper) = (made(rt, alloc, LOWER), made(rt, alloc, UPPER));
     let way = Way::new(Some(0), Some(0), Some(0), false).expect(rt, "a way");
@@ -232,7 +232,7 @@ fn in_place(rt: &impl Abort, mut lower: Tree, upper: &Tree) -> Tree {
     lower
 }
 
-// Whether a tree that another is laid over in place, and then one that is handed over, end the same as one that is lent.
+// Returns whether laying over a tree in place, and over one that is handed over, gives the same as over one that is lent.
 fn lays_the_same(rt: &impl Abort, alloc: Global, lower: &[Row<'_>], upper: &[Row<'_>]) -> bool {
     let (first, second) = (made(rt, alloc, lower), made(rt, alloc, lower));
     let upper = made(rt, alloc, upper);
@@ -255,7 +255,7 @@ fn a_lower_tree_is_lent_or_handed_over_or_laid_over_in_place(rt: HostRuntime) {
     }
 }
 
-// Whether a way that keeps directories and sets modes and owners ends the same in place.
+// Returns whether a `Way` that keeps directories and sets modes and owners gives the same in place.
 fn way_in_place(rt: &impl Abort, alloc: Global) -> bool {
     let (mut lower, upper) = (made(rt, alloc, LOWER), made(rt, alloc, UPPER));
     let way = Way::new(Some(0o4640), None, Some(5), true).expect(rt, "a way");

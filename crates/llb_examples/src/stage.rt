@@ -1,6 +1,6 @@
-//! Calls on the libraries as transcripts. A line with `> ` first is a call, and the lines after it are its result, or its fault; one
-//! with `# ` first says what the next calls show. On the stage are two trees (`trees`) and the mounts of a view (`views`), none of them after
-//! `new`.
+//! Calls on the libraries as transcripts. A line that begins with `> ` is a call, and the lines after it are its result, or its fault; one
+//! that begins with `# ` describes the next calls. The calls work on two trees (`trees`) and on the mounts of a view (`views`); after
+//! `new` there are no mounts and the trees are empty.
 
 use super::told::{is_same, is_so, say, say_fault};
 use super::trees::{Trees, answer, word_and_rest};
@@ -42,7 +42,7 @@ fn say_call(rt: &impl Abort, alloc: Global, text: &mut String, stage: &mut Stage
     }
 }
 
-// A call and its result; nothing for a line that is no call.
+// Appends a call and its result; nothing for a line that is no call.
 fn say_line(rt: &impl Abort, alloc: Global, text: &mut String, stage: &mut Stage, line: &str) {
     if let Some(call) = line.strip_prefix("> ") {
         say(rt, text, line);

@@ -1,4 +1,4 @@
-//! Trees by their rows, and how they are written in a line of text: for each entry a `d` or an `f` and its path, its mode and owner where they
+//! Trees by their rows, and how they are written in a line of text: for each entry a `d` or an `f` and its path, its mode and owner if they
 //! are not those of a new one, and the content of a file after `=`.
 
 use llb_samples::push_path;
@@ -10,7 +10,7 @@ use std::process::Abort;
 // A path, the mode, the user and the group there, and the content of a file.
 pub(crate) type Row<'a> = (&'a str, u16, u32, u32, Option<&'a str>);
 
-// A directory and a file as they are made without a word on mode or owner.
+// A directory and a file with the mode and owner of new ones.
 pub(crate) const fn dir(path: &str) -> Row<'_> {
     (path, 0o755, 0, 0, None)
 }
@@ -42,34 +42,34 @@ pub(crate) fn tree_of(alloc: Global, rows: &[Row<'_>]) -> Result<Tree, TreeFault
     Ok(tree)
 }
 
-// The tree of rows that are in their order.
+// Returns the tree of these rows, which are in path order.
 pub(crate) fn made(rt: &impl Abort, alloc: Global, rows: &[Row<'_>]) -> Tree {
     tree_of(alloc, rows).expect(rt, "memory")
 }
 
-// Ends the test where a text is not the expected one; the failure shows both.
+// Ends the test if a text is not the expected one; the failure shows both.
 pub(crate) fn is_same(rt: &impl Abort, told: &str, wanted: &str) {
     assert_eq!(rt; told, wanted);
 }
 
-// Ends the test where a fault, or another value, prints something else.
+// Ends the test if a fault, or another value, prints something else.
 pub(crate) fn prints<E: Display>(rt: &impl Abort, alloc: Global, fault: &E, wanted: &str) {
     let mut text = String::new(alloc);
     write!(text, "{fault}").expect(rt, "memory");
     is_same(rt, text.as_str(), wanted);
 }
 
-// Ends the test where a row does not hold; the failure names it.
+// Ends the test if a row does not hold; the failure names it.
 pub(crate) fn holds(rt: &impl Abort, row: &str, is_so: bool) {
     assert!(rt; is_so, "{row}");
 }
 
-// Ends the test where the row of a number does not hold; the failure names it.
+// Ends the test if the row with a number does not hold; the failure names it.
 pub(crate) fn row_holds(rt: &impl Abort, row: usize, is_so: bool) {
     assert!(rt; is_so, "row {row}");
 }
 
-// Ends the test where something does not hold.
+// Ends the test if something does not hold.
 pub(crate) fn is_so(rt: &impl Abort, holds: bool) {
     assert!(rt; holds);
 }
@@ -82,12 +82,12 @@ pub(crate) fn say_number(rt: &impl Abort, text: &mut String, number: u32) {
     write!(text, "{number}").expect(rt, "memory");
 }
 
-// What a fault prints, and the end of the line.
+// Appends what a fault prints, and the end of the line.
 pub(crate) fn say_fault<E: Display>(rt: &impl Abort, text: &mut String, fault: &E) {
     write!(text, "{fault}\n").expect(rt, "memory");
 }
 
-// A part a number of times, and then a rest.
+// Returns a text: one part, repeated a number of times, and then another.
 pub(crate) fn repeated(
     rt: &impl Abort,
     alloc: Global,
@@ -103,7 +103,7 @@ pub(crate) fn repeated(
     text
 }
 
-// A path by its names.
+// Appends a path, as its names with `/` before each.
 pub(crate) fn say_path(rt: &impl Abort, text: &mut String, path: &Path) {
     push_path(text, path).expect(rt, "memory");
 }
@@ -122,7 +122,7 @@ fn say_meta(rt: &impl Abort, text: &mut String, meta: Meta, new: u16) {
     }
 }
 
-// A content in one line: an end of line is written as `\n`.
+// Appends a content in one line: a line end is written as `\n`.
 fn say_content(rt: &impl Abort, text: &mut String, content: &str) {
     for (at, line) in content.split('\n').enumerate() {
         if at > 0 {
@@ -132,14 +132,14 @@ fn say_content(rt: &impl Abort, text: &mut String, content: &str) {
     }
 }
 
-// What follows the path of a file.
+// Appends what comes after the path of a file.
 fn say_file(rt: &impl Abort, text: &mut String, meta: Meta, content: &[u8]) {
     say_meta(rt, text, meta, 0o644);
     say(rt, text, "=");
     say_content(rt, text, str::from_utf8(content).unwrap_or("not UTF-8"));
 }
 
-// What follows the path of an entry.
+// Appends what comes after the path of an entry.
 pub(crate) fn say_rest(rt: &impl Abort, text: &mut String, entry: &Entry<'_>) {
     match entry {
         Entry::Dir(meta) => say_meta(rt, text, *meta, 0o755),
@@ -147,7 +147,7 @@ pub(crate) fn say_rest(rt: &impl Abort, text: &mut String, entry: &Entry<'_>) {
     }
 }
 
-/// Writes the entry at a node, after its path.
+/// Appends the entry at a node, after its path.
 pub(crate) fn say_node(rt: &impl Abort, text: &mut String, names: &str, node: &Node) {
     let entry = node.entry();
     say(rt, text, kind_of(&entry));
@@ -161,7 +161,7 @@ pub(crate) fn say_entry(rt: &impl Abort, text: &mut String, path: &Path, entry: 
     say_rest(rt, text, entry);
 }
 
-// The entries in their order.
+// Appends the entries of a tree, in path order.
 pub(crate) fn say_tree(rt: &impl Abort, text: &mut String, tree: &Tree) {
     let mut walk = tree.walk();
     for _ in 0..u64::MAX {

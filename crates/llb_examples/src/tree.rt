@@ -7,7 +7,7 @@ use llb_wire::Same;
 use std::alloc::Global;
 use std::process::Abort;
 
-// The path of a text, read from another path where there is one.
+// Returns the path of a text, read from another path if one is given.
 fn read(alloc: Global, start: Option<&str>, text: &str) -> Result<Path, TreeFault> {
     match start {
         None => Path::read(alloc, text),
@@ -15,7 +15,7 @@ fn read(alloc: Global, start: Option<&str>, text: &str) -> Result<Path, TreeFaul
     }
 }
 
-// The path by its names, or the fault.
+// Returns the path with `/` before each name, or the fault.
 fn printed(rt: &impl Abort, alloc: Global, start: Option<&str>, text: &str) -> String {
     let mut printed = String::new(alloc);
     match read(alloc, start, text) {
@@ -60,13 +60,13 @@ fn a_text_is_read_part_by_part_from_the_root_or_a_path(rt: HostRuntime) {
     }
 }
 
-// How many names the path of a text has.
+// Returns how many names the path of a text has.
 fn names_of(alloc: Global, text: &str) -> Result<usize, TreeFault> {
     let path = Path::read(alloc, text)?;
     Ok(path.names().len())
 }
 
-// A part a number of times, a rest, and the number of the names.
+// A part of a text, how often it is repeated, the rest of the text, and how many names its path has.
 type Counted = (&'static str, usize, &'static str, Result<usize, TreeFault>);
 
 const COUNTS: &[Counted] = &[
@@ -91,14 +91,14 @@ pub(crate) fn path_of(rt: &impl Abort, alloc: Global, text: &str) -> Path {
     Path::read(alloc, text).expect(rt, "a path")
 }
 
-// Whether a path is another one, and whether it sorts before it.
+// Returns whether a path is the same as another one, and whether it comes before it.
 fn compared(rt: &impl Abort, alloc: Global, one: &str, other: &str) -> (bool, bool) {
     let path = path_of(rt, alloc, one);
     let other = path_of(rt, alloc, other);
     (path.same(&other), path < other)
 }
 
-// Two paths, whether they are the same, and whether the first sorts before the second.
+// Two paths, whether they are the same, and whether the first comes before the second.
 const ORDERED: &[(&str, &str, bool, bool)] = &[
     ("etc", "etc/a", false, true),
     ("etc/z", "etc-", false, true),
@@ -114,7 +114,7 @@ fn paths_are_in_order_name_by_name(rt: HostRuntime) {
     }
 }
 
-// Whether the copy of a name has the text of the name.
+// Returns whether the copy of a name has the text of the name.
 fn is_kept(alloc: Global, text: &str) -> Result<bool, TreeFault> {
     let name = Name::new(alloc, text)?.copy()?;
     Ok(name.as_str() == text)
@@ -125,7 +125,7 @@ fn push(rt: &impl Abort, alloc: Global, path: &mut Path, name: &str) {
     path.push(name).expect(rt, "room");
 }
 
-// Whether the path /etc from its name, and its copy, are what it is read as.
+// Returns whether the path made from the name `etc`, and its copy, equal the path that `/etc` reads as.
 fn is_pushed(rt: &impl Abort, alloc: Global) -> bool {
     let mut path = Path::root(alloc);
     push(rt, alloc, &mut path, "etc");
@@ -146,7 +146,7 @@ fn names_and_paths_by_hand(rt: HostRuntime) {
     is_so(&rt, is_pushed(&rt, alloc) && Path::root(alloc).is_root());
 }
 
-// The path of the name `a` a number of times.
+// Returns a path of this many names, each of them `a`.
 pub(crate) fn path_with(rt: &impl Abort, alloc: Global, names: usize) -> Path {
     let mut path = Path::root(alloc);
     for _ in 0..names {
@@ -155,7 +155,7 @@ pub(crate) fn path_with(rt: &impl Abort, alloc: Global, names: usize) -> Path {
     path
 }
 
-// Whether a path of this many names takes one more, and how many it has then.
+// Returns whether one more name can be appended to a path of this many names, and how many it has then.
 fn one_more(rt: &impl Abort, alloc: Global, count: usize) -> (bool, usize) {
     let mut path = path_with(rt, alloc, count);
     let name = Name::new(alloc, "b").expect(rt, "a name");
@@ -186,7 +186,7 @@ fn a_mode_is_at_most_4095(rt: HostRuntime) {
     }
 }
 
-// Whether a directory is at a path.
+// Returns whether a directory is at a path.
 fn has_directory(rt: &impl Abort, alloc: Global, rows: &[Row<'_>], path: &str) -> bool {
     let tree = made(rt, alloc, rows);
     tree.is_dir(&path_of(rt, alloc, path))
@@ -325,7 +325,7 @@ fn a_tree_is_changed_call_by_call(rt: HostRuntime) {
     are_told(&rt, rt.alloc(), STORIES);
 }
 
-// A directory at a path of this many names, in those that it needs.
+// Returns a tree with a directory at a path of this many names, and those above it.
 pub(crate) fn deep_tree(rt: &impl Abort, alloc: Global, names: usize) -> Tree {
     let mut tree = Tree::empty(alloc).expect(rt, "memory");
     for at in 0..names {
@@ -335,7 +335,7 @@ pub(crate) fn deep_tree(rt: &impl Abort, alloc: Global, names: usize) -> Tree {
     tree
 }
 
-// The result of a graft at a path of this many names, for a tree with one name.
+// Returns the result of a graft at a path of this many names, for a tree whose path has one name.
 fn graft_depth(rt: &impl Abort, alloc: Global, names: usize) -> Result<(), TreeFault> {
     let mut tree = deep_tree(rt, alloc, names);
     let other = made(rt, alloc, &[file("/b", "")]);

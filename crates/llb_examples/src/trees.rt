@@ -1,10 +1,10 @@
-//! Calls on trees, as transcripts have them (`stage`). There are two trees, this one and the other, both empty at first.
+//! Calls on trees in transcripts (`stage`). There are two trees, this one and the other, both empty at first.
 //!
 //! `dir PATH MODE OWNER` and `file PATH MODE OWNER CONTENT` put an entry; `remove PATH` removes what is at or below a path; `graft PATH GOAL`
-//! puts what is at or below the path at the goal as well; `share PATH GOAL MODE OWNER` puts a file of the content of the one at the path there,
-//! if one is; `overlay MODE USER GROUP KEEPS` lays the other tree over this one. `look PATH`, `list PATH` and `tree` show this one. `copy` and
-//! `subtree PATH` make the other tree of this one, `below PATH` makes it an empty tree with this one at the path, and `swap` exchanges the two.
-//! A content that ends in `\n` ends in an end of line.
+//! copies what is at or below the path to the goal as well; `share PATH GOAL MODE OWNER` puts a file with the content of the one at the path there,
+//! if there is one; `overlay MODE USER GROUP KEEPS` lays the other tree over this one. `look PATH`, `list PATH` and `tree` show this tree. `copy` and
+//! `subtree PATH` replace the other tree by one made from this, `below PATH` by an empty tree with this one at the path, and `swap` exchanges the two.
+//! A content that ends in `\n` ends with a line end.
 
 use super::told::{say, say_looked, say_names, say_tree};
 use llb_tree::{Bytes, Meta, Path, Tree, TreeFault, Way};
@@ -26,7 +26,7 @@ fn octal(word: &str) -> Option<u16> {
     u16::from_str_radix(word, 8).ok()
 }
 
-// The mode and the owner in words; those of a new directory where they are none.
+// Returns the mode and the owner that these words give; those of a new directory if they give none.
 fn meta(mode: &str, owner: &str) -> Meta {
     let (user, group) = owner.split_once(':').unwrap_or(("", ""));
     match (octal(mode), user.parse::<u32>(), group.parse::<u32>()) {
@@ -37,7 +37,7 @@ fn meta(mode: &str, owner: &str) -> Meta {
     }
 }
 
-// A content with its end of line.
+// Returns a content, with a line end in place of `\n`.
 fn content_of(alloc: Global, text: &str) -> Result<String, AllocError> {
     match text.strip_suffix("\\n") {
         Some(line) => format!(in alloc; "{line}\n"),
@@ -92,7 +92,7 @@ pub(crate) fn edit(alloc: Global, tree: &mut Tree, call: &str) -> Result<(), Tre
     }
 }
 
-// The tree that another one is made to.
+// Returns the tree by which the other one is replaced.
 fn taken(alloc: Global, tree: &Tree, name: &str, path: &str) -> Result<Tree, TreeFault> {
     let path = Path::read(alloc, path)?;
     if name == "subtree" {
@@ -128,7 +128,7 @@ fn change(alloc: Global, trees: &mut Trees, name: &str, call: &str) -> Result<()
     Ok(())
 }
 
-// The text of a tree.
+// Appends what `look`, `list` or `tree` shows of a tree.
 fn tell(
     rt: &impl Abort,
     alloc: Global,
@@ -148,7 +148,7 @@ fn tell(
     Ok(())
 }
 
-// The result of a call, or its fault.
+// Returns the result of a call, or its fault.
 pub(crate) fn answer(
     rt: &impl Abort,
     alloc: Global,

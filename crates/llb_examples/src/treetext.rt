@@ -1,4 +1,4 @@
-//! The text of a tree: written, named by its digest, and read. A text is read and written again, or its fault printed.
+//! The text of a tree: written, hashed to its digest, and read. A text is read and written again, or its fault is printed.
 
 use super::told::{file, holds, is_same, is_so, made, prints, say};
 use llb_tree::Tree;
@@ -7,7 +7,7 @@ use llb_wire::{Over, Same, Text};
 use std::alloc::{AllocError, Global};
 use std::process::Abort;
 
-// The text of a tree, as it is printed.
+// Returns the text of a tree, as it is printed.
 pub(crate) fn printed(alloc: Global, tree: &Tree) -> Result<Vec<u8>, AllocError> {
     let mut text: Vec<u8> = Vec::new(alloc);
     let mut out = Over::new(&mut text);
@@ -17,7 +17,7 @@ pub(crate) fn printed(alloc: Global, tree: &Tree) -> Result<Vec<u8>, AllocError>
     Ok(text)
 }
 
-// What a text is read as, printed again; or the fault.
+// Returns the tree that a text is read as, printed again; or the fault.
 fn answer(rt: &impl Abort, alloc: Global, text: &str) -> String {
     one_answer(text.as_bytes());
     let mut told = String::new(alloc);
@@ -85,7 +85,7 @@ fn the_first_faulty_line_has_its_first_fault(rt: HostRuntime) {
     }
 }
 
-// A fault, and that of a text.
+// Returns whether a text has this fault.
 fn same_fault(alloc: Global, text: &str, wanted: TextFault) -> bool {
     match read_tree(alloc, text.as_bytes()) {
         Err(fault) => fault == wanted,
@@ -93,7 +93,7 @@ fn same_fault(alloc: Global, text: &str, wanted: TextFault) -> bool {
     }
 }
 
-// Texts, and their faults, which are late.
+// Texts with a fault in a late line, and that fault.
 const LATE: &[(&str, TextFault)] = &[
     (
         "d 0755 0 0 /\nd 0755 0 0 /a\nd 0755 0 0 /a/b\nf 0644 0 0 - /a/b/c\nf 0644 0 0 00f /d\n",
@@ -109,7 +109,7 @@ const LATE: &[(&str, TextFault)] = &[
     ),
 ];
 
-// No allocation is made here: the results stay the same where each one fails.
+// A faulty line is found without allocating, so the results stay the same if every allocation fails.
 #[test]
 fn a_late_fault_is_told_without_memory(rt: HostRuntime) {
     for (text, wanted) in LATE {
@@ -117,7 +117,7 @@ fn a_late_fault_is_told_without_memory(rt: HostRuntime) {
     }
 }
 
-// A root, `files` files, and then a path below the last of them.
+// Returns a text with the root, `files` files, and then a path below the last of them.
 fn long_text(rt: &impl Abort, alloc: Global, files: usize) -> String {
     let mut text = String::new(alloc);
     say(rt, &mut text, "d 0755 0 0 /\n");
@@ -138,7 +138,7 @@ fn the_last_line_of_many_is_faulty(rt: HostRuntime) {
     );
 }
 
-// The result for the text of a good root, and then of one line.
+// Returns the result for the text of a valid root followed by one line.
 fn second_line(rt: &impl Abort, alloc: Global, line: &str) -> String {
     let mut text = String::new(alloc);
     say(rt, &mut text, "d 0755 0 0 /\n");
@@ -147,7 +147,7 @@ fn second_line(rt: &impl Abort, alloc: Global, line: &str) -> String {
     answer(rt, alloc, text.as_str())
 }
 
-// Lines that are none of a tree, each after the root.
+// Lines that no tree's text has, each tried after the line of the root.
 const MISSPELLED: &[&str] = &[
     "f 0644 0 0 6A /f",
     "f 0644 0 0 6a6 /f",
@@ -182,7 +182,7 @@ fn only_the_written_spelling_is_read(rt: HostRuntime) {
     }
 }
 
-// Whether a tree that is printed is read as the same tree.
+// Returns whether a tree that is printed is read as the same tree.
 fn is_read_back(rt: &impl Abort, alloc: Global) -> bool {
     let tree = made(rt, alloc, &[("/a", 0o700, 1, 2, None), file("/a/b", "hi")]);
     reads_back(&tree);

@@ -1,6 +1,6 @@
-//! Scripts on views, as transcripts have them (`stage`). `mount DEST SELECTOR` puts a mount with this tree, which is then empty; `read-only`
-//! after them makes it so. `run CWD TEXT` runs the script of a text on a view of such mounts, and prints the statuses of its commands, `-` for
-//! one that is skipped, and then each mount's tree after a bar; the mounts themselves stay as they are. Where the text is no script it prints
+//! Scripts on views in transcripts (`stage`). `mount DEST SELECTOR` moves this tree into a new mount; `read-only`
+//! after them makes it read-only. `run CWD TEXT` runs the script of a text on a view of these mounts, and prints the statuses of its commands, `-` for
+//! one that is skipped, and then each mount's tree after a bar; the mounts themselves are unchanged. If the text is no script, it prints
 //! the fault.
 
 use super::told::{say, say_fault, say_number, say_tree};
@@ -68,7 +68,7 @@ fn script_of(rt: &impl Abort, alloc: Global, text: &str) -> Result<Script, Scrip
     Ok(script.copy().expect(rt, "memory"))
 }
 
-// Whether a command that is joined so runs after that status.
+// Returns whether a command with this join runs after this status.
 fn is_run(join: Join, last: u32) -> bool {
     match join {
         Join::Then => true,

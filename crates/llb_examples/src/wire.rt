@@ -10,7 +10,7 @@ use std::io;
 use std::io::{ErrorKind, Write};
 use std::process::Abort;
 
-// The number at a place, and where it ends. A place past the end has none.
+// Returns the number at a position, and its end. A position past the end has none.
 fn number(bytes: &[u8], at: usize) -> Option<Result<(u64, usize), WireFault>> {
     if at > bytes.len() {
         return None;
@@ -18,7 +18,7 @@ fn number(bytes: &[u8], at: usize) -> Option<Result<(u64, usize), WireFault>> {
     Some(varint(bytes, at))
 }
 
-// Bytes, a place, and the number there with where it ends, or the fault.
+// Bytes, a position, and the number there with its end, or the fault.
 type Numbered = (&'static [u8], usize, Result<(u64, usize), WireFault>);
 
 const NUMBERS: &[Numbered] = &[
@@ -54,7 +54,7 @@ fn a_number_has_at_most_ten_bytes(rt: HostRuntime) {
     }
 }
 
-// The record at a place. A place past the end has none.
+// Returns the record at a position. A position past the end has none.
 fn record(bytes: &[u8], at: usize) -> Option<Result<Option<Field>, WireFault>> {
     if at > bytes.len() {
         return None;
@@ -62,7 +62,7 @@ fn record(bytes: &[u8], at: usize) -> Option<Result<Option<Field>, WireFault>> {
     Some(next_record(bytes, at))
 }
 
-// Bytes, and the record at their prefix.
+// Bytes, and the record at their start.
 const RECORDS: &[(&[u8], Field)] = &[
     (
         &[0x08, 0x96, 0x01],
@@ -114,7 +114,7 @@ fn a_record_is_its_number_its_wire_type_and_its_payload(rt: HostRuntime) {
     is_so(&rt, record(&[0x08, 0x96, 0x01], 3) == Some(Ok(None)));
 }
 
-// Bytes, and the first fault of the record at their prefix.
+// Bytes, and the first fault of the record at their start.
 const FAULTY: &[(&[u8], WireFault)] = &[
     (&[0x00], WireFault::BadField),
     (&[0x0B], WireFault::BadWireType),
@@ -132,7 +132,7 @@ fn a_record_has_its_first_fault(rt: HostRuntime) {
     }
 }
 
-// A number, and after it four records.
+// Returns the bytes of a number and of four records after it.
 fn spelled(rt: &impl Abort, alloc: Global) -> Vec<u8> {
     let mut out = Vec::new(alloc);
     write_varint(300, &mut out).expect(rt, "memory");
@@ -167,7 +167,7 @@ fn text_of(rt: &impl Abort, alloc: Global, text: &str) -> Text {
     Text::from_str(alloc, text).expect(rt, "memory")
 }
 
-// Whether a byte string's copy and the vector that it becomes are these bytes.
+// Returns whether the copy of a byte string and the vector that it is turned into have these bytes.
 fn keeps_bytes(rt: &impl Abort, alloc: Global, bytes: &[u8], other: &[u8]) -> bool {
     let kept = bytes_of(rt, alloc, bytes);
     kept.is_bytes();
@@ -177,7 +177,7 @@ fn keeps_bytes(rt: &impl Abort, alloc: Global, bytes: &[u8], other: &[u8]) -> bo
     told && copied.into_vec().as_slice() == bytes
 }
 
-// The same of a text.
+// Returns whether the copy of a text and the string that it is turned into are this text.
 fn keeps_text(rt: &impl Abort, alloc: Global, text: &str, other: &str) -> bool {
     let kept = text_of(rt, alloc, text);
     let copied = kept.copy().expect(rt, "memory");
@@ -203,7 +203,7 @@ fn texts_byte_strings_and_lists_own_what_they_were_given(rt: HostRuntime) {
     prints(&rt, alloc, &text_of(&rt, alloc, "é"), "é");
 }
 
-// A writer that takes one byte a write, and fails after `room` bytes.
+// A writer that takes one byte in each write, and fails after `room` bytes.
 #[derive(Drop)]
 struct Narrow {
     room: usize,
@@ -230,8 +230,8 @@ impl Write for Narrow {
     }
 }
 
-// How many bytes of `hello` a writer of that room takes, whether it then says that it failed, and then whether writing nothing is done, and
-// whether one more byte is refused where there is room again.
+// Returns how many bytes of `hello` such a writer takes, whether it has then failed, whether writing no bytes then succeeds, and
+// whether one more byte is refused although the writer has room again.
 fn written(alloc: Global, room: usize) -> (usize, [bool; 3]) {
     let mut writer = Narrow {
         room,
@@ -254,7 +254,7 @@ fn a_writer_of_one_byte_a_write_gets_all_or_a_prefix(rt: HostRuntime) {
     is_so(&rt, written(rt.alloc(), 9) == (6, [false, true, false]));
 }
 
-// Whether bytes are written as that text, which is read as the bytes.
+// Returns whether bytes are written as this text, and whether the text is read as these bytes.
 fn is_written_so(rt: &impl Abort, alloc: Global, bytes: &[u8], wanted: &str) -> bool {
     let mut text = String::new(alloc);
     push_hex(alloc, &mut text, bytes).expect(rt, "memory");

@@ -7,25 +7,25 @@ use Rattle.llb_model.specs.Table.{Job}
 use Rattle.llb_model.specs.Landing.{AreLeft, further}
 use Rattle.llb_execution.specs.Parts.{mounts_in, shown_in}
 
--- the micro-steps of a program can be done on a work: its caches are shown by mounts that differ, each has a tree, and the micro-steps
--- can be counted
+-- a program's micro-steps can be done on this work: its caches are shown by distinct mounts, there is a tree for each, and the number of micro-steps
+-- has 32 bits
 pub record IsWorkable (p : Program) (work : Work) : Type 0 where
   pub apart : Distinct (shown_in work.own)
   pub within : All (λ n. n < mounts_in work.own) (shown_in work.own)
   pub count : length work.trees ≡ length (shown_in work.own)
   pub few : length p.steps < 2 ^ 32
 
--- a job, how many micro-steps were left to it, and what they left
+-- an outcome: the job, how many micro-steps remained, and their result
 pub record OutcomeValue : Type 0 where
   pub job : Job
   pub count : ℕ
   pub left : Left
 
--- no micro-step of a job has faulted
+-- the work of a job before its remaining micro-steps, without a fault
 abbrev pub begun_on : Job → Left
 begun_on j = record { work = j.work; fault = None }
 
--- n micro-steps and no more are left to a job, and they leave this; it shows what the job shows
+-- `count` micro-steps of the job remained, and this is their result; the workspace still shows the same caches
 pub record IsOutcome (j : Job) (count : ℕ) (left : Left) : Type 0 where
   pub few : j.done + count < 2 ^ 32
   pub all : AreLeft j.program.steps j.done (begun_on j) count

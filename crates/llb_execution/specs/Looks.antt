@@ -1,4 +1,4 @@
--- The trees that a workspace is on, in an order, and what each of them is to it: for a look at a worker that runs.
+-- The trees that a workspace works on, in an order, and the role of each: for callers that only read.
 use Rattle.std.specs.Prelude.{ℕ, ◌+◌, ◌==◌, List, [], ◌∷◌, ◌++◌, map, Option, Some, None, slice_get, if◌then◌else◌}
 use Rattle.llb_tree.specs.Tree.{TreeMap}
 use Rattle.llb_mount.specs.declared.shown.Shown.{Shown}
@@ -12,7 +12,7 @@ use Rattle.llb_execution.specs.declared.look.Part.TheVariants as part
 abbrev pub shown_tree : Shown → TreeMap
 shown_tree m = m.tree
 
--- the trees that a workspace is on, if the cache instances that it holds have these trees, in the order of the needs: for a source its local tree; for a
+-- the trees that a workspace works on, if the cache instances that it holds have these trees, in the order of the needs: for a source its local tree; for a
 -- file op its inputs, then the results so far; for a merge its inputs, then what is laid so far; for an exec the tree of each mount, which of a mount that
 -- shows a cache is that of its instance
 abbrev pub trees_with : Workspace → List TreeMap → List TreeMap
@@ -21,7 +21,7 @@ trees_with (Files inputs results) trees = inputs ++ results
 trees_with (Layers inputs t) trees = inputs ++ t ∷ []
 trees_with (Mounted mounts caches last) trees = map shown_tree (filled mounts caches trees)
 
--- the tree of a look, if the cache instances have these trees
+-- the tree that a look finds, if the cache instances have these trees
 abbrev pub looked : List TreeMap → Option Look → Option TreeMap
 looked trees None = None
 looked trees (Some (look.Here t)) = Some t.now
@@ -32,18 +32,18 @@ abbrev pub tree_or : Option TreeMap → List TreeMap → Option ℕ → Option T
 tree_or own trees None = own
 tree_or own trees (Some k) = slice_get trees k
 
--- the last position of i so far, after number m at position k
+-- the last position so far at which number i is, given that number m is at position k
 abbrev pub next_place : ℕ → ℕ → ℕ → Option ℕ → Option ℕ
 next_place i m k place = if m == i then Some k else place
 
--- the tree beside the last of these numbers that is i, else the given one
+-- the tree at the last position of number i, else the given one
 abbrev pub last_tree : ℕ → List ℕ → List TreeMap → Option TreeMap → Option TreeMap
 last_tree i [] trees own = own
 last_tree i (m ∷ ms) [] own = own
 last_tree i (m ∷ ms) (t ∷ trees) own = last_tree i ms trees (if m == i then Some t else own)
 
--- what a tree is to the workspace that is on it: a source's local tree, an input, the result of an action, what is laid so far, or the tree that a mount with
--- this dest shows
+-- the role of a tree in a workspace: a source's local tree, an input, the result of an action, what is laid so far, or the tree of the mount
+-- with this dest
 pub data Role : Type 0 where
   Local : Role
   Input : Role
@@ -51,7 +51,7 @@ pub data Role : Type 0 where
   Laid : Role
   MountAt : List (List ℕ) → Role
 
--- the role of a part, with its borrowed dest as a value
+-- the role that a `Part` of the code represents
 abbrev pub role_in : Part → Role
 role_in part.Local = Local
 role_in part.Input = Input
@@ -59,7 +59,7 @@ role_in (part.ResultOf a) = ResultOf a
 role_in part.Laid = Laid
 role_in (part.MountAt dest) = MountAt dest.now
 
--- the role of an input
+-- the role of a tree of an input
 abbrev pub input_role : TreeMap → Role
 input_role t = Input
 
@@ -67,12 +67,12 @@ input_role t = Input
 abbrev pub mount_role : Shown → Role
 mount_role m = MountAt m.dest
 
--- the results of actions from number a on
+-- the roles of the results of the actions from number a up
 abbrev pub results_from : ℕ → List TreeMap → List Role
 results_from a [] = []
 results_from a (t ∷ trees) = ResultOf a ∷ results_from (a + 1) trees
 
--- what each of the trees is that a workspace is on
+-- the roles of the trees that a workspace works on, in their order
 abbrev pub roles_of : Workspace → List Role
 roles_of (LocalTree t) = Local ∷ []
 roles_of (Files inputs results) = map input_role inputs ++ results_from 0 results

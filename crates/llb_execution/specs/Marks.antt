@@ -1,4 +1,4 @@
--- What a micro-step can change of a workspace, and that put back.
+-- What a micro-step can change of a workspace, kept before it and put back after it.
 use Rattle.std.specs.Prelude.{◌≡◌, ℕ, List, length, take, Option}
 use Rattle.llb_mount.specs.declared.shown.Shown.{Shown}
 use Rattle.llb_tree.specs.Tree.{TreeMap}
@@ -7,14 +7,14 @@ use Rattle.llb_execution.specs.Parts.{work_with}
 use Rattle.llb_execution.specs.declared.mark.Was.{Was}
 use Rattle.llb_execution.specs.declared.mark.Was.TheVariants as was
 
--- for a source nothing, for a file op how many results there are, for a merge what is laid, for an exec its mounts and the last status
+-- what can change: for a source nothing, for a file op how many results there are, for a merge what is laid, for an exec its mounts and the last status
 pub data Mark : Type 0 where
   Nothing : Mark
   Results : ℕ → Mark
   Laid : TreeMap → Mark
   Mounts : List Shown → ℕ → Mark
 
--- what a mark owns
+-- what a mark of the code represents
 abbrev pub mark_in : Was → Mark
 mark_in was.Nothing = Nothing
 mark_in (was.Results count) = Results count
@@ -28,7 +28,7 @@ mark_of (Files inputs results) = Results (length results)
 mark_of (Layers inputs t) = Laid t
 mark_of (Mounted mounts caches last) = Mounts mounts last
 
--- a workspace with the first `count` results, or with what was laid, or with these mounts and this last status; a mark of another kind of workspace changes
+-- a workspace after a mark is put back: only the first `count` results, or what was laid, or these mounts and this last status; a mark of another kind changes
 -- nothing
 abbrev pub put_back : Mark → Workspace → Workspace
 put_back Nothing workspace = workspace
@@ -45,7 +45,7 @@ put_back (Mounts were status) (LocalTree t) = LocalTree t
 put_back (Mounts were status) (Files inputs results) = Files inputs results
 put_back (Mounts were status) (Layers inputs t) = Layers inputs t
 
--- whatever micro-step is done on a workspace, with whatever trees of caches, the mark puts back the workspace before it
+-- after any micro-step on a workspace, with any trees of caches, putting the mark back restores the workspace
 abbrev pub PutsBack : Workspace → Mark → Type 0
 PutsBack workspace mark = (k : ℕ) (step : Option MicroStep) (trees : List TreeMap) → put_back mark (step_on k step (work_with workspace trees)).work.own
     ≡ workspace

@@ -1,4 +1,4 @@
--- How outputs take their places, one after another.
+-- How the outputs of a vertex replace the empty trees that were made for them, one after another.
 use Rattle.std.specs.Prelude.{ℕ, ℤ, pos, negsuc, Option, Some, None, List, [], ◌∷◌, map, slice_set, if◌then◌else◌}
 use Rattle.llb_ops.specs.declared.op.Kind.{Kind}
 use Rattle.llb_ops.specs.declared.op.Kind.TheVariants as kind
@@ -6,32 +6,32 @@ use Rattle.llb_ops.specs.declared.file.Action.{Action}
 use Rattle.llb_tree.specs.Tree.{TreeMap, empty_tree}
 use Rattle.llb_model.specs.Program.{is_output}
 
--- the actions of a kind: those of a file op
+-- the actions of a file op; none for any other kind
 abbrev pub actions_in : Option Kind → List Action
 actions_in (Some (kind.File f)) = f.actions
 actions_in _ = []
 
--- the numbers of the outputs of actions
+-- the output numbers of actions
 abbrev pub numbers_of : List Action → List ℤ
 numbers_of actions = map (λ (a : Action). a.output) actions
 
--- the tree beside the first number that is i
+-- the tree at the first position of number i; the empty tree if i is not there
 abbrev pub tree_by : ℕ → List ℤ → List TreeMap → TreeMap
 tree_by i [] trees = empty_tree
 tree_by i (n ∷ ns) [] = empty_tree
 tree_by i (n ∷ ns) (t ∷ trees) = if is_output i n then t else tree_by i ns trees
 
--- a tree in the place of the first output, if there is one
+-- the trees after the first one is replaced, if there is one
 abbrev pub first_placed : TreeMap → List TreeMap → List TreeMap
 first_placed t [] = []
 first_placed t (old ∷ trees) = t ∷ trees
 
--- a tree in the place of an output, if there is one
+-- the trees after the one with an output number is replaced, if there is one
 abbrev pub placed : ℤ → TreeMap → List TreeMap → List TreeMap
 placed (pos i) t trees = slice_set trees i t
 placed (negsuc i) t trees = trees
 
--- a tree in the place of an output by its number, if there is one
+-- the trees after the one with an output number is replaced, if there are such a number and such a tree
 abbrev pub placed_by : Option ℤ → TreeMap → List TreeMap → List TreeMap
 placed_by (Some n) t trees = placed n t trees
 placed_by None t trees = trees

@@ -29,7 +29,7 @@ steps_in (steps.Commands setting script) = model.runs_of setting script
 
 -- ---- workspaces
 
--- what a workspace owns
+-- the workspace that the data of the code represents
 abbrev pub own_of : Own → model.Workspace
 own_of (own.Local t) = model.LocalTree t
 own_of (own.Files inputs results) = model.Files inputs.items results.items
@@ -56,11 +56,11 @@ shown_in (model.Layers inputs t) = []
 abbrev pub work_with : model.Workspace → List TreeMap → model.Work
 work_with workspace trees = record { own = workspace; trees = trees }
 
--- what a micro-step leaves: a workspace, these trees, and its fault
+-- the result of a micro-step: a workspace, these trees, and its fault
 abbrev pub left_with : model.Workspace → List TreeMap → Option VertexFault → model.Left
 left_with workspace trees fault = record { work = work_with workspace trees; fault = fault }
 
--- a command that is skipped after a workspace's last status
+-- whether a micro-step is a command that is skipped after the workspace's last status
 abbrev pub is_skipped : model.MicroStep → model.Workspace → Bool
 is_skipped (model.Run setting command ends) workspace = not (model.is_run command.join (model.last_of workspace))
 is_skipped model.ReadLocal workspace = false

@@ -1,5 +1,5 @@
-//! A command on mounts of which some show caches, whose trees come in from outside for that one command. It rests on mounts and
-//! on commands; it knows neither keys nor instances.
+//! Runs a command on mounts of which some show caches; their trees are put in for that one command. It is built on mounts and
+//! commands; it knows neither keys nor instances.
 
 ghost use Rattle.std.specs.Prelude.{◌≡◌, ◌<◌, length, replicate, IfOk, OnErr};
 ghost use Rattle.std.specs.List.{All};
@@ -35,7 +35,7 @@ fn blanks(alloc: Global, count: usize) -> Result<Vec<Tree>, NoMemory>
     Ok(trees)
 }
 
-// Exchanges each tree with the one in the mount of its number. The spare tree takes the place of a tree that is being moved.
+// Swaps each tree with that of the mount with its number. The spare tree is in the mount while the two are swapped.
 fn swap_all(mounts: &mut Mounts, numbers: &[u32], trees: &mut Vec<Tree>, spare: Tree) -> Tree
     requires apart { Distinct numbers.now }
     requires within { All (λ n. n < length mounts.old) numbers.now }
@@ -52,7 +52,7 @@ fn swap_all(mounts: &mut Mounts, numbers: &[u32], trees: &mut Vec<Tree>, spare: 
     spare
 }
 
-// Runs a command on mounts of which those of these numbers show these trees meanwhile, and returns its status. If that
+// Runs a command on mounts, while those with these numbers show these trees, and returns its status. If that
 // is 0, the trees are written back and these mounts are empty; else, and if memory is refused, mounts and trees are as
 // they were.
 pub(crate) fn run_filled(

@@ -22,7 +22,7 @@ pub struct Job {
     instances: Many<u32>,
 }
 
-// It is written out so that the crates above drop one by this one function.
+// Written by hand, so that it is proved once; a derived one is proved again in every function that drops such a value.
 impl Drop for Job {
     fn drop(self) {
         let Job {

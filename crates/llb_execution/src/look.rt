@@ -1,4 +1,4 @@
-//! Accessors of a workspace: the trees that it works on, in an order, and what each of them is to it. Nothing here
+//! The trees that a workspace works on, in an order, and the role of each. Nothing here
 //! allocates.
 
 ghost use Rattle.std.specs.Prelude.{◌≡◌, ◌++◌, ◌∷◌, [], ℕ, List, Option, length, map, option_map, slice_get};
@@ -13,19 +13,19 @@ use llb_tree::{Path, Tree};
 
 /// One of the trees that a workspace works on.
 pub enum Look<'a> {
-    /// A tree of the workspace's own.
+    /// A tree that the workspace owns.
     Here(&'a Tree),
-    /// The tree of the cache instance of the need of this number.
+    /// The tree of the cache instance for the need with this number.
     Cached(usize),
 }
 
-/// What a tree is to the workspace that works on it.
+/// The role of a tree in the workspace that works on it.
 pub enum Part<'a> {
     /// The local tree of a source.
     Local,
     /// The tree of an input.
     Input,
-    /// The result of the action of this number.
+    /// The result of the action with this number.
     ResultOf(usize),
     /// What a merge has laid so far.
     Laid,
@@ -61,7 +61,7 @@ impl Workspace {
         }
     }
 
-    /// Returns what tree i is to the workspace; `None` past the last tree. Does not allocate.
+    /// Returns the role of tree i; `None` past the last tree. Does not allocate.
     pub fn part(&self, i: usize) -> Option<Part<'_>>
         ensures { option_map role_in result ≡ slice_get (roles_of self.now) i }
     {
@@ -74,7 +74,7 @@ impl Workspace {
     }
 }
 
-// Returns what tree i of a source is.
+// Returns the role of tree i of a source.
 fn local_part<'a>(i: usize) -> Option<Part<'a>>
     ensures { option_map role_in result ≡ slice_get (Local ∷ []) i }
 {
@@ -84,7 +84,7 @@ fn local_part<'a>(i: usize) -> Option<Part<'a>>
     None
 }
 
-// Returns what tree i of a file op is.
+// Returns the role of tree i of a file op.
 fn file_part<'a>(inputs: &[Tree], results: &[Tree], i: usize) -> Option<Part<'a>>
     ensures { option_map role_in result ≡ slice_get (map input_role inputs.now ++ results_from 0 results.now) i }
 {
@@ -98,7 +98,7 @@ fn file_part<'a>(inputs: &[Tree], results: &[Tree], i: usize) -> Option<Part<'a>
     None
 }
 
-// Returns what tree i of a merge is.
+// Returns the role of tree i of a merge.
 fn merge_part<'a>(inputs: &[Tree], i: usize) -> Option<Part<'a>>
     ensures { option_map role_in result ≡ slice_get (map input_role inputs.now ++ Laid ∷ []) i }
 {
@@ -111,7 +111,7 @@ fn merge_part<'a>(inputs: &[Tree], i: usize) -> Option<Part<'a>>
     None
 }
 
-// Returns what tree i of an exec is.
+// Returns the role of tree i of an exec.
 fn mount_part(mounts: &Mounts, i: usize) -> Option<Part<'_>>
     ensures { option_map role_in result ≡ slice_get (map mount_role mounts.now) i }
 {
@@ -121,7 +121,7 @@ fn mount_part(mounts: &Mounts, i: usize) -> Option<Part<'_>>
     }
 }
 
-// Returns a tree of the workspace's own as a `Look`.
+// Returns a tree that the workspace owns as a `Look`.
 fn here(tree: Option<&Tree>) -> Option<Look<'_>>
     ensures { (trees : List TreeMap) → looked trees result ≡ option_map (λ t. t.now) tree.entry }
 {
@@ -170,7 +170,7 @@ fn look_in<'a>(mounts: &'a Mounts, numbers: &[u32], i: u32, held: usize) -> Opti
     }
 }
 
-// Returns the tree that a mount has itself.
+// Returns the tree that a mount itself has.
 fn mount_tree(mounts: &Mounts, i: u32) -> Option<&Tree>
     ensures { option_map (λ t. t.now) result ≡ slice_get (map shown_tree mounts.now) i }
 {

@@ -18,7 +18,7 @@ pub struct Mark {
     was: Was,
 }
 
-// What there was before a micro-step, by the kind of workspace.
+// What a workspace had before a micro-step, by the kind of workspace.
 #[derive(Drop)]
 pub(crate) enum Was {
     Nothing,
@@ -63,7 +63,7 @@ impl Workspace {
     }
 }
 
-// Returns what a micro-step can change of what a workspace has.
+// Returns what a micro-step can change of a workspace's data.
 fn was_in(own: &Own) -> Result<Was, NoMemory>
     ensures { IfOk result (λ w. mark_in w ≡ mark_of (own_of own.now)) }
 {

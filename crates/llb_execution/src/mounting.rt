@@ -1,4 +1,4 @@
-//! What the commands of an exec share: where they run, and the mounts as they show the trees of the inputs at first. Nothing here
+//! What the commands of an exec share: where they run, and the mounts, which at first show the trees of the inputs. Nothing here
 //! runs a command.
 
 ghost use Rattle.std.specs.Prelude.{◌≡◌, IfOk, map, option_map, unwrap_or};
@@ -66,7 +66,7 @@ pub(crate) fn view_of(alloc: Global, inputs: &[Tree], mounts: &[Mount]) -> Resul
     Ok(View::make(Many::new(shown))?)
 }
 
-// Makes the mounts as they show these inputs.
+// Makes the mounts with the trees of these inputs.
 fn all_shown(alloc: Global, inputs: &[Tree], mounts: &[Mount]) -> Result<Vec<Shown>, NoMemory>
     ensures { IfOk result (λ v. v.items ≡ map (shown_of inputs.now) mounts.now) }
 {
@@ -77,7 +77,7 @@ fn all_shown(alloc: Global, inputs: &[Tree], mounts: &[Mount]) -> Result<Vec<Sho
     Ok(shown)
 }
 
-// Makes a mount as it shows these inputs.
+// Makes a mount with the trees of these inputs.
 fn shown_of(alloc: Global, inputs: &[Tree], mount: &Mount) -> Result<Shown, NoMemory>
     ensures { IfOk result (λ m. m ≡ shown_of inputs.now mount.now) }
 {

@@ -1,4 +1,4 @@
-//! The work of a job, away from every board: all its remaining micro-steps are done. It depends on the job alone.
+//! Does the work of a job, away from any board: all its remaining micro-steps. It depends on the job alone.
 
 ghost use Rattle.std.specs.Prelude.{◌≡◌, IfOk, IsTrue, Err};
 ghost use Rattle.llb_execution.specs.Parts.{left_with};
@@ -17,7 +17,7 @@ use std::alloc::Global;
 use std::marker::Model;
 
 /// The outcome of a job: how many micro-steps remained, and the workspace, the trees of the cache instances and the
-/// fault that they leave. By the type's invariant they are what the job's program leaves, so no board has to check it.
+/// fault after them. By the type's invariant these are the result of the job's program, so no board has to check it.
 #[derive(Drop)]
 pub struct Outcome {
     job: Job,
@@ -50,7 +50,7 @@ impl Outcome {
         &self.job
     }
 
-    /// Proves that the outcome is what the remaining micro-steps of its job leave.
+    /// Proves that the outcome is the result of the remaining micro-steps of its job.
     pub fn is_whole(&self)
         ensures { IsOutcome self.now.job self.now.count self.now.left }
     {
@@ -78,7 +78,7 @@ impl Outcome {
         self.fault
     }
 
-    /// Returns how many micro-steps of the job remained, and what they leave: the workspace, the trees of the cache
+    /// Returns how many micro-steps of the job remained, and their result: the workspace, the trees of the cache
     /// instances, and the fault of the last.
     pub fn into_left(self) -> (u32, Workspace, Vec<Tree>, Option<VertexFault>)
         ensures count { result.0 ≡ self.count }

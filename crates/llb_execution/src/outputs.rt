@@ -1,4 +1,4 @@
-//! The outputs of a vertex, as they are taken from what all its micro-steps left, each in place of the empty tree that
+//! The outputs of a vertex, taken from its workspace after all its micro-steps, each in place of the empty tree that
 //! was made for it. Nothing here allocates.
 
 ghost use Rattle.std.specs.Prelude.{◌≡◌, map, length, replicate, slice_get};
@@ -97,7 +97,7 @@ fn mount_output(mounts: &[Mount], m: usize) -> Option<i64>
     }
 }
 
-// Puts a tree in place of an output, if a number is given.
+// Puts a tree in place of an output, if an output number is given.
 fn place(outputs: &mut Vec<Tree>, number: Option<i64>, tree: Tree)
     ensures { outputs.new.items ≡ placed_by number tree outputs.old.items }
 {
@@ -107,7 +107,7 @@ fn place(outputs: &mut Vec<Tree>, number: Option<i64>, tree: Tree)
     }
 }
 
-// Puts a tree in place of the output of a number, if there is one.
+// Puts a tree in place of the output with this number, if there is one.
 fn put(outputs: &mut Vec<Tree>, output: i64, tree: Tree)
     ensures { outputs.new.items ≡ placed output tree outputs.old.items }
 {

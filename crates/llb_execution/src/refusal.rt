@@ -1,4 +1,4 @@
-//! Refused memory, the only fault of all calls of lower crates that are made here.
+//! Refused memory, the only fault that the calls of lower crates made here can have.
 
 use llb_applet::ScriptFault;
 use llb_tree::TreeFault;

@@ -1,5 +1,5 @@
-//! What a program works on, which owns its data: it begins on the trees of the vertex's inputs, each micro-step changes it, and the
-//! outputs are taken from it at the end. It rests on what one action, one laying and one command do.
+//! What a program works on, which owns its data: it begins with the trees of the vertex's inputs, each micro-step changes it, and the
+//! outputs are taken from it at the end. It is built on what one action, one laying and one command do.
 
 ghost use Rattle.std.specs.Prelude.{◌≡◌, ◌<◌, List, length, map, option_map, replicate, unwrap_or, Some, None, Result, IfOk, OnOk, OnErr};
 ghost use Rattle.std.specs.List.{All};
@@ -39,7 +39,7 @@ pub struct Workspace {
     pub(crate) own: Own,
 }
 
-// Written out, so that the crates above drop one by this one function.
+// Written by hand, so that it is proved once; a derived one is proved again in every function that drops such a value.
 impl Drop for Workspace {
     fn drop(self) {
         let Workspace { own: _ } = self;
@@ -116,7 +116,7 @@ impl Workspace {
     }
 
     /// Does micro-step k; that number is in its fault. The trees are those of the instances of the caches that the
-    /// workspace shows, in the order of the needs, and a command leaves them as it changes them. Returns the fault, if
+    /// workspace shows, in the order of the needs, and a command changes them. Returns the fault, if
     /// there is one, and then the workspace and the trees are as they were except for the last status. Fails with 5
     /// `Memory` alone; then they are as they were.
     pub fn step(
@@ -156,7 +156,7 @@ impl Workspace {
         }
     }
 
-    /// Returns the outputs of what all micro-steps of the vertex left, each in place of an empty tree that was made for
+    /// Returns the outputs after all micro-steps of the vertex, each in place of an empty tree that was made for
     /// it (`empty_trees`). Does not allocate.
     pub fn into_outputs(self, outputs: Vec<Tree>, vertex: &Vertex) -> Vec<Tree>
         requires { outputs.items ≡ replicate vertex.now.outputs empty_tree }
@@ -331,7 +331,7 @@ pub(crate) fn tree_copies(alloc: Global, trees: &[Tree]) -> Result<Vec<Tree>, No
     Ok(copies)
 }
 
-// Makes what a vertex's program begins on.
+// Makes what a vertex's program begins with.
 fn own_on(
     alloc: Global,
     locals: &Locals,

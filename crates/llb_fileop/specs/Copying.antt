@@ -1,5 +1,5 @@
--- The tree after sources of a second tree are copied to a destination, or the first fault. The entries at and below a
--- source are copied to the source's target and below it, entry by entry.
+-- The tree after sources in a second tree are copied to a destination, or the first fault. Each entry at or below a
+-- source is copied to the same path at or below the source's target.
 use Rattle.std.specs.Prelude.{ℕ, ◌-◌, Bool, true, false, ◌||◌, ◌&&◌, nat_eq, nat_lt, List, [], ◌∷◌, ◌++◌, length, drop, map, Option, Some}
 use Rattle.std.specs.Prelude.{None, Result, Ok, Err, if◌then◌else◌}
 use Rattle.std.specs.List.{ends_with}
@@ -26,7 +26,7 @@ resolved text = path_of text >>= λ p. Ok (p, ends_with nat_eq text (47 ∷ []))
 
 -- ---- the sources
 
--- the sources of a copy: one path, or each path that matches a pattern
+-- what is copied: one path, or each path that matches a pattern
 pub data Chosen : Type 0 where
   OnePath : List (List ℕ) → Chosen
   EachMatch : List (List Item) → Chosen
@@ -37,13 +37,13 @@ chosen_by c =
     if c.allow_wildcard then (on_pattern (pattern_of c.src) >>= λ pattern. Ok (EachMatch pattern))
     else (on_tree (path_of c.src) >>= λ p. Ok (OnePath p))
 
--- these paths; if there are none, a fault, unless that is allowed
+-- these paths; `NotFound` if there are none and that is not allowed
 abbrev pub some_match : Bool → List (List (List ℕ)) → Result (List (List (List ℕ))) TreeFault
 some_match true ps = Ok ps
 some_match false [] = Err NotFound
 some_match false (p ∷ ps) = Ok (p ∷ ps)
 
--- the paths that are copied, in path order: one path, which must be there, or all that match
+-- the paths that are copied, in path order: one path, at which something must be, or all that match
 abbrev pub sources : Bool → TreeMap → Chosen → Result (List (List (List ℕ))) TreeFault
 sources allow_empty second (OnePath p) = found (finite.get second p) >>= λ _. Ok (p ∷ [])
 sources allow_empty second (EachMatch pattern) = some_match allow_empty (matching pattern second)
@@ -54,20 +54,20 @@ sources allow_empty second (EachMatch pattern) = some_match allow_empty (matchin
 abbrev pub last_name : List (List ℕ) → List (List ℕ)
 last_name p = drop (length p - 1) p
 
--- the target of a source: its last name in the destination, if the destination's text ends in `/` or a directory is there; else the destination itself, and so
--- too for a directory of which only the contents are copied
+-- the target of a source: the destination itself for a directory of which only the contents are copied; else, if the destination's text ends in `/` or a
+-- directory is there, the source's last name in the destination; else the destination itself
 abbrev pub target : CopyFile → List (List ℕ) × Bool → TreeMap → List (List ℕ) → TreeMap → List (List ℕ)
 target c dest second s t =
     if c.dir_copy_contents && is_dir (finite.get second s) then dest.0
     else (if dest.1 || is_dir (finite.get t dest.0) then dest.0 ++ last_name s else dest.0)
 
--- ---- the entries of a source at their places
+-- ---- where the entries of a source go
 
--- a path has at most 128 names, else this is a fault
+-- the refusal of a path with more than 128 names
 abbrev pub fits : List (List ℕ) → Result (Unit {0}) TreeFault
 fits p = if nat_lt 128 (length p) then Err BadName else Ok tt
 
--- a fault if a file is to replace a directory, or a directory a file
+-- the refusal of a file that would replace a directory, or of a directory that would replace a file
 abbrev pub meets : Option Entry → Entry → Result (Unit {0}) TreeFault
 meets None e = Ok tt
 meets (Some (Dir m)) (Dir n) = Ok tt
@@ -75,40 +75,40 @@ meets (Some (Dir m)) (File n bytes) = Err Conflict
 meets (Some (File m old)) (Dir n) = Err Conflict
 meets (Some (File m old)) (File n bytes) = Ok tt
 
--- the fault of the first entry that can't be at its place, if there is one
+-- the refusal of the first of these entries that can't be put at its path
 abbrev pub all_land : TreeMap → List (List (List ℕ) × Entry) → Result (Unit {0}) TreeFault
 all_land t [] = Ok tt
 all_land t (e ∷ es) = fits e.0 >>= λ _. meets (finite.get t e.0) e.1 >>= λ _. all_land t es
 
--- the entry that a copied one becomes at its place: a directory that was there stays as it is
+-- the entry at a path after a copied one is put there: a directory that was there stays as it is
 abbrev pub landed : (MetaValue → MetaValue) → Option Entry → Entry → Entry
 landed given (Some (Dir m)) (Dir n) = Dir m
 landed given (Some (File m old)) (Dir n) = Dir (given n)
 landed given None (Dir n) = Dir (given n)
 landed given there (File n bytes) = File (given n) bytes
 
--- a copied entry with its place, as it is there after the copy
+-- a copied entry with its path, as it is after the copy
 abbrev pub landed_on : (MetaValue → MetaValue) → TreeMap → List (List ℕ) × Entry → List (List ℕ) × Entry
 landed_on given t e = (e.0, landed given (finite.get t e.0) e.1)
 
--- the tree with copied entries at their places, over the entries that it had
+-- the tree after copied entries are put at their paths
 abbrev pub laid_on : (MetaValue → MetaValue) → TreeMap → List (List (List ℕ) × Entry) → TreeMap
 laid_on given t es = finite.from_entries (map (landed_on given t) es ++ finite.entries t)
 
--- the entries at and below a source, each at its place at or below the target, in path order
+-- the entries at and below a source, moved to the target, in path order
 abbrev pub at_target : TreeMap → List (List ℕ) → List (List ℕ) → List (List (List ℕ) × Entry)
 at_target second s goal = map (moved (length s) goal) (where_key path_cmp (is_within s) (finite.entries second))
 
--- the tree with the parents of a target: missing ones are made if `createDestPath` is true, else all must be there
+-- the tree with the parents of a target: missing ones are made if `createDestPath` is true, else all must exist
 abbrev pub parents_for : Bool → List (List ℕ) → TreeMap → Result TreeMap TreeFault
 parents_for true p t = make_all new_dir_meta (parents p) t
 parents_for false p t = walk (finite.get t) p >>= λ _. Ok t
 
--- the tree after these entries are copied to their places, with the mode and the owner that `given` makes of theirs
+-- the tree after these entries are put at their paths, with the mode and the owner that `given` makes of theirs
 abbrev pub land : (MetaValue → MetaValue) → List (List (List ℕ) × Entry) → TreeMap → Result TreeMap TreeFault
 land given es t = all_land t es >>= λ _. Ok (laid_on given t es)
 
--- the tree after one source is copied to its target
+-- the tree after a source is copied to a target
 abbrev pub copy_to : CopyFile → TreeMap → List (List ℕ) → List (List ℕ) → TreeMap → Result TreeMap TreeFault
 copy_to c second s goal t = fits goal >>= λ _. parents_for c.create_dest_path goal t >>= land (copied c.mode c.owner) (at_target second s goal)
 

@@ -14,7 +14,7 @@ pub record IsMadeParent (t u : TreeMap) (goal q : List (List ℕ)) : Type 0 wher
   pub was : finite.get t q ≡ None
   pub is : finite.get u q ≡ Some (Dir new_dir_meta)
 
--- each entry at or below the source is at its place, a directory that was there is as it was, and so is everything else except
+-- each entry at or below the source is at its path in the target, a directory that was there is unchanged, and so is everything else except
 -- the parents that were made
 pub record IsCopied (c : CopyFile) (second t u : TreeMap) (s goal : List (List ℕ)) : Type 0 where
   pub files : (q : List (List ℕ)) (m : MetaValue) (bytes : List ℕ)

@@ -1,5 +1,5 @@
--- Read Act first (the tree after an action), with Owners, Making, Removing and Copying for its parts, then Laws (a granted copy, path by path) and Faults.
--- Parts has the steps of a copy at its place, as the code takes them.
+-- Read Act first (the tree after an action), with Owners, Making, Removing and Copying, then Laws (a granted copy, path by path) and Faults.
+-- Parts has the steps in which the code puts copied entries into a tree.
 pub mod Faults
 pub mod Owners
 pub mod Making

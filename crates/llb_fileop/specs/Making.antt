@@ -11,27 +11,27 @@ use Rattle.llb_tree.specs.declared.fault.TreeFault.{TreeFault}
 use Rattle.llb_tree.specs.declared.fault.TreeFault.TheVariants.{NotDir}
 use Rattle.llb_fileop.specs.Owners.{made}
 
--- the tree after a `mkfile` action: with a new file, which replaces a file that is there
+-- the tree after a `mkfile` action: a new file, which replaces a file that is there
 abbrev pub mkfile : file.MkFile → TreeMap → Result TreeMap TreeFault
 mkfile m t = path_of m.path >>= λ p. put_file t p (made m.mode m.owner) m.body
 
--- the tree with a directory at a path, which is made if nothing is there; a file there is a fault
+-- the tree after a directory is made at a path, if nothing is there; a file there is refused
 abbrev pub kept_or_made : MetaValue → List (List ℕ) → Option Entry → TreeMap → Result TreeMap TreeFault
 kept_or_made m p None t = put_dir t p m
 kept_or_made m p (Some (Dir n)) t = Ok t
 kept_or_made m p (Some (File n bytes)) t = Err NotDir
 
--- the tree with directories at these paths, made one after another
+-- the tree after directories are made at these paths, one after another
 abbrev pub make_all : MetaValue → List (List (List ℕ)) → TreeMap → Result TreeMap TreeFault
 make_all m [] t = Ok t
 make_all m (p ∷ ps) t = kept_or_made m p (finite.get t p) t >>= make_all m ps
 
--- the tree with the missing parents made, if `make_parents` is true
+-- the tree after the missing parents are made, if `make_parents` is true
 abbrev pub with_parents : Bool → MetaValue → List (List ℕ) → TreeMap → Result TreeMap TreeFault
 with_parents true m p t = make_all m (parents p) t
 with_parents false m p t = Ok t
 
--- the tree with a directory at a path, with its missing parents if `make_parents` is true; a directory that is there stays as it is
+-- the tree after a directory is made at a path, with its missing parents if `make_parents` is true; a directory that is there stays as it is
 abbrev pub make_dir : Bool → MetaValue → List (List ℕ) → Option Entry → TreeMap → Result TreeMap TreeFault
 make_dir parents m p (Some (Dir n)) t = Ok t
 make_dir parents m p (Some (File n bytes)) t = with_parents parents m p t >>= λ u. put_dir u p m

@@ -11,23 +11,23 @@ abbrev pub mode_of : ℤ → ℕ
 mode_of (pos n) = n % 4096
 mode_of (negsuc n) = 4095 - n % 4096
 
--- the number of a user or a group, if it is given by number
+-- the number of a user or a group; nothing if it is given by name or not at all
 abbrev pub number_in : Option User → Option ℕ
 number_in (Some (ById n)) = Some n
 number_in (Some (ByName name)) = None
 number_in None = None
 
--- the number of a user or a group, if it is given by number
+-- the number in the message of a user or a group; nothing if there is none
 abbrev pub id_in : Option UserOpt → Option ℕ
 id_in None = None
 id_in (Some u) = number_in u.user
 
--- the number of an owner's user, if it is given by number
+-- the number of an owner's user; nothing if it is given by name or not at all
 abbrev pub user_in : Option ChownOpt → Option ℕ
 user_in None = None
 user_in (Some o) = id_in o.user
 
--- the number of an owner's group, if it is given by number
+-- the number of an owner's group; nothing if it is given by name or not at all
 abbrev pub group_in : Option ChownOpt → Option ℕ
 group_in None = None
 group_in (Some o) = id_in o.group
@@ -36,7 +36,7 @@ group_in (Some o) = id_in o.group
 abbrev pub made : ℤ → Option ChownOpt → MetaValue
 made mode owner = record { mode = mode_of mode; uid = unwrap_or (user_in owner) 0; gid = unwrap_or (group_in owner) 0 }
 
--- the mode of what is copied; -1 keeps its own
+-- the mode of what is copied; -1 keeps the entry's own
 abbrev pub mode_from : ℤ → ℕ → ℕ
 mode_from (negsuc zero) own = own
 mode_from (negsuc (suc n)) own = mode_of (negsuc (suc n))

@@ -1,4 +1,4 @@
--- The steps of a copy at its place: whether each entry can land, and what is at each path when two trees are laid together.
+-- The steps in which copied entries are put into a tree: whether each can be put, and what is at each path after a directory is merged in.
 use Rattle.std.specs.Prelude.{◌≡◌, ℕ, ◌+◌, nat_lt, List, [], ◌∷◌, length, Option, Some, None, Result, Ok, Err, if◌then◌else◌}
 use Rattle.std.specs.FinMap as finite
 use Rattle.llb_wire.specs.Answer.{◌>>=◌}
@@ -8,7 +8,7 @@ use Rattle.llb_tree.specs.declared.fault.TreeFault.{TreeFault}
 use Rattle.llb_tree.specs.declared.fault.TreeFault.TheVariants.{BadName}
 use Rattle.llb_fileop.specs.Copying.{meets, landed, land, fits}
 
--- the tree with an entry put at a path
+-- the tree after an entry is put at a path
 abbrev pub put : Entry → TreeMap → List (List ℕ) → Result TreeMap TreeFault
 put (Dir m) t p = put_dir t p m
 put (File m bytes) t p = put_file t p m bytes
@@ -17,31 +17,31 @@ put (File m bytes) t p = put_file t p m bytes
 abbrev pub AgreeOn : TreeMap → TreeMap → Type 0
 AgreeOn t source = (q : List (List ℕ)) (e : Entry) → finite.get source q ≡ Some e → meets (finite.get t q) e ≡ Ok tt
 
--- the first entry that can't land on what a tree has there gives the fault
+-- the refusal of the first entry that can't be put over what a tree has at its path
 abbrev pub all_meet : TreeMap → List (List (List ℕ) × Entry) → Result (Unit {0}) TreeFault
 all_meet here [] = Ok tt
 all_meet here (e ∷ es) = meets (finite.get here e.0) e.1 >>= λ _. all_meet here es
 
--- the first entry that can't land below a path of `depth` names, given the tree that is there, gives the fault
+-- the refusal of the first entry that can't be put below a path of `depth` names, over the tree that is there
 abbrev pub all_below : TreeMap → ℕ → List (List (List ℕ) × Entry) → Result (Unit {0}) TreeFault
 all_below here depth [] = Ok tt
 all_below here depth (e ∷ es) =
     if nat_lt 128 (depth + length e.0) then Err BadName else (meets (finite.get here e.0) e.1 >>= λ _. all_below here depth es)
 
--- what is at a path when two trees are laid together: a directory that is on both sides is kept
+-- what is at a path after two trees are merged: a directory that both have stays as it is
 abbrev pub laid : (MetaValue → MetaValue) → Option Entry → Option Entry → Option Entry
 laid given there None = there
 laid given there (Some e) = Some (landed given there e)
 
--- the tree with an entry put at a path, if there is an entry
+-- the tree after an entry is put at a path, if there is an entry
 abbrev pub put_some : Option Entry → TreeMap → List (List ℕ) → Result TreeMap TreeFault
 put_some None t p = Ok t
 put_some (Some e) t p = put e t p
 
--- the parents of the target are checked, and then the entries land
+-- the tree after the entries are put at their paths, if all parents of the target exist
 abbrev pub land_at : (MetaValue → MetaValue) → List (List (List ℕ) × Entry) → List (List ℕ) → TreeMap → Result TreeMap TreeFault
 land_at given es goal t = walk (finite.get t) goal >>= λ _. land given es t
 
--- a path with at most 128 names
+-- a path with at most 128 names, or the refusal
 abbrev pub placed : List (List ℕ) → Result (List (List ℕ)) TreeFault
 placed p = fits p >>= λ _. Ok p

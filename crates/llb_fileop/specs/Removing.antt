@@ -14,17 +14,17 @@ use Rattle.llb_glob.specs.Pattern.{pattern_of}
 use Rattle.llb_fileop.specs.declared.fault.ActFault.{ActFault}
 use Rattle.llb_fileop.specs.Faults.{on_tree, on_pattern}
 
--- the tree unchanged if it is allowed that nothing is there, else a fault
+-- the tree unchanged if it is allowed that nothing is there, else the refusal
 abbrev pub absent : Bool → TreeMap → Result TreeMap TreeFault
 absent true t = Ok t
 absent false t = Err NotFound
 
--- the tree without what is at and below a path; if nothing is there, the tree unchanged or a fault, as `allowed` says
+-- the tree after what is at and below a path is removed; if nothing is there, the tree unchanged or the refusal, as `allowed` says
 abbrev pub removed : Bool → List (List ℕ) → Option Entry → TreeMap → Result TreeMap TreeFault
 removed allowed p (Some e) t = Ok (without t p)
 removed allowed p None t = absent allowed t
 
--- the tree after one path, which may not be the root, is removed
+-- the tree after what is at and below one path is removed; the root is refused
 abbrev pub rm_path : Bool → TreeMap → List (List ℕ) → Result TreeMap TreeFault
 rm_path allowed t p = not_root p >>= λ _. removed allowed p (finite.get t p) t
 
@@ -36,7 +36,7 @@ matching pattern t = filter (path_matches pattern) (finite.keys t)
 abbrev pub is_below_any : List (List (List ℕ)) → List (List ℕ) → Bool
 is_below_any ps q = list_any (λ p. is_within p q) ps
 
--- the tree without the paths that match, and what is below them
+-- the tree without the paths that match and what is below them
 abbrev pub left : List (List Item) → TreeMap → TreeMap
 left pattern t = finite.retain_keys t (λ q. not (is_below_any (matching pattern t) q))
 

@@ -1,4 +1,4 @@
-//! What an action does to a tree. An action works on a copy, so a fault leaves the tree that it began with unchanged.
+//! What an action does to a tree. It works on a copy, so a fault leaves the given tree unchanged.
 
 ghost use Rattle.std.specs.Prelude.{option_map, unwrap_or};
 ghost use Rattle.llb_tree.specs.Tree.{empty_tree};
@@ -14,8 +14,8 @@ use llb_tree::Tree;
 use std::alloc::Global;
 
 /// Returns the tree after an action on a base, by the rules of file actions. A copy reads the second tree, or the empty tree if there is
-/// none; other actions do not read it. Fails with 51 `File`, which holds the first fault of the tree (21 to 26), with 52 `BadPattern` if a
-/// text is not a pattern, or with 53 `Memory` if any growth is refused. The base is not changed.
+/// none; other actions do not read it. Fails with 51 `File` and the first fault of the tree (21 to 26), with 52 `BadPattern` if a
+/// text is not a pattern, or with 53 `Memory` if memory is refused. The base is not changed.
 pub fn act(
     alloc: Global,
     action: &Action,

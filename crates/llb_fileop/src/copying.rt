@@ -26,7 +26,7 @@ struct Dest {
     inside: bool,
 }
 
-/// Returns the tree with copies of what the source text names in the second tree. Fails as `act` does.
+/// Returns the tree after a copy of what the source text names in the second tree. Fails as `act` does.
 pub fn copy(alloc: Global, action: &CopyFile, base: &Tree, second: &Tree) -> Result<Tree, ActFault>
     ensures { Gives (λ t. t) result (copy action.now base.now second.now) }
 {

@@ -1,11 +1,11 @@
-//! A law of granted copies. Its function does no work.
+//! A law about copies that are not refused. Its function does nothing at run time.
 
 ghost use Rattle.llb_fileop.specs.Laws.{CopiesOne};
 
 use llb_ops::CopyFile;
 use llb_tree::{Path, Tree};
 
-/// Proves that a granted copy of one source puts each entry at or below the source at the same path at or below the
+/// Proves that a copy of one source that is not refused puts each entry at or below the source at the same path at or below the
 /// target: a file with its content, and each with the mode and the owner of the action, or its own if the action gives
 /// none. A directory that is on both sides keeps the mode and the owner that it has in the base. Nothing else changes,
 /// except that missing parents of the target are made.

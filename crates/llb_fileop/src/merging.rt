@@ -1,5 +1,5 @@
-//! Puts what is copied into a tree: a file at its path, and a directory with what is below it, merged with what is
-//! there. The merged part is what is there with the directory laid over it; it replaces what was there.
+//! Puts copied entries into a tree: a file at its path; a directory, with what is below it, merged with what is
+//! there: the copied directory is laid over a copy of what is there, and the result replaces it.
 
 ghost use Rattle.std.specs.Prelude.{◌≡◌, ◌≤◌, [], length, false, Ok, None, Some, IsSome, map, IfErr};
 ghost use Rattle.std.specs.FinMap as finite;
@@ -110,7 +110,7 @@ fn merge_at(action: &CopyFile, source: &Tree, goal: &Path, tree: &mut Tree) -> R
     tree.graft(goal, &merged)
 }
 
-// Checks whether each entry of a tree can land below a path, given the tree that is already there. Fails with the first fault.
+// Checks whether each entry of a tree can be put below a path, over the tree that is already there. Fails with the first fault.
 fn may_land(here: &Tree, source: &Tree, goal: &Path) -> Result<(), TreeFault>
     ensures { Gives (λ u. u) result (all_below here.now (length goal.now) (finite.entries source.now)) }
 {
@@ -120,7 +120,7 @@ fn may_land(here: &Tree, source: &Tree, goal: &Path) -> Result<(), TreeFault>
     first_fault(here, source, goal)
 }
 
-// Checks whether each entry of a tree can land on what another tree has at its path. Below a path where the other tree has nothing, it has
+// Checks whether each entry of a tree can be put over what another tree has at its path. Below a path where the other tree has nothing, it has
 // nothing, so the entries below that path are passed over.
 fn may_meet(here: &Tree, source: &Tree) -> Result<(), TreeFault>
     ensures { Gives (λ u. u) result (all_meet here.now (finite.entries source.now)) }
@@ -137,7 +137,7 @@ fn may_meet(here: &Tree, source: &Tree) -> Result<(), TreeFault>
     Ok(())
 }
 
-// Checks the entries one by one, and fails with the fault of the first that can't land.
+// Checks the entries one by one, and fails with the fault of the first that can't be put.
 fn first_fault(here: &Tree, source: &Tree, goal: &Path) -> Result<(), TreeFault>
     ensures { Gives (λ u. u) result (all_below here.now (length goal.now) (finite.entries source.now)) }
 {
@@ -152,7 +152,7 @@ fn first_fault(here: &Tree, source: &Tree, goal: &Path) -> Result<(), TreeFault>
     Ok(())
 }
 
-// Checks whether an entry can land on what is at a path: a file may not meet a directory, either way.
+// Checks whether an entry can be put over what is at a path: no file over a directory, no directory over a file.
 fn meet(here: &Tree, path: &Path, entry: Entry) -> Result<(), TreeFault>
     ensures meets { result ≡ meets (finite.get here.now path.now) (seen entry.entry) }
     ensures known { IfErr result (λ e. is_memory e ≡ false) }

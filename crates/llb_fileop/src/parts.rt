@@ -1,4 +1,4 @@
-//! A query of a tree: whether there is an entry at a path.
+//! Whether a tree has an entry at a path.
 
 ghost use Rattle.std.specs.Prelude.{◌≡◌, is_some};
 ghost use Rattle.std.specs.FinMap as finite;

@@ -1,4 +1,4 @@
--- The test of a path against a pattern decides whether it matches.
+-- The test whether a path matches a pattern agrees with the relation.
 use Rattle.std.specs.Prelude.{◌≡◌, ◌↔◌, ℕ, zero, suc, Bool, true, false, ◌&&◌, ◌||◌, List, [], ◌∷◌, drop, IsTrue}
 use Rattle.std.specs.Cmp.{both_ways}
 use Rattle.std.specs.List.{list_any}
@@ -15,7 +15,7 @@ use Rattle.llb_glob.specs.ClassValue.{ClassValue}
 use Rattle.llb_glob.specs.Class.{IsInSpan, IsInSome, Excluding, ClassTakes, is_in_span, excluding, class_takes}
 use Rattle.llb_glob.specs.Matching.{Takes, MatchesName, Matches, takes, any_suffix, name_matches, path_matches}
 
--- a test decides whether a fact holds
+-- a test is true exactly if a statement holds
 abbrev pub Tells : Bool → Type 0 → Type 0
 Tells b P = IsTrue b ↔ P
 
@@ -42,7 +42,7 @@ takes-tells Any c = (λ _. tt, λ _. refl)
 takes-tells (Only only) c = (eqb-true c only, eq-eqb c only)
 takes-tells (In class) c = class_takes-tells class c
 
--- if a test decides for each name, it decides for the suffixes of a name
+-- if a test agrees with the relation for each name, so does the test of all suffixes of a name
 suffix-tells : (items : List Item) → ((name : List ℕ) → Tells (name_matches items name) (MatchesName items name)) → (name : List ℕ)
     → Tells (any_suffix (name_matches items) name) ((n : ℕ) × MatchesName items (drop n name))
 suffix-tells items each [] = (λ e. (0, (each []).0 e), λ h. (each []).1 (at_end h.0 h.1))
@@ -72,7 +72,7 @@ name_matches-tells (Run ∷ items) name = suffix-tells items (name_matches-tells
 name_matches-tells (One letter ∷ items) [] = (λ e. absurd (false≢true e), λ h. absurd h)
 name_matches-tells (One letter ∷ items) (c ∷ name) = both _ _ _ _ (takes-tells letter c) (name_matches-tells items name)
 
--- the test is the relation
+-- the test of a path agrees with the relation
 pub path_matches-tells : (parts : List (List Item)) (path : List (List ℕ)) → IsTrue (path_matches parts path) ↔ Matches parts path
 path_matches-tells [] [] = (λ _. tt, λ _. refl)
 path_matches-tells [] (name ∷ path) = (λ e. absurd (false≢true e), λ h. absurd h)
@@ -84,7 +84,7 @@ pub is_the_test : (b : Bool) (parts : List (List Item)) (path : List (List ℕ))
 is_the_test b parts path tells = both_ways b (path_matches parts path) (λ e. (path_matches-tells parts path).1 (tells.0 e))
     (λ e. tells.1 ((path_matches-tells parts path).0 e))
 
--- whatever decides whether a name matches is the test of a name
+-- any test that agrees with the relation of names equals the test of names
 pub is_the_name_test : (b : Bool) (items : List Item) (name : List ℕ) → (IsTrue b ↔ MatchesName items name) → b ≡ name_matches items name
 is_the_name_test b items name tells = both_ways b (name_matches items name) (λ e. (name_matches-tells items name).1 (tells.0 e))
     (λ e. tells.1 ((name_matches-tells items name).0 e))

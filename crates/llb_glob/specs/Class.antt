@@ -4,16 +4,16 @@ use Rattle.std.specs.List.{list_any}
 use Rattle.llb_glob.specs.declared.class.Span.{Span}
 use Rattle.llb_glob.specs.ClassValue.{ClassValue}
 
--- a character is in an item by its scalar value; an item whose low end is above its high end is empty
+-- a character is in an item, by scalar value; an item whose low end is above its high end has no characters
 abbrev pub IsInSpan : Span → ℕ → Type 0
 IsInSpan span c = (span.low ≤ c) × (c ≤ span.high)
 
--- a character is in at least one of the items, so in none if there are no items
+-- a character is in at least one of the items
 abbrev pub IsInSome : List Span → ℕ → Type 0
 IsInSome [] c = ⊥
 IsInSome (span ∷ spans) c = IsInSpan span c ⊎ IsInSome spans c
 
--- a statement or, for a class that excludes, its negation
+-- the statement, or its negation for a class that excludes (`[^..]`)
 abbrev pub Excluding : Bool → Type 0 → Type 0
 Excluding false P = P
 Excluding true P = ¬ P
@@ -26,7 +26,7 @@ ClassTakes class c = Excluding class.excludes (IsInSome class.spans c)
 abbrev pub is_in_span : Span → ℕ → Bool
 is_in_span span c = nat_le span.low c && nat_le c span.high
 
--- a test, or its opposite if a class excludes
+-- the test, or its opposite for a class that excludes
 abbrev pub excluding : Bool → Bool → Bool
 excluding false b = b
 excluding true b = not b
@@ -37,15 +37,15 @@ class_takes class c = excluding class.excludes (list_any (λ span. is_in_span sp
 
 -- ---- how a class is built
 
--- a class with no span, which doesn't exclude
+-- a class without items, which does not exclude
 abbrev pub none_yet : ClassValue
 none_yet = record { excludes = false; spans = [] }
 
--- the span of one character
+-- the item that is one character
 abbrev pub one_alone : ℕ → Span
 one_alone c = record { low = c; high = c }
 
--- the spans, with another high end for the last one
+-- the items after the last one gets another high end
 abbrev pub extended : List Span → ℕ → List Span
 extended [] high = []
 extended (span ∷ []) high = record span { high = high } ∷ []

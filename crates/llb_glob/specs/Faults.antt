@@ -1,4 +1,4 @@
--- What the calls of this crate return: what their rule gives, or `Memory`.
+-- The results of this crate's calls: the result of the call's rule, or the fault `Memory`.
 use Rattle.std.specs.Prelude.{Bool, true, false, Result}
 use Rattle.llb_wire.specs.Answer as answer
 use Rattle.llb_tree.specs.declared.fault.TreeFault.{TreeFault}
@@ -6,16 +6,16 @@ use Rattle.llb_tree.specs.declared.fault.TreeFault.TheVariants as tree
 use Rattle.llb_glob.specs.declared.fault.PatternFault.{PatternFault}
 use Rattle.llb_glob.specs.declared.fault.PatternFault.TheVariants.{BadPattern, Memory}
 
--- whether a fault is `Memory`, which no rule gives
+-- whether a fault is `Memory`, which no rule returns
 abbrev pub is_memory : PatternFault → Bool
 is_memory Memory = true
 is_memory BadPattern = false
 
--- what a call returns, seen by view, is what the rule gives, unless it is `Memory`
+-- the result of a call is that of its rule, or the call fails for want of memory
 abbrev pub Gives : {X Y : Type 0} → (X → Y) → Result X PatternFault → Result Y PatternFault → Type 0
 Gives = answer.Gives is_memory
 
--- `Memory` comes last: a call fails with it only if the rule has no fault
+-- `Memory` is reported last: a call fails with it only if the rule has no fault
 abbrev pub MemoryLast : {X Y : Type 0} → Result X PatternFault → Result Y PatternFault → Type 0
 MemoryLast = answer.MemoryLast is_memory
 

@@ -1,5 +1,5 @@
--- How the characters of a part are read into items, one after the other and never backwards. What a character does depends on the stage of the
--- reader, and on whether a `\` quotes it. The grammar, apart from any reading, is in Spelling.
+-- How the characters of a part are read as items, in one pass. The effect of a character depends on the stage of the
+-- reader, and on whether a `\` quotes it. The grammar, which does not mention this reading, is in Spelling.
 use Rattle.std.specs.Prelude.{ℕ, ◌==◌, Bool, true, false, not, ◌&&◌, if◌then◌else◌, List, [], ◌∷◌, ◌++◌, Option, Some, None, option_to_list, Result, Ok, Err}
 use Rattle.llb_wire.specs.Answer.{◌>>=◌}
 use Rattle.llb_glob.specs.declared.fault.PatternFault.{PatternFault}
@@ -15,17 +15,17 @@ use Rattle.llb_glob.specs.declared.cursor.Effect.TheVariants.{Nothing, Whole, Ex
 use Rattle.llb_glob.specs.ClassValue.{ClassValue}
 use Rattle.llb_glob.specs.Class.{none_yet, one_alone, extended}
 
--- ---- what a character does
+-- ---- the effect of a character
 
 -- a cursor at this stage, with no `\` before the next character
 abbrev pub at : Stage → Cursor
 at stage = record { stage = stage; quotes = false }
 
--- the cursor where a part begins: in no class
+-- the cursor at the start of a part: in no class
 abbrev pub start : Cursor
 start = at Outside
 
--- what a character does that means itself: it is an item of the part, an item of the current class, or the high end of a range
+-- the effect of a character that stands for itself: it is an item of the part, an item of the current class, or the high end of a range
 abbrev pub literal : Stage → ℕ → Cursor × Effect
 literal Outside c = (at Outside, Whole (One (Only c)))
 literal Opened c = (at Single, Add c)
@@ -34,14 +34,14 @@ literal Single c = (at Single, Add c)
 literal Dash c = (at Range, Extend c)
 literal Range c = (at Single, Add c)
 
--- what a character does outside a class: `[` opens one, `*` is any run of characters, `?` is any one character, and any other means itself
+-- the effect of a character outside a class: `[` opens one, `*` is any run of characters, `?` any one character, and any other stands for itself
 abbrev pub outside : ℕ → Cursor × Effect
 outside c =
     if c == 91 then (at Opened, Nothing)
     else (if c == 42 then (at Outside, Whole Run)
     else (if c == 63 then (at Outside, Whole (One Any)) else literal Outside c))
 
--- what a `]` does in a class: it closes a class of one or more whole items
+-- the effect of a `]` in a class: it closes a class with at least one item and no open range
 abbrev pub closed : Stage → Result (Cursor × Effect) PatternFault
 closed Outside = Err BadPattern
 closed Opened = Err BadPattern
@@ -50,7 +50,7 @@ closed Single = Ok (at Outside, Close)
 closed Dash = Err BadPattern
 closed Range = Ok (at Outside, Close)
 
--- what a `-` does in a class: it is allowed only after the low end of a range
+-- the effect of a `-` in a class: it is allowed only after a character that may be the low end of a range
 abbrev pub dashed : Stage → Result (Cursor × Effect) PatternFault
 dashed Outside = Err BadPattern
 dashed Opened = Err BadPattern
@@ -59,11 +59,11 @@ dashed Single = Ok (at Dash, Nothing)
 dashed Dash = Err BadPattern
 dashed Range = Err BadPattern
 
--- what a character does in a class: a `]`, a `-`, or one that means itself
+-- the effect of a character in a class: a `]`, a `-`, or one that stands for itself
 abbrev pub inside : Stage → ℕ → Result (Cursor × Effect) PatternFault
 inside stage c = if c == 93 then closed stage else (if c == 45 then dashed stage else Ok (literal stage c))
 
--- what a character does that is neither a `\` nor after one; a `^` right after the `[` makes the class exclude
+-- the effect of a character that is no `\` and not after one; a `^` right after the `[` makes the class exclude
 abbrev pub plain : Stage → ℕ → Result (Cursor × Effect) PatternFault
 plain Outside c = Ok (outside c)
 plain Opened c = if c == 94 then Ok (at Caret, Exclude) else inside Opened c
@@ -72,12 +72,12 @@ plain Single c = inside Single c
 plain Dash c = inside Dash c
 plain Range c = inside Range c
 
--- what a character does: right after a `\` it means itself; elsewhere a `\` waits for the next one
+-- the effect of a character: right after a `\` it stands for itself; a `\` elsewhere quotes the next character
 abbrev pub quoted : Bool → Stage → ℕ → Result (Cursor × Effect) PatternFault
 quoted true stage c = Ok (literal stage c)
 quoted false stage c = if c == 92 then Ok (record { stage = stage; quotes = true }, Nothing) else plain stage c
 
--- where the reader is after a character, and what the character does
+-- the reader's cursor after a character, and the effect of the character
 abbrev pub cut : Cursor → ℕ → Result (Cursor × Effect) PatternFault
 cut cursor c = quoted cursor.quotes cursor.stage c
 
@@ -92,7 +92,7 @@ item_by (Add c) class = None
 item_by (Extend c) class = None
 item_by Close class = Some (One (In class))
 
--- the current class after an effect; after a class is closed, that is an empty one
+-- the current class after an effect; empty again after a class is closed
 abbrev pub class_by : Effect → ClassValue → ClassValue
 class_by Nothing class = class
 class_by (Whole item) class = class
@@ -101,7 +101,7 @@ class_by (Add c) class = record class { spans = class.spans ++ one_alone c ∷ [
 class_by (Extend c) class = record class { spans = extended class.spans c }
 class_by Close class = none_yet
 
--- a result's items with others before them
+-- these items, followed by those of a result
 abbrev pub behind : {A : Type 0} → List A → Result (List A) PatternFault → Result (List A) PatternFault
 behind before rest = rest >>= λ more. Ok (before ++ more)
 
@@ -118,12 +118,12 @@ is_outside Range = false
 abbrev pub is_whole : Cursor → Bool
 is_whole cursor = is_outside cursor.stage && not cursor.quotes
 
--- no more items at the end of a part, which must be a whole one
+-- no items at the end of a part, if the part may end there; else the refusal
 abbrev pub ended : Bool → Result (List Item) PatternFault
 ended true = Ok []
 ended false = Err BadPattern
 
--- the items that characters are read as, from the reader's cursor on, with the current class
+-- the items that the remaining characters are read as, given the reader's cursor and the current class
 abbrev pub items_from : List ℕ → Cursor → ClassValue → Result (List Item) PatternFault
 items_from [] cursor class = ended (is_whole cursor)
 items_from (c ∷ cs) cursor class =

@@ -7,13 +7,13 @@ use Rattle.llb_glob.specs.declared.item.Letter.{Letter}
 use Rattle.llb_glob.specs.declared.item.Letter.TheVariants.{Any, Only, In}
 use Rattle.llb_glob.specs.Class.{ClassTakes, class_takes}
 
--- the characters that an item for one character matches
+-- the characters that a letter (an item for one character) matches
 abbrev pub Takes : Letter → ℕ → Type 0
 Takes Any c = Unit {0}
 Takes (Only only) c = c ≡ only
 Takes (In class) c = ClassTakes class c
 
--- the items of a part match a name; a run and the rest match it if the rest matches one of its suffixes
+-- the items of a part match a name; a `*` and the rest match it if the rest matches one of the name's suffixes
 abbrev pub MatchesName : List Item → List ℕ → Type 0
 MatchesName [] [] = Unit {0}
 MatchesName [] (c ∷ name) = ⊥
@@ -28,13 +28,13 @@ Matches [] (name ∷ path) = ⊥
 Matches (part ∷ parts) [] = ⊥
 Matches (part ∷ parts) (name ∷ path) = MatchesName part (chars name) × Matches parts path
 
--- the relation as tests, for definitions that list all paths that match: whether a letter matches a character
+-- the same relations as tests, for definitions that list all paths that match: whether a letter matches a character
 abbrev pub takes : Letter → ℕ → Bool
 takes Any c = true
 takes (Only only) c = c == only
 takes (In class) c = class_takes class c
 
--- whether a list or one of its suffixes passes
+-- whether a list or one of its suffixes passes a test
 abbrev pub any_suffix : (List ℕ → Bool) → List ℕ → Bool
 any_suffix test [] = test []
 any_suffix test (c ∷ cs) = test (c ∷ cs) || any_suffix test cs

@@ -1,4 +1,4 @@
--- The pattern that a text reads as: its parts are read as those of a path are, and then each is cut into items. A part
+-- The pattern that a text reads as: the text is split like that of a path, and each part is then read as items. A part
 -- that a later `..` removes has to be a name, but is not a part of the pattern.
 use Rattle.std.specs.Prelude.{ℕ, List, [], ◌∷◌, Result, Ok, Err}
 use Rattle.std.specs.Str.{chars}
@@ -15,7 +15,7 @@ abbrev pub each_cut : List (List ℕ) → Result (List (List Item)) PatternFault
 each_cut [] = Ok []
 each_cut (name ∷ names) = items_of (chars name) >>= λ part. each_cut names >>= λ parts. Ok (part ∷ parts)
 
--- the pattern of a path; a text that is no path is no pattern
+-- the pattern with the names of a path as its parts; a text that is no path is no pattern
 abbrev pub cut_path : Result (List (List ℕ)) TreeFault → Result (List (List Item)) PatternFault
 cut_path (Ok names) = each_cut names
 cut_path (Err e) = Err BadPattern

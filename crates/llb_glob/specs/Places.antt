@@ -1,13 +1,13 @@
--- A set of positions of a name while it is matched, as a flag for each position.
+-- A set of positions in a name while the name is matched, as a flag for each position.
 use Rattle.std.specs.Prelude.{◌≡◌, ◌↔◌, ℕ, ◌≤◌, Bool, true, false, List, length, drop, slice_index_or}
 use Rattle.llb_glob.specs.declared.item.Item.{Item}
 use Rattle.llb_glob.specs.Matching.{MatchesName}
 
--- a position is in the set
+-- position i is in the set
 abbrev pub IsIn : List Bool → ℕ → Type 0
 IsIn places i = slice_index_or places i false ≡ true
 
--- a position of the set is here or further right
+-- a position from i to `last` is in the set
 abbrev pub Reaches : List Bool → ℕ → ℕ → Type 0
 Reaches places last i = (j : ℕ) × (i ≤ j) × (j ≤ last) × IsIn places j
 

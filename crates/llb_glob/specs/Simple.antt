@@ -1,5 +1,5 @@
--- How a pattern is read in which a `\` quotes each `[`: without classes, each item of a part is one character, or a `\` and the one after it.
--- A law of the crate says that such a pattern is read so.
+-- How patterns without classes are read: a `\` quotes each `[`, and an item is one character, or a `\` and the character after it.
+-- A law of the crate says that with classes such a pattern is read the same.
 use Rattle.std.specs.Prelude.{ℕ, ◌==◌, if◌then◌else◌, List, [], ◌∷◌, Result, Ok, Err}
 use Rattle.std.specs.Str.{chars}
 use Rattle.llb_wire.specs.Answer.{◌>>=◌}
@@ -11,7 +11,7 @@ use Rattle.llb_glob.specs.declared.item.Item.{Item}
 use Rattle.llb_glob.specs.declared.item.Item.TheVariants.{Run, One}
 use Rattle.llb_glob.specs.declared.item.Letter.TheVariants.{Any, Only}
 
--- the item of a character that is no `\` and not after one
+-- the item of a character that is no `\` and has none before it
 abbrev pub simple_item : ℕ → Result Item PatternFault
 simple_item c =
     if c == 91 then Err BadPattern
@@ -26,16 +26,16 @@ simple_items (c ∷ d ∷ cs) =
     if c == 92 then (simple_items cs >>= λ items. Ok (One (Only d) ∷ items))
     else (simple_item c >>= λ item. simple_items (d ∷ cs) >>= λ items. Ok (item ∷ items))
 
--- the parts of a pattern: each name is read as items without classes, and the first one that is refused decides
+-- the parts of a pattern, each read as items without classes; the first refused one is the fault
 abbrev pub each_simple : List (List ℕ) → Result (List (List Item)) PatternFault
 each_simple [] = Ok []
 each_simple (name ∷ names) = simple_items (chars name) >>= λ part. each_simple names >>= λ parts. Ok (part ∷ parts)
 
--- the pattern of a path, without classes; a text that is no path is no pattern
+-- the parts of a text that was read as a path, each read as items without classes; a text that is no path is no pattern
 abbrev pub simple_path : Result (List (List ℕ)) TreeFault → Result (List (List Item)) PatternFault
 simple_path (Ok names) = each_simple names
 simple_path (Err e) = Err BadPattern
 
--- the pattern that a text reads as without classes; a `[` that no `\` quotes, in a part that is left, is refused
+-- the pattern that a text reads as without classes; a `[` without a `\` before it is refused, except in a part that a `..` removes
 abbrev pub simple_pattern_of : List ℕ → Result (List (List Item)) PatternFault
 simple_pattern_of text = simple_path (path_of text)

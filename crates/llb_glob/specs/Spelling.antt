@@ -1,4 +1,4 @@
--- The grammar of patterns, apart from any reading: a part is items, one after the other. How a text is read is in Items and Pattern; a law of the crate says
+-- The grammar of patterns: a part is a list of items. How a text is read is in Items and Pattern; a law of the crate says
 -- that a text is read as the parts that it spells, and is refused if it spells none.
 use Rattle.std.specs.Prelude.{◌≡◌, ◌≢◌, ◌⊎◌, ℕ, ◌<◌, Bool, true, false, List, [], ◌∷◌, ◌++◌, length, Ok}
 use Rattle.std.specs.Str.{chars}
@@ -9,7 +9,7 @@ use Rattle.llb_glob.specs.declared.item.Item.TheVariants.{Run, One}
 use Rattle.llb_glob.specs.declared.item.Letter.TheVariants.{Any, Only, In}
 use Rattle.llb_glob.specs.ClassValue.{ClassValue}
 
--- a text that splits into a text with one property and, after it, one with another
+-- a text that is a first text with one property, followed by a second one with another
 abbrev pub Then : (List ℕ → Type 0) → (List ℕ → Type 0) → List ℕ → Type 0
 Then First Rest text = (front : List ℕ) × (rest : List ℕ) × (text ≡ front ++ rest) × First front × Rest rest
 
@@ -29,12 +29,12 @@ abbrev pub SpellsSpan : Span → List ℕ → Type 0
 SpellsSpan span text = (SpellsLetter span.low text × (span.high ≡ span.low))
     ⊎ ((low : List ℕ) × (high : List ℕ) × (text ≡ low ++ 45 ∷ high) × SpellsLetter span.low low × SpellsLetter span.high high)
 
--- the items of a class, one after the other; the empty text if there are no items
+-- the items of a class, one after another
 abbrev pub SpellsSpans : List Span → List ℕ → Type 0
 SpellsSpans [] text = text ≡ []
 SpellsSpans (span ∷ spans) text = Then (SpellsSpan span) (λ rest. SpellsSpans spans rest) text
 
--- what is between the brackets: a class that excludes has a `^` and then its items; another one has its items, and a `^` is not the first character
+-- what is between the brackets: a class that excludes has a `^` and then its items; any other class has its items, and the first character is no `^`
 abbrev pub SpellsBody : Bool → List Span → List ℕ → Type 0
 SpellsBody true spans text = (items : List ℕ) × (text ≡ 94 ∷ items) × SpellsSpans spans items
 SpellsBody false spans text = SpellsSpans spans text × (¬ BeginsWith 94 text)
@@ -45,18 +45,18 @@ SpellsClass class text = (body : List ℕ) × (text ≡ 91 ∷ (body ++ 93 ∷ [
 
 -- ---- a part
 
--- a character that means itself outside a class: it is none of `[`, `*`, `?` and `\`
+-- a character that stands for itself outside a class: it is none of `[`, `*`, `?` and `\`
 abbrev pub IsPlain : ℕ → Type 0
 IsPlain c = (c ≢ 91) × (c ≢ 42) × (c ≢ 63) × (c ≢ 92)
 
--- an item of a part: a `*`, a `?`, a character that means itself or any one after a `\`, or a class
+-- an item of a part: a `*`, a `?`, a character that stands for itself, any character after a `\`, or a class
 abbrev pub SpellsItem : Item → List ℕ → Type 0
 SpellsItem Run text = text ≡ 42 ∷ []
 SpellsItem (One Any) text = text ≡ 63 ∷ []
 SpellsItem (One (Only c)) text = ((text ≡ c ∷ []) × IsPlain c) ⊎ (text ≡ 92 ∷ c ∷ [])
 SpellsItem (One (In class)) text = SpellsClass class text
 
--- the items of a part, one after the other; the empty text if there are no items
+-- the items of a part, one after another
 abbrev pub Spells : List Item → List ℕ → Type 0
 Spells [] text = text ≡ []
 Spells (item ∷ items) text = Then (SpellsItem item) (λ rest. Spells items rest) text

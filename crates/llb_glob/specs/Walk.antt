@@ -1,4 +1,4 @@
--- What is known of a path while its text is checked without memory.
+-- What is counted of a path while its text is checked without allocating.
 use Rattle.std.specs.Prelude.{◌≡◌, ℕ, Bool, true, false, List, length, Result, Ok, Err, is_ok}
 use Rattle.std.specs.List.{prefix_len}
 use Rattle.std.specs.Str.{chars}
@@ -10,12 +10,12 @@ use Rattle.llb_glob.specs.declared.pattern.Walk.{Walk}
 abbrev pub is_part : List ℕ → Bool
 is_part name = is_ok (items_of (chars name))
 
--- a walk counts a path's names, and how many of the first names all spell parts
+-- the counts are right: how many names the path has, and how many of the first names are all parts of a pattern
 pub record Stands (path : List (List ℕ)) (walk : Walk) : Type 0 where
   pub depth : walk.depth ≡ length path
   pub sound : walk.sound ≡ prefix_len is_part path
 
--- a step is taken exactly if it leads to a path
+-- a part of a text is accepted exactly if there is a path after it, and then the counts are right for that path
 abbrev pub Enters : Result (List (List ℕ)) TreeFault → Bool → Walk → Type 0
 Enters (Ok path) true walk = Stands path walk
 Enters (Ok path) false walk = ⊥

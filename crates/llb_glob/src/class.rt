@@ -25,13 +25,13 @@ impl Span {
     }
 }
 
-/// A class of characters. Contracts see its items, and whether it matches what is in none of them.
+/// A class of characters. Contracts see its items, and whether it matches exactly the characters that are in none of them.
 pub struct Class {
     excludes: bool,
     spans: Vec<Span>,
 }
 
-// It is written out so that whatever owns one drops it by this one function.
+// Written by hand, so that it is proved once; a derived one is proved again in every function that drops such a value.
 impl Drop for Class {
     fn drop(self) {
         let Class {
@@ -60,7 +60,7 @@ impl Class {
         }
     }
 
-    /// Makes the class match what is in none of its items.
+    /// Makes the class match exactly the characters that are in none of its items.
     pub fn exclude(&mut self)
         ensures { self.new ≡ record self.old { excludes = true } }
     {

@@ -1,5 +1,5 @@
-//! How a part of a pattern is read: character by character, in one pass. What a character does depends on where the
-//! reader is, and on nothing further back.
+//! How a part of a pattern is read: character by character, in one pass. The effect of a character depends on the stage of the
+//! reader and on nothing further back.
 
 ghost use Rattle.std.specs.Prelude.{◌≡◌};
 ghost use Rattle.llb_glob.specs.Items.{at, start, literal, outside, inside, closed, dashed, plain, cut, is_whole};
@@ -7,7 +7,7 @@ ghost use Rattle.llb_glob.specs.Items.{at, start, literal, outside, inside, clos
 use crate::fault::PatternFault;
 use crate::item::{Item, Letter};
 
-/// Where the reader is in a part.
+/// The stage of the reader in a part.
 #[derive(Clone, Copy)]
 pub enum Stage {
     /// In no class.
@@ -24,14 +24,14 @@ pub enum Stage {
     Range,
 }
 
-/// Where the reader is, and whether a `\` quotes the next character.
+/// The stage of the reader, and whether a `\` quotes the next character.
 #[derive(Clone, Copy)]
 pub struct Cursor {
     pub stage: Stage,
     pub quotes: bool,
 }
 
-/// What a character does to the part that is read.
+/// The effect of a character on the part that is read.
 #[derive(Drop)]
 pub enum Effect {
     /// It completes nothing.
@@ -63,7 +63,7 @@ impl Cursor {
         matches!(self.stage, Stage::Outside) && !self.quotes
     }
 
-    /// Returns where the reader is after the next character, and what the character does. Fails with 41 `BadPattern` alone.
+    /// Returns the cursor after the next character, and the effect of the character. Fails with 41 `BadPattern` alone.
     pub fn cut(self, letter: char) -> Result<(Cursor, Effect), PatternFault>
         ensures { result ≡ cut self letter }
     {
@@ -81,7 +81,7 @@ impl Cursor {
     }
 }
 
-// Returns the cursor at a stage, with no `\` before.
+// Returns the cursor at a stage, with no `\` before the next character.
 fn at(stage: Stage) -> Cursor
     ensures { result ≡ at stage }
 {
@@ -91,7 +91,7 @@ fn at(stage: Stage) -> Cursor
     }
 }
 
-// Reads a character that means itself.
+// Returns the effect of a character that stands for itself.
 fn literal(stage: Stage, letter: char) -> (Cursor, Effect)
     ensures { result ≡ literal stage letter }
 {
@@ -105,7 +105,7 @@ fn literal(stage: Stage, letter: char) -> (Cursor, Effect)
     }
 }
 
-// Reads a character that is neither a `\` nor after one.
+// Returns the effect of a character that is no `\` and not after one.
 fn plain(stage: Stage, letter: char) -> Result<(Cursor, Effect), PatternFault>
     ensures { result ≡ plain stage letter }
 {
@@ -116,7 +116,7 @@ fn plain(stage: Stage, letter: char) -> Result<(Cursor, Effect), PatternFault>
     }
 }
 
-// Reads such a character outside a class.
+// Returns the effect of a character outside a class that is no `\` and not after one.
 fn outside(letter: char) -> (Cursor, Effect)
     ensures { result ≡ outside letter }
 {
@@ -128,7 +128,7 @@ fn outside(letter: char) -> (Cursor, Effect)
     }
 }
 
-// Reads such a character in a class.
+// Returns the effect of a character in a class that is no `\` and not after one.
 fn inside(stage: Stage, letter: char) -> Result<(Cursor, Effect), PatternFault>
     ensures { result ≡ inside stage letter }
 {
@@ -139,7 +139,7 @@ fn inside(stage: Stage, letter: char) -> Result<(Cursor, Effect), PatternFault>
     }
 }
 
-// Reads a `]`, which closes a class of one or more whole items.
+// Returns the effect of a `]`, which closes a class with at least one item and no open range.
 fn closed(stage: Stage) -> Result<(Cursor, Effect), PatternFault>
     ensures { result ≡ closed stage }
 {
@@ -149,7 +149,7 @@ fn closed(stage: Stage) -> Result<(Cursor, Effect), PatternFault>
     }
 }
 
-// Reads a `-`, which is between the two ends of a range.
+// Returns the effect of a `-`, which is between the two ends of a range.
 fn dashed(stage: Stage) -> Result<(Cursor, Effect), PatternFault>
     ensures { result ≡ dashed stage }
 {

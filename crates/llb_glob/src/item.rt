@@ -1,4 +1,4 @@
-//! The items of which a part of a pattern is made.
+//! The items of a part of a pattern.
 
 ghost use Rattle.std.specs.Prelude.{◌↔◌, IsTrue};
 ghost use Rattle.llb_glob.specs.Matching.{Takes};

@@ -18,8 +18,8 @@ pub fn reads_by_the_grammar(text: &str)
     let _ = text;
 }
 
-/// Proves that a pattern that is read without classes, with each `[` after a `\`, is read the same with them: classes change no other
-/// pattern.
+/// Proves that a pattern without classes, with a `\` before each `[`, is read the same whether or not classes are known: classes change the reading of no
+/// other pattern.
 pub fn reads_without_classes(text: &str)
     ensures { (parts : List (List Item)) → simple_pattern_of text.now ≡ Ok parts → pattern_of text.now ≡ Ok parts }
 {

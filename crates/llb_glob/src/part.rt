@@ -22,7 +22,7 @@ pub struct Part {
     items: Vec<Item>,
 }
 
-// It is written out so that whatever owns one drops it by this one function.
+// Written by hand, so that it is proved once; a derived one is proved again in every function that drops such a value.
 impl Drop for Part {
     fn drop(self) {
         let Part { items: _ } = self;
@@ -82,7 +82,7 @@ impl NameTest for Part {
     }
 }
 
-/// A part while it is read: where the reader is, the whole items before it, and the current class.
+/// The state while a part is read: the cursor, the items so far, and the current class.
 #[derive(Drop)]
 pub struct Reading {
     cursor: Cursor,

@@ -1,5 +1,5 @@
-//! Patterns. A text is read as that of a path is, and then each part is cut into items. Reading first checks the text
-//! once without allocating, so that a bad pattern is not mistaken for want of memory, and then makes the pattern.
+//! Patterns. A text is split like that of a path, and each part is then read as items. Reading first checks the text
+//! once without allocating, so that a bad pattern can't be hidden by want of memory, and then makes the pattern.
 
 ghost use Rattle.std.specs.Prelude.{◌≡◌, ◌↔◌, List, ℕ, [], is_ok, IsTrue};
 ghost use Rattle.llb_tree.specs.Path.{enter};
@@ -18,7 +18,7 @@ pub struct Pattern {
     parts: Vec<Part>,
 }
 
-// It is written out so that whatever owns one drops it by this one function.
+// Written by hand, so that it is proved once; a derived one is proved again in every function that drops such a value.
 impl Drop for Pattern {
     fn drop(self) {
         let Pattern { parts: _ } = self;
@@ -53,7 +53,7 @@ impl Pattern {
         Pattern::cut(alloc, &path)
     }
 
-    // Cuts each name into items.
+    // Reads each name of a path as items.
     fn cut(alloc: Global, path: &Path) -> Result<Pattern, PatternFault>
         ensures { Gives (λ p. p) result (each_cut path.now) }
     {
@@ -117,7 +117,7 @@ fn is_pattern(text: &str) -> bool
     walk.sound == walk.depth
 }
 
-// Where a text has led so far: how many names there are, and how many of the first names all spell parts.
+// What a text has led to so far: how many names there are, and how many of the first names are all parts of a pattern.
 #[derive(Drop)]
 struct Walk {
     depth: usize,
@@ -127,7 +127,7 @@ struct Walk {
 impl Walk {
     ghost use Rattle.llb_glob.specs.Walk.{Stands, Enters};
 
-    // Follows one part of a text; returns false if it is no name or the 129th.
+    // Applies one part of a text; returns false if it is no name or the 129th.
     fn enter(&mut self, part: &str) -> bool
         ensures { (path : List (List ℕ)) → Stands path self.old → Enters (enter path part.now) result self.new }
     {

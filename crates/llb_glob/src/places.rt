@@ -23,7 +23,7 @@ pub fn matches_letters(items: &[Item], name: &[char]) -> bool
     places[0]
 }
 
-// Sets the positions from which the items match with one more item before them.
+// Replaces the set by the positions from which the items match with one more item in front of them.
 fn step_back(item: &Item, name: &[char], places: &mut [bool])
     requires { length name.now < length places.old }
     ensures { (rest : List Item) → AreStarts rest name.now places.old → AreStarts (item.now ∷ rest) name.now places.new }
@@ -34,7 +34,7 @@ fn step_back(item: &Item, name: &[char], places: &mut [bool])
     }
 }
 
-// Adds each position from which one of the set can be reached by going right.
+// Adds to the set each position to the left of one in the set.
 fn widen(last: usize, places: &mut [bool])
     requires { last < length places.old }
     ensures { (i : ℕ) → i ≤ last → IsIn places.new i ↔ Reaches places.old last i }
@@ -46,7 +46,7 @@ fn widen(last: usize, places: &mut [bool])
     }
 }
 
-// Keeps each position from which one of the set is reached by one character that the letter matches.
+// Keeps the positions at which the letter matches a character and after which the next position is in the set.
 fn narrow(letter: &Letter, name: &[char], places: &mut [bool])
     requires { length name.now < length places.old }
     ensures before { (i : ℕ) → i < length name.now

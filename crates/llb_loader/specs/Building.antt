@@ -1,4 +1,4 @@
--- Vertices as they are built: from a row's digest and op, the rows that its inputs name, and the numbers of rows.
+-- How vertices are built: from a row's digest text and op, the rows that its inputs name, and the numbers of rows.
 use Rattle.std.specs.Prelude.{◌≡◌, ℕ, ◌<◌, ◌≤◌, ◌^◌, nat_abs, List, [], length, slice_index, slice_index_or, None}
 use Rattle.llb_ops.specs.declared.op.Op.{Op}
 use Rattle.llb_ops.specs.declared.op.Input.{Input}
@@ -20,18 +20,18 @@ abbrev pub vertex_at : List Vertex → ℕ → Vertex
 vertex_at vertices n = slice_index_or vertices n
     (record { digest = []; op = record { inputs = []; kind = None; extra = [] }; script = None; inputs = []; steps = 0; outputs = 0 })
 
--- the edge of an input
+-- the edge of an input, to this vertex
 abbrev pub edge_to : ℕ → Input → Edge
 edge_to vertex input = record { vertex = vertex; index = nat_abs input.index }
 
--- an op with few steps and outputs, whose inputs name these rows and have small indexes
+-- an op with few steps and outputs, with an input for each of these rows, whose indexes are at most 1,024
 pub record IsBuildable (op : Op) (named : List ℕ) : Type 0 where
   pub steps : step_count op < 2 ^ 25
   pub outputs : output_count op ≤ 1_024
   pub len : length named ≡ length op.inputs
   pub indexes : (i : ℕ) → i < length op.inputs → IsBelow 1_025 (input_at op i).index
 
--- v is the vertex of an op, its edges by the numbers of the rows
+-- v is the vertex of this op, and its edges lead to the numbers of the rows that its inputs name
 pub record IsBuilt (text : List ℕ) (from : Op) (named ranks : List ℕ) (v : Vertex) : Type 0 where
   pub digest : v.digest ≡ text
   pub op : v.op ≡ from
@@ -41,7 +41,7 @@ pub record IsBuilt (text : List ℕ) (from : Op) (named ranks : List ℕ) (v : V
   pub steps : v.steps ≡ step_count from
   pub outputs : v.outputs ≡ output_count from
 
--- the first n vertices are those of the first n rows of an order
+-- the first n vertices are those of the first n rows in this order
 abbrev pub AreBuilt : List Row → List Op → List (List ℕ) → List ℕ → List ℕ → List Vertex → ℕ → Type 0
 AreBuilt rows ops links ranks order vertices n = (j : ℕ) → j < n
     → IsBuilt (row_at rows (slice_index order j)).digest (op_at ops (slice_index order j)) (inputs links (slice_index order j)) ranks (vertex_at vertices j)

@@ -1,4 +1,4 @@
--- The rules kind by kind: those that an op of one kind can break, in groups that are checked one after another.
+-- The rules kind by kind: those that an op of that kind can break, in groups that are checked one after another.
 use Rattle.std.specs.Prelude.{List, [], ◌∷◌, ◌++◌, Option, MatchOption}
 use Rattle.llb_ops.specs.declared.op.Input.{Input}
 use Rattle.llb_ops.specs.declared.op.Kind.{Kind}
@@ -8,7 +8,7 @@ use Rattle.llb_loader.specs.declared.fault.Rule.TheVariants as rule
 use Rattle.llb_loader.specs.Scripts.{script_fault}
 use Rattle.llb_loader.specs.Rules.{MeetsAll, Breaks}
 
--- the first of some rules that is broken, or none is
+-- the result is the first of these rules that is broken, or nothing if none is
 abbrev pub IsFirstBroken : List Input → Option Kind → List Rule → Option Rule → Type 0
 IsFirstBroken inputs kind rs broken = MatchOption broken (MeetsAll inputs kind rs) (Breaks inputs kind rs)
 
@@ -20,15 +20,15 @@ source_rules = rule.LocalName ∷ []
 abbrev pub file_rules : List Rule
 file_rules = rule.NoActions ∷ rule.ActionInput ∷ rule.ActionOutput ∷ []
 
--- the rules on what is run
+-- the rules on the words of an exec and what they need
 abbrev pub word_rules : List Rule
 word_rules = rule.NoMeta ∷ rule.NoArgs ∷ rule.NoMounts ∷ []
 
--- the rules on where the mounts are
+-- the rules on the paths of an exec
 abbrev pub path_rules : List Rule
 path_rules = rule.NoRoot ∷ rule.BadPath ∷ rule.SameDest ∷ []
 
--- the rules on what they show, and on their outputs
+-- the rules on what the mounts show, and on their outputs
 abbrev pub mount_rules : List Rule
 mount_rules = rule.MountKind ∷ rule.MountInput ∷ rule.MountOutput ∷ []
 
@@ -36,7 +36,7 @@ mount_rules = rule.MountKind ∷ rule.MountInput ∷ rule.MountOutput ∷ []
 abbrev pub cache_rules : List Rule
 cache_rules = rule.NoCacheOpt ∷ rule.Sharing ∷ rule.CacheTwice ∷ []
 
--- the rule on the script of an exec
+-- the rule on the script of an exec, with the script's fault
 abbrev pub script_rules : Option Meta → List Rule
 script_rules meta = rule.Script (script_fault meta) ∷ []
 

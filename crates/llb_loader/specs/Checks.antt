@@ -1,4 +1,4 @@
--- What the checks over the marked rows find: each looks at the rows in their order and stops at the first that fails.
+-- The results of the checks over the marked rows: each check goes through the rows in their order and stops at the first that fails.
 use Rattle.std.specs.Prelude.{◌≡◌, ◌≢◌, ℕ, ◌<◌, ◌==◌, ◌⊎◌, Bool, false, cond, List, [], length, slice_index_or, Some, None}
 use Rattle.llb_ops.specs.declared.op.Op.{Op}
 use Rattle.llb_loader.specs.declared.row.Row.{Row}
@@ -12,32 +12,32 @@ use Rattle.llb_loader.specs.Linking.{op_at, input_at}
 use Rattle.llb_loader.specs.Features.{feature_of}
 use Rattle.llb_loader.specs.Rules.{MeetsRules, BreaksFirst, IsBelow}
 
--- e says that the terminal's op has no input, or that its first one is the digest of no row
+-- e is the refusal that the terminal has no input, or that its first input names no row
 abbrev pub RefusesStart : List Row → ℕ → Op → LoadFault → Type 0
 RefusesStart rows t op e = ((e ≡ NoResult) × (op.inputs ≡ []))
     ⊎ ((e ≡ UnknownDigest t 0) × (0 < length op.inputs) × (row_named rows t (input_at op 0).digest ≡ None))
 
--- the first n inputs of an op are digests of rows
+-- the first n inputs of an op name rows
 abbrev pub NamesAll : List Row → ℕ → Op → ℕ → Type 0
 NamesAll rows t op n = (i : ℕ) → i < n → row_named rows t (input_at op i).digest ≢ None
 
--- the first input that names no row
+-- input i is the first that names no row
 pub record FirstUnknown (rows : List Row) (t : ℕ) (op : Op) (i : ℕ) : Type 0 where
   pub here : i < length op.inputs
   pub unknown : row_named rows t (input_at op i).digest ≡ None
   pub before : NamesAll rows t op i
 
--- e names the first input of the least marked row that has one whose digest is that of no row
+-- e names the least marked row with an input that names no row, and the first such input
 abbrev pub RefusesUnknown : List Row → ℕ → List Op → (ℕ → Type 0) → LoadFault → Type 0
 RefusesUnknown rows t ops Marked e = (k : ℕ) × (i : ℕ) × (e ≡ UnknownDigest k i) × Marked k × FirstUnknown rows t (op_at ops k) i
     × ((j : ℕ) → j < k → Marked j → NamesAll rows t (op_at ops j) (length (op_at ops j).inputs))
 
--- e names the feature of the least marked row that has one
+-- e names the least marked row whose op has an unsupported feature, and the first such feature
 abbrev pub RefusesFeature : List Op → (ℕ → Type 0) → LoadFault → Type 0
 RefusesFeature ops Marked e = (k : ℕ) × (f : Feature) × (e ≡ Unsupported k f) × Marked k × (feature_of (op_at ops k) ≡ Some f)
     × ((j : ℕ) → j < k → Marked j → feature_of (op_at ops j) ≡ None)
 
--- e names the first rule that the least marked row breaks
+-- e names the least marked row that breaks a rule, and the first such rule
 abbrev pub RefusesRule : List Op → (ℕ → Type 0) → LoadFault → Type 0
 RefusesRule ops Marked e = (k : ℕ) × (r : Rule) × (e ≡ Invalid k r) × Marked k × BreaksFirst (op_at ops k) r
     × ((j : ℕ) → j < k → Marked j → MeetsRules (op_at ops j))
@@ -46,21 +46,21 @@ RefusesRule ops Marked e = (k : ℕ) × (r : Rule) × (e ≡ Invalid k r) × Mar
 abbrev pub count_there : List ℕ → List ℕ → ℕ → ℕ
 count_there counts named i = slice_index_or counts (slice_index_or named i 0) 0
 
--- the first n inputs of an op are outputs that are there
+-- the first n inputs of an op name outputs that exist
 abbrev pub FitsAll : List ℕ → List ℕ → Op → ℕ → Type 0
 FitsAll counts named op n = (i : ℕ) → i < n → IsBelow (count_there counts named i) (input_at op i).index
 
--- the first of n inputs whose index is that of no output
+-- input i is the first of the first n inputs of an op that names an output that does not exist
 pub record FirstBad (counts named : List ℕ) (op : Op) (n i : ℕ) : Type 0 where
   pub here : i < n
   pub bad : ¬ IsBelow (count_there counts named i) (input_at op i).index
   pub before : FitsAll counts named op i
 
--- how many inputs of row k are looked at: all of a reached row, the first of the terminal
+-- how many inputs of row k are checked: all of a reached row, the first one of the terminal, else none
 abbrev pub asked_of : List Op → List Bool → ℕ → ℕ → ℕ
 asked_of ops seen terminal k = cond (slice_index_or seen k false) (length (op_at ops k).inputs) (cond (k == terminal) 1 0)
 
--- e names the first input of the least row that has one which is no output of its vertex
+-- e names the least row with a checked input that is no output of the row it names, and the first such input
 abbrev pub RefusesIndex : List Op → List (List ℕ) → List ℕ → List Bool → ℕ → LoadFault → Type 0
 RefusesIndex ops links counts seen t e = (k : ℕ) × (i : ℕ) × (e ≡ BadIndex k i) × (k < length ops)
     × FirstBad counts (inputs links k) (op_at ops k) (asked_of ops seen t k) i

@@ -1,4 +1,4 @@
--- The results of the loader's calls, what becomes of the faults of ops, and what a fault prints.
+-- The results of the loader's calls, the loader's fault for a fault of an op, and what a fault prints.
 use Rattle.std.specs.Prelude.{ℕ, Bool, true, false, List, ◌++◌, Result, codes}
 use Rattle.std.specs.Fmt.{decimal}
 use Rattle.llb_wire.specs.Answer as answer
@@ -13,21 +13,21 @@ use Rattle.llb_loader.specs.declared.fault.Rule.TheVariants as rule
 use Rattle.llb_loader.specs.declared.fault.LoadFault.{LoadFault}
 use Rattle.llb_loader.specs.declared.fault.LoadFault.TheVariants as fault
 
--- the fault for refused memory, which no rule returns
+-- whether a fault is `Memory`, which no rule returns
 abbrev pub is_memory : LoadFault → Bool
 is_memory fault.Memory = true
 is_memory _ = false
 
--- the result of a call, seen by view, is the result of its rule
+-- the result of a call is that of its rule, or the call fails for want of memory
 abbrev pub Gives : {X Y : Type 0} → (X → Y) → Result X LoadFault → Result Y LoadFault → Type 0
 Gives = answer.Gives is_memory
 
--- a definition that is not readable
+-- the fault of bytes that can't be read as a definition
 abbrev pub definition_fault : OpFault → LoadFault
 definition_fault op.Memory = fault.Memory
 definition_fault f = fault.Definition f
 
--- a row that is not readable
+-- the fault of a row that can't be read as an op
 abbrev pub row_fault : ℕ → OpFault → LoadFault
 row_fault k op.Memory = fault.Memory
 row_fault k f = fault.Entry k f
@@ -70,7 +70,7 @@ rule_name rule.CacheTwice = codes "CacheTwice"
 rule_name (rule.Script f) = codes "Script"
 rule_name rule.MergeInput = codes "MergeInput"
 
--- the name of the rule on scripts is followed by the script's fault
+-- what a rule prints: its name, and for the rule on scripts the script's fault after it
 abbrev pub rule_text : Rule → List ℕ
 rule_text (rule.Script f) = codes "Script " ++ script_text f
 rule_text r = rule_name r

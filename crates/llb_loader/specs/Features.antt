@@ -1,4 +1,4 @@
--- What an op can have that is not taken.
+-- The features of ops that are not supported.
 use Rattle.std.specs.Prelude.{◌==◌, Bool, true, false, not, ◌||◌, nat_eq, List, [], ◌∷◌, length, Option, Some, None, codes}
 use Rattle.std.specs.List.{list_any, find, starts_with}
 use Rattle.llb_ops.specs.declared.op.Op.{Op}
@@ -32,7 +32,7 @@ abbrev pub has_secret : Option Kind → Bool
 has_secret (Some (Exec x)) = not (length x.secretenv == 0)
 has_secret _ = false
 
--- whether an action is of no kind that its message names
+-- whether an action has no kind that its message names
 abbrev pub is_nameless : Option ActionKind → Bool
 is_nameless None = true
 is_nameless (Some k) = false

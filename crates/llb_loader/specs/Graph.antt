@@ -1,4 +1,4 @@
--- A numbered graph, as contracts see it, and what is true of each one.
+-- A loaded graph as contracts see it, and what is true of every such graph.
 use Rattle.std.specs.Prelude.{◌≡◌, ◌⊎◌, ℕ, ◌<◌, ◌≤◌, ◌^◌, pos, false, List, [], ◌++◌, length, map, slice_index_or, Option, Some, None}
 use Rattle.std.specs.Prelude.{IsSome, Ok, Contains, codes}
 use Rattle.std.specs.List.{All, HoldsAt}
@@ -28,27 +28,27 @@ pub record Numbered : Type 0 where
   pub vertices : List Vertex
   pub result : Edge
 
--- the vertices that each vertex's inputs lead to
+-- for each vertex, the vertices to which its inputs lead
 abbrev pub links : List Vertex → List (List ℕ)
 links vertices = map (λ v. map (λ e. e.vertex) v.inputs) vertices
 
--- an edge to an output of a vertex below a number
+-- an edge leads to an output of a vertex with a number below k
 pub record LeadsBelow (vertices : List Vertex) (k : ℕ) (e : Edge) : Type 0 where
   pub lower : e.vertex < k
   pub index : HoldsAt (λ v. e.index < v.outputs) vertices e.vertex
 
--- the edge of an input leads to the vertex whose digest the input names, and has the input's index
+-- the edge of an input leads to the vertex with the digest that the input names, and has the input's index
 pub record IsEdgeOfInput (vertices : List Vertex) (input : Input) (e : Edge) : Type 0 where
   pub digest : HoldsAt (λ v. v.digest ≡ input.digest) vertices e.vertex
   pub index : input.index ≡ pos e.index
 
--- a vertex has an edge for each input of its op, in their order
+-- a vertex has an edge for each input of its op, in the same order
 pub record HasInputs (vertices : List Vertex) (v : Vertex) : Type 0 where
   pub len : length v.inputs ≡ length v.op.inputs
   pub each : (i : ℕ) (input : Input) (e : Edge) → i < length v.inputs
       → IsEdgeOfInput vertices (slice_index_or v.op.inputs i input) (slice_index_or v.inputs i e)
 
--- a vertex by itself: its op is within the limits, is taken and meets the rules, and its counts, which are small, are those of the op
+-- a vertex by itself: its op is within the limits, has no unsupported feature and meets the rules, and its counts are those of the op and small
 pub record IsVertex (v : Vertex) : Type 0 where
   pub within : IsWithinLimits v.op
   pub featureless : feature_of v.op ≡ None
@@ -61,7 +61,7 @@ pub record IsVertex (v : Vertex) : Type 0 where
 
 -- ---- a vertex by its kind
 
--- a source is local, and there is a name after `local://`
+-- a source is local, and a name follows `local://`
 pub record IsSourceVertex (v : Vertex) (s : SourceOp) : Type 0 where
   pub name : List ℕ
   pub local : source_name s ≡ Some name
@@ -70,7 +70,7 @@ pub record IsSourceVertex (v : Vertex) (s : SourceOp) : Type 0 where
   pub steps : v.steps ≡ 1
   pub outputs : v.outputs ≡ 1
 
--- a file op has an action; each has a member, sets no owner by name, and takes inputs that are there
+-- a file op has at least one action; each action has a kind, sets no owner by name, and takes inputs that exist
 pub record IsFileVertex (v : Vertex) (f : FileOp) : Type 0 where
   pub some : 0 < length f.actions
   pub few : length f.actions ≤ 1_024
@@ -83,7 +83,7 @@ pub record IsFileVertex (v : Vertex) (f : FileOp) : Type 0 where
   pub steps : v.steps ≡ length f.actions
   pub outputs : v.outputs ≡ count_outputs (outputs_of f.actions)
 
--- a merge takes inputs that are there, or nothing
+-- a merge takes inputs that exist, or nothing
 pub record IsMergeVertex (v : Vertex) (m : MergeOp) : Type 0 where
   pub few : length m.inputs ≤ 1_024
   pub merge_inputs : All (λ i. IsInput (length v.op.inputs) i.input) m.inputs
@@ -91,8 +91,8 @@ pub record IsMergeVertex (v : Vertex) (m : MergeOp) : Type 0 where
   pub steps : v.steps ≡ length m.inputs
   pub outputs : v.outputs ≡ 1
 
--- an exec has words that are a script, a cwd that is a path, and mounts at different paths, of which one is the root; each shows an
--- input that is there, or nothing, or is a tmpfs; outputs are those of bind mounts; the caches that it shows have different keys.
+-- the words of an exec are a script, its cwd is a path, and its mounts are at distinct paths, of which one is the root; each mount shows an
+-- input that exists, or nothing, or is a tmpfs; only bind mounts have outputs; the caches that the exec mounts have distinct keys.
 -- There are fewer than 2^25 commands, since each takes more than half a byte of the entry.
 pub record IsExecVertex (v : Vertex) (x : ExecOp) : Type 0 where
   pub meta : Meta
@@ -121,7 +121,7 @@ pub record IsExecVertex (v : Vertex) (x : ExecOp) : Type 0 where
   pub steps : v.steps ≡ length commands
   pub outputs : v.outputs ≡ count_outputs (mount_outputs x.mounts)
 
--- a vertex of a kind that is taken
+-- the vertex is of a supported kind
 abbrev pub IsVertexOf : Vertex → Option Kind → Type 0
 IsVertexOf v (Some (Source s)) = IsSourceVertex v s
 IsVertexOf v (Some (File f)) = IsFileVertex v f
@@ -129,18 +129,18 @@ IsVertexOf v (Some (Merge m)) = IsMergeVertex v m
 IsVertexOf v (Some (Exec x)) = IsExecVertex v x
 IsVertexOf v _ = ⊥
 
--- vertices in an order in which edges lead down
+-- a loaded graph: its vertices are in an order in which every edge leads to a lower number
 pub record IsGraph (g : Numbered) : Type 0 where
   -- every edge leads to an output of a lower vertex, and so does the result
   pub down : (k : ℕ) (d : Vertex) → k < length g.vertices → All (LeadsBelow g.vertices k) (slice_index_or g.vertices k d).inputs
   pub result : LeadsBelow g.vertices (length g.vertices) g.result
-  -- every vertex is at or before the result
+  -- the result depends on every vertex
   pub whole : (k : ℕ) → k < length g.vertices → Reached (links g.vertices) g.result.vertex k
   pub vertex : All IsVertex g.vertices
   pub inputs : All (HasInputs g.vertices) g.vertices
-  -- no two vertices have one digest
+  -- no two vertices have the same digest
   pub distinct : (a b : ℕ) (d : Vertex) → a < length g.vertices → b < length g.vertices
       → (slice_index_or g.vertices a d).digest ≡ (slice_index_or g.vertices b d).digest → a ≡ b
-  -- each vertex is of a kind that is taken
+  -- each vertex is of a supported kind
   pub kind : All (λ v. IsVertexOf v v.op.kind) g.vertices
   pub few : length g.vertices ≤ 65_536

@@ -1,4 +1,4 @@
--- What linking returns.
+-- What linking the rows returns.
 use Rattle.std.specs.Prelude.{List}
 use Rattle.llb_ops.specs.declared.op.Op.{Op}
 use Rattle.llb_loader.specs.declared.row.Row.{Row}
@@ -8,7 +8,7 @@ use Rattle.llb_loader.specs.Linking.{Refused, GraphOf}
 use Rattle.llb_loader.specs.Reading.{AreOps, RefusesRow}
 use Rattle.std.specs.Prelude.{◌⊎◌}
 
--- Each row is read as an op, and the rows with these ops make the graph.
+-- Each row is read as an op, and the rows with these ops make this graph.
 abbrev pub IsGraphOf : List Row → Numbered → Type 0
 IsGraphOf rows g = (ops : List Op) × AreOps rows ops × GraphOf rows ops g
 

@@ -1,4 +1,4 @@
--- The graph of the rows, or the first fault: what each refusal says, and what has to hold before the next one is looked at.
+-- The graph of the rows, or the first fault: the meaning of each refusal, and what has to hold before the next one is looked for.
 use Rattle.std.specs.Prelude.{◌≡◌, ℕ, ◌<◌, ◌≤◌, pos, nat_abs, List, [], length, map, slice_index_or, Option, Some, None, ◌⊎◌}
 use Rattle.std.specs.Option.{unwrap_or}
 use Rattle.llb_ops.specs.declared.op.Op.{Op}
@@ -26,7 +26,7 @@ op_at ops k = slice_index_or ops k (record { inputs = []; kind = None; extra = [
 abbrev pub input_at : Op → ℕ → Input
 input_at op i = slice_index_or op.inputs i (record { digest = []; index = pos 0; extra = [] })
 
--- the least pair with a property: the least first number, then the least second
+-- k, i is the least pair with the property: with the least first number, and among those the least second
 pub record Foremost (P : ℕ → ℕ → Type 0) (k i : ℕ) : Type 0 where
   pub holds : P k i
   pub least : (j h : ℕ) → P j h → (k < j) ⊎ ((k ≡ j) × (i ≤ h))
@@ -38,7 +38,7 @@ pub record Plan : Type 0 where
   pub terminal : ℕ
   pub start : ℕ
 
--- the plan of these parts
+-- the plan with these four fields
 abbrev pub plan : List Row → List Op → ℕ → ℕ → Plan
 plan rows ops terminal start = record { rows = rows; ops = ops; terminal = terminal; start = start }
 
@@ -50,7 +50,7 @@ start_in rows ops = unwrap_or (row_named rows (terminal_in rows) (input_at (op_a
 abbrev pub plan_of : List Row → List Op → Plan
 plan_of rows ops = plan rows ops (terminal_in rows) (start_in rows ops)
 
--- a plan is the one of rows that are readable as these ops
+-- p is the plan of rows that are read as these ops
 pub record IsPlanOf (rows : List Row) (ops : List Op) (p : Plan) : Type 0 where
   pub same : p ≡ plan_of rows ops
 
@@ -62,7 +62,7 @@ links_in p = graph_of p.rows p.terminal p.ops
 abbrev pub input_row : Plan → ℕ → ℕ → Option ℕ
 input_row p k i = row_named p.rows p.terminal (input_at (op_at p.ops k) i).digest
 
--- row k is the result's, or is named by an input of a row that is reached
+-- row k is reached: it is the row of the result, or a reached row has an input that names it
 abbrev pub ReachedRow : Plan → ℕ → Type 0
 ReachedRow p k = Reached (links_in p) p.start k
 
@@ -76,23 +76,23 @@ pub record IsUnknown (p : Plan) (k i : ℕ) : Type 0 where
   pub input : HasInput p k i
   pub unknown : input_row p k i ≡ None
 
--- how many outputs the row has that input i of row k names
+-- how many outputs the row has that is named by input i of row k
 abbrev pub outputs_there : Plan → ℕ → ℕ → ℕ
 outputs_there p k i = output_count (op_at p.ops (unwrap_or (input_row p k i) 0))
 
--- an input of a reached row, or the terminal's first input, has an index that is no output's of the row it names
+-- an input of a reached row, or the terminal's first input, has an index that is no output of the row it names
 pub record IsBadIndex (p : Plan) (k i : ℕ) : Type 0 where
   pub asked : HasInput p k i ⊎ ((k ≡ p.terminal) × (i ≡ 0))
   pub bad : ¬ IsBelow (outputs_there p k i) (input_at (op_at p.ops k) i).index
 
--- ---- what holds once a refusal does not apply, in their order
+-- ---- what holds once a refusal does not apply, in the order of the refusals
 
--- Not all rows are the same, and no two rows with the same digest text have different bytes.
+-- There are at least two distinct rows, and no two rows with the same digest text have different bytes.
 pub record IsApart (rows : List Row) : Type 0 where
   pub several : ¬ AllSame rows
   pub apart : (k : ℕ) → ¬ Collides rows k
 
--- The rows are apart, the terminal is the first row that equals the last one, and it has an input.
+-- The rows are as `IsApart` says, the terminal is the first row that equals the last one, and it has an input.
 pub record HasResult (p : Plan) : Type 0 where
   pub apart : IsApart p.rows
   pub terminal : IsTerminal p.rows p.terminal
@@ -130,13 +130,13 @@ pub record IsWhole (p : Plan) (order : List ℕ) : Type 0 where
 
 -- ---- the refusals
 
--- row k is the least one reached that has a feature, f
+-- row k is the least reached row with an unsupported feature, and f is its first one
 pub record IsUnsupported (p : Plan) (k : ℕ) (f : Feature) : Type 0 where
   pub reached : ReachedRow p k
   pub feature : feature_of (op_at p.ops k) ≡ Some f
   pub least : (j : ℕ) → j < k → ReachedRow p j → feature_of (op_at p.ops j) ≡ None
 
--- row k is the least one reached that breaks a rule, r first
+-- row k is the least reached row that breaks a rule, and r is the first rule that it breaks
 pub record IsInvalid (p : Plan) (k : ℕ) (r : Rule) : Type 0 where
   pub reached : ReachedRow p k
   pub broken : BreaksFirst (op_at p.ops k) r
@@ -149,7 +149,7 @@ pub record HasNoStart (p : Plan) (k i : ℕ) : Type 0 where
   pub row : k ≡ p.terminal
   pub input : i ≡ 0
 
--- the plan is refused: each refusal applies only if those before it do not
+-- e refuses the plan: each refusal applies only if none of those before it does
 abbrev pub Refuses : Plan → LoadFault → Type 0
 Refuses p TooFew = AllSame p.rows
 Refuses p (Collision k) = (¬ AllSame p.rows) × Least (Collides p.rows) k
@@ -161,7 +161,7 @@ Refuses p (Invalid k r) = (order : List ℕ) × IsSupported p order × IsInvalid
 Refuses p (BadIndex k i) = (order : List ℕ) × IsValid p order × Foremost (IsBadIndex p) k i
 Refuses p _ = ⊥
 
--- the rows, readable as these ops, are refused
+-- the rows, read as these ops, are refused
 abbrev pub Refused : List Row → List Op → LoadFault → Type 0
 Refused rows ops e = Refuses (plan_of rows ops) e
 
@@ -182,7 +182,7 @@ vertex_of p order k = record {
   outputs = output_count (op_at p.ops k);
 }
 
--- the graph of a plan whose reached rows are numbered in this order
+-- the graph of a plan; `order` has the reached rows in the order of their numbers
 abbrev pub numbered_of : Plan → List ℕ → Numbered
 numbered_of p order = record {
   vertices = map (vertex_of p order) order;

@@ -1,4 +1,4 @@
--- What loading returns.
+-- What loading a definition returns.
 use Rattle.std.specs.Prelude.{◌≡◌, ℕ, List, map, Ok, Err, ◌⊎◌}
 use Rattle.llb_ops.specs.declared.fault.OpFault.{OpFault}
 use Rattle.llb_ops.specs.Definition.{definition_of}
@@ -13,11 +13,11 @@ use Rattle.llb_loader.specs.Link.{IsGraphOf, IsRefusalOf}
 abbrev pub rows_from : List (List ℕ) → List Row
 rows_from entries = map (λ bytes. record { digest = digest_text bytes; bytes = bytes }) entries
 
--- The bytes are a definition, and the rows of its entries make the graph.
+-- The bytes are a definition, and the rows of its entries make this graph.
 abbrev pub IsGraphIn : List ℕ → Numbered → Type 0
 IsGraphIn bytes g = (entries : List (List ℕ)) × (definition_of bytes ≡ Ok entries) × IsGraphOf (rows_from entries) g
 
--- the first refusal of a definition
+-- the first refusal of the bytes of a definition
 abbrev pub IsRefusalIn : List ℕ → LoadFault → Type 0
 IsRefusalIn bytes e = ((f : OpFault) × (definition_of bytes ≡ Err f) × (e ≡ Definition f))
     ⊎ ((entries : List (List ℕ)) × (definition_of bytes ≡ Ok entries) × IsRefusalOf (rows_from entries) e)

@@ -14,33 +14,33 @@ use Rattle.llb_tree.specs.Tree.{TreeMap}
 abbrev pub behind : List ℕ → List ℕ → Option (List ℕ)
 behind prefix text = cond (starts_with nat_eq text prefix) (Some (drop (length prefix) text)) None
 
--- the rest of a source's identifier after `local://`, if it begins so
+-- the rest of a source's identifier after `local://`; nothing if it does not begin with that
 abbrev pub source_name : SourceOp → Option (List ℕ)
 source_name s = behind (codes "local://") s.identifier
 
--- the name of a local source, by the kind of its op
+-- the name of a local source, by the kind of the op
 abbrev pub name_by_kind : Option Kind → Option (List ℕ)
 name_by_kind (Some (Source s)) = source_name s
 name_by_kind _ = None
 
--- the name of a local source; none for another op
+-- the name of a local source; nothing if the op is none
 abbrev pub local_name : Op → Option (List ℕ)
 local_name op = name_by_kind op.kind
 
 -- ---- the trees that are given
 
--- a local tree under its name
+-- a name with the tree that is given for it
 abbrev pub Local : Type 0
 Local = List ℕ × TreeMap
 
--- a map of trees by its entries
+-- the names and trees of the code's map
 unfoldable pub locals_of : {Z : Type 0} → List (String Z × TreeMap) → List Local
 locals_of entries = map (λ e. (string_bytes e.0, e.1)) entries
 
--- the tree of a local source by name: the first that is given under the name
+-- the tree that is given for a name
 abbrev pub tree_of_local : List Local → List ℕ → Option TreeMap
 tree_of_local locals name = lookup (bytes_eq name) locals
 
--- a tree takes the place of the one that the name had, or else follows all others
+-- the trees after one is given for a name: it replaces the one that the name had, or else comes last
 abbrev pub with_local : List Local → List ℕ → TreeMap → List Local
 with_local locals name tree = insert_entry bytes_eq locals name tree

@@ -33,7 +33,7 @@ tmpfs = pos 4
 abbrev pub has_type : ℤ → Mount → Bool
 has_type t m = int_eq m.mount_type t
 
--- ---- values that some positions of a list have
+-- ---- lists in which each position has a value or none
 
 -- the value at a position of a list; none past the end
 abbrev pub value_at : {X : Type 0} → List (Option X) → ℕ → Option X
@@ -43,13 +43,13 @@ value_at values a = slice_index_or values a None
 abbrev pub Share : {X : Type 0} → Option X → Option X → Type 0
 Share {X} a b = (x : X) × (a ≡ Some x) × (b ≡ Some x)
 
--- no two positions of a list have the same value
+-- no value is at two positions of a list
 pub record AreApart {X : Type 0} (values : List (Option X)) : Type 0 where
   pub apart : (a b : ℕ) → a < b → ¬ Share (value_at values a) (value_at values b)
 
 -- ---- paths
 
--- the path in a result, if it is one
+-- the path in a result, if it has one
 abbrev pub value_of : Result (List (List ℕ)) TreeFault → Option (List (List ℕ))
 value_of (Ok path) = Some path
 value_of (Err f) = None
@@ -62,12 +62,12 @@ read_as text = value_of (path_of text)
 abbrev pub dests_of : List Mount → List (Option (List (List ℕ)))
 dests_of mounts = map (λ m. read_as m.dest) mounts
 
--- the text of the directory in which the words are run reads as a path
+-- the `cwd` of an exec reads as a path
 abbrev pub ReadsCwd : Option Meta → Type 0
 ReadsCwd (Some meta) = IsSome (read_as meta.cwd)
 ReadsCwd None = ⊤
 
--- every text that must be a path reads as one
+-- every text of an exec that has to be a path reads as one
 pub record ReadsPaths (mounts : List Mount) (meta : Option Meta) : Type 0 where
   pub dests : All IsSome (dests_of mounts)
   pub selectors : All (λ m. IsSome (read_as m.selector)) mounts
@@ -80,7 +80,7 @@ pub record Seed : Type 0 where
   pub digest : List ℕ
   pub index : ℤ
 
--- the output that an input is
+-- the output that an input names
 abbrev pub seed_by : Option Input → Option Seed
 seed_by (Some i) = Some (record { digest = i.digest; index = i.index })
 seed_by None = None
@@ -90,13 +90,13 @@ abbrev pub seed_of : List Input → ℤ → Option Seed
 seed_of inputs (pos n) = seed_by (slice_get inputs n)
 seed_of inputs (negsuc n) = None
 
--- which cache a mount shows: its ID, its seed, and the way in which it is shared
+-- the key of a cache: its ID, its seed, and its sharing mode
 pub record CacheKey : Type 0 where
   pub id : List ℕ
   pub seed : Option Seed
   pub mode : ℤ
 
--- the key of a cache with this seed and these options
+-- the key with this seed and the ID and mode of these options
 abbrev pub key_by : Option Seed → Option CacheOpt → Option CacheKey
 key_by seed (Some c) = Some (record { id = c.id; seed = seed; mode = c.sharing })
 key_by seed None = None

@@ -1,4 +1,4 @@
--- The numbering of the reached rows.
+-- How the reached rows are numbered.
 use Rattle.std.specs.Prelude.{ℕ, suc, ◌<◌, ◌≤◌, ◌==◌, cond, List, [], ◌∷◌, length, take, slice_index}
 use Rattle.std.specs.List.{All, Contains}
 use Rattle.llb_loader.specs.Rows.{inputs, HasEdge, Reached}
@@ -9,21 +9,21 @@ pub record IsReady (g : List (List ℕ)) (start : ℕ) (done : List ℕ) (k : �
   pub fresh : ¬ Contains done k
   pub inputs_done : All (Contains done) (inputs g k)
 
--- row k is the least of the rows that are ready to be numbered
+-- row k is the least row that can be numbered next
 pub record IsNext (g : List (List ℕ)) (start : ℕ) (done : List ℕ) (k : ℕ) : Type 0 where
   pub ready : IsReady g start done k
   pub least : (j : ℕ) → IsReady g start done j → k ≤ j
 
--- The list numbers the reached rows: each position has the least row that is ready after those before it, and no reached row is left out.
+-- The list has the reached rows in the order of their numbers: at each position is the least row that can be numbered after those before it.
 pub record IsNumbering (g : List (List ℕ)) (start : ℕ) (order : List ℕ) : Type 0 where
   pub each : (i : ℕ) → i < length order → IsNext g start (take i order) (slice_index order i)
   pub whole : (k : ℕ) → Reached g start k → Contains order k
 
--- every edge from a reached row goes down
+-- by these ranks every edge from a reached row leads to a lower rank
 abbrev pub GoesDown : List (List ℕ) → ℕ → (ℕ → ℕ) → Type 0
 GoesDown g start rank = (a b : ℕ) → Reached g start a → HasEdge g a b → rank b < rank a
 
--- no ranks make every edge go down
+-- the reached rows have a cycle: by no ranks does every edge lead to a lower one
 abbrev pub HasCycle : List (List ℕ) → ℕ → Type 0
 HasCycle g start = (rank : ℕ → ℕ) → ¬ GoesDown g start rank
 

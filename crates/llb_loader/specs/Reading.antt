@@ -1,4 +1,4 @@
--- The ops that rows spell, and the first row that spells none.
+-- The ops that rows are read as, and the first row that can't be read as one.
 use Rattle.std.specs.Prelude.{◌≡◌, ℕ, ◌<◌, List, length, Ok, Err, IsOk}
 use Rattle.llb_ops.specs.declared.op.Op.{Op}
 use Rattle.llb_ops.specs.declared.fault.OpFault.{OpFault}
@@ -9,17 +9,17 @@ use Rattle.llb_loader.specs.declared.fault.LoadFault.TheVariants.{Entry}
 use Rattle.llb_loader.specs.RowLookup.{row_at}
 use Rattle.llb_loader.specs.Linking.{op_at}
 
--- each row's bytes are read as the op with its number
+-- each row is read as the op with the same number
 pub record AreOps (rows : List Row) (ops : List Op) : Type 0 where
   pub len : length ops ≡ length rows
   pub each : (k : ℕ) → k < length rows → op_of (row_at rows k).bytes ≡ Ok (op_at ops k)
 
--- the first row that spells no op, and why
+-- row k is the first that can't be read as an op, with this fault
 pub record IsUnread (rows : List Row) (k : ℕ) (f : OpFault) : Type 0 where
   pub here : k < length rows
   pub fault : op_of (row_at rows k).bytes ≡ Err f
   pub before : (j : ℕ) → j < k → IsOk (op_of (row_at rows j).bytes)
 
--- e says what is wrong with the first row that cannot be read
+-- e is the refusal of the first row that can't be read as an op
 abbrev pub RefusesRow : List Row → LoadFault → Type 0
 RefusesRow rows e = (k : ℕ) × (f : OpFault) × (e ≡ Entry k f) × IsUnread rows k f

@@ -1,4 +1,4 @@
--- Rows as given: which are distinct, which one is the terminal, and which one a digest text names.
+-- Look-ups in the rows: which are distinct, which one is the terminal, and which one a digest text names.
 use Rattle.std.specs.Prelude.{◌≡◌, ◌≢◌, ℕ, ◌-◌, ◌<◌, ◌==◌, cond, List, [], length, map, slice_index_or, position, Option, Some, None}
 use Rattle.std.specs.List.{filter_map}
 use Rattle.std.specs.Option.{unwrap_or}
@@ -25,7 +25,7 @@ pub record Collides (rows : List Row) (k : ℕ) : Type 0 where
   pub here : k < length rows
   pub earlier : (j : ℕ) × (j < k) × ((row_at rows j).digest ≡ (row_at rows k).digest) × ((row_at rows j).bytes ≢ (row_at rows k).bytes)
 
--- k is the least number with a property
+-- k is the least number with the property
 pub record Least (P : ℕ → Type 0) (k : ℕ) : Type 0 where
   pub holds : P k
   pub least : (j : ℕ) → j < k → ¬ P j
@@ -38,11 +38,11 @@ IsTerminal rows t = Least (λ k. (k < length rows) × (row_at rows k ≡ row_at 
 abbrev pub first_with : List Row → List ℕ → Option ℕ
 first_with rows d = position (λ r. bytes_eq d r.digest) rows
 
--- the first row with the last row's digest text, 0 if there are no rows
+-- the first row with the last row's digest text; 0 if there are no rows
 abbrev pub terminal_in : List Row → ℕ
 terminal_in rows = unwrap_or (first_with rows (row_at rows (length rows - 1)).digest) 0
 
--- a row, unless it is row t
+-- row k, unless it is row t
 abbrev pub other_than : ℕ → Option ℕ → Option ℕ
 other_than t (Some k) = cond (k == t) None (Some k)
 other_than t None = None
@@ -51,7 +51,7 @@ other_than t None = None
 abbrev pub row_named : List Row → ℕ → List ℕ → Option ℕ
 row_named rows t d = other_than t (first_with rows d)
 
--- the rows that an op's inputs name, without inputs that name none
+-- the rows that an op's inputs name; inputs that name no row are left out
 abbrev pub rows_named : List Row → ℕ → Op → List ℕ
 rows_named rows t op = filter_map (λ i. row_named rows t i.digest) op.inputs
 
@@ -59,7 +59,7 @@ rows_named rows t op = filter_map (λ i. row_named rows t i.digest) op.inputs
 abbrev pub graph_of : List Row → ℕ → List Op → List (List ℕ)
 graph_of rows t ops = map (rows_named rows t) ops
 
--- an index finds the first row of each digest text
+-- the code's index finds for each digest text the first row that has it
 abbrev pub IsIndex : List Row → BTreeMap (Bor (List ℕ)) ℕ → Type 0
 IsIndex rows index = (d : List ℕ) → get_by (λ q. slice_cmp nat_cmp d q.now) index ≡ first_with rows d
 

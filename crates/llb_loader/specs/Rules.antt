@@ -1,4 +1,4 @@
--- What an op must be, so that it can be a vertex: the rules in their order, and the counts of its steps and outputs.
+-- The rules that an op has to meet to be a vertex, in their order, and the counts of its steps and outputs.
 use Rattle.std.specs.Prelude.{◌≡◌, ◌≢◌, ℕ, zero, ◌+◌, ℤ, pos, negsuc, ◌≤ℤ◌, ◌<ℤ◌, Bool, true, false, ◌||◌, ◌⊎◌, List, [], ◌∷◌, length}
 use Rattle.std.specs.Prelude.{IsSome, ⊤, ◌<◌, map, count_by, Option, Some, None, slice_index_or, unwrap_or, codes}
 use Rattle.std.specs.List.{All, Contains}
@@ -30,12 +30,12 @@ use Rattle.llb_loader.specs.Mounts.{bind, cache, tmpfs, dests_of, keys_of, AreAp
 abbrev pub none : ℤ
 none = negsuc 0
 
--- whether a number is other than -1
+-- whether an output number is given: it is not -1
 abbrev pub is_output : ℤ → Bool
 is_output (negsuc zero) = false
 is_output _ = true
 
--- the actions of a kind: those of a file op
+-- the actions of a file op; none for any other kind
 abbrev pub kind_actions : Option Kind → List Action
 kind_actions (Some (File f)) = f.actions
 kind_actions _ = []
@@ -44,7 +44,7 @@ kind_actions _ = []
 abbrev pub actions_of : Op → List Action
 actions_of op = kind_actions op.kind
 
--- the mounts of a kind: those of an exec
+-- the mounts of an exec; none for any other kind
 abbrev pub kind_mounts : Option Kind → List Mount
 kind_mounts (Some (Exec x)) = x.mounts
 kind_mounts _ = []
@@ -71,12 +71,12 @@ abbrev pub owner_by_name : Option ChownOpt → Bool
 owner_by_name (Some o) = user_by_name o.user || user_by_name o.group
 owner_by_name None = false
 
--- a number from -1 to n - 1: none, or one of n inputs
+-- i is from -1 to n - 1: -1 for no input, else one of n inputs
 pub record IsInput (n : ℕ) (i : ℤ) : Type 0 where
   pub low : none ≤ℤ i
   pub high : i <ℤ pos n
 
--- a number from 0 to n - 1
+-- i is from 0 to n - 1
 pub record IsBelow (n : ℕ) (i : ℤ) : Type 0 where
   pub low : pos 0 ≤ℤ i
   pub high : i <ℤ pos n
@@ -85,7 +85,7 @@ pub record IsBelow (n : ℕ) (i : ℤ) : Type 0 where
 abbrev pub ActionInputs : ℕ → List Action → Type 0
 ActionInputs n actions = (a : ℕ) (d : Action) → a < length actions → IsInput (n + a) (slice_index_or actions a d).input
 
--- the second input of an action: that of a copy is one of n, or none; that of another action may be any number, and is not used
+-- the second input of an action: for a copy one of n, or none; for any other action it is not used and may be any number
 abbrev pub TakesSecond : ℕ → Option ActionKind → ℤ → Type 0
 TakesSecond n (Some (Copy c)) second = IsInput n second
 TakesSecond n _ second = ⊤
@@ -112,7 +112,7 @@ count_outputs outputs = count_by is_output outputs
 abbrev pub output_at : List ℤ → ℕ → ℤ
 output_at outputs a = slice_index_or outputs a none
 
--- Let m of the numbers be other than -1. Each of these is from 0 to m - 1 and occurs once, and each of 0 to m - 1 occurs.
+-- The numbers other than -1 are 0 to m - 1, each once, if there are m of them.
 pub record AreOutputs (outputs : List ℤ) : Type 0 where
   pub within : (a : ℕ) → output_at outputs a ≢ none → IsBelow (count_outputs outputs) (output_at outputs a)
   pub once : (a b : ℕ) → output_at outputs a ≢ none → output_at outputs a ≡ output_at outputs b → a ≡ b
@@ -124,35 +124,35 @@ pub record AreOutputs (outputs : List ℤ) : Type 0 where
 abbrev pub mount_outputs : List Mount → List ℤ
 mount_outputs mounts = map (λ m. m.output) mounts
 
--- a bind or a cache mount shows one of n inputs, or nothing
+-- if the mount is a bind or a cache mount, it shows one of n inputs, or nothing
 abbrev pub ShowsInput : ℕ → Mount → Type 0
 ShowsInput n m = (m.mount_type ≡ bind) ⊎ (m.mount_type ≡ cache) → IsInput n m.input
 
--- a mount that is a cache has options
+-- a cache mount has options
 abbrev pub HasOptions : Mount → Type 0
 HasOptions m = m.mount_type ≡ cache → IsSome m.cache_opt
 
--- options of a cache, if there are some, name one of the three ways in which it is shared
+-- the options of a cache, if they are given, name one of the three modes
 abbrev pub IsKnownSharing : Option CacheOpt → Type 0
 IsKnownSharing (Some c) = IsBelow 3 c.sharing
 IsKnownSharing None = ⊤
 
--- a cache mount that has options names one of the three ways in which a cache is shared
+-- a cache mount with options names one of the three modes
 abbrev pub IsShared : Mount → Type 0
 IsShared m = m.mount_type ≡ cache → IsKnownSharing m.cache_opt
 
--- only a mount that is neither a cache nor a tmpfs has an output, and outputs are numbered from 0
+-- the outputs of mounts are numbered from 0, each once, and no cache or tmpfs mount has one
 pub record AreMountOutputs (mounts : List Mount) : Type 0 where
   pub numbered : AreOutputs (mount_outputs mounts)
   pub caches : All (λ m. m.mount_type ≡ cache → m.output ≡ none) mounts
   pub tmpfs : All (λ m. m.mount_type ≡ tmpfs → m.output ≡ none) mounts
 
--- there is a word to run, if there is a meta
+-- a meta, if there is one, has at least one word
 abbrev pub HasWord : Option Meta → Type 0
 HasWord (Some meta) = 0 < length meta.args
 HasWord None = ⊤
 
--- ---- counts
+-- ---- how many micro-steps and outputs an op has
 
 -- how many micro-steps an op of this kind has
 abbrev pub kind_steps : Option Kind → ℕ
@@ -185,24 +185,24 @@ abbrev pub OfSource : (SourceOp → Type 0) → Option Kind → Type 0
 OfSource P (Some (Source s)) = P s
 OfSource P _ = ⊤
 
--- a property of the file op that an op is, which holds of any other op
+-- a file op has the property; so has an op of any other kind
 abbrev pub OfFile : (FileOp → Type 0) → Option Kind → Type 0
 OfFile P (Some (File f)) = P f
 OfFile P _ = ⊤
 
--- a property of the exec that an op is, which holds of any other op
+-- an exec has the property; so has an op of any other kind
 abbrev pub OfExec : (ExecOp → Type 0) → Option Kind → Type 0
 OfExec P (Some (Exec x)) = P x
 OfExec P _ = ⊤
 
--- a property of the merge that an op is, which holds of any other op
+-- a merge has the property; so has an op of any other kind
 abbrev pub OfMerge : (MergeOp → Type 0) → Option Kind → Type 0
 OfMerge P (Some (Merge m)) = P m
 OfMerge P _ = ⊤
 
 -- ---- the rules
 
--- an op of a kind on these inputs meets a rule
+-- an op of this kind on these inputs meets this rule
 abbrev pub Meets : List Input → Option Kind → Rule → Type 0
 Meets inputs kind rule.NoKind = IsSome kind
 Meets inputs kind rule.LocalName = OfSource (λ s. s.identifier ≢ codes "local://") kind
@@ -224,22 +224,22 @@ Meets inputs kind rule.CacheTwice = OfExec (λ x. AreApart (keys_of inputs x.mou
 Meets inputs kind (rule.Script f) = OfExec (λ x. IsSome (commands_in x.meta)) kind
 Meets inputs kind rule.MergeInput = OfMerge (λ m. All (λ i. IsInput (length inputs) i.input) m.inputs) kind
 
--- an op of a kind on these inputs meets each of these rules
+-- an op of this kind on these inputs meets each of these rules
 abbrev pub MeetsAll : List Input → Option Kind → List Rule → Type 0
 MeetsAll inputs kind [] = ⊤
 MeetsAll inputs kind (r ∷ rs) = Meets inputs kind r × MeetsAll inputs kind rs
 
--- the first of some rules that is broken
+-- `broken` is the first of these rules that the op does not meet
 abbrev pub Breaks : List Input → Option Kind → List Rule → Rule → Type 0
 Breaks inputs kind [] broken = ⊥
 Breaks inputs kind (r ∷ rs) broken = ((broken ≡ r) × (¬ Meets inputs kind r)) ⊎ (Meets inputs kind r × Breaks inputs kind rs broken)
 
--- the fault of an exec's script, as `script_fault` says; for another kind, one that means nothing
+-- the fault of an exec's script, as `script_fault` says; for another kind a fault that is not used
 abbrev pub kind_fault : Option Kind → ScriptFault
 kind_fault (Some (Exec x)) = script_fault x.meta
 kind_fault _ = script_fault None
 
--- the rules in the order in which they are checked; that of scripts has the fault of the script
+-- the rules in the order in which they are checked; the rule on scripts has the script's fault
 abbrev pub rules_on : Option Kind → List Rule
 rules_on kind =
     rule.NoKind ∷ rule.LocalName ∷ rule.NoActions ∷ rule.ActionInput ∷ rule.ActionOutput

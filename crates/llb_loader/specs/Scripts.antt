@@ -1,4 +1,4 @@
--- The script of an exec: the commands that its words are.
+-- The script of an exec: the commands that its words are read as.
 use Rattle.std.specs.Prelude.{List, Option, Some, None, Ok, Err, Result}
 use Rattle.std.specs.Result.{result_ok}
 use Rattle.llb_ops.specs.declared.op.Op.{Op}
@@ -10,17 +10,17 @@ use Rattle.llb_applet.specs.declared.fault.ScriptFault.{ScriptFault}
 use Rattle.llb_applet.specs.declared.fault.ScriptFault.TheVariants.{ShellSyntax}
 use Rattle.llb_applet.specs.Scripts.{script_of}
 
--- the commands that the words of a meta are, if they are a script
+-- the commands that the words of a meta are read as, if they are a script
 abbrev pub commands_in : Option Meta → Option (List Joined)
 commands_in (Some m) = result_ok (script_of m.args)
 commands_in None = None
 
--- the fault in a result; if there is none, `ShellSyntax` at 0, which means nothing then
+-- the fault in a result; if there is none, a fault that is not used
 abbrev pub fault_or_none : Result (List Joined) ScriptFault → ScriptFault
 fault_or_none (Err f) = f
 fault_or_none (Ok cs) = ShellSyntax 0
 
--- the fault of a meta's words; if there is none, `ShellSyntax` at 0, which means nothing then
+-- the fault of reading a meta's words; if there is none, a fault that is not used
 abbrev pub script_fault : Option Meta → ScriptFault
 script_fault (Some m) = fault_or_none (script_of m.args)
 script_fault None = ShellSyntax 0

@@ -1,5 +1,5 @@
-//! The key of a cache: its ID, the output with which a new instance begins, and the way in which it is shared. Keys borrow
-//! from the op, and are ordered by all three, so that a set finds one that it has.
+//! The key of a cache: its ID, the output with which a new instance begins, and its sharing mode. Keys borrow
+//! from the op, and are ordered by all three, so that a set of keys can be searched.
 
 ghost use Rattle.std.specs.Prelude.{◌≡◌, Some};
 ghost use Rattle.std.specs.Option.{option_copied, option_cmp};
@@ -11,7 +11,7 @@ use llb_ops::{Input, Mount};
 use std::cmp::Ordering;
 use std::marker::Model;
 
-/// The key of a cache. The seed is the input that names the output.
+/// The key of a cache. Its seed is given by the input that names the output.
 #[derive(Drop)]
 pub(crate) struct Key<'a> {
     id: &'a str,
@@ -41,7 +41,7 @@ pub(crate) fn key_of<'a>(inputs: &'a [Input], mount: &'a Mount) -> Option<Key<'a
     Some(Key { id, mode, seed })
 }
 
-// Returns the input with whose output a new instance begins; `None` for -1.
+// Returns the input that is the seed of a new instance; `None` for -1.
 fn seed_in<'a>(inputs: &'a [Input], mount: &Mount) -> Option<&'a Input>
     ensures { seed_by (option_copied result) ≡ seed_of inputs.now mount.now.input }
 {
@@ -59,7 +59,7 @@ fn order_of(input: &Input, other: &Input) -> Ordering
     digests.then(input.index.cmp(&other.index))
 }
 
-// Compares seeds; no seed comes before every seed.
+// Compares seeds; no seed comes before any seed.
 fn order_of_seeds(seed: Option<&Input>, other: Option<&Input>) -> Ordering
     ensures { result ≡ option_cmp seed_cmp (seed_by (option_copied seed.entry)) (seed_by (option_copied other.entry)) }
 {

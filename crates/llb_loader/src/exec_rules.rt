@@ -41,7 +41,7 @@ pub(crate) fn broken_in_exec(
     broken_script(alloc, exec)
 }
 
-// Returns the first broken rule on what is run, whatever the inputs are.
+// Returns the first broken rule on the words of an exec and what they need.
 
 fn broken_word(exec: &ExecOp) -> Option<Rule>
     ensures { (inputs : List Input) → IsFirstBroken inputs (Some (kind.Exec exec.now)) word_rules result }
@@ -58,7 +58,7 @@ fn broken_word(exec: &ExecOp) -> Option<Rule>
     None
 }
 
-// Returns the first broken rule on where the mounts are, whatever the inputs are.
+// Returns the first broken rule on the paths of an exec.
 
 fn broken_path(alloc: Global, exec: &ExecOp) -> Result<Option<Rule>, Memory>
     ensures { IfOk result (λ broken. (inputs : List Input) → IsFirstBroken inputs (Some (kind.Exec exec.now)) path_rules broken) }
@@ -122,7 +122,7 @@ fn is_below(count: u32, number: i32) -> bool
     number >= 0 && (number as u32) < count
 }
 
-// Returns whether each mount shows one of `count` inputs, or nothing, if it is to.
+// Returns whether each bind or cache mount shows one of `count` inputs, or nothing.
 
 fn all_show(count: usize, mounts: &[Mount]) -> bool
     ensures { IsTrue result ↔ All (ShowsInput count) mounts.now }
@@ -135,7 +135,7 @@ fn all_show(count: usize, mounts: &[Mount]) -> bool
     true
 }
 
-// Returns whether a bind or cache mount shows one of `count` inputs, or nothing.
+// Returns whether a mount, if it is a bind or cache mount, shows one of `count` inputs, or nothing.
 
 fn shows_input(count: usize, mount: &Mount) -> bool
     ensures { IsTrue result ↔ ShowsInput count mount.now }
@@ -149,7 +149,7 @@ fn shows_input(count: usize, mount: &Mount) -> bool
     true
 }
 
-// Returns whether the outputs are numbered from 0, each once, and those of bind mounts.
+// Returns whether the outputs are numbered from 0, each once, and only bind mounts have one.
 
 fn are_mount_outputs(alloc: Global, mounts: &[Mount]) -> Result<bool, AllocError>
     ensures { IfOk result (λ stand. IsTrue stand ↔ AreMountOutputs mounts.now) }
@@ -164,7 +164,7 @@ fn are_mount_outputs(alloc: Global, mounts: &[Mount]) -> Result<bool, AllocError
     are_outputs(alloc, &outputs)
 }
 
-// Returns whether no mount of a type has an output.
+// Returns whether no mount of this type has an output.
 fn all_silent(mount_type: MountType, mounts: &[Mount]) -> bool
     ensures { IsTrue result ↔ All (λ m. m.mount_type ≡ number_of mount_type → m.output ≡ none) mounts.now }
 {
@@ -223,7 +223,7 @@ fn all_have_options(mounts: &[Mount]) -> bool
     true
 }
 
-// Returns whether each cache mount is shared in a known way.
+// Returns whether each cache mount names a known mode.
 
 fn all_shared(mounts: &[Mount]) -> bool
     ensures { IsTrue result ↔ All IsShared mounts.now }
@@ -238,7 +238,7 @@ fn all_shared(mounts: &[Mount]) -> bool
     true
 }
 
-// Returns whether the options, if there are some, name a known way of sharing.
+// Returns whether the options, if they are given, name a known mode.
 
 fn is_known(options: &Option<CacheOpt>) -> bool
     ensures { IsTrue result ↔ IsKnownSharing options.now }
@@ -249,7 +249,7 @@ fn is_known(options: &Option<CacheOpt>) -> bool
     }
 }
 
-// Reads the words of an exec that has some, and returns the rule that they break if they are no script.
+// Reads the words of an exec as a script; if they are none, returns the rule that they break.
 fn broken_script(alloc: Global, exec: &ExecOp) -> Result<Option<Rule>, Memory>
     requires there { IsSome exec.now.meta }
     requires words { HasWord exec.now.meta }

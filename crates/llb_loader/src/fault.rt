@@ -29,11 +29,11 @@ pub enum LoadFault {
     UnknownDigest(u32, u32),
     /// 87: the reached rows have a cycle.
     Cycle,
-    /// 88: the op of row k has a feature that is not taken; its name follows.
+    /// 88: the op of row k has an unsupported feature; its name follows.
     Unsupported(u32, Feature),
     /// 89: the op of row k breaks a rule; its name follows.
     Invalid(u32, Rule),
-    /// 90: input i of row k has the index of no output.
+    /// 90: input i of row k has an index that no output has.
     BadIndex(u32, u32),
     /// 91: memory was refused.
     Memory,
@@ -72,7 +72,7 @@ fn at_row<W: fmt::Write, T: fmt::Display>(
     write!(f, "{number} {row} {what}")
 }
 
-// Written out: prints what `Display` does.
+// Written by hand: prints what `Display` does.
 impl fmt::Debug for LoadFault {
     fn fmt<W: fmt::Write>(&self, f: &mut fmt::Formatter<W>) -> fmt::Result {
         fmt::Display::fmt(self, f)
@@ -104,7 +104,7 @@ pub enum Feature {
     Patterns,
     /// An owner that is given by name.
     OwnerByName,
-    /// A copy with a field that it doesn't name.
+    /// A copy with a field that the table of messages does not name.
     CopyField,
 }
 
@@ -161,7 +161,7 @@ pub enum Rule {
     NoRoot,
     /// A dest, a selector and a cwd are paths.
     BadPath,
-    /// No two mounts are at one path.
+    /// No two mounts have the same dest.
     SameDest,
     /// A mount is of a known kind.
     MountKind,
@@ -173,7 +173,7 @@ pub enum Rule {
     NoCacheOpt,
     /// A cache is shared in a known way.
     Sharing,
-    /// No two cache mounts of an exec have one key.
+    /// No two cache mounts of an exec have the same key.
     CacheTwice,
     /// The words of an exec are a script; the script's own fault, 71 to 73.
     Script(ScriptFault),
@@ -222,7 +222,7 @@ impl fmt::Display for Rule {
     }
 }
 
-// Written out: prints what `Display` does.
+// Written by hand: prints what `Display` does.
 impl fmt::Debug for Rule {
     fn fmt<W: fmt::Write>(&self, f: &mut fmt::Formatter<W>) -> fmt::Result {
         fmt::Display::fmt(self, f)

@@ -1,4 +1,4 @@
-//! The features of an op that are not supported. Each test looks at the ops of one kind; the order of features is that
+//! The features of an op that are not supported. Each test looks at ops of one kind; the order of the features is that
 //! of `features`.
 
 ghost use Rattle.std.specs.Prelude.{◌≡◌};
@@ -148,7 +148,7 @@ fn has_pattern(copy: &CopyFile) -> bool
     !copy.include_patterns.is_empty() || !copy.exclude_patterns.is_empty()
 }
 
-// Returns whether a copy has a field that it does not name.
+// Returns whether a copy has a field that its message does not name.
 
 fn any_has_field(actions: &[Action]) -> bool
     ensures { result ≡ list_any (λ a. copies_with has_field a.kind) actions.now }

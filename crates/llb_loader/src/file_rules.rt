@@ -47,7 +47,7 @@ fn take_inputs(count: usize, actions: &[Action]) -> bool
     true
 }
 
-// Returns whether the input is -1, one of `count` inputs, or the result of an action before this place.
+// Returns whether the input is -1, one of `count` inputs, or the result of an action before index `place`.
 
 fn input_stands(count: usize, place: usize, input: i64) -> bool
     ensures { IsTrue result ↔ IsInput (count + place) input }
@@ -59,7 +59,7 @@ fn input_stands(count: usize, place: usize, input: i64) -> bool
     input < place || input - place < count
 }
 
-// Returns whether the second input of a copy is there; other actions have none.
+// Returns whether the second input of a copy exists; for other actions it is not used.
 
 fn second_stands(count: usize, place: usize, action: &Action) -> bool
     ensures { IsTrue result ↔ TakesSecond (count + place) action.now.kind action.now.secondary_input }

@@ -1,4 +1,4 @@
-//! The numbered graph: vertices whose inputs lead to lower ones, and the result.
+//! The loaded graph: vertices whose edges lead to lower numbers, and the edge that is its result.
 
 ghost use Rattle.std.specs.Prelude.{◌≡◌, IfOk, option_map};
 ghost use Rattle.llb_loader.specs.Graph.{IsGraph};
@@ -12,16 +12,16 @@ use std::alloc::{AllocError, Global};
 use std::marker::Model;
 use std::sync::Arc;
 
-/// Output `index` of the vertex with that number.
+/// Output `index` of the vertex with this number.
 #[derive(Clone, Copy, PartialEq, Eq)]
 pub struct Edge {
     pub vertex: u32,
     pub index: u32,
 }
 
-/// A row of the graph under its number.
+/// A vertex: a reached row under its number.
 pub struct Vertex {
-    /// `sha256:` and 64 hexadecimal digits, if the row came with the entry's own digest.
+    /// `sha256:` and 64 hexadecimal digits, if the graph was loaded from a definition.
     pub digest: Text,
     pub op: Op,
     /// The commands of an exec; nothing else has a script.
@@ -34,7 +34,7 @@ pub struct Vertex {
     pub outputs: u32,
 }
 
-// Written out, so that the crates above drop one by this one function.
+// Written by hand, so that it is proved once; a derived one is proved again in every function that drops such a value.
 impl Drop for Vertex {
     fn drop(self) {
         let Vertex {
@@ -60,14 +60,14 @@ impl Vertex {
     }
 }
 
-/// The vertices at or before the result, each above its inputs; copies share them. Contracts see the list of the vertices and the
+/// The vertices at or before the result, each with a higher number than its inputs; copies share them. Contracts see the list of the vertices and the
 /// result.
 pub struct Graph {
     shared: Arc<Vec<Vertex>>,
     result: Edge,
 }
 
-// Written out, so that the crates above drop one by this one function.
+// Written by hand, so that it is proved once; a derived one is proved again in every function that drops such a value.
 impl Drop for Graph {
     fn drop(self) {
         let Graph {

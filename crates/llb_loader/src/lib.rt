@@ -1,10 +1,10 @@
-//! A definition becomes a numbered graph: its entries are linked by their SHA-256 digests, checked, and numbered. It is built on `llb_applet`
+//! Loads a definition as a numbered graph: links its entries by their SHA-256 digests, checks them, and numbers them. It is built on `llb_applet`
 //! and `llb_ops`.
 //!
 //! Types: `Graph` (vertices by number, and the result), `Vertex`, `Edge`, `Row` (an entry and its digest text), `Locals` (trees by name),
 //! `LoadFault` (81 to 91).
 //! Promise: `load` (`graph`, `refused`) returns the one graph of the entries, or the first refusal in a stated order. `Graph::is_graph` recalls
-//! what is true of every graph: edges lead down to outputs that are there, vertices meet every rule, the result reaches all. Law:
+//! what is true of every graph: edges lead to outputs of lower vertices, vertices meet every rule, the result depends on all vertices. Law:
 //! `one_answer_in`.
 //!
 //! A caller:

@@ -16,7 +16,7 @@ pub struct Locals {
     trees: IndexMap<String, Tree>,
 }
 
-// Written out, so that the crates above drop one by this one function.
+// Written by hand, so that it is proved once; a derived one is proved again in every function that drops such a value.
 impl Drop for Locals {
     fn drop(self) {
         let Locals { trees: _ } = self;
@@ -67,7 +67,7 @@ impl Locals {
         copied(&self.trees)
     }
 
-    /// Returns the tree of a name; `None` if the name has none.
+    /// Returns the tree with a name; `None` if the name has none.
     pub fn get(&self, name: &str) -> Option<&Tree>
         ensures { option_map (λ t. t.now) result ≡ tree_of_local self.now name.now }
     {

@@ -1,4 +1,4 @@
-//! The local trees that a graph names and that are not given.
+//! The local trees that a graph needs and that are not given.
 
 ghost use Rattle.std.specs.Prelude.{◌≡◌, option_map};
 ghost use Rattle.llb_loader.specs.Missing.{missing_local};

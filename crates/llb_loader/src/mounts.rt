@@ -8,7 +8,7 @@ ghost use Rattle.llb_loader.specs.Rules.{kind_mounts};
 use crate::mount_type::MountType;
 use llb_ops::{CacheOpt, Kind, Mount};
 
-/// Returns the mounts of a kind: those of an exec, and none for other kinds. Does not allocate.
+/// Returns the mounts of an exec, and none for other kinds. Does not allocate.
 pub fn mounts_of(kind: &Option<Kind>) -> &[Mount]
     ensures { result.now ≡ kind_mounts kind.now }
 {

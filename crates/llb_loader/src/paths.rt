@@ -1,4 +1,4 @@
-//! The paths of an exec: where its mounts are, their selectors, and the directory in which its words are run.
+//! The paths of an exec: the dests and selectors of its mounts, and the directory in which its commands are run.
 
 ghost use Rattle.std.specs.Prelude.{◌≡◌, ◌↔◌, [], Some, IfOk, IsTrue, IsSome};
 ghost use Rattle.std.specs.List.{All, Contains};
@@ -46,7 +46,7 @@ pub(crate) fn has_root(dests: &[Option<Path>]) -> bool
     false
 }
 
-// Returns whether all dests are paths.
+// Returns whether all dests were read as paths.
 pub(crate) fn all_there(dests: &[Option<Path>]) -> bool
     ensures { IsTrue result ↔ All IsSome dests.now }
 {
@@ -58,7 +58,7 @@ pub(crate) fn all_there(dests: &[Option<Path>]) -> bool
     true
 }
 
-/// Returns whether all selectors are paths.
+/// Returns whether all selectors can be read as paths.
 pub(crate) fn selectors_read(alloc: Global, mounts: &[Mount]) -> Result<bool, Memory>
     ensures { IfOk result (λ read. IsTrue read ↔ All (λ m. IsSome (read_as m.selector)) mounts.now) }
 {
@@ -70,7 +70,7 @@ pub(crate) fn selectors_read(alloc: Global, mounts: &[Mount]) -> Result<bool, Me
     Ok(true)
 }
 
-/// Returns whether the directory in which the words are run is a path.
+/// Returns whether the `cwd` can be read as a path.
 pub(crate) fn cwd_reads(alloc: Global, meta: &Option<Meta>) -> Result<bool, Memory>
     ensures { IfOk result (λ read. IsTrue read ↔ ReadsCwd meta.now) }
 {
@@ -81,7 +81,7 @@ pub(crate) fn cwd_reads(alloc: Global, meta: &Option<Meta>) -> Result<bool, Memo
     Ok(path.is_some())
 }
 
-// Returns whether no two dests are one path.
+// Returns whether no two dests are the same path.
 pub(crate) fn dests_apart(alloc: Global, dests: &[Option<Path>]) -> Result<bool, Memory>
     ensures { IfOk result (λ apart. IsTrue apart ↔ AreApart dests.now) }
 {

@@ -1,4 +1,4 @@
-//! The rows that are reached from a row.
+//! The rows that are reached from a row by following inputs.
 
 ghost use Rattle.std.specs.Prelude.{◌≡◌, ℕ, ◌<◌, ◌↔◌, length, slice_index_or, true, false, IfOk};
 ghost use Rattle.llb_loader.specs.Rows.{lists, InRange, Reached};

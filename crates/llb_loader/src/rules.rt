@@ -1,4 +1,4 @@
-//! The first rule that an op breaks. Each kind has its own rules; their order is that of `rules_on`.
+//! Finds the first rule that an op breaks. Each kind has its own rules; their order is that of `rules_on`.
 
 ghost use Rattle.std.specs.Prelude.{◌↔◌, Some, IfOk, MatchOption, IsTrue, List};
 ghost use Rattle.llb_ops.specs.declared.op.Input.{Input};
@@ -40,7 +40,7 @@ fn broken_in(alloc: Global, inputs: &[Input], kind: &Kind) -> Result<Option<Rule
     }
 }
 
-// Returns the first rule on sources that the source breaks, whatever the inputs are.
+// Returns the first rule on sources that the source breaks.
 
 fn broken_in_source(source: &SourceOp) -> Option<Rule>
     ensures { (inputs : List Input) → IsFirstBroken inputs (Some (kind.Source source.now)) source_rules result }

@@ -44,11 +44,11 @@ get-lay a b q =
     ∙ ap (or_else (finite.get b q)) (cond-not (below_file (finite.get b) q) (finite.find path_cmp q (finite.entries a)) None
     ∙ ap (λ o. cond (below_file (finite.get b) q) None o) (sym (finite.get-entries a q)))
 
--- and no other tree has at each path what the laying has
+-- a tree that has these entries at all paths is the result of laying
 pub lay_only : (a b t : TreeMap) → ((q : List (List ℕ)) → finite.get t q ≡ lay_at (finite.get a) (finite.get b) q) → t ≡ lay a b
 lay_only a b t is = finite.same_map path_cmp-IsTotalOrder path_cmp-IsAntisymmetric t (lay a b) (λ q. is q ∙ sym (get-lay a b q))
 
--- a tree over another in the way that changes no mode and no owner, and keeps no directory of the lower one, is the laying
+-- the overlay of llb_tree that changes no mode and no owner, and keeps no directory of the lower tree, is this laying
 abbrev plain_way : WayValue
 plain_way = record { mode = None; uid = None; gid = None; keeps = false }
 
@@ -71,7 +71,7 @@ over_is_lay w is a b t over = lay_only a b t (λ q.
     ∙ ap (λ x. over_at x (finite.get a) (finite.get b) q) (sym (ap (λ o. unwrap_or o w) is))
     ∙ over_plain (finite.get a) (finite.get b) q)
 
--- ---- walks
+-- ---- the parents of a path
 
 pub below_file-cons : (look : Look) (n : List ℕ) (p : List (List ℕ)) → below_file look (n ∷ p) ≡ (is_file (look []) || below_file (λ q. look (n ∷ q)) p)
 below_file-cons look n p = ap (λ ys. list_any is_file (look [] ∷ ys)) (map-map look (λ q. n ∷ q) (parents p))
@@ -95,9 +95,9 @@ walk_both f g (n ∷ p) walks clear =
     by_root (Some (Dir m)) (Some (Dir k)) walks clear rest = rest walks clear
     by_root (Some (Dir m)) None walks clear rest = rest walks clear
 
--- ---- the whole is a tree
+-- ---- the result is a tree
 
--- an entry of the whole is the upper tree's, or the lower one's that nothing hides
+-- an entry of the result is the upper tree's, or the lower one's if no file of the upper tree is above it
 pub laid_cases : (C : Type 0) (f g : Look) (q : List (List ℕ)) (e : Entry)
     → (g q ≡ Some e → C) → (g q ≡ None → below_file g q ≡ false → f q ≡ Some e → C) → lay_at f g q ≡ Some e → C
 laid_cases C f g q e up low is = by_upper (g q) refl is
@@ -165,7 +165,7 @@ lay_over_empty t tree = sym (lay_only empty_tree t t there)
         sym (ap (λ o. or_else (finite.get t (n ∷ q)) (cond (below_file (finite.get t) (n ∷ q)) None o)) (get-empty_tree (n ∷ q))
         ∙ none_more (below_file (finite.get t) (n ∷ q)) (finite.get t (n ∷ q)))
 
--- the empty tree has no file, so none is above a path
+-- a tree without files has no file above a path
 below_none : (look : Look) → ((r : List (List ℕ)) → is_file (look r) ≡ false) → (p : List (List ℕ)) → below_file look p ≡ false
 below_none look none p = go (parents p)
   where

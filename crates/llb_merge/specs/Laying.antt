@@ -6,7 +6,7 @@ use Rattle.llb_tree.specs.Path.{path_cmp}
 use Rattle.llb_tree.specs.Tree.{Entry, TreeMap, Look}
 pub use Rattle.llb_tree.specs.Overlay.{is_file, below_file}
 
--- the first if there is one, else the second
+-- the first entry if there is one, else the second
 abbrev pub or_else : Option Entry → Option Entry → Option Entry
 or_else (Some e) other = Some e
 or_else None other = other
@@ -15,7 +15,7 @@ or_else None other = other
 abbrev pub lay_at : Look → Look → Look
 lay_at lower upper p = or_else (upper p) (if below_file upper p then None else lower p)
 
--- the upper tree laid over the lower one: all entries of the upper tree, and those of the lower one whose path the upper tree doesn't have and that are below
+-- the upper tree laid over the lower one: all entries of the upper tree, and those of the lower one whose path the upper tree does not have and that are below
 -- none of its files
 unfoldable pub lay : TreeMap → TreeMap → TreeMap
 lay lower upper = finite.from_entries (finite.entries upper ++ where_key path_cmp (λ p. not (below_file (finite.get upper) p)) (finite.entries lower))

@@ -1,5 +1,5 @@
-//! Laws of the laying, for all trees. It is not associative: a file of a tree between two others hides for good what
-//! the lowest has below it, also if the uppermost then has a directory at that path.
+//! Laws of laying, for all trees. Laying is not associative: a file of a tree between two others hides for good what
+//! the lowest has below it, even if the uppermost has a directory at that path.
 
 ghost use Rattle.std.specs.Prelude.{◌≡◌, List, [], ℕ};
 ghost use Rattle.std.specs.FinMap as finite;
@@ -9,8 +9,8 @@ ghost use Rattle.llb_merge.specs.Laying.{lay, lay_at};
 
 use llb_tree::Tree;
 
-/// Proves that at each path is what the upper tree has there, and else what the lower one has, if no file of the upper
-/// one is above the path; and that what is at the paths is a tree.
+/// Proves that at each path the result has what the upper tree has there, and else what the lower one has, if no file of the upper
+/// one is above the path; and that the result is a tree.
 pub fn at_each_path(lower: &Tree, upper: &Tree)
     ensures paths { (q : List (List ℕ)) → finite.get (lay lower.now upper.now) q ≡ lay_at (finite.get lower.now) (finite.get upper.now) q }
     ensures tree { IsTree (lay lower.now upper.now) }

@@ -1,4 +1,4 @@
-//! One tree laid over another: what the upper one has is kept as it has it, and of the lower one what is below no file of the
+//! Lays one tree over another: all entries of the upper tree are kept, and those of the lower tree that are below no file of the
 //! upper one.
 
 ghost use Rattle.std.specs.Prelude.{◌≡◌, IfOk, OnOk, OnErr, Some, None, false};
@@ -9,8 +9,8 @@ use crate::fault::Memory;
 use llb_tree::{Tree, Way};
 use std::alloc::Global;
 
-// Returns the `Way` that keeps each entry's own mode and owner, and takes a directory that both trees have as the upper
-// one has it.
+// Returns the `Way` that keeps each entry's own mode and owner, and takes a directory that both trees have as in the upper
+// one.
 fn plain() -> Way
     ensures { way_of None None None false ≡ Some result }
 {
@@ -25,7 +25,7 @@ pub fn lay(_: Global, lower: &Tree, upper: &Tree) -> Result<Tree, Memory>
     lay_onto(lower.copy()?, upper)
 }
 
-/// Lays the upper tree over the lower one as `lay` does, and takes the lower one over, so that a caller that lays
+/// Lays the upper tree over the lower one as `lay` does, and takes ownership of the lower one, so that a caller that lays
 /// several trees copies none. Fails with 55 `Memory` alone.
 pub fn lay_onto(lower: Tree, upper: &Tree) -> Result<Tree, Memory>
     ensures { IfOk result (λ t. t ≡ lay lower upper.now) }

@@ -1,9 +1,9 @@
-//! One tree laid over another: at each path is what the upper tree has, and else what the lower one has, where no file of the upper one is
-//! above the path. It is built on `llb_tree`, and knows no operation.
+//! Lays one tree over another: each path has what the upper tree has there, and else what the lower one has, if no file of the upper one is
+//! above the path. It is built on `llb_tree`, and knows no op.
 //!
 //! Types: `Memory` (fault 55), the one refusal.
 //! Promise: `lay` returns the laid tree, by one equation on maps. `lay_over` (`ok`, `err`) does so in place, and `lay_onto` onto a tree that is
-//! handed over. Laws say what is at each path, and what a tree over itself or over the empty one is.
+//! handed over. Laws say what is at each path, and what laying a tree over itself or over the empty one results in.
 //!
 //! A caller:
 //!

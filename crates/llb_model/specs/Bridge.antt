@@ -1,7 +1,7 @@
--- The one bridge between two models of caches. llb_cache has rows, a key each with the list of its trees, in the order in which keys were first leased, and
--- leases by number: its callers list keys in that order, and give a lease back by its number. The machine has a store, a map from instances to trees, and what
--- its workers run: on a map, events of different workers give one store in either order, which they don't on rows, since a new key comes last. What is here
--- says which store rows represent, which rows an event leaves, and which leases running workers have.
+-- How the two models of caches are related. llb_cache has rows, each a key with the list of its trees, in the order in which keys were first leased, and it has
+-- leases with numbers: its callers list keys in that order, and give a lease back by its number. The machine has a store, a map from instances to trees, and
+-- what its workers run: events of different workers change a map to the same store in either order; rows would differ, since a new key is put last. This file
+-- says which store rows represent, which rows there are after an event, and which leases running workers have.
 use Rattle.std.specs.Prelude.{◌≡◌, ◌⊎◌, ℕ, ◌+◌, true, List, [], ◌∷◌, ◌++◌, length, map, Option, Some, None, slice_get, slice_set, nat_lt}
 use Rattle.std.specs.Prelude.{if◌then◌else◌}
 use Rattle.std.specs.FinMap as finite
@@ -18,12 +18,12 @@ use Rattle.llb_model.specs.State.{State, Execution, WorkerStatus, Runs, held, pl
 
 -- ---- the store that rows represent
 
--- the store with these trees at the instances of a key, from number n up
+-- the store with these trees put at the instances n, n + 1 and so on of a key
 abbrev pub put_from : Store → Key → ℕ → List TreeMap → Store
 put_from s k n [] = s
 put_from s k n (t ∷ ts) = put (put_from s k (n + 1) ts) (place k n) t
 
--- the keys of some rows have the trees that all rows show of them
+-- a store that has, for each key of the rows in the second list, the trees that this key has in the first
 abbrev pub store_from : List Row → List Row → Store
 store_from all [] = finite.empty
 store_from all (r ∷ rows) = put_from (store_from all rows) r.0 0 (trees_of all r.0)
@@ -34,18 +34,18 @@ store_of rows = store_from rows rows
 
 -- ---- rows after an event
 
--- the rows with these trees in instances that are there
+-- the rows with these trees in place of those of these instances, which all exist
 abbrev pub put_each : List Row → List Instance → List TreeMap → List Row
 put_each rows [] ts = rows
 put_each rows (p ∷ ps) [] = rows
 put_each rows (p ∷ ps) (t ∷ ts) = put_each (cache.put rows p t) ps ts
 
--- the rows after a tree is written to one instance: in place of the tree that is there, or as the next one
+-- the rows after a tree is written to one instance: it replaces the tree of an instance that exists, and is appended as the next instance if there is none
 abbrev pub showing : List Row → Instance → TreeMap → List Row
 showing rows p t =
     with_trees rows p.key (if nat_lt p.number (length (trees_of rows p.key)) then slice_set (trees_of rows p.key) p.number t else trees_of rows p.key ++ t ∷ [])
 
--- the rows after the trees of these instances are written to them from a store
+-- the rows after the tree that a store has for each of these instances is written to it
 abbrev pub written : Store → List Row → List Instance → List Row
 written s rows [] = rows
 written s rows (p ∷ ps) = written s (showing rows p (tree_of s p)) ps
@@ -54,9 +54,9 @@ written s rows (p ∷ ps) = written s (showing rows p (tree_of s p)) ps
 abbrev pub rows_after : List Row → State → ℕ → List Row
 rows_after rows s w = written s.store rows (places_at (slice_get s.workers w))
 
--- ---- what a lease is asked for, and takes
+-- ---- what a lease needs, and which instances it takes
 
--- what a lease is asked for, with the trees of the inputs
+-- the needs of a lease: for each need of a vertex its key, and the tree of the input that a new instance begins with
 abbrev pub asked : List TreeMap → List Need → List cache_need.Need
 asked inputs needs = map (λ (n : Need). record { key = n.key; tree = base_in n.input inputs }) needs
 
@@ -64,13 +64,13 @@ asked inputs needs = map (λ (n : Need). record { key = n.key; tree = base_in n.
 abbrev pub places_taken : Leases → List Need → List Instance
 places_taken out needs = map (λ (n : Need). cache.place_for out n.key) needs
 
--- what a lease of a need adds
+-- what a lease of one need adds to the rows
 abbrev pub growth_for : cache.CachesValue → Need → Growth
 growth_for c n = growth_at c.rows (cache.place_for c.out n.key)
 
 -- ---- the leases of workers
 
--- the leases that are out have what the running workers have
+-- the current leases have exactly the instances that the running workers hold
 pub record HoldsAs (out : Leases) (workers : List WorkerStatus) : Type 0 where
   pub leased : (p : Instance) → Has (held workers) p → is_held out p ≡ true
   pub running : (p : Instance) → is_held out p ≡ true → Has (held workers) p
@@ -79,7 +79,7 @@ pub record HoldsAs (out : Leases) (workers : List WorkerStatus) : Type 0 where
 abbrev pub HasLease : Leases → Option (Option ℕ) → List Instance → Type 0
 HasLease out l ps = ((k : ℕ) × (l ≡ Some (Some k)) × cache.Has out k ps) ⊎ ((l ≡ Some None) × (ps ≡ []))
 
--- each running worker that has instances has a lease of its own of them; and no other lease is out
+-- each running worker that holds instances has a lease of exactly these, and there is no other lease
 pub record AreLeased (out : Leases) (workers : List WorkerStatus) (ls : List (Option ℕ)) : Type 0 where
   pub count : length ls ≡ length workers
   pub has : (w : ℕ) (x : Execution) → slice_get workers w ≡ Some (Runs x) → HasLease out (slice_get ls w) x.places

@@ -22,15 +22,15 @@ is_in ps p = list_any (λ q. eq_by_cmp place_cmp p q) ps
 
 -- ---- contents
 
--- the contents of the caches: the tree of each instance that is there
+-- the contents of the caches: a tree for each instance that exists
 abbrev pub Store : Type 0
 Store = FinMap place_cmp TreeMap
 
--- no cache has an instance
+-- the contents of caches that have no instances
 abbrev pub no_instances : Store
 no_instances = finite.empty
 
--- the tree of an instance, if the instance is there
+-- the tree of an instance, if the instance exists
 unfoldable pub content : Store → Instance → Option TreeMap
 content s p = finite.get s p
 
@@ -38,28 +38,28 @@ content s p = finite.get s p
 unfoldable pub put : Store → Instance → TreeMap → Store
 put s p t = finite.insert s p t
 
--- the contents with one of these trees in each of these instances
+-- the contents after each of these trees is put in the instance at the same position of the list
 abbrev pub put_all : Store → List Instance → List TreeMap → Store
 put_all s [] ts = s
 put_all s (p ∷ ps) [] = s
 put_all s (p ∷ ps) (t ∷ ts) = put_all (put s p t) ps ts
 
--- the tree of an instance; the empty tree for one that is not there
+-- the tree of an instance; the empty tree if the instance does not exist
 abbrev pub tree_of : Store → Instance → TreeMap
 tree_of s p = unwrap_or (content s p) empty_tree
 
--- the trees of these instances; the empty tree for one that is not there
+-- the trees of these instances; the empty tree for each that does not exist
 abbrev pub trees_at : Store → List Instance → List TreeMap
 trees_at s ps = map (λ p. unwrap_or (content s p) empty_tree) ps
 
--- the instances hold these trees
+-- each of these instances has the tree at the same position of the list
 abbrev pub Hold : Store → List Instance → List TreeMap → Type 0
 Hold s [] [] = Unit {0}
 Hold s [] (t ∷ ts) = ⊥
 Hold s (p ∷ ps) [] = ⊥
 Hold s (p ∷ ps) (t ∷ ts) = (content s p ≡ Some t) × Hold s ps ts
 
--- ---- lists
+-- ---- lists, of any type
 
 -- p is one of the items of a list
 abbrev pub Has : {A : Type 0} → List A → A → Type 0

@@ -1,4 +1,4 @@
--- The code of a store, with which a type whose value has a store can be compared by its value.
+-- Stores as plain values (pairs, numbers, lists), so that a type whose contract value has a store can be compared by that value.
 use Rattle.std.specs.Prelude.{◌≡◌, ℕ, zero, suc, List, Option, Some, None, refl}
 use Rattle.std.specs.FinMap as finite
 use Rattle.std.specs.Coded.{Coded, code_by, coded×, coded_ℕ, coded_list, coded_option}
@@ -9,13 +9,13 @@ use Rattle.llb_cache.specs.KeyOrder.{mode_place}
 use Rattle.llb_tree.specs.Coded.{coded_tree}
 use Rattle.llb_model.specs.Caches.{Instance, Store}
 
--- the mode at a position among the modes
+-- the mode that has this number in the list of modes
 abbrev pub mode_at : ℕ → Mode
 mode_at zero = Shared
 mode_at (suc zero) = Private
 mode_at (suc (suc n)) = Locked
 
--- an instance as the numbers and texts in it
+-- an instance as pairs of the numbers and texts in it
 abbrev pub Packed : Type 0
 Packed = (ℕ × ℕ) × (List ℕ × Option (List ℕ × ℕ))
 
@@ -33,7 +33,7 @@ unpacked_seed (Some p) = Some (record { digest = p.0; index = p.1 })
 abbrev pub packed : Instance → Packed
 packed p = ((p.number, mode_place p.key.mode), (p.key.id, packed_seed p.key.seed))
 
--- the instance of pairs
+-- the instance that these pairs were made from
 abbrev pub unpacked : Packed → Instance
 unpacked p = record { number = p.0.0; key = record { id = p.1.0; seed = unpacked_seed p.1.1; mode = mode_at p.0.1 } }
 
@@ -49,11 +49,11 @@ seed_back (Some s) = refl
 pub unpacked-packed : (p : Instance) → unpacked (packed p) ≡ p
 unpacked-packed p = λ i. record { number = p.number; key = record { id = p.key.id; seed = seed_back p.key.seed i; mode = mode_back p.key.mode i } }
 
--- instances have a code, by which they are looked up
+-- instances can be turned into pairs and back
 abbrev pub coded_place : Coded Instance
 coded_place = code_by Packed
     (coded× (coded× coded_ℕ coded_ℕ) (coded× (coded_list coded_ℕ) (coded_option (coded× (coded_list coded_ℕ) coded_ℕ)))) packed unpacked unpacked-packed
 
--- so have stores
+-- stores can be turned into plain values and back
 abbrev pub coded_store : Coded Store
 coded_store = finite.code coded_place coded_tree

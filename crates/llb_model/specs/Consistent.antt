@@ -1,4 +1,4 @@
--- What is true of every state that events lead to, for every graph.
+-- What is true of every state that granted events lead to, for every graph.
 use Rattle.std.specs.Prelude.{◌≡◌, ℕ, true, false, List, length, Some, is_some, slice_get}
 use Rattle.llb_loader.specs.declared.graph.Vertex.{Vertex}
 use Rattle.llb_tree.specs.Tree.{TreeMap}
@@ -13,9 +13,9 @@ pub record IsConsistent (b : Build) (s : State) : Type 0 where
   -- a vertex runs exactly if a worker runs it
   pub running : (v w : ℕ) → slice_get s.statuses v ≡ Some (Running w) → (x : Execution) × (slice_get s.workers w ≡ Some (Runs x)) × (x.vertex ≡ v)
   pub working : (w : ℕ) (x : Execution) → slice_get s.workers w ≡ Some (Runs x) → slice_get s.statuses x.vertex ≡ Some (Running w)
-  -- what is done has as many trees as outputs
+  -- a vertex that is Done has as many trees as it has outputs
   pub outputs : (v : ℕ) (x : Vertex) (trees : List TreeMap) → slice_get b.graph.vertices v ≡ Some x
       → slice_get s.statuses v ≡ Some (Settled (Done trees)) → length trees ≡ x.outputs
-  -- what does not wait has all its inputs
+  -- all inputs are there for a vertex that does not wait
   pub inputs : (v : ℕ) (x : Vertex) → slice_get b.graph.vertices v ≡ Some x → is_waiting (slice_get s.statuses v) ≡ false
       → is_some (inputs_from (ending_at s.statuses) x.inputs) ≡ true

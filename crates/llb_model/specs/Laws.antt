@@ -1,4 +1,4 @@
--- What holds over whole runs, in which executions share caches.
+-- What holds over whole runs, also if executions share caches.
 use Rattle.std.specs.Prelude.{◌≡◌, ◌≢◌, ◌<◌, ℕ, zero, suc, ◌+◌, ◌-◌, ◌==◌, nat_le, Bool, true, false, not, ◌&&◌, ◌||◌, List, [], ◌∷◌, length, map, drop}
 use Rattle.std.specs.Prelude.{Option, Some, None, is_some, option_map, unwrap_or, slice_get, if◌then◌else◌}
 use Rattle.llb_cache.specs.declared.key.Key.{Key}
@@ -33,27 +33,27 @@ pub record IsReached (b : Build) (s : State) : Type 0 where
 
 -- ---- the caches of a graph
 
--- no vertex shows one key twice
+-- no vertex mounts two caches with the same key
 abbrev pub HasDistinctNeeds : Build → Type 0
 HasDistinctNeeds b = (k : ℕ) (v : Vertex) → slice_get b.graph.vertices k ≡ Some v → Distinct (map key_of (needs_of v))
 
--- no vertex shows a cache
+-- no vertex mounts a cache
 abbrev pub HasNoCaches : Build → Type 0
 HasNoCaches b = (k : ℕ) (v : Vertex) → slice_get b.graph.vertices k ≡ Some v → has_cache v ≡ false
 
--- no cache is shown in shared mode
+-- no vertex mounts a cache in shared mode
 abbrev pub NoShared : Build → Type 0
 NoShared b = (k : ℕ) (v : Vertex) → slice_get b.graph.vertices k ≡ Some v → (n : Need) → Has (needs_of v) n → IsExclusive n.key.mode
 
 -- ---- exclusive instances
 
--- two running workers that hold one instance, exclusively, are one worker
+-- two running workers that hold one instance exclusively are the same worker
 abbrev pub IsHeldOnce : Build → Type 0
 IsHeldOnce b = (s : State) → IsReached b s → (w u : ℕ) (x y : Execution) (p : Instance) → slice_get s.workers w ≡ Some (Runs x)
     → slice_get s.workers u ≡ Some (Runs y)
     → Has x.places p → Has y.places p → IsExclusive p.key.mode → w ≡ u
 
--- two running workers with one locked key are one worker
+-- two running workers that hold instances of one locked key are the same worker
 abbrev pub IsLockedOnce : Build → Type 0
 IsLockedOnce b = (s : State) → IsReached b s → (w u : ℕ) (x y : Execution) (p q : Instance) → slice_get s.workers w ≡ Some (Runs x)
     → slice_get s.workers u ≡ Some (Runs y)
@@ -65,36 +65,36 @@ OthersKeep b = (s t : State) (e : Event) (r : Reply) → IsReached b s → table
     → slice_get s.workers w ≡ Some (Runs x)
     → Has x.places p → IsExclusive p.key.mode → worker_of e ≢ w → content t.store p ≡ content s.store p
 
--- another tree in one instance
+-- the state with another tree in one instance
 abbrev pub with_content : Instance → TreeMap → State → State
 with_content p t s = record s { store = put s.store p t }
 
--- a state and a reply, with another tree in an instance of the state
+-- a state and a reply, in which one instance has another tree
 abbrev pub with_content_after : Instance → TreeMap → State × Reply → State × Reply
 with_content_after p t a = (with_content p t a.0, a.1)
 
--- nor does such an event read it: the event has the same reply, and the same effect elsewhere, whatever tree is there
+-- nor does such an event read that instance: it has the same reply and the same effect elsewhere, whatever tree the instance has
 abbrev pub OthersIgnore : Build → Type 0
 OthersIgnore b = (s : State) (e : Event) (t : TreeMap) → IsReached b s → (w : ℕ) (x : Execution) (p : Instance) → slice_get s.workers w ≡ Some (Runs x)
     → Has x.places p → IsExclusive p.key.mode → worker_of e ≢ w → table b (with_content p t s) e ≡ option_map (with_content_after p t) (table b s e)
 
 -- ---- the claim order
 
--- a run leaves what its claims leave, each vertex run at its claim: whole, or up to its cancel
+-- a run ends in the state that its claim order gives: each vertex is run at its claim, whole, or up to its cancel
 abbrev pub RunsInClaimOrder : Build → Type 0
 RunsInClaimOrder b = (o : Opening) (es : List Event) (rs : List Reply) (s : State) → run b (opening b o) es ≡ Some (s, rs)
     → StandsIn s (order b (at_first b o.store) (claims_in rs))
 
--- each event meets a rule in the state before it
+-- each event meets the condition C in the state before it
 abbrev pub EachIn : (State → Event → Type 0) → Build → State → List Event → Type 0
 EachIn C b s [] = Unit {0}
 EachIn C b s (e ∷ es) = C s e × ((a : State × Reply) → table b s e ≡ Some a → EachIn C b a.0 es)
 
--- e is the event that one driver does next
+-- e is the chosen event of the state
 abbrev pub IsChosen : Build → State → Event → Type 0
 IsChosen b s e = chosen b s ≡ Some e
 
--- each event is the one that a driver chooses
+-- each event is the chosen event of the state before it
 abbrev pub AreChosen : Build → State → List Event → Type 0
 AreChosen b s es = EachIn (IsChosen b) b s es
 
@@ -102,29 +102,29 @@ AreChosen b s es = EachIn (IsChosen b) b s es
 abbrev pub IsAtRest : State → Type 0
 IsAtRest s = (v w : ℕ) → slice_get s.statuses v ≡ Some (Running w) → ⊥
 
--- how one driver leaves the machine: as its claim order does, shared caches included
+-- a run of chosen events ends in the state that its claim order gives, shared caches included
 abbrev pub AloneInClaimOrder : Build → Type 0
 AloneInClaimOrder b = (o : Opening) (es : List Event) (rs : List Reply) (s : State) → run b (opening b o) es ≡ Some (s, rs)
     → AreChosen b (opening b o) es → IsAtRest s
     → (s.statuses ≡ (order b (at_first b o.store) (claims_in rs)).statuses) × (s.store ≡ (order b (at_first b o.store) (claims_in rs)).store)
 
--- ---- the instances of a key are a list
+-- ---- the instances of a key have the numbers 0, 1, 2 and so on
 
--- no number of an instance is left out
+-- the instances of each key are numbered from 0 without gaps
 abbrev pub IsDense : Store → Type 0
 IsDense store = (k : Key) (n : ℕ) → is_some (content store (place k (n + 1))) ≡ true → is_some (content store (place k n)) ≡ true
 
--- if no number of an instance is left out at first, none ever is: what a claim adds comes next
+-- if there are no gaps at the opening, there are none later: a claim adds the next number
 abbrev pub StaysDense : Build → Type 0
 StaysDense b = (o : Opening) (es : List Event) (rs : List Reply) (s : State) → IsDense o.store → run b (opening b o) es ≡ Some (s, rs) → IsDense s.store
 
--- a claim takes the least instance of a private key that no running worker has
+-- for a private key a claim takes the instance with the least number that no running worker holds
 abbrev pub ClaimsLeast : Build → Type 0
 ClaimsLeast b = (s t : State) (w v : ℕ) (vertex : Vertex) (job : Job) → slice_get b.graph.vertices v ≡ Some vertex
     → table b s (Claim w v) ≡ Some (t, Claimed job)
     → (p : Instance) → Has (places_by (needs_of vertex) job.instances) p → (n : ℕ) → n < p.number → IsFree s.workers (place p.key n) → ⊥
 
--- the instances that a running worker holds differ, and each has a tree
+-- the instances that a running worker holds are distinct, and each has a tree
 abbrev pub HeldAreThere : Build → Type 0
 HeldAreThere b = (s : State) → IsReached b s → (w : ℕ) (x : Execution) → slice_get s.workers w ≡ Some (Runs x)
     → Distinct x.places × ((trees : List TreeMap) × Hold s.store x.places trees)
@@ -135,23 +135,23 @@ HeldAreThere b = (s : State) → IsReached b s → (w : ℕ) (x : Execution) →
 abbrev pub at_start : List Shown → List ℕ → List TreeMap → Work
 at_start mounts caches trees = record { own = Mounted mounts caches 0; trees = trees }
 
--- the last command that ran, if this one is number k and another one was the last before it
+-- the number of the last command that ran, after command k: k if it runs, else the number from before it (`last` is the last status then)
 abbrev pub later_ran : ℕ → Option Joined → ℕ → ℕ → ℕ
 later_ran k None last before = before
 later_ran k (Some c) last before = if is_run c.join last then k else before
 
--- the last command that ran among the first k
+-- the number of the last command that ran among the first k; 0 if there are none
 abbrev pub last_ran : Setting → List Joined → Work → ℕ → ℕ
 last_ran setting cs work zero = 0
 last_ran setting cs work (suc k) =
     later_ran k (slice_get cs k) (last_of (part (runs_of setting cs) work k).work.own) (last_ran setting cs work k)
 
--- the fault of an exec whose last command that ran is c
+-- the fault of an exec whose last command that ran is command c, with status `last`; no fault for status 0
 abbrev pub fault_of : ℕ → ℕ → Option VertexFault
 fault_of c last = if last == 0 then None else Some (fault.Exit c last)
 
--- the state of an exec after k micro-steps: it is finished after its last one, or if the last status is not 0 and every later command is
--- joined by And; and then its fault is that of the last command that ran, exactly if its status is not 0
+-- an exec after k micro-steps: it is finished if all its commands are done, or if the last status is not 0 and every later command is
+-- joined by And; and when it is finished it has failed exactly if the last status is not 0, with the command that ran last
 pub record EndsByLastStatus (setting : Setting) (cs : List Joined) (work : Work) (k : ℕ) : Type 0 where
   pub finished : is_over (runs_of setting cs) k (part (runs_of setting cs) work k)
       ≡ (nat_le (length cs) k || (not (last_of (part (runs_of setting cs) work k).work.own == 0) && all_and (drop k cs)))
@@ -163,45 +163,45 @@ abbrev pub FailsByLastStatus : Type 0
 FailsByLastStatus = (setting : Setting) (cs : List Joined) (mounts : List Shown) (caches : List ℕ) (trees : List TreeMap) (k : ℕ)
     → EndsByLastStatus setting cs (at_start mounts caches trees) k
 
--- the state of a worker that runs an exec: it is finished after its last micro-step, or if the last status is not 0 and every later
--- command is joined by And; and then it has failed exactly if the last status is not 0, by the micro-step that it did last
+-- a worker that runs an exec: it is finished if all its micro-steps are done, or if the last status is not 0 and every later
+-- command is joined by And; and when it is finished it has failed exactly if the last status is not 0, with the command that it ran last
 pub record StandsByLastStatus (cs : List Joined) (steps : List MicroStep) (x : Execution) : Type 0 where
   pub finished : is_finished steps x ≡ (nat_le (length cs) x.done || (not (last_of x.own == 0) && all_and (drop x.done cs)))
   pub fails : is_finished steps x ≡ true → x.fault ≡ fault_of (x.done - 1) (last_of x.own)
 
--- this holds for every worker, whatever others do to shared instances meanwhile
+-- `StandsByLastStatus` holds for every worker that runs an exec, whatever others do to shared instances meanwhile
 abbrev pub ExecsEndByLastStatus : Build → Type 0
 ExecsEndByLastStatus b = (s : State) → IsReached b s → (w : ℕ) (x : Execution) (v : Vertex) (e : ExecOp) → slice_get s.workers w ≡ Some (Runs x)
     → slice_get b.graph.vertices x.vertex ≡ Some v → v.op.kind ≡ Some (kind.Exec e)
     → StandsByLastStatus (unwrap_or v.script []) (program_in b x).steps x
 
--- a script of `&&` alone: its first command runs, and each other one is joined by And
+-- all commands of a script but the first are joined by And, and the first one runs
 abbrev pub are_ands : List Joined → Bool
 are_ands [] = true
 are_ands (c ∷ cs) = is_run c.join 0 && all_and cs
 
--- a command that runs whatever the last status is, and whose own status, if it is not 0, is the exec's fault
+-- the micro-step of a command that runs whatever the last status is; a status other than 0 is the exec's fault at once
 abbrev pub in_turn : Setting → Joined → MicroStep
 in_turn setting c = Run setting (record { join = Then; command = c.command }) true
 
--- the commands of such a script run one after the other, none of them skipped, and the first with a status other than 0 is the exec's fault
+-- the commands of a script joined by And run one after another, none is skipped, and the first with a status other than 0 is the exec's fault
 pub record RunsInTurn (setting : Setting) (cs : List Joined) (work : Work) (k : ℕ) : Type 0 where
   pub leaves : part (runs_of setting cs) work k ≡ part (map (in_turn setting) cs) work k
   pub runs : (c : Joined) → (part (runs_of setting cs) work k).fault ≡ None → slice_get cs k ≡ Some c
       → is_run c.join (last_of (part (runs_of setting cs) work k).work.own) ≡ true
 
--- commands joined by && run in turn
+-- commands joined by `&&` run one after another, up to the first with a status other than 0
 abbrev pub AndsRunInTurn : Type 0
 AndsRunInTurn = (setting : Setting) (cs : List Joined) (mounts : List Shown) (caches : List ℕ) (trees : List TreeMap) (k : ℕ)
     → are_ands cs ≡ true → RunsInTurn setting cs (at_start mounts caches trees) k
 
 -- ---- views
 
--- nothing is lost between two commands: the view with the caches is again what the first left
+-- nothing is lost between two commands: the caches taken out of a view and put back give the same view
 abbrev pub PartsMeet : Type 0
 PartsMeet = (ms : List ℕ) (trees : List TreeMap) (mounts : List Shown) → Distinct ms → length trees ≡ length ms
     → filled (blanked mounts ms trees) ms (taken mounts ms trees) ≡ mounts
 
--- and there are as many trees as before
+-- as many trees are taken out as were put in
 abbrev pub PartsCount : Type 0
 PartsCount = (ms : List ℕ) (trees : List TreeMap) (mounts : List Shown) → length (taken mounts ms trees) ≡ length trees

@@ -1,4 +1,4 @@
--- The claim order: each claimed vertex is run at its claim, one after the other: whole, or as far as it came if the claim was cancelled.
+-- The claim order: claims done one after another, each with the whole work of its vertex, or with as many micro-steps as were done before its cancel.
 use Rattle.std.specs.Prelude.{◌≡◌, ℕ, ◌==◌, List, [], ◌∷◌, length, Option, Some, None, slice_get, slice_set, replicate, if◌then◌else◌}
 use Rattle.llb_model.specs.Caches.{Instance, Store, content, put_all}
 use Rattle.llb_model.specs.Program.{Build, MicroStep, Program, Work, Left, Start, program_of, needs_of, part, whole}
@@ -8,7 +8,7 @@ use Rattle.llb_events.specs.declared.event.Settled.TheVariants as ended
 use Rattle.llb_model.specs.Table.{HasStepped, HasSettled, HasCancelled}
 use Rattle.llb_model.specs.Table.{Reply, Claimed}
 
--- a state in which nothing runs: the statuses of vertices, and the contents of the caches
+-- a state in which no vertex runs: the statuses of the vertices, and the contents of the caches
 pub record Order : Type 0 where
   pub statuses : List Status
   pub store : Store
@@ -19,7 +19,7 @@ at_first b store = record { statuses = replicate (length b.graph.vertices) Waiti
 
 -- ---- how claims end
 
--- how a claim of a vertex ends, by the replies after it: if it is cancelled, after how many micro-steps
+-- how the claim of a vertex ends, by the replies after it: `Some k` if it is cancelled after k micro-steps, else `None`
 abbrev pub cut_in : ℕ → List Reply → Option ℕ
 cut_in v [] = None
 cut_in v (Claimed job ∷ rs) = cut_in v rs
@@ -28,52 +28,52 @@ cut_in v (HasSettled (ended.Done u) ∷ rs) = if u == v then None else cut_in v 
 cut_in v (HasSettled (ended.Failed u) ∷ rs) = if u == v then None else cut_in v rs
 cut_in v (HasCancelled r ∷ rs) = if r.vertex == v then Some r.done else cut_in v rs
 
--- a vertex, with the numbers of the instances that its claim names, and if the claim was cancelled how many micro-steps were done
+-- a claim: the vertex, the numbers of the instances that it takes, and, if it is cancelled, how many micro-steps are done before
 pub record Named : Type 0 where
   pub vertex : ℕ
   pub instances : List ℕ
   pub cut : Option ℕ
 
--- a claim of a vertex on instances of these numbers, whole or cut
+-- the claim with these fields
 abbrev pub named : ℕ → List ℕ → Option ℕ → Named
 named v numbers cut = record { vertex = v; instances = numbers; cut = cut }
 
--- what a claim does of a program: the whole of it, or as many micro-steps as were done
+-- what is made of the work at a claim: by all micro-steps, or by the first k if the claim is cancelled
 abbrev pub done_of : Option ℕ → List MicroStep → Work → Left
 done_of None steps work = whole steps work
 done_of (Some k) steps work = part steps work k
 
--- the status of the vertex after its claim: it has ended, or waits again
+-- the status of the vertex after its claim: settled, or waiting again after a cancel
 abbrev pub stands_after : Option ℕ → Program → Left → Status
 stands_after None p left = Settled (ending p left)
 stands_after (Some k) p left = Waiting
 
 -- ---- the order
 
--- the vertex gets that status, and the trees are written back
+-- the state after the vertex gets this status and these trees are written back to its instances
 abbrev pub left_by : Order → ℕ → List Instance → Program → Option ℕ → Left → Order
 left_by o v ps p cut left = record { statuses = slice_set o.statuses v (stands_after cut p left); store = put_all o.store ps left.work.trees }
 
--- what the claim does, on the trees of the inputs and those of the instances
+-- the state after the work of a claim, which begins with the trees of the inputs and of the instances
 abbrev pub whole_at : Build → Order → ℕ → Start → List Instance → Option ℕ → Order
 whole_at b o v start ps cut =
     left_by o v ps (program_of start.vertex) cut (done_of cut (program_of start.vertex).steps (begin_at b o.store start ps))
 
--- the state after a claim, if its inputs are there
+-- the state after a claim if the trees of its inputs are given; else the state is unchanged
 abbrev pub run_whole : Build → Order → Named → Option Start → Order
 run_whole b o c None = o
 run_whole b o c (Some start) = whole_at b o c.vertex start (places_by (needs_of start.vertex) c.instances) c.cut
 
--- the state after a claim
+-- the state after one claim and its work
 abbrev pub after_whole : Build → Order → Named → Order
 after_whole b o c = run_whole b o c (ready b o.statuses c.vertex)
 
--- the state after these claims, in their order
+-- the state after these claims and their work, one after another
 abbrev pub order : Build → Order → List Named → Order
 order b o [] = o
 order b o (c ∷ cs) = order b (after_whole b o c) cs
 
--- the claims among replies, each with how it ends
+-- the claims among some replies, each with how it ends
 abbrev pub claims_in : List Reply → List Named
 claims_in [] = []
 claims_in (Claimed job ∷ rs) = named job.vertex job.instances (cut_in job.vertex rs) ∷ claims_in rs
@@ -81,7 +81,7 @@ claims_in (HasStepped r ∷ rs) = claims_in rs
 claims_in (HasSettled r ∷ rs) = claims_in rs
 claims_in (HasCancelled r ∷ rs) = claims_in rs
 
--- the settled vertices and the free instances of a state are those of a state of the claim order
+-- each settled vertex and each instance that nobody holds is in the state as it is in the state of the claim order
 pub record StandsIn (s : State) (o : Order) : Type 0 where
   pub endings : (v : ℕ) (e : Ending) → slice_get s.statuses v ≡ Some (Settled e) → slice_get o.statuses v ≡ Some (Settled e)
   pub contents : (p : Instance) → IsFree s.workers p → content s.store p ≡ content o.store p

@@ -13,17 +13,17 @@ pub data Ending : Type 0 where
   Done : List TreeMap → Ending
   Failed : VertexFault → Ending
 
--- what the graph alone makes of a vertex: an end, or nothing because an input has no tree
+-- what the graph alone makes of a vertex: an ending, or Blocked if an input has no tree
 pub data Outcome : Type 0 where
   Ended : Ending → Outcome
   Blocked : Outcome
 
--- how a program ends: with the outputs of its workspace, or with the fault
+-- how a program ends: with the outputs of its workspace, or with the fault if there is one
 abbrev pub ended : Program → Workspace → Option VertexFault → Ending
 ended p workspace None = Done (outputs_of p workspace)
 ended p workspace (Some f) = Failed f
 
--- how a vertex ends, from what its micro-steps left
+-- how a vertex ends after these results of its micro-steps
 abbrev pub ending : Program → Left → Ending
 ending p left = ended p left.work.own left.fault
 
@@ -33,33 +33,33 @@ output_in (Some (Done trees)) i = slice_get trees i
 output_in (Some (Failed f)) i = None
 output_in None i = None
 
--- one item before a list of items, if both are there
+-- one item put before a list of items, if both exist
 abbrev pub both : {A : Type 0} → Option A → Option (List A) → Option (List A)
 both (Some x) (Some xs) = Some (x ∷ xs)
 both (Some x) None = None
 both None xs = None
 
--- the items of a list, if each of them is there
+-- the items of a list, if none of them is missing
 abbrev pub all_there : {A : Type 0} → List (Option A) → Option (List A)
 all_there [] = Some []
 all_there (o ∷ os) = both o (all_there os)
 
--- the trees that these edges lead to, if each is an output of a vertex that ended done
+-- the trees that these edges lead to, if each edge leads to an output of a vertex that is done
 unfoldable pub inputs_from : (ℕ → Option Ending) → List Edge → Option (List TreeMap)
 inputs_from ending_of edges = all_there (map (λ (e : Edge). output_in (ending_of e.vertex) e.index) edges)
 
--- the outcome of a vertex on the trees of its inputs: Blocked if they are not all there, else what its whole program leaves, with no instances of caches
+-- the outcome of a vertex on the trees of its inputs: Blocked if one is missing, else how its whole program ends, with no instances of caches
 abbrev pub outcome_on : Build → Vertex → Option (List TreeMap) → Outcome
 outcome_on b v None = Blocked
 outcome_on b v (Some trees) = Ended (ending (program_of v) (whole (program_of v).steps (begin b (start_with v trees) [])))
 
--- how a vertex ended, if its outcome is an end
+-- how a vertex ended; nothing if its outcome is Blocked
 abbrev pub ending_in : Option Outcome → Option Ending
 ending_in (Some (Ended e)) = Some e
 ending_in (Some Blocked) = None
 ending_in None = None
 
--- the outcome of a vertex, given those of the vertices with lower numbers, among which are all its inputs
+-- the outcome of a vertex, given the outcomes of all vertices with lower numbers; all its inputs are among those
 abbrev pub next_outcome : Build → List Outcome → Vertex → Outcome
 next_outcome b before v = outcome_on b v (inputs_from (λ k. ending_in (slice_get before k)) v.inputs)
 

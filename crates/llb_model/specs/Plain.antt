@@ -6,11 +6,11 @@ use Rattle.llb_model.specs.Program.{Build, Left, program_of, start_with, begin, 
 use Rattle.llb_model.specs.Outcome.{Ending, Ended, outcome, ending_in, inputs_from, is_plain}
 use Rattle.llb_model.specs.State.{Settled, Execution, Runs, State}
 
--- what an execution that holds no instances has left so far
+-- the result so far of an execution that holds no instances
 abbrev pub left_of : Execution → Left
 left_of x = record { work = record { own = x.own; trees = [] }; fault = x.fault }
 
--- an execution under way has done a part of the vertex's program, on the inputs' plain outcomes, and holds no instances
+-- an execution has done the first micro-steps of its vertex's program, on the plain outcomes of the inputs, and holds no instances
 pub record IsUnderWay (b : Build) (x : Execution) : Type 0 where
   pub vertex : Vertex
   pub trees : List TreeMap
@@ -19,7 +19,7 @@ pub record IsUnderWay (b : Build) (x : Execution) : Type 0 where
   pub so_far : part (program_of vertex).steps (begin b (start_with vertex trees) []) x.done ≡ left_of x
   pub bare : x.places ≡ []
 
--- what is settled and what runs without caches agrees with the plain outcomes
+-- for each plain vertex: if it is settled, it has its plain outcome; if it runs, its first micro-steps were done on plain outcomes
 pub record StandsByOutcomes (b : Build) (s : State) : Type 0 where
   pub settled : (v : ℕ) (e : Ending) → is_plain b v ≡ true → slice_get s.statuses v ≡ Some (Settled e) → outcome b v ≡ Some (Ended e)
   pub working : (w : ℕ) (x : Execution) → is_plain b x.vertex ≡ true → slice_get s.workers w ≡ Some (Runs x) → IsUnderWay b x

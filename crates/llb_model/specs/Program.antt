@@ -1,4 +1,4 @@
--- What a vertex does: its program of micro-steps on a work, and what the first of them leave; and the caches that it needs.
+-- What a vertex does: its program, a list of micro-steps; the work that they change, and what is left after the first k; and the caches that the vertex needs.
 use Rattle.std.specs.Prelude.{ℕ, zero, suc, ◌+◌, ◌==◌, ℤ, pos, negsuc, Bool, true, false, not, List, [], ◌∷◌, ◌++◌, length, map, Option, Some, None}
 use Rattle.std.specs.Prelude.{option_map, unwrap_or, slice_get, Result, Ok, Err, if◌then◌else◌}
 use Rattle.std.specs.List.{list_any, list_all, range_with_len}
@@ -37,7 +37,7 @@ use Rattle.llb_merge.specs.Laying.{lay}
 use Rattle.llb_events.specs.declared.fault.VertexFault.{VertexFault}
 use Rattle.llb_events.specs.declared.fault.VertexFault.TheVariants as fault
 
--- what a run is over: the graph, and the trees of local sources by name
+-- what a run is given: the graph, and the trees of local sources by name
 pub record Build : Type 0 where
   pub graph : Numbered
   pub locals : List Local
@@ -56,21 +56,21 @@ pub record Program : Type 0 where
   pub outputs : ℕ
   pub output_numbers : List ℤ
 
--- what a program has for itself: for a source its local tree; for a file op the trees of its inputs and the results so far; for a merge the trees of its inputs
--- and what is laid so far; for an exec its mounts, the numbers of those that show caches, whose trees are empty here, and the status of the last command that
--- ran, 0 before any has run
+-- what a program works on, but for caches. Source: its local tree. File op: the trees of its inputs and the results so far. Merge: the trees of its inputs
+-- and what is laid so far. Exec: its mounts, the numbers of those that show caches (their trees are empty here), and the status of the last command that
+-- ran, which is 0 before any has run
 pub data Workspace : Type 0 where
   LocalTree : TreeMap → Workspace
   Files : List TreeMap → List TreeMap → Workspace
   Layers : List TreeMap → TreeMap → Workspace
   Mounted : List Shown → List ℕ → ℕ → Workspace
 
--- what micro-steps work on: a workspace of its own, and the trees of the cache instances that it holds, in the order of the needs
+-- all that micro-steps work on: the workspace, and the trees of the cache instances that the vertex holds, in the order of its needs
 pub record Work : Type 0 where
   pub own : Workspace
   pub trees : List TreeMap
 
--- what micro-steps leave: the work, and the first fault if there is one
+-- the result of micro-steps: the work after them, and the first fault if there is one
 pub record Left : Type 0 where
   pub work : Work
   pub fault : Option VertexFault
@@ -84,7 +84,7 @@ pub record Start : Type 0 where
 abbrev pub start_with : Vertex → List TreeMap → Start
 start_with v trees = record { vertex = v; inputs = trees }
 
--- the path that a text reads as, the root if it reads as none; in a graph, each text that must be a path reads as one
+-- the path that a text reads as, the root if it reads as none; in a loaded graph each text that has to be a path reads as one
 abbrev pub path_in : List ℕ → List (List ℕ)
 path_in text = unwrap_or (read_as text) []
 
@@ -104,24 +104,24 @@ key_of n = n.key
 abbrev pub mount_of : Need → ℕ
 mount_of n = n.mount
 
--- the way in which a cache is shared, by its number
+-- the sharing mode of a cache, by its number in the message
 abbrev pub mode_of : ℤ → Mode
 mode_of n = if int_eq n (pos 1) then Private else if int_eq n (pos 2) then Locked else Shared
 
--- the index of an output; those of a graph are at least 0
+-- an integer as the index of an output; in a loaded graph it is not negative
 abbrev pub index_of : ℤ → ℕ
 index_of (pos n) = n
 index_of (negsuc n) = 0
 
--- a seed with its index as a natural number
+-- a seed of the loader with its index as a natural number
 abbrev pub seed_as : mounts.Seed → Seed
 seed_as s = record { digest = s.digest; index = index_of s.index }
 
--- the key of a cache, from what its mount says
+-- the key of a cache, as its mount names it
 abbrev pub key_as : CacheKey → Key
 key_as k = record { id = k.id; seed = option_map seed_as k.seed; mode = mode_of k.mode }
 
--- the need of mount i, if it shows a cache, before the needs of the mounts after it
+-- the need of mount i, if the mount shows a cache, put before the needs of the mounts after it
 abbrev pub with_need : ℕ → Mount → Option CacheKey → List Need → List Need
 with_need i m (Some k) needs = record { mount = i; key = key_as k; input = m.input } ∷ needs
 with_need i m None needs = needs
@@ -141,7 +141,7 @@ has_cache v = list_any (has_type cache) (kind_mounts v.op.kind)
 
 -- ---- programs
 
--- where an exec's commands run: its `cwd` and its `env`; every exec of a graph has a meta
+-- where an exec's commands run: its `cwd` and its `env`; every exec of a loaded graph has a meta
 abbrev pub setting_of : Option Meta → Setting
 setting_of (Some m) = record { cwd = path_in m.cwd; env = m.env }
 setting_of None = record { cwd = []; env = [] }
@@ -184,12 +184,12 @@ program_at None = record { steps = []; outputs = 0; output_numbers = [] }
 abbrev pub local_tree : List Local → Vertex → TreeMap
 local_tree locals v = unwrap_or (tree_of_local locals (unwrap_or (local_name v.op) [])) empty_tree
 
--- a tree by its number among those of an op's inputs and the results of earlier actions; -1 is the empty tree
+-- the tree of this number among the trees of an op's inputs and the results of its earlier actions; -1 is the empty tree
 abbrev pub base_in : ℤ → List TreeMap → TreeMap
 base_in (pos n) trees = unwrap_or (slice_get trees n) empty_tree
 base_in (negsuc n) trees = empty_tree
 
--- the tree that a mount shows at first: a bind mount shows its input's, any other the empty tree
+-- the tree that a mount shows at first: for a bind mount that of its input, for any other mount the empty tree
 abbrev pub tree_shown : List TreeMap → Mount → TreeMap
 tree_shown inputs m = if has_type bind m then base_in m.input inputs else empty_tree
 
@@ -197,7 +197,7 @@ tree_shown inputs m = if has_type bind m then base_in m.input inputs else empty_
 abbrev pub selector_of : Mount → List (List ℕ)
 selector_of m = if has_type tmpfs m then [] else path_in m.selector
 
--- a mount as an exec's workspace has it before the first micro-step
+-- a mount in the workspace of an exec before its first micro-step
 abbrev pub shown_of : List TreeMap → Mount → Shown
 shown_of inputs m = record { dest = path_in m.dest; selector = selector_of m; readonly = m.readonly; tree = tree_shown inputs m }
 
@@ -231,30 +231,30 @@ fault_number (act_fault.File f) = tree_fault_number f
 fault_number act_fault.BadPattern = 52
 fault_number act_fault.Memory = 53
 
--- the trees that actions can begin with, by number: those of the inputs, then the results so far
+-- the trees that an action can begin with, by number: those of the inputs, then the results so far
 abbrev pub trees_in : Workspace → List TreeMap
 trees_in (Files inputs results) = inputs ++ results
 trees_in (LocalTree t) = []
 trees_in (Layers inputs t) = inputs
 trees_in (Mounted mounts caches last) = []
 
--- the workspace of a file op with one result more
+-- the workspace of a file op after one more result is appended
 abbrev pub with_tree : Workspace → TreeMap → Workspace
 with_tree (Files inputs results) t = Files inputs (results ++ t ∷ [])
 with_tree (LocalTree own) t = LocalTree own
 with_tree (Layers inputs laid) t = Layers inputs laid
 with_tree (Mounted mounts caches last) t = Mounted mounts caches last
 
--- the workspace of a file op after action a made this result, or the action's fault as the vertex's
+-- the workspace of a file op after the result of action a, or the action's fault as that of the vertex
 abbrev pub with_result : ℕ → Workspace → Result TreeMap ActFault → Result Workspace VertexFault
 with_result a workspace (Ok t) = Ok (with_tree workspace t)
 with_result a workspace (Err f) = Err (fault.Action a (fault_number f))
 
--- the tree that an action makes of one of the trees so far; a copy reads a second one of them
+-- the tree that an action makes of the tree it begins with; a copy reads a second tree
 abbrev pub act_among : Action → List TreeMap → Result TreeMap ActFault
 act_among action trees = act action.kind (base_in action.input trees) (base_in action.secondary_input trees)
 
--- the workspace after action a, or its fault
+-- the workspace after action a, or the action's fault
 abbrev pub act_on : ℕ → Action → Workspace → Result Workspace VertexFault
 act_on a action workspace = with_result a workspace (act_among action (trees_in workspace))
 
@@ -265,23 +265,23 @@ lay_on i (LocalTree t) = LocalTree t
 lay_on i (Files inputs results) = Files inputs results
 lay_on i (Mounted mounts caches last) = Mounted mounts caches last
 
--- the mounts, of which those with these numbers show these trees instead of their own
+-- the mounts after those with these numbers get these trees
 abbrev pub filled : List Shown → List ℕ → List TreeMap → List Shown
 filled mounts [] trees = mounts
 filled mounts (m ∷ ms) [] = mounts
 filled mounts (m ∷ ms) (t ∷ trees) = filled (with_tree_of mounts m t) ms trees
 
--- the trees that the mounts with these numbers show; one for each of the trees before
+-- the trees that the mounts with these numbers show, as many as `trees` has
 abbrev pub taken : List Shown → List ℕ → List TreeMap → List TreeMap
 taken mounts ms [] = []
 taken mounts [] (t ∷ trees) = t ∷ trees
 taken mounts (m ∷ ms) (t ∷ trees) = (mount_at mounts m).tree ∷ taken mounts ms trees
 
--- the mounts, of which those with these numbers show the empty tree
+-- the mounts after those with these numbers get the empty tree
 abbrev pub blanked : List Shown → List ℕ → List TreeMap → List Shown
 blanked mounts ms trees = filled mounts ms (map (λ t. empty_tree) trees)
 
--- the view that a command with status 0 leaves, parted into its own trees and those of the caches
+-- the view after a command with status 0, split into the mounts (which show the empty tree where they show a cache) and the trees of the caches
 abbrev pub parted : List ℕ → List TreeMap → List Shown → Work
 parted caches trees mounts = record { own = Mounted (blanked mounts caches trees) caches 0; trees = taken mounts caches trees }
 
@@ -298,11 +298,11 @@ is_run Then last = true
 is_run And last = last == 0
 is_run Or last = not (last == 0)
 
--- a work, with no fault
+-- what a micro-step without a fault leaves: this work
 abbrev pub no_fault : Work → Left
 no_fault work = record { work = work; fault = None }
 
--- the work after a command ran: if it left a view, the mounts and the caches that this has, else those before it; its status is now the last one
+-- the work after a command ran: its view if it left one, else the mounts and the caches from before it; its status is the last status now
 abbrev pub after_run : List Shown → List ℕ → List TreeMap → Option (List Shown) → Work
 after_run mounts caches trees (Some after) = parted caches trees after
 after_run mounts caches trees None = record { own = Mounted mounts caches (status_of None); trees = trees }
@@ -311,11 +311,11 @@ after_run mounts caches trees None = record { own = Mounted mounts caches (statu
 abbrev pub exit_of : ℕ → Bool → ℕ → Option VertexFault
 exit_of c ends status = if status == 0 then None else (if ends then Some (fault.Exit c status) else None)
 
--- what command c leaves after it ran: the work, and the exec's fault if there is one
+-- the result of command c after it ran: the work, and the exec's fault if there is one
 abbrev pub ran : ℕ → Bool → List Shown → List ℕ → List TreeMap → Option (List Shown) → Left
 ran c ends mounts caches trees after = record { work = after_run mounts caches trees after; fault = exit_of c ends (status_of after) }
 
--- what command c leaves; it sees the caches as they are now, and a skipped command changes nothing
+-- the result of command c; it sees the caches as they are now, and if it is skipped it changes nothing
 abbrev pub run_on : ℕ → Setting → Joined → Bool → Workspace → List TreeMap → Left
 run_on c setting command ends (Mounted mounts caches last) trees =
     if is_run command.join last then ran c ends mounts caches trees (run setting (filled mounts caches trees) command.command)
@@ -324,38 +324,38 @@ run_on c setting command ends (LocalTree t) trees = no_fault (record { own = Loc
 run_on c setting command ends (Files inputs results) trees = no_fault (record { own = Files inputs results; trees = trees })
 run_on c setting command ends (Layers inputs t) trees = no_fault (record { own = Layers inputs t; trees = trees })
 
--- what an action leaves: the new workspace, or the work unchanged and the fault
+-- the result of an action: the new workspace, or the work unchanged and the fault
 abbrev pub tried : Work → Result Workspace VertexFault → Left
 tried work (Ok workspace) = no_fault (record work { own = workspace })
 tried work (Err f) = record { work = work; fault = Some f }
 
--- the work after micro-step k, and its fault, if it has one
+-- the result of micro-step k: the work after it, and its fault if it has one
 unfoldable pub micro_step : ℕ → MicroStep → Work → Left
 micro_step k ReadLocal work = no_fault work
 micro_step k (Act action) work = tried work (act_on k action work.own)
 micro_step k (LayInput i) work = no_fault (record work { own = lay_on i work.own })
 micro_step k (Run setting command ends) work = run_on k setting command ends work.own work.trees
 
--- what micro-step k leaves of a work, if there is one; else the work unchanged
+-- the result of micro-step k if there is one; else the work unchanged
 abbrev pub step_on : ℕ → Option MicroStep → Work → Left
 step_on k None work = no_fault work
 step_on k (Some m) work = micro_step k m work
 
--- what is left if there was a fault, or else what comes next
+-- the earlier result if it has a fault, else the next one
 abbrev pub unless_faulted : Option VertexFault → Left → Left → Left
 unless_faulted None left next = next
 unless_faulted (Some f) left next = left
 
--- what one more micro-step leaves; none is done after a fault
+-- the result after one more micro-step; none is done after a fault
 abbrev pub go_on : List MicroStep → ℕ → Left → Left
 go_on steps k left = unless_faulted left.fault left (step_on k (slice_get steps k) left.work)
 
--- what the first k micro-steps leave of a work, and their first fault
+-- the result of the first k micro-steps of a work: the work after them, and their first fault
 unfoldable pub part : List MicroStep → Work → ℕ → Left
 part steps work zero = record { work = work; fault = None }
 part steps work (suc k) = go_on steps k (part steps work k)
 
--- what all micro-steps leave of a work, and their first fault
+-- the result of all micro-steps of a work
 abbrev pub whole : List MicroStep → Work → Left
 whole steps work = part steps work (length steps)
 
@@ -379,8 +379,8 @@ tree_for i [] mounts = empty_tree
 tree_for i (n ∷ numbers) [] = empty_tree
 tree_for i (n ∷ numbers) (m ∷ mounts) = if is_output i n then m.tree else tree_for i numbers mounts
 
--- output i of a workspace: for a file op the result of the action with that output number; for a source what is read, and for a merge what is laid, as their
--- one output; for an exec the tree of the mount with that output number
+-- output i of a program after all its micro-steps. File op: the result of the action with that output number. Source: the tree that is read. Merge: the tree
+-- that is laid. Exec: the whole tree of the mount with that output number.
 abbrev pub output_from : Program → Workspace → ℕ → TreeMap
 output_from p (Files inputs results) i = result_for i p.steps results
 output_from p (LocalTree t) zero = t
@@ -389,6 +389,6 @@ output_from p (Layers inputs t) zero = t
 output_from p (Layers inputs t) (suc i) = empty_tree
 output_from p (Mounted mounts caches last) i = tree_for i p.output_numbers mounts
 
--- the outputs of a program, from the workspace that all micro-steps leave
+-- the outputs of a program, by the workspace after all its micro-steps
 unfoldable pub outputs_of : Program → Workspace → List TreeMap
 outputs_of p workspace = map (output_from p workspace) (range_with_len 0 p.outputs)

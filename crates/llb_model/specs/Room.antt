@@ -1,4 +1,4 @@
--- How many events may still come, and how many a whole run can have.
+-- How many events can still come, how many a whole run can have, and how much room its record needs.
 use Rattle.std.specs.Prelude.{ℕ, zero, suc, ◌+◌, ◌-◌, ◌*◌, ◌==◌, Bool, false, List, [], ◌∷◌, length, count_by, Option, Some, None, slice_get}
 use Rattle.llb_loader.specs.declared.graph.Vertex.{Vertex}
 use Rattle.llb_model.specs.Program.{Build, program_of}
@@ -32,7 +32,7 @@ counts_from k (v ∷ vs) rs = cancels_in k rs ∷ counts_from (k + 1) vs rs
 abbrev pub cancel_counts : Build → List Reply → List ℕ
 cancel_counts b rs = counts_from 0 b.graph.vertices rs
 
--- the most events of a run: those of each vertex, once and once more for each time that it was cancelled
+-- the most events of a run for the vertices from number k up: those of each vertex once, and once more for each of its cancels
 abbrev pub most_from : ℕ → List Vertex → List Reply → ℕ
 most_from k [] rs = 0
 most_from k (v ∷ vs) rs = events_of v * (1 + cancels_in k rs) + most_from (k + 1) vs rs
@@ -67,31 +67,31 @@ all_left b (a ∷ workers) = left_by b a + all_left b workers
 abbrev pub still_to_come : Build → State → ℕ
 still_to_come b s = all_to_come b.graph.vertices s.statuses + all_left b s.workers
 
--- ---- room
+-- ---- room in the record
 
--- the room that the next claim of a vertex will take: only one that waits after a cancel takes any
+-- the room in the record that the next claim of a vertex reserves: only a vertex that waits after a cancel needs more
 abbrev pub owed_by : Vertex → Status → ℕ → ℕ
 owed_by v Waiting zero = 0
 owed_by v Waiting (suc n) = events_of v
 owed_by v (Running w) n = 0
 owed_by v (Settled e) n = 0
 
--- the same for the vertices from number k up
+-- that room, summed up over the vertices from number k up
 abbrev pub owed_from : ℕ → List Vertex → List Status → List Reply → ℕ
 owed_from k [] statuses rs = 0
 owed_from k (v ∷ vs) [] rs = 0
 owed_from k (v ∷ vs) (s ∷ statuses) rs = owed_by v s (cancels_in k rs) + owed_from (k + 1) vs statuses rs
 
--- the room that the next claims of all vertices will take
+-- the room that the next claims of all vertices reserve
 abbrev pub owed : Build → List Status → List Reply → ℕ
 owed b statuses rs = owed_from 0 b.graph.vertices statuses rs
 
--- the room that the claim of a vertex takes that was cancelled n times
+-- the room that is reserved for the claim of a waiting vertex that was cancelled n times
 abbrev pub owed_at : Option Vertex → ℕ → ℕ
 owed_at None n = 0
 owed_at (Some v) n = owed_by v Waiting n
 
--- the room that an event takes, after these replies: only the claim of a vertex that was cancelled takes any
+-- the room that an event reserves, after these replies: only the claim of a vertex that was cancelled reserves any
 abbrev pub room_taken : Build → List Reply → Event → ℕ
 room_taken b rs (Claim w v) = owed_at (slice_get b.graph.vertices v) (cancels_in v rs)
 room_taken b rs (Step w) = 0

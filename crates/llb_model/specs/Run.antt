@@ -1,4 +1,4 @@
--- Whole runs: the fold of the table over events; the event that a driver chooses; when all is done.
+-- Whole runs: the table applied to a list of events, one after another; the chosen event; and when a run is complete.
 use Rattle.std.specs.Prelude.{◌≡◌, ℕ, zero, suc, ◌+◌, ◌<◌, ◌==◌, Bool, true, false, ◌||◌, ◌&&◌, List, [], ◌∷◌, length, count_by, Option}
 use Rattle.std.specs.Prelude.{Some, None, option_map, slice_get, if◌then◌else◌}
 use Rattle.llb_model.specs.Program.{Build}

@@ -1,4 +1,4 @@
--- The state of the machine, and the tests on it.
+-- The state of the machine, and questions about it.
 use Rattle.std.specs.Prelude.{◌≡◌, ℕ, zero, suc, ◌+◌, Bool, true, false, ◌&&◌, ◌||◌, List, [], ◌∷◌, ◌++◌, length, map, Option, Some, None}
 use Rattle.std.specs.Prelude.{is_some, option_map, unwrap_or, slice_get, nat_le, replicate, if◌then◌else◌}
 use Rattle.std.specs.List.{list_any}
@@ -20,8 +20,8 @@ pub data Status : Type 0 where
   Running : ℕ → Status
   Settled : Ending → Status
 
--- what a running worker holds: its vertex, how many micro-steps it has done (one that faults is counted), their fault if any, its workspace, and the
--- instances of caches, in the order of the needs
+-- the work of a running worker: its vertex, how many micro-steps are done (one that faults is counted), the vertex's fault if there is one, the workspace,
+-- and the instances of caches that the worker holds, in the order of the needs
 pub record Execution : Type 0 where
   pub vertex : ℕ
   pub done : ℕ
@@ -40,16 +40,16 @@ pub record State : Type 0 where
   pub workers : List WorkerStatus
   pub store : Store
 
--- what a machine is opened with besides the build: how many workers, and the contents of the caches
+-- what a machine is opened with besides the build: how many workers there are, and what the caches have
 pub record Opening : Type 0 where
   pub workers : ℕ
   pub store : Store
 
--- the state at the opening: every vertex waits, every worker is idle, and the caches are as they were handed in
+-- the state at the opening: every vertex waits, every worker is idle, and the caches have what was handed in
 abbrev pub opening : Build → Opening → State
 opening b o = record { statuses = replicate (length b.graph.vertices) Waiting; workers = replicate o.workers Idle; store = o.store }
 
--- the instances that a worker holds; none if it is idle or not there
+-- the instances that a worker holds; none if it is idle or does not exist
 abbrev pub places_at : Option WorkerStatus → List Instance
 places_at (Some (Runs x)) = x.places
 places_at (Some Idle) = []
@@ -66,7 +66,7 @@ ending_of None = None
 abbrev pub ending_at : List Status → ℕ → Option Ending
 ending_at statuses v = ending_of (slice_get statuses v)
 
--- what a vertex of this status begins with, if it waits and the trees of all its inputs are there
+-- what the work on a vertex of this status begins with, if the vertex waits and the trees of all its inputs are there
 abbrev pub start_from : List Status → Option Status → Option Vertex → Option Start
 start_from statuses (Some Waiting) (Some v) = option_map (start_with v) (inputs_from (ending_at statuses) v.inputs)
 start_from statuses (Some Waiting) None = None
@@ -74,7 +74,7 @@ start_from statuses (Some (Running w)) v = None
 start_from statuses (Some (Settled e)) v = None
 start_from statuses None v = None
 
--- what vertex v begins with if it is Ready: it waits, and the trees of all its inputs are there
+-- what the work on vertex v begins with, if v is Ready: it waits, and the trees of all its inputs are there
 abbrev pub ready : Build → List Status → ℕ → Option Start
 ready b statuses v = start_from statuses (slice_get statuses v) (slice_get b.graph.vertices v)
 
@@ -89,24 +89,24 @@ is_waiting (Some (Running w)) = false
 is_waiting (Some (Settled e)) = false
 is_waiting None = false
 
--- whether an ending has trees
+-- whether a vertex ended done, with trees
 abbrev pub is_done : Option Ending → Bool
 is_done (Some (Done trees)) = true
 is_done (Some (Failed f)) = false
 is_done None = false
 
--- whether an ending is a failure
+-- whether a vertex ended failed
 abbrev pub is_failed : Option Ending → Bool
 is_failed (Some (Failed f)) = true
 is_failed (Some (Done trees)) = false
 is_failed None = false
 
--- a vertex is stopped: it has failed, or is after one that has
+-- whether a vertex is stopped: it has failed, or is downstream of one that has (`before` says it for the vertices with lower numbers)
 abbrev pub next_stopped : List Status → List Bool → Vertex → Bool
 next_stopped statuses before v =
     is_failed (ending_at statuses (length before)) || list_any (λ (e : Edge). unwrap_or (slice_get before e.vertex) false) v.inputs
 
--- for each vertex, by number: whether it is stopped
+-- for each vertex, by number: whether it has failed or is downstream of one that has
 abbrev pub stopped : Build → List Status → List Bool
 stopped b statuses = by_number (next_stopped statuses) [] b.graph.vertices
 
@@ -114,7 +114,7 @@ stopped b statuses = by_number (next_stopped statuses) [] b.graph.vertices
 abbrev pub is_stopped : Build → List Status → ℕ → Bool
 is_stopped b statuses v = unwrap_or (slice_get (stopped b statuses) v) false
 
--- a vertex is blocked: it is stopped, and waits
+-- whether vertex v is blocked: it waits downstream of a vertex that failed
 abbrev pub is_blocked : Build → List Status → ℕ → Bool
 is_blocked b statuses v = is_waiting (slice_get statuses v) && is_stopped b statuses v
 
@@ -128,11 +128,11 @@ runs None = None
 abbrev pub program_in : Build → Execution → Program
 program_in b x = program_at (slice_get b.graph.vertices x.vertex)
 
--- what an execution works on, with the trees of the instances that it holds as they are now
+-- the work of an execution: its workspace, and the trees of its instances as they are now
 abbrev pub work_of : State → Execution → Work
 work_of s x = record { own = x.own; trees = trees_at s.store x.places }
 
--- whether an execution is finished: it has a fault, or has done the last of its micro-steps
+-- whether an execution is finished: it has a fault, or all its micro-steps are done
 abbrev pub is_finished : List MicroStep → Execution → Bool
 is_finished steps x = is_some x.fault || nat_le (length steps) x.done
 
@@ -161,18 +161,18 @@ abbrev pub above : List Instance → ℕ
 above [] = 0
 above (p ∷ ps) = p.number + 1 + above ps
 
--- the least number at or after n that is not among the instances of a key, found in at most this number of tries
+-- the least number at or after n that is no instance of the key in the list; the search gives up after this number of tries
 abbrev pub first_free : List Instance → Key → ℕ → ℕ → ℕ
 first_free ps k n zero = n
 first_free ps k n (suc tries) = if is_in ps (place k n) then first_free ps k (n + 1) tries else n
 
--- the number of the instance of a key: of a private cache the least that is not held; the others have one instance, 0
+-- the number of the instance that a claim takes of a key: of a private cache the least that is not held; any other cache has the one instance 0
 abbrev pub number_for : List Instance → Key → Mode → ℕ
 number_for ps k Shared = 0
 number_for ps k Locked = 0
 number_for ps k Private = first_free ps k 0 (above ps)
 
--- the instance that a claim takes for a need while these are held
+-- the instance that a claim takes for a need while these instances are held
 abbrev pub place_for : List Instance → Need → Instance
 place_for ps n = place n.key (number_for ps n.key n.key.mode)
 
@@ -191,17 +191,17 @@ abbrev pub held_key : List Instance → List Need → Option Key
 held_key ps [] = None
 held_key ps (n ∷ needs) = if is_locked_and_held ps n.key n.key.mode then Some n.key else held_key ps needs
 
--- the trees of these instances at a claim: the one that is there or, for a new instance, that of the need's input
+-- the trees that a claim begins with in these instances: the instance's own tree if it exists, else the tree of the need's input
 abbrev pub first_trees : Store → List TreeMap → List Instance → List Need → List TreeMap
 first_trees s inputs [] needs = []
 first_trees s inputs (p ∷ ps) [] = []
 first_trees s inputs (p ∷ ps) (n ∷ needs) = unwrap_or (content s p) (base_in n.input inputs) ∷ first_trees s inputs ps needs
 
--- the work before the first micro-step of a vertex that took these instances
+-- the work before the first micro-step of a vertex whose claim took these instances
 abbrev pub begin_at : Build → Store → Start → List Instance → Work
 begin_at b s start ps = begin b start (first_trees s start.inputs ps (needs_of start.vertex))
 
--- the instances of needs, by their numbers
+-- the instances with these numbers, each of the key of its need
 abbrev pub places_by : List Need → List ℕ → List Instance
 places_by [] numbers = []
 places_by (n ∷ needs) [] = []

@@ -1,4 +1,4 @@
--- The transition table: which event is granted in a state, the state after it, and its reply; else the first cause.
+-- The transition table: for a state and an event the next state and the reply, or the first cause why the event is refused.
 use Rattle.std.specs.Prelude.{ℕ, ◌+◌, List, map, Option, Some, None, slice_get, slice_set, Result, Ok, Err, if◌then◌else◌}
 use Rattle.std.specs.Result.{result_ok}
 use Rattle.llb_cache.specs.declared.key.Key.{Key}
@@ -33,8 +33,8 @@ worker_of (Step w) = w
 worker_of (Settle w) = w
 worker_of (Cancel w) = w
 
--- what a claim hands to the worker: the vertex and its program, how many micro-steps are done, and the work, which has the trees of the instances as they are
--- at the claim; the numbers of these instances are in the order of the needs
+-- what a claim hands to the worker: the vertex and its program, how many micro-steps are done, the work, which has the trees of the instances as they are
+-- at the claim, and the numbers of these instances in the order of the needs
 pub record Job : Type 0 where
   pub worker : ℕ
   pub vertex : ℕ
@@ -57,23 +57,23 @@ abbrev pub or_not_ready : {A : Type 0} → Option A → Result A ClaimFault
 or_not_ready (Some x) = Ok x
 or_not_ready None = Err claim.NotReady
 
--- what a claim begins with: worker w is idle and vertex v is Ready; or the first cause why it is refused
+-- the start of vertex v if its worker is idle and v is Ready; else the first cause why the claim is refused
 abbrev pub claim_start : List Status → ℕ → Option WorkerStatus → Option Vertex → Result Start ClaimFault
 claim_start statuses v None vertex = Err claim.NoWorker
 claim_start statuses v (Some (Runs x)) vertex = Err claim.Busy
 claim_start statuses v (Some Idle) None = Err claim.NoVertex
 claim_start statuses v (Some Idle) (Some vertex) = or_not_ready (start_from statuses (slice_get statuses v) (Some vertex))
 
--- an execution of vertex v of which nothing is done yet
+-- a worker's execution of vertex v before any micro-step
 abbrev pub execution_on : ℕ → Work → List Instance → Execution
 execution_on v work ps = record { vertex = v; done = 0; fault = None; own = work.own; places = ps }
 
--- the job of a claim: nothing of it is done yet
+-- the job of a claim, before any micro-step
 abbrev pub job_on : ℕ → ℕ → Vertex → Work → List Instance → Job
 job_on w v vertex work ps =
     record { worker = w; vertex = v; program = program_of vertex; done = 0; work = work; instances = map (λ (p : Instance). p.number) ps }
 
--- the state after a claim: the vertex and the worker are running, and a new instance is now in the caches
+-- the state after a claim: the vertex and the worker are running, and each instance that did not exist is made in the caches
 abbrev pub after_claim : State → ℕ → ℕ → Work → List Instance → State
 after_claim s w v work ps = record {
   statuses = slice_set s.statuses v (Running w);
@@ -81,25 +81,25 @@ after_claim s w v work ps = record {
   store = put_all s.store ps work.trees;
 }
 
--- the state after a claim that takes these instances with this work, and the reply
+-- the state and the reply after a claim that takes these instances and begins with this work
 abbrev pub claim_with : State → ℕ → ℕ → Vertex → Work → List Instance → State × Reply
 claim_with s w v vertex work ps = (after_claim s w v work ps, Claimed (job_on w v vertex work ps))
 
--- the state after a claim that takes these instances, and the reply
+-- the state and the reply after a claim that takes these instances
 abbrev pub claim_at : Build → State → ℕ → ℕ → Start → List Instance → State × Reply
 claim_at b s w v start ps = claim_with s w v start.vertex (begin_at b s.store start ps) ps
 
--- a claim, given the first locked key among the needs that is held; it is refused if there is one
+-- the result of a claim, given the first locked key among its needs that a worker holds; the claim is refused if there is one
 abbrev pub claim_unless : Build → State → ℕ → ℕ → Start → Option Key → Result (State × Reply) ClaimFault
 claim_unless b s w v start (Some k) = Err (claim.Held k)
 claim_unless b s w v start None = Ok (claim_at b s w v start (places_for (held s.workers) (needs_of start.vertex)))
 
--- a claim, given what it begins with or why it can't begin
+-- the result of a claim, given the start of its vertex or why it is refused
 abbrev pub claimed : Build → State → ℕ → ℕ → Result Start ClaimFault → Result (State × Reply) ClaimFault
 claimed b s w v (Ok start) = claim_unless b s w v start (held_key (held s.workers) (needs_of start.vertex))
 claimed b s w v (Err cause) = Err cause
 
--- the claim of vertex v by worker w: the state after it and the reply, or why it is refused
+-- the result of the claim of vertex v by worker w: the next state and the reply, or why it is refused
 abbrev pub claim_grant : Build → State → ℕ → ℕ → Result (State × Reply) ClaimFault
 claim_grant b s w v = claimed b s w v (claim_start s.statuses v (slice_get s.workers w) (slice_get b.graph.vertices v))
 
@@ -109,12 +109,12 @@ claim_grant b s w v = claimed b s w v (claim_start s.statuses v (slice_get s.wor
 abbrev pub with_step : Execution → Left → Execution
 with_step x left = record x { done = x.done + 1; fault = left.fault; own = left.work.own }
 
--- the fault, or else what was done
+-- the fault if there was one, else what was done
 abbrev pub unless_failed : Option VertexFault → of_step.Stepped → of_step.Stepped
 unless_failed None done = done
 unless_failed (Some f) done = did.Fault f
 
--- what micro-step k did, from the workspace before it and what it left; of a command that ran it has the command's status, even if this is the exec's fault
+-- what the reply to micro-step k says, by the workspace before it and its result; for a command that ran the command's status, even if it makes the exec fail
 abbrev pub step_done : ℕ → MicroStep → Workspace → Left → of_step.Stepped
 step_done k ReadLocal before left = unless_failed left.fault did.Read
 step_done k (Act action) before left = unless_failed left.fault (did.Acted k)
@@ -126,32 +126,32 @@ step_done k (Run setting command ends) before left =
 abbrev pub step_reply : ℕ → MicroStep → Workspace → Left → Reply
 step_reply k m before left = HasStepped (step_done k m before left)
 
--- the state after a step: the trees that it leaves are in the caches at once, and stay there even if a later micro-step faults
+-- the state after a step: the trees that it wrote are in the caches at once, and stay there even if a later micro-step faults
 abbrev pub after_step : State → ℕ → Execution → Left → State
 after_step s w x left = record s { workers = slice_set s.workers w (Runs (with_step x left)); store = put_all s.store x.places left.work.trees }
 
--- the state after micro-step m, which left this, and the reply
+-- the state and the reply after micro-step m with this result
 abbrev pub step_by : State → ℕ → Execution → MicroStep → Left → State × Reply
 step_by s w x m left = (after_step s w x left, step_reply x.done m x.own left)
 
--- a step, given the next micro-step; it is refused if nothing is left to do
+-- the result of a step, given the next micro-step; the step is refused if there is none
 abbrev pub step_with : State → ℕ → Execution → Option MicroStep → Result (State × Reply) StepFault
 step_with s w x None = Err step.NothingLeft
 step_with s w x (Some m) = Ok (step_by s w x m (step_on x.done (Some m) (work_of s x)))
 
--- a step, given what the worker does: the next micro-step, or why it is refused
+-- the result of a step, given what the worker does: the worker has to run something
 abbrev pub stepped : Build → State → ℕ → Option WorkerStatus → Result (State × Reply) StepFault
 stepped b s w None = Err step.NoWorker
 stepped b s w (Some Idle) = Err step.NotRunning
 stepped b s w (Some (Runs x)) = step_with s w x (next_step (program_in b x).steps x)
 
--- the step of worker w: the state after it and the reply, or why it is refused
+-- the result of the step of worker w: the next state and the reply, or why it is refused
 abbrev pub step_grant : Build → State → ℕ → Result (State × Reply) StepFault
 step_grant b s w = stepped b s w (slice_get s.workers w)
 
--- ---- an end
+-- ---- the end of a worker's run, by a settle or a cancel
 
--- the state after a worker's run of a vertex ends: the vertex has this status, and the worker is idle, so that its instances are free
+-- the state after a worker ends its run of a vertex: the vertex has this status, and the worker is idle, so its instances are free
 abbrev pub after_end : State → ℕ → ℕ → Status → State
 after_end s w v status = record s { statuses = slice_set s.statuses v status; workers = slice_set s.workers w Idle }
 
@@ -170,18 +170,18 @@ settle_reply v e = HasSettled (settle_done v e)
 abbrev pub after_settle : State → ℕ → ℕ → Ending → State
 after_settle s w v e = after_end s w v (Settled e)
 
--- the state after vertex v ends so, and the reply
+-- the state and the reply after vertex v ends like this
 abbrev pub settle_with : State → ℕ → ℕ → Ending → State × Reply
 settle_with s w v e = (after_settle s w v e, settle_reply v e)
 
--- a settle, given what the worker does: it must run something that is finished
+-- the result of a settle, given what the worker does: it has to run something that is finished
 abbrev pub settled : Build → State → ℕ → Option WorkerStatus → Result (State × Reply) SettleFault
 settled b s w None = Err settle.NoWorker
 settled b s w (Some Idle) = Err settle.NotRunning
 settled b s w (Some (Runs x)) =
     if is_finished (program_in b x).steps x then Ok (settle_with s w x.vertex (ending_from (program_in b x) x)) else Err settle.NotFinished
 
--- the settle of worker w: the state after it and the reply, or why it is refused
+-- the result of the settle of worker w: the next state and the reply, or why it is refused
 abbrev pub settle_grant : Build → State → ℕ → Result (State × Reply) SettleFault
 settle_grant b s w = settled b s w (slice_get s.workers w)
 
@@ -191,23 +191,23 @@ settle_grant b s w = settled b s w (slice_get s.workers w)
 abbrev pub cancel_reply : ℕ → ℕ → Reply
 cancel_reply v k = HasCancelled (record { vertex = v; done = k })
 
--- the state after a cancel, and its reply: the vertex waits again, and the caches keep what the micro-steps have written
+-- the state and the reply after a cancel: the vertex waits again, and the caches keep what its micro-steps have written
 abbrev pub cancel_with : State → ℕ → ℕ → ℕ → State × Reply
 cancel_with s w v k = (after_end s w v Waiting, cancel_reply v k)
 
--- a cancel, given what the worker does: it gives up what it runs, finished or not
+-- the result of a cancel, given what the worker does: it has to run something, which may be finished or not
 abbrev pub cancelled : State → ℕ → Option WorkerStatus → Result (State × Reply) CancelFault
 cancelled s w None = Err cancel.NoWorker
 cancelled s w (Some Idle) = Err cancel.NotRunning
 cancelled s w (Some (Runs x)) = Ok (cancel_with s w x.vertex x.done)
 
--- the cancel of worker w: the state after it and the reply, or why it is refused
+-- the result of the cancel of worker w: the next state and the reply, or why it is refused
 abbrev pub cancel_grant : State → ℕ → Result (State × Reply) CancelFault
 cancel_grant s w = cancelled s w (slice_get s.workers w)
 
 -- ---- the table
 
--- the transition table: the state after an event and the reply, if the event is granted
+-- the transition table: the next state and the reply if the event is granted, nothing if it is refused
 unfoldable pub table : Build → State → Event → Option (State × Reply)
 table b s (Claim w v) = result_ok (claim_grant b s w v)
 table b s (Step w) = result_ok (step_grant b s w)

@@ -1,10 +1,10 @@
--- The order of dests, by which a view of many mounts routes a path.
+-- The order of dests, by which a view with many mounts finds the mount of a path. Each dest there has the index of the longest other dest that is its prefix.
 use Rattle.std.specs.Prelude.{◌≡◌, ℕ, ◌<◌, ◌≤◌, Bool, true, false, List, [], length, slice_index_or}
 use Rattle.std.specs.Ordering.{is_lt}
 use Rattle.llb_tree.specs.Path.{path_cmp, is_within}
 use Rattle.llb_mount.specs.declared.order.Row.{Row}
 
--- past the last position
+-- the row that stands for a missing one
 abbrev pub no_row : Row
 no_row = record { mount = 0; above = 0 }
 
@@ -12,7 +12,7 @@ no_row = record { mount = 0; above = 0 }
 abbrev pub mount_of : List Row → ℕ → ℕ
 mount_of rows j = (slice_index_or rows j no_row).mount
 
--- the position above a position
+-- for a position, that of the longest other dest that is a prefix of its dest
 abbrev pub above_of : List Row → ℕ → ℕ
 above_of rows j = (slice_index_or rows j no_row).above
 
@@ -24,17 +24,17 @@ dest_of ds rows j = slice_index_or ds (mount_of rows j) []
 abbrev pub is_before : List (List ℕ) → List (List ℕ) → Bool
 is_before p q = is_lt (path_cmp p q)
 
--- each position has a mount, and the dests ascend
+-- each position is of a mount, and the dests ascend
 pub record Rises (ds : List (List (List ℕ))) (rows : List Row) : Type 0 where
   pub within : (j : ℕ) → j < length rows → mount_of rows j < length ds
   pub rising : (j k : ℕ) → j < k → k < length rows → is_before (dest_of ds rows j) (dest_of ds rows k) ≡ true
 
--- the mounts of the numbers below `count` have positions, and no others
+-- exactly the mounts with numbers below `count` have positions
 pub record HasFirst (count : ℕ) (rows : List Row) : Type 0 where
   pub within : (j : ℕ) → j < length rows → mount_of rows j < count
   pub each : (i : ℕ) → i < count → (j : ℕ) × (j < length rows) × (mount_of rows j ≡ i)
 
--- the dests at the positions before this one do not come after a path, and the others do
+-- exactly the dests before this position do not come after the path
 pub record IsPlace (ds : List (List (List ℕ))) (rows : List Row) (path : List (List ℕ)) (place : ℕ) : Type 0 where
   pub within : place ≤ length rows
   pub before : (j : ℕ) → j < place → is_before path (dest_of ds rows j) ≡ false
@@ -45,23 +45,23 @@ pub record AtRoot (ds : List (List (List ℕ))) (rows : List Row) : Type 0 where
   pub there : 0 < length rows
   pub root : dest_of ds rows 0 ≡ []
 
--- position k, whose dest is a prefix of that at position j, is not lost on the way up from j
+-- a dest at position k that is a prefix of the dest at position j is not passed over on the way from j up to the position above it
 pub record IsAbove (ds : List (List (List ℕ))) (rows : List Row) (j k : ℕ) : Type 0 where
   pub up : above_of rows j < j
   pub kept : k ≤ above_of rows j
   pub within : is_within (dest_of ds rows k) (dest_of ds rows (above_of rows j)) ≡ true
 
--- from each of the first positions the way up meets every dest that is a prefix
+-- going up from each of the first positions, every dest that is a prefix is met
 abbrev pub Climbs : List (List (List ℕ)) → List Row → ℕ → Type 0
 Climbs ds rows count = (j k : ℕ) → k < j → j < count → is_within (dest_of ds rows k) (dest_of ds rows j) ≡ true → IsAbove ds rows j k
 
--- each of the first dests that is a prefix of the path is at or above this position
+-- going up from position `at`, each of the first dests that is a prefix of the path is met
 pub record IsNear (ds : List (List (List ℕ))) (rows : List Row) (count : ℕ) (path : List (List ℕ)) (at : ℕ) : Type 0 where
   pub there : at < count
   pub kept : (k : ℕ) → k < count → is_within (dest_of ds rows k) path ≡ true → k ≤ at
   pub within : (k : ℕ) → k < count → is_within (dest_of ds rows k) path ≡ true → is_within (dest_of ds rows k) (dest_of ds rows at) ≡ true
 
--- all mounts in the order of their dests, with what is above each
+-- all mounts are in the order of their dests, each with the position above it
 pub record IsOrder (ds : List (List (List ℕ))) (rows : List Row) : Type 0 where
   pub rises : Rises ds rows
   pub all : HasFirst (length ds) rows

@@ -1,4 +1,4 @@
--- A view as the list of its mounts: what makes such a list a view, the mount of a number, and the one change of a view:
+-- A view as the list of its mounts: what such a list has to be, the mount with a number, and the one change of a view:
 -- a mount gets another tree.
 use Rattle.std.specs.Prelude.{◌≢◌, ℕ, ◌<◌, ◌^◌, false, List, [], map, length, slice_index_or, slice_set, Contains, AllPairs}
 use Rattle.llb_tree.specs.Tree.{TreeMap, empty_tree}
@@ -14,7 +14,7 @@ pub record IsView (mounts : List Shown) : Type 0 where
   pub differ : AllPairs (λ d e. d ≢ e) (dests mounts)
   pub few : length mounts < 2 ^ 32
 
--- the default mount, for a number out of range
+-- the mount that stands for a missing one
 abbrev pub no_mount : Shown
 no_mount = record { dest = []; selector = []; readonly = false; tree = empty_tree }
 
@@ -22,6 +22,6 @@ no_mount = record { dest = []; selector = []; readonly = false; tree = empty_tre
 abbrev pub mount_at : List Shown → ℕ → Shown
 mount_at mounts number = slice_index_or mounts number no_mount
 
--- the mounts, with another tree in the one of this number
+-- the mounts after the tree of the one with this number is replaced
 abbrev pub with_tree_of : List Shown → ℕ → TreeMap → List Shown
 with_tree_of mounts number tree = slice_set mounts number (record (mount_at mounts number) { tree = tree })

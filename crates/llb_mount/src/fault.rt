@@ -35,7 +35,7 @@ impl<T: Drop> From<AllocFailed<T>> for Memory {
     }
 }
 
-/// A copy of a path or a tree fails only for want of memory.
+/// Converts the fault of a copy of a path or a tree, which can only lack memory.
 impl From<TreeFault> for Memory {
     fn from(_: TreeFault) -> Memory {
         Memory

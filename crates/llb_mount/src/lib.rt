@@ -2,8 +2,8 @@
 //!
 //! Types: `View` (its mounts, one of them at the root), `Shown` (a mount: dest, selector, whether it is read-only, tree), `ReadOnly`.
 //! Promise: `View::route` (`longest`, `only`) returns the mount with the longest dest that is a prefix of a path, by names. `View::set_tree`
-//! (`set`, `refused`, `back`) replaces one mount's tree, and refuses a read-only one. Of these and `View::make` the last alone takes memory,
-//! and it never fails.
+//! (`set`, `refused`, `back`) replaces one mount's tree, and refuses a read-only one. Of these calls and `View::make` only the last needs memory,
+//! and it works without.
 //!
 //! A caller:
 //!

@@ -1,6 +1,6 @@
-//! The mounts of a view in the order of their dests, by which a path is routed if there are many. The dests that are
-//! prefixes of a path are at or above the last dest that does not come after the path: a search finds that one, and
-//! from it one goes up.
+//! The mounts of a view in the order of their dests, by which the mount of a path is found if there are many. A search finds the last dest
+//! that does not come after the path; the dests that are prefixes of the path are that one
+//! or above it, from each dest up to the longest other dest that is a prefix of it.
 
 ghost use Rattle.std.specs.Prelude.{◌≡◌, ◌<◌, ◌+◌, true, length, IfOk};
 ghost use Rattle.llb_tree.specs.Path.{is_within};
@@ -57,7 +57,7 @@ fn nearest(mounts: &[Shown], rows: &[Row], from: usize, path: &Path) -> usize
     at
 }
 
-// Returns the mounts in the order of their dests; `link` then sets what is above each.
+// Returns the mounts in the order of their dests; `link` then sets for each the one above it.
 fn sorted(alloc: Global, mounts: &[Shown]) -> Result<Vec<Row>, Memory>
     requires { IsView mounts.now }
     ensures rises { IfOk result (λ rows. Rises (dests mounts.now) rows.items) }
@@ -71,7 +71,7 @@ fn sorted(alloc: Global, mounts: &[Shown]) -> Result<Vec<Row>, Memory>
     Ok(rows)
 }
 
-// Sets for each entry the one above it.
+// Sets for each entry the one above it: the longest other dest that is a prefix of its own.
 fn link(mounts: &[Shown], rows: &mut [Row])
     requires view { IsView mounts.now }
     requires rises { Rises (dests mounts.now) rows.old }

@@ -1,4 +1,4 @@
-//! A mount of a view: a tree that is shown under a dest. Its dest and its selector are paths; a mount that shows its whole tree has
+//! A mount of a view: a tree that is shown at a dest. Its dest and its selector are paths; a mount that shows its whole tree has
 //! the root as its selector.
 
 ghost use Rattle.std.specs.Prelude.{◌≡◌, IfOk};
@@ -7,8 +7,8 @@ use crate::fault::Memory;
 use llb_tree::{Path, Tree};
 use llb_wire::Same;
 
-/// A tree that is shown at a dest: what is below the dest is looked up in the tree below the selector, which need not be
-/// there. `View::set_tree` refuses a read-only mount.
+/// A tree that is shown at a dest: what is below the dest is looked up in the tree below the selector, where nothing need
+/// be. `View::set_tree` refuses a read-only mount.
 pub struct Shown {
     pub dest: Path,
     pub selector: Path,
@@ -16,7 +16,7 @@ pub struct Shown {
     pub tree: Tree,
 }
 
-// It is written out so that whatever owns one drops it by this one function.
+// Written by hand, so that it is proved once; a derived one is proved again in every function that drops such a value.
 impl Drop for Shown {
     fn drop(self) {
         let Shown {

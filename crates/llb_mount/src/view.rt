@@ -16,17 +16,17 @@ use std::marker::Model;
 use std::mem;
 use std::sync::Arc;
 
-// Up to this number of dests, a path is routed by looking at each, which costs less than an order of them.
+// Up to this number of dests, each is compared with the path, which costs less than an order of them.
 const FEW: usize = 8;
 
-/// Mounts under dests of which one is the root and no two are the same. Contracts see the list of the mounts.
+/// Mounts with distinct dests, one of which is the root. Contracts see the list of the mounts.
 pub struct View {
     mounts: Vec<Shown>,
     // The order of the dests, which copies share; `None` if there are few mounts, or memory was refused for it.
     order: Option<Arc<Vec<Row>>>,
 }
 
-// It is written out so that the crates above drop one by this one function.
+// Written by hand, so that it is proved once; a derived one is proved again in every function that drops such a value.
 impl Drop for View {
     fn drop(self) {
         let View {
@@ -54,7 +54,7 @@ impl Model for View {
     ghost invariant = { λ v. IsView v.mounts.items × IfSome v.order (λ o. IsOrder (dests v.mounts.items) (arc_value o).items) };
 }
 
-// Returns whether a mount has the dest of these names.
+// Returns whether a mount has a dest with these names.
 fn is_taken(mounts: &[Shown], names: &[Name]) -> bool
     ensures { IsTrue result ↔ Contains (dests mounts.now) names.now }
 {
@@ -128,8 +128,8 @@ impl View {
         all_differ(mounts)
     }
 
-    /// Makes the view of mounts that `can_make` accepts, numbered from 0 in their order. It takes the mounts over. It
-    /// never fails with 62 `Memory`: of more than eight mounts it makes an order of their dests, and does without one
+    /// Makes the view of mounts that `can_make` accepts, numbered from 0 in their order. It takes ownership of the mounts. It
+    /// never fails with 62 `Memory`: for more than eight mounts it makes an order of their dests, and does without one
     /// if memory is refused for it.
     pub fn make(mounts: Many<Shown>) -> Result<View, Memory>
         requires { IsView mounts }
@@ -150,8 +150,8 @@ impl View {
     }
 
     /// Returns the number of the mount with the longest dest that is a prefix of the path, by names, and how many names that
-    /// dest has: they are dropped from the path. Does not allocate. With an order of the dests it takes time in the logarithm of the
-    /// number of mounts and in the number of dests above one; without, as of at most eight mounts, it looks at each mount.
+    /// dest has, which the caller drops from the path. Does not allocate. With an order of the dests it takes time in the logarithm of the
+    /// number of mounts and in the number of dests above one; without one, as for at most eight mounts, it compares with each mount's dest.
     pub fn route(&self, path: &Path) -> (u32, u32)
         ensures route { result ≡ route self.now path.now }
         ensures longest { IsRoute self.now path.now result }
@@ -181,7 +181,7 @@ impl View {
         &self.mounts[mount as usize].selector
     }
 
-    /// Returns whether a mount is read-only: its tree may not be set. Does not allocate.
+    /// Returns whether a mount is read-only, so that its tree may not be set. Does not allocate.
     pub fn is_read_only(&self, mount: u32) -> bool
         requires { mount < length self.now }
         ensures { result ≡ (mount_at self.now mount).readonly }
@@ -214,7 +214,7 @@ impl View {
         Ok(())
     }
 
-    /// Replaces a mount's tree, also that of a read-only mount, and returns the tree that was there. Does not allocate.
+    /// Replaces a mount's tree, even that of a read-only mount, and returns the tree that was there. Does not allocate.
     pub fn swap_tree(&mut self, mount: u32, tree: Tree) -> Tree
         requires { mount < length self.old }
         ensures old { result ≡ (mount_at self.old mount).tree }

@@ -5,7 +5,7 @@ use Rattle.indexmap.specs.IndexMap.{insert_entry}
 use Rattle.llb_ops.specs.declared.source.Attribute.{Attribute}
 use Rattle.llb_ops.specs.declared.source.AttributeEntry.{AttributeEntry}
 
--- an attribute under its key
+-- a key with its attribute
 abbrev pub Held : Type 0
 Held = List ℕ × Attribute
 

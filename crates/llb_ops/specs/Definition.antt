@@ -32,21 +32,21 @@ definition_of bytes =
     if nat_lt definition_limit (length bytes) then Err OverLimit
     else (records_from definition_shape 0 bytes >>= λ rs. entries_fit (payloads (all 1 rs)))
 
--- what is known of a definition before its entries are taken
+-- whether a definition has a fault, without its entries
 abbrev pub admission : Result (List (List ℕ)) OpFault → Result (Unit {0}) OpFault
 admission (Ok entries) = Ok tt
 admission (Err f) = Err f
 
--- the entries of readable records, whatever their number and lengths
+-- the entries of a definition's records, without a check of their number and lengths
 unfoldable pub entries_in : List ℕ → Result (List (List ℕ)) OpFault
 entries_in bytes = records_from definition_shape 0 bytes >>= λ rs. Ok (payloads (all 1 rs))
 
--- how many entries there are, and whether none is too long
+-- how many entries there are, and whether none is too long; or the fault
 abbrev pub counted : Result (List (List ℕ)) OpFault → Result (ℕ × Bool) OpFault
 counted (Ok entries) = Ok (length entries, are_short entries)
 counted (Err f) = Err f
 
--- how many entries there are, and whether all are short, with one record more in front
+-- how many entries there are, and whether none is too long, after one more record
 abbrev pub one_more : ℕ × Bool → Record → ℕ × Bool
 one_more t r = if r.number == 1 then (t.0 + 1, t.1 && nat_le (length r.payload) entry_limit) else t
 

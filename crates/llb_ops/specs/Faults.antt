@@ -5,7 +5,7 @@ use Rattle.llb_wire.specs.Faults.{wire_text}
 use Rattle.llb_ops.specs.declared.fault.OpFault.{OpFault}
 use Rattle.llb_ops.specs.declared.fault.OpFault.TheVariants.{Wire, WrongWireType, NotUtf8, OverLimit, Memory}
 
--- the fault for refused memory, which no rule returns
+-- whether a fault is `Memory`, which no rule returns
 abbrev pub is_memory : OpFault → Bool
 is_memory Memory = true
 is_memory (Wire f) = false
@@ -13,11 +13,11 @@ is_memory WrongWireType = false
 is_memory NotUtf8 = false
 is_memory OverLimit = false
 
--- the result of a call, seen by view, is the result of its rule
+-- the result of a call is that of its rule, or the call fails for want of memory
 abbrev pub Gives : {X Y : Type 0} → (X → Y) → Result X OpFault → Result Y OpFault → Type 0
 Gives = answer.Gives is_memory
 
--- what a fault prints: its number, and for one of the wire the number of that
+-- what a fault prints: its number; for a fault of the wire, that fault's number
 abbrev pub op_text : OpFault → List ℕ
 op_text (Wire fault) = wire_text fault
 op_text WrongWireType = codes "11"

@@ -1,4 +1,4 @@
--- The fields of a message as its bytes have them one after the other, and when they are those of canonical bytes: by the table
+-- The fields of a message in the order of its bytes, and what the fields of canonical bytes are, by the table of messages
 -- (`ops.proto` of BuildKit) and the encoding guide of Protocol Buffers ("Message Structure", "Field Presence", "Oneofs", "Maps").
 use Rattle.std.specs.Prelude.{◌≡◌, ℕ, ◌+◌, ◌≤◌, List, ◌++◌, length, Some, Result, Ok, Err, Bool, true, false, is_none, nat_lt}
 use Rattle.std.specs.Prelude.{◌==◌, ◌&&◌, ◌||◌, not, if◌then◌else◌}
@@ -19,7 +19,7 @@ use Rattle.llb_ops.specs.Records.{form_of, parts, int32, int64, uint32, flag}
 use Rattle.llb_ops.specs.Messages.{op_of}
 use Rattle.llb_ops.specs.Writing.{bit, set_number, set_bytes, op_bytes}
 
--- fields with their rows of the table, a number as its varint spells it; the extra bytes come after all others
+-- fields with their rows of the table, one after another; a number is as its varint spells it; the extra bytes are last
 pub data Fields : Type 0 where
   extra : List ℕ → Fields
   number : Row → ℕ → Fields → Fields
@@ -33,7 +33,7 @@ bytes_of (number row v rest) = set_number row.1.number v ++ bytes_of rest
 bytes_of (bytes row held rest) = set_bytes row.1.number held ++ bytes_of rest
 bytes_of (message row inner rest) = set_bytes row.1.number (bytes_of inner) ++ bytes_of rest
 
--- ---- by the table
+-- ---- canonical fields, by the table
 
 -- Whether a field may follow the field `last`: numbers ascend, and only a repeated field occurs again. `set` says that a member of the oneof is there already,
 -- and then no other may follow.
@@ -49,7 +49,7 @@ pub record IsNext (m : MessageName) (last : ℕ) (set : Bool) (row : Row) : Type
 abbrev pub may_be_empty : NamedField → Bool
 may_be_empty f = f.member || f.repeated || f.of_entry
 
--- a number as a field of the kind spells it: signed ones in two's complement of 64 bits
+-- v is how canonical bytes spell some number of a field of this kind: signed ones are in two's complement of 64 bits
 abbrev pub IsNumberOf : FieldKind → ℕ → Type 0
 IsNumberOf Int64 v = cast_unsigned w64 (int64 v) ≡ v
 IsNumberOf Int32 v = cast_unsigned w64 (int32 v) ≡ v
@@ -60,7 +60,7 @@ IsNumberOf String v = ⊥
 IsNumberOf Bytes v = ⊥
 IsNumberOf (Message m) v = ⊥
 
--- bytes as a field of the kind holds them: UTF-8 in a string, any in a bytes field; no number and no message is held like this
+-- these bytes may be the payload of a field of this kind: UTF-8 for a string, any for a bytes field, none for a number or a message
 abbrev pub IsBytesOf : FieldKind → List ℕ → Type 0
 IsBytesOf Int64 held = ⊥
 IsBytesOf Int32 held = ⊥
@@ -86,7 +86,7 @@ only_unnamed m (Err f) = false
 unfoldable pub are_unnamed : MessageName → List ℕ → Bool
 are_unnamed m more = only_unnamed m (parts (shape_of m) more)
 
--- the fields of a message in canonical bytes, after the field `last` and with or without a member of the oneof before
+-- the fields are those of canonical bytes of message m, after the field `last`; `set` says whether a member of the oneof came before
 abbrev pub AreFields : MessageName → ℕ → Bool → Fields → Type 0
 AreFields m last set (extra more) = AreUnnamed m more
 AreFields m last set (number row v rest) =
@@ -100,20 +100,20 @@ AreFields m last set (message row inner rest) =
 
 -- ---- entries of a map
 
--- the fields without the empty keys and values of entries, whose bytes have both
+-- the fields without the keys and values of map entries that are empty, which canonical bytes do write
 abbrev pub without_empty : Fields → Fields
 without_empty (extra more) = extra more
 without_empty (number row v rest) = number row v (without_empty rest)
 without_empty (bytes row held rest) = if row.1.of_entry && (length held == 0) then without_empty rest else bytes row held (without_empty rest)
 without_empty (message row inner rest) = message row (without_empty inner) (without_empty rest)
 
--- ---- no field too often
+-- ---- no field occurs too often
 
--- how often the last field occurs, with one more: again, or for the first time
+-- how often the field n has occurred in a row if it follows the field `last`, which has occurred `count` times
 abbrev pub one_more_of : ℕ → ℕ → ℕ → ℕ
 one_more_of last count n = if last == n then count + 1 else 1
 
--- after the field `last`, which occurred this often, no field occurs too often, nor does one in a nested message
+-- after the field `last`, which occurred `count` times, no field occurs too often, also in nested messages
 abbrev pub AreFew : ℕ → ℕ → Fields → Type 0
 AreFew last count (extra more) = Unit {0}
 AreFew last count (number row v rest) = (one_more_of last count row.1.number ≤ field_limit) × AreFew row.1.number (one_more_of last count row.1.number) rest
@@ -121,10 +121,10 @@ AreFew last count (bytes row held rest) = (one_more_of last count row.1.number �
 AreFew last count (message row inner rest) =
     (one_more_of last count row.1.number ≤ field_limit) × AreFew 0 0 inner × AreFew row.1.number (one_more_of last count row.1.number) rest
 
--- ---- the law
+-- ---- the law of canonical bytes
 
--- An op's canonical bytes are fields of the message Op, none of which occurs too often. Without empty keys and values they are no
--- more, still none occurs too often, and they are read as the op too.
+-- An op's canonical bytes are fields of the message Op, none of which occurs too often. Without empty keys and values the bytes are not longer,
+-- still no field occurs too often, and the same op is read from them.
 pub record HasFields (op : Op) : Type 0 where
   pub fields : Fields
   pub are : AreFields named.Op 0 false fields
@@ -134,6 +134,6 @@ pub record HasFields (op : Op) : Type 0 where
   pub shorter : length (bytes_of (without_empty fields)) ≤ length (op_bytes op)
   pub read : length (bytes_of (without_empty fields)) ≤ entry_limit → op_of (bytes_of (without_empty fields)) ≡ Ok op
 
--- each op that the bytes are read as
+-- the law, for each op that these bytes are read as
 abbrev pub EntryHasFields : List ℕ → Type 0
 EntryHasFields entry = (op : Op) → op_of entry ≡ Ok op → HasFields op

@@ -1,4 +1,4 @@
--- Laws that join reading and writing.
+-- Laws that relate reading and writing.
 use Rattle.std.specs.Prelude.{◌≡◌, ℕ, ◌≤◌, List, length, Ok}
 use Rattle.llb_wire.specs.Answer.{◌>>=◌}
 use Rattle.llb_wire.specs.Spelling.{AreBytes}
@@ -10,18 +10,18 @@ use Rattle.llb_ops.specs.Messages.{op_shape, op_in, op_of}
 use Rattle.llb_ops.specs.Writing.{op_bytes}
 use Rattle.llb_ops.specs.Definition.{definition_of, definition_bytes}
 
--- the op of an entry is the op of its canonical bytes, if these are within the limit of an entry
+-- an op that was read from an entry is read again from its canonical bytes, if these are within the limit of an entry
 abbrev pub IsReadAgain : Op → Type 0
 IsReadAgain op = (entry : List ℕ) → op_of entry ≡ Ok op → length (op_bytes op) ≤ entry_limit → op_of (op_bytes op) ≡ Ok op
 
 -- The records of any message are those that its bytes spell by the grammar, with their wire types and texts in UTF-8; and
--- an op is read of the records that its entry spells, and of nothing else.
+-- an op is read from the records that its entry spells, and from nothing else.
 pub record IsReadOfRecords (bytes : List ℕ) : Type 0 where
   pub found : (shape : Shape) (rs : List Record) → parts shape bytes ≡ Ok rs → SpellRecords bytes rs
   pub spelled : (shape : Shape) (rs : List Record) → SpellRecords bytes rs → parts shape bytes ≡ fitting shape rs
   pub op_found : (op : Op) → op_of bytes ≡ Ok op → (rs : List Record) × SpellRecords bytes rs × (fitting op_shape rs ≡ Ok rs) × (op_in rs ≡ Ok op)
   pub op_spelled : (rs : List Record) → SpellRecords bytes rs → length bytes ≤ entry_limit → op_of bytes ≡ (fitting op_shape rs >>= op_in)
 
--- entries that a definition in bytes has are what their canonical bytes have
+-- entries that were read from the bytes of a definition are read again from their canonical bytes
 abbrev pub AreReadAgain : List (List ℕ) → Type 0
 AreReadAgain entries = (bytes : List ℕ) → AreBytes bytes → definition_of bytes ≡ Ok entries → definition_of (definition_bytes entries) ≡ Ok entries

@@ -1,4 +1,4 @@
--- Read first Table (the fields of every message), Records (what each kind of field is from its records) and Messages (what each message is), then
+-- Read first Table (the fields of every message), Records (what each kind of field is, by its records) and Messages (what each message is), then
 -- Definition and Limits (a whole definition, and its limits), Writing (canonical bytes), Within, Laws and Fields (what holds of reading and
 -- writing together). Attributes is the one map; Kinds is the names of kinds; Faults is the results of calls.
 pub mod Faults

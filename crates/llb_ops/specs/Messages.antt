@@ -1,4 +1,4 @@
--- What each message is from its records, with its fields of the table (`ops.proto` of BuildKit). The order of the lines is the
+-- What each message is, by its records and its fields in the table (`ops.proto` of BuildKit). The order of the steps is the
 -- order of the faults: the records, the message fields by their numbers, the limits.
 use Rattle.std.specs.Prelude.{ℕ, List, [], ◌∷◌, length, Option, Result, Ok, Err, nat_lt, ◌==◌, if◌then◌else◌}
 use Rattle.llb_wire.specs.Answer.{◌>>=◌}
@@ -407,7 +407,7 @@ op_in rs = do
   kind ← one_of kinds kind_of rs
   if within_limits (repeated_of message.Op) rs then Ok (record { inputs = inputs; kind = kind; extra = unnamed op_shape rs }) else Err OverLimit
 
--- the op that bytes are read as, however many they are
+-- the op that bytes are read as, without the limit on their number
 abbrev pub op_message_of : List ℕ → Result Op OpFault
 op_message_of = message_of op_shape op_in
 

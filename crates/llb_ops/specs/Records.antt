@@ -1,4 +1,4 @@
--- The records of a message, and what each kind of field is of them (the encoding guide of Protocol Buffers: "Message
+-- The records of a message, and what each kind of field is, by its records (the encoding guide of Protocol Buffers: "Message
 -- Structure", "Last One Wins", "Optional and Repeated Elements", "Oneofs"). A record has no position in the bytes here.
 use Rattle.std.specs.Prelude.{◌≡◌, ◌<◌, ℕ, zero, suc, ◌-◌, List, [], ◌∷◌, ◌++◌, length, map, Option, Some, None, Result, Ok, Err, Bool}
 use Rattle.std.specs.Prelude.{true, false, nat_le, ◌==◌, not, if◌then◌else◌, find, option_map, fold, ◌&&◌, filter, slice_get, is_none, ℤ}
@@ -52,7 +52,7 @@ wire_fits (Some Bytes) w = false
 wire_fits (Some Text) wire.Len = true
 wire_fits (Some Text) w = false
 
--- a result of the wire reader, with its fault as an op's
+-- the result of the wire reader, whose fault becomes an op's
 abbrev pub from_wire : {A : Type 0} → Result A WireFault → Result A OpFault
 from_wire (Ok x) = Ok x
 from_wire (Err f) = Err (Wire f)
@@ -61,7 +61,7 @@ from_wire (Err f) = Err (Wire f)
 abbrev pub first_record : Shape → List ℕ → Result Field OpFault
 first_record shape bytes = from_wire (field_at bytes 0) >>= λ f. if wire_fits (form_of shape f.number) f.wire then Ok f else Err WrongWireType
 
--- the records of the bytes after the first `skip`; those belong to a record that is already read
+-- the records of the bytes after the first `skip` bytes, which belong to a record that was read before
 unfoldable pub records_from : Shape → ℕ → List ℕ → Result (List Record) OpFault
 records_from shape skip [] = Ok []
 records_from shape (suc skip) (b ∷ bytes) = records_from shape skip bytes
@@ -70,12 +70,12 @@ records_from shape zero (b ∷ bytes) = do
   rs ← records_from shape (f.«end» - 1) bytes
   Ok (record_of (b ∷ bytes) f ∷ rs)
 
--- the record before others
+-- f is the first record of the bytes, with the bytes after it
 pub record IsFront (shape : Shape) (bytes : List ℕ) (f : Front) : Type 0 where
   pub reads : records_from shape 0 bytes ≡ (records_from shape 0 f.after.now >>= λ rs. Ok (view f.record ∷ rs))
   pub shorter : length f.after.now < length bytes
 
--- what the next record says of all: the first fault, the end, or a record before others
+-- the result of reading the next record: the first fault, the end of the bytes, or a record and the bytes after it
 abbrev pub Starts : Shape → List ℕ → Result (Option Front) OpFault → Type 0
 Starts shape bytes (Ok None) = records_from shape 0 bytes ≡ Ok []
 Starts shape bytes (Ok (Some f)) = IsFront shape bytes f
@@ -106,7 +106,7 @@ parts shape bytes = records_from shape 0 bytes >>= λ rs. if texts_fit shape rs 
 abbrev pub wires_fit : Shape → List Record → Bool
 wires_fit shape rs = list_all (λ r. wire_fits (form_of shape r.number) r.wire) rs
 
--- records as those of a message
+-- these records if each named field has its wire type and texts are UTF-8; else the fault
 abbrev pub fitting : Shape → List Record → Result (List Record) OpFault
 fitting shape rs = if wires_fit shape rs then (if texts_fit shape rs then Ok rs else Err NotUtf8) else Err WrongWireType
 
@@ -114,7 +114,7 @@ fitting shape rs = if wires_fit shape rs then (if texts_fit shape rs then Ok rs 
 unfoldable pub message_of : {A : Type 0} → Shape → (List Record → Result A OpFault) → List ℕ → Result A OpFault
 message_of shape read bytes = parts shape bytes >>= read
 
--- ---- what a field is from its records
+-- ---- what a field is, by its records
 
 -- the records of field n, in order
 abbrev pub all : ℕ → List Record → List Record
@@ -156,7 +156,7 @@ payloads rs = map (λ r. r.payload) rs
 abbrev pub joined : List Record → List ℕ
 joined rs = flat_map (λ r. r.payload) rs
 
--- a singular message, if a record of it is there
+-- a singular message, if it has a record
 unfoldable pub one : {A : Type 0} → (List ℕ → Result A OpFault) → List Record → Result (Option A) OpFault
 one read rs = if length rs == 0 then Ok None else (read (joined rs) >>= λ m. Ok (Some m))
 
@@ -187,11 +187,11 @@ kept p rs r = if p r then [] else rs ++ r ∷ []
 abbrev pub since : (Record → Bool) → List Record → List Record
 since p rs = fold (kept p) [] rs
 
--- whether a record is of another member of the oneof than n
+-- whether a record is of a member of the oneof other than n
 abbrev pub is_other : List ℕ → ℕ → Record → Bool
 is_other members n r = is_member members r && not (r.number == n)
 
--- the records that count for the member that is set: its records after the last one of another member
+-- the records that count for member n if it is set: its records after the last one of another member
 abbrev pub member : List ℕ → ℕ → List Record → List Record
 member members n rs = all n (since (is_other members n) rs)
 

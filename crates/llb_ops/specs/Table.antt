@@ -171,16 +171,16 @@ row_numbered m n = by_number n (rows_of m)
 unfoldable pub row_named : MessageName → List ℕ → Option Row
 row_named m name = by_name name (rows_of m)
 
--- a row of a message is found by its number and by its name
+-- a row of a message is found both by its number and by its name
 pub record IsApart (m : MessageName) (row : Row) : Type 0 where
   pub number : row_numbered m row.1.number ≡ Some row
   pub name : row_named m row.0 ≡ Some row
 
--- every row of a message is found by its number and by its name, so no two of them have one in common
+-- every row of a message is found both by its number and by its name, so no two rows have the same number or name
 abbrev pub AreRowsApart : MessageName → Type 0
 AreRowsApart m = AllByRecursion (IsApart m) (rows_of m)
 
--- the form in which a field of this kind is read
+-- how a field of this kind is read
 abbrev pub form_of_kind : FieldKind → Form
 form_of_kind Int64 = form.Number
 form_of_kind Int32 = form.Number

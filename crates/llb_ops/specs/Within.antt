@@ -1,4 +1,4 @@
--- What is within the limits: how many values a repeated field has, how many entries a definition has, and how long they are.
+-- The limits: how many values a repeated field has, how many entries a definition has, and how long they are.
 use Rattle.std.specs.Prelude.{ℕ, ◌≤◌, List, length, Option, Some, None}
 use Rattle.std.specs.List.{All}
 use Rattle.llb_ops.specs.declared.op.Op.{Op}
@@ -12,28 +12,28 @@ use Rattle.llb_ops.specs.declared.exec.ExecOp.{ExecOp}
 use Rattle.llb_ops.specs.declared.exec.Meta.{Meta}
 use Rattle.llb_ops.specs.Limits.{field_limit, entries_limit, entry_limit}
 
--- a repeated field has no more values than the limit
+-- a list has few items: no more than a repeated field may have records
 abbrev pub IsFew : {A : Type 0} → List A → Type 0
 IsFew xs = length xs ≤ field_limit
 
--- a `Meta`: few arguments and variables, and no argument longer than an entry may be
+-- a `Meta`: it has few arguments and variables, and no argument is longer than an entry may be
 pub record IsMetaWithin (m : Meta) : Type 0 where
   pub args : IsFew m.args
   pub env : IsFew m.env
   pub short : All (λ a. length a ≤ entry_limit) m.args
 
--- a `Meta`, if there is one; nothing is asked of an absent one
+-- a `Meta`, if there is one
 abbrev pub IsMetaOptWithin : Option Meta → Type 0
 IsMetaOptWithin None = Unit {0}
 IsMetaOptWithin (Some m) = IsMetaWithin m
 
--- an `ExecOp`: its `Meta`, its mounts and its secrets for the environment
+-- an `ExecOp`: its `Meta` is within the limits, and it has few mounts and secrets
 pub record IsExecWithin (m : ExecOp) : Type 0 where
   pub meta : IsMetaOptWithin m.meta
   pub mounts : IsFew m.mounts
   pub secretenv : IsFew m.secretenv
 
--- the include and the exclude patterns of a copy
+-- a copy has few include and exclude patterns
 pub record IsCopyWithin (m : CopyFile) : Type 0 where
   pub include_patterns : IsFew m.include_patterns
   pub exclude_patterns : IsFew m.exclude_patterns
@@ -46,12 +46,12 @@ IsActionWithin (Some (action.MkFile m)) = Unit {0}
 IsActionWithin (Some (action.MkDir m)) = Unit {0}
 IsActionWithin (Some (action.Rm m)) = Unit {0}
 
--- a `FileOp`: its actions, and what each of them does
+-- a `FileOp` has few actions, and each is within the limits
 pub record IsFileWithin (m : FileOp) : Type 0 where
   pub actions : IsFew m.actions
   pub each : All (λ a. IsActionWithin a.kind) m.actions
 
--- the kind of an op, if it has one; `build` and `diff` are bytes that are not looked into, so nothing is asked of them
+-- the kind of an op, if it has one; `build` and `diff` are bytes that are not read, so they have no limits
 abbrev pub IsKindWithin : Option Kind → Type 0
 IsKindWithin None = Unit {0}
 IsKindWithin (Some (Exec m)) = IsExecWithin m
@@ -61,12 +61,12 @@ IsKindWithin (Some (Build bytes)) = Unit {0}
 IsKindWithin (Some (Merge m)) = IsFew m.inputs
 IsKindWithin (Some (Diff bytes)) = Unit {0}
 
--- an op, and each message in it
+-- an op has few inputs (`IsFew`), and its messages are within the limits
 pub record IsWithinLimits (op : Op) : Type 0 where
   pub inputs : IsFew op.inputs
   pub kind : IsKindWithin op.kind
 
--- the entries of a definition
+-- there are few entries, and each is short: no more and no longer than the limits of a definition
 pub record AreWithinLimits (entries : List (List ℕ)) : Type 0 where
   pub few : length entries ≤ entries_limit
   pub short : All (λ e. length e ≤ entry_limit) entries

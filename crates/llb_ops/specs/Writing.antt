@@ -62,7 +62,7 @@ bit false = 0
 abbrev pub flag_field : ℕ → Bool → List ℕ
 flag_field n b = number_field n (bit b)
 
--- the record of a singular message, which is written whenever it is there, even if it is empty
+-- the record of a singular message, which is written also if it is empty; nothing if there is no message
 unfoldable pub message_field : {A : Type 0} → (A → List ℕ) → ℕ → Option A → List ℕ
 message_field write n None = []
 message_field write n (Some m) = set_bytes n (write m)
@@ -93,7 +93,7 @@ user_bytes (ById id) = set_number 2 id
 unfoldable pub user_opt_bytes : UserOpt → List ℕ
 user_opt_bytes m = one_of_field user_bytes m.user ++ m.extra
 
--- the canonical bytes of a `ChownOpt`: the user and the group, each whenever it is there
+-- the canonical bytes of a `ChownOpt`: the user and the group, each if it is set
 unfoldable pub chown_opt_bytes : ChownOpt → List ℕ
 chown_opt_bytes m = message_field user_opt_bytes 1 m.user ++ message_field user_opt_bytes 2 m.group ++ m.extra
 

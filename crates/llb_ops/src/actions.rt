@@ -1,4 +1,4 @@
-//! What a file action does: each kind is made from its records, and has its canonical bytes.
+//! What a file action does: each kind is read from its records, and written as its canonical bytes.
 
 ghost use Rattle.std.specs.Prelude.{◌≡◌, IfOk, true};
 ghost use Rattle.llb_ops.specs.Records.{views, texts_fit};
@@ -26,7 +26,7 @@ pub struct MkFile {
     pub extra: Bytes,
 }
 
-// Written out, so that what owns one drops it by this one function.
+// Written by hand, so that it is proved once; a derived one is proved again in every function that drops such a value.
 impl Drop for MkFile {
     fn drop(self) {
         let MkFile {
@@ -94,7 +94,7 @@ pub struct MkDir {
     pub extra: Bytes,
 }
 
-// Written out, so that what owns one drops it by this one function.
+// Written by hand, so that it is proved once; a derived one is proved again in every function that drops such a value.
 impl Drop for MkDir {
     fn drop(self) {
         let MkDir {
@@ -170,7 +170,7 @@ pub struct CopyFile {
     pub extra: Bytes,
 }
 
-// Written out, so that what owns one drops it by this one function.
+// Written by hand, so that it is proved once; a derived one is proved again in every function that drops such a value.
 impl Drop for CopyFile {
     fn drop(self) {
         let CopyFile {
@@ -192,7 +192,7 @@ impl Drop for CopyFile {
     }
 }
 
-// Makes a copy action from its records and its owner, which is read before.
+// Makes a copy action from its records and its owner, which was read before.
 #[tactic(auto, unfolding(crate::specs::Messages::copy_file_with))]
 fn copy_file_with(
     alloc: Global,
@@ -278,7 +278,7 @@ pub struct Rm {
     pub extra: Bytes,
 }
 
-// Written out, so that what owns one drops it by this one function.
+// Written by hand, so that it is proved once; a derived one is proved again in every function that drops such a value.
 impl Drop for Rm {
     fn drop(self) {
         let Rm {

@@ -1,4 +1,4 @@
-//! A definition: its entries, in order. What an entry says is read elsewhere.
+//! A definition: its entries, in order. What an entry means is read elsewhere.
 
 ghost use Rattle.std.specs.Prelude.{◌≡◌, ◌<◌, ◌≤◌, ◌==◌, ◌++◌, ◌∷◌, [], if◌then◌else◌, Ok, length, true, IfOk, OnOk};
 ghost use Rattle.llb_wire.specs.Answer.{MemoryLast};
@@ -22,7 +22,7 @@ pub struct Entries {
     entries: Vec<Bytes>,
 }
 
-// Written out, so that what owns one drops it by this one function.
+// Written by hand, so that it is proved once; a derived one is proved again in every function that drops such a value.
 impl Drop for Entries {
     fn drop(self) {
         let Entries { entries: _ } = self;
@@ -98,7 +98,7 @@ fn tally(bytes: &[u8]) -> Result<(usize, bool), OpFault>
     Ok((count, short))
 }
 
-// Appends the entry of a record, if the record is one.
+// Appends the entry of a record, if the record has one.
 fn put_entry(alloc: Global, entries: &mut Vec<Bytes>, part: &Record<'_>) -> Result<(), Memory>
     ensures { OnOk result (entries.new.items ≡ (if part.now.number == 1 then entries.old.items ++ part.now.payload.now ∷ [] else entries.old.items)) }
 {
@@ -109,7 +109,7 @@ fn put_entry(alloc: Global, entries: &mut Vec<Bytes>, part: &Record<'_>) -> Resu
     Ok(())
 }
 
-// Reads the entries, whatever their number and their sizes.
+// Reads the entries, without a check of their number and sizes.
 fn gathered(alloc: Global, bytes: &[u8]) -> Result<Vec<Bytes>, OpFault>
     ensures { Gives (λ v. v.items) result (entries_in bytes.now) }
 {
@@ -143,8 +143,8 @@ fn admitted(bytes: &[u8]) -> Result<(), OpFault>
 ///
 /// Fails with the first fault: 13 `OverLimit` of a definition of more than 67,108,864 bytes; then of its records from
 /// left to right, 1 to 4 `Wire` or 11 `WrongWireType` of a field that it names; then 13 `OverLimit` of more than 65,536
-/// entries, then of an entry of more than 16,777,216 bytes. Fails with 14 `Memory` if memory is refused for entries
-/// that are there.
+/// entries, then of an entry of more than 16,777,216 bytes. Fails with 14 `Memory` if memory is refused and there is no
+/// other fault.
 pub fn read_definition(alloc: Global, bytes: &[u8]) -> Result<Entries, OpFault>
     ensures gives { Gives (λ e. e) result (definition_of bytes.now) }
     ensures last { MemoryLast is_memory result (definition_of bytes.now) }

@@ -1,4 +1,4 @@
-//! Executions, their mounts and caches, as `ops.proto` of BuildKit names them. Enums of the wire are numbers.
+//! Executions, their mounts and caches, as `ops.proto` of BuildKit names them. Enums are numbers here.
 
 use crate::fault::OpFault;
 use crate::message::{Message, each, one};
@@ -25,7 +25,7 @@ pub struct ExecOp {
     pub extra: Bytes,
 }
 
-// Written out, so that what owns one drops it by this one function.
+// Written by hand, so that it is proved once; a derived one is proved again in every function that drops such a value.
 impl Drop for ExecOp {
     fn drop(self) {
         let ExecOp {
@@ -48,7 +48,7 @@ pub struct Meta {
     pub extra: Bytes,
 }
 
-// Written out, so that what owns one drops it by this one function.
+// Written by hand, so that it is proved once; a derived one is proved again in every function that drops such a value.
 impl Drop for Meta {
     fn drop(self) {
         let Meta {
@@ -66,7 +66,7 @@ pub struct Mount {
     pub input: i64,
     pub selector: Text,
     pub dest: Text,
-    /// The output that the mount's tree is, -1 for none.
+    /// The number of the output that the mount's tree becomes, -1 for none.
     pub output: i64,
     pub readonly: bool,
     /// 0 bind, 1 secret, 2 SSH, 3 cache, 4 tmpfs.
@@ -76,7 +76,7 @@ pub struct Mount {
     pub extra: Bytes,
 }
 
-// Written out, so that what owns one drops it by this one function.
+// Written by hand, so that it is proved once; a derived one is proved again in every function that drops such a value.
 impl Drop for Mount {
     fn drop(self) {
         let Mount {
@@ -99,7 +99,7 @@ pub struct TmpfsOpt {
     pub extra: Bytes,
 }
 
-// Written out, so that what owns one drops it by this one function.
+// Written by hand, so that it is proved once; a derived one is proved again in every function that drops such a value.
 impl Drop for TmpfsOpt {
     fn drop(self) {
         let TmpfsOpt { size: _, extra: _ } = self;
@@ -114,7 +114,7 @@ pub struct CacheOpt {
     pub extra: Bytes,
 }
 
-// Written out, so that what owns one drops it by this one function.
+// Written by hand, so that it is proved once; a derived one is proved again in every function that drops such a value.
 impl Drop for CacheOpt {
     fn drop(self) {
         let CacheOpt {

@@ -20,7 +20,7 @@ pub struct FileOp {
     pub extra: Bytes,
 }
 
-// Written out, so that what owns one drops it by this one function.
+// Written by hand, so that it is proved once; a derived one is proved again in every function that drops such a value.
 impl Drop for FileOp {
     fn drop(self) {
         let FileOp {
@@ -35,24 +35,24 @@ pub struct Actions {
     shared: Arc<Vec<Action>>,
 }
 
-// Written out, so that what owns one drops it by this one function.
+// Written by hand, so that it is proved once; a derived one is proved again in every function that drops such a value.
 impl Drop for Actions {
     fn drop(self) {
         let Actions { shared: _ } = self;
     }
 }
 
-/// `FileAction`: one action, its inputs, and the output that its result is, -1 for none.
+/// `FileAction`: one action, its inputs, and the number of the output that its result becomes, -1 for none.
 pub struct Action {
     pub input: i64,
     pub secondary_input: i64,
     pub output: i64,
-    /// The member that is set, if any.
+    /// The member of the oneof that is set, if any.
     pub kind: Option<ActionKind>,
     pub extra: Bytes,
 }
 
-// Written out, so that what owns one drops it by this one function.
+// Written by hand, so that it is proved once; a derived one is proved again in every function that drops such a value.
 impl Drop for Action {
     fn drop(self) {
         let Action {

@@ -1,4 +1,4 @@
-//! The law that canonical bytes are fields by the table of messages.
+//! The law that canonical bytes consist of the table's fields.
 
 ghost use Rattle.llb_ops.specs.Fields.{EntryHasFields};
 

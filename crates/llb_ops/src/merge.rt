@@ -8,13 +8,13 @@ use crate::writing::{put_extra, put_messages, put_signed};
 use llb_wire::{Bytes, Many, Memory};
 use std::alloc::Global;
 
-/// Trees that are laid one over the other, in their order.
+/// Trees that are laid one over another, in their order.
 pub struct MergeOp {
     pub inputs: Many<MergeInput>,
     pub extra: Bytes,
 }
 
-// Written out, so that what owns one drops it by this one function.
+// Written by hand, so that it is proved once; a derived one is proved again in every function that drops such a value.
 impl Drop for MergeOp {
     fn drop(self) {
         let MergeOp {
@@ -30,7 +30,7 @@ pub struct MergeInput {
     pub extra: Bytes,
 }
 
-// Written out, so that what owns one drops it by this one function.
+// Written by hand, so that it is proved once; a derived one is proved again in every function that drops such a value.
 impl Drop for MergeInput {
     fn drop(self) {
         let MergeInput { input: _, extra: _ } = self;

@@ -1,4 +1,4 @@
-//! Messages as functions of their records, and how one is part of another: singular, repeated, or a member of a oneof.
+//! Messages as functions of their records, and how one message is a field of another: singular, repeated, or a member of a oneof.
 
 ghost use Rattle.std.specs.Prelude.{◌≡◌, List, ℕ, Result, IfOk, true};
 ghost use Rattle.llb_wire.specs.Records.{Record as Read};
@@ -14,11 +14,11 @@ use crate::table::MessageName;
 use llb_wire::{Boxed, Many, Memory};
 use std::alloc::Global;
 
-/// A message: the fields that it names, what it is from its records, and its canonical bytes.
+/// A message: its name in the table, how it is read from its records, and its canonical bytes.
 pub trait Message: Drop {
     ghost shape: { Shape };
 
-    /// Returns the name by which the table of messages has this message.
+    /// Returns the name of this message in the table of messages.
     fn name() -> MessageName
         ensures { shape_of result ≡ shape };
 
@@ -36,7 +36,7 @@ pub trait Message: Drop {
         ensures { IfOk result (λ v. v.items ≡ writing self.now) };
 }
 
-/// A message on the heap.
+/// A message that is kept on the heap.
 impl<M: Message> Message for Boxed<M> {
     ghost shape = { M.shape };
 
@@ -58,11 +58,11 @@ impl<M: Message> Message for Boxed<M> {
     }
 }
 
-/// A member of a oneof: what the one of a number is from its records, and its canonical bytes.
+/// The members of a oneof: how the member with a number is read from its records, and its canonical bytes.
 pub trait Member: Drop {
     ghost reading: { ℕ → List Read → Result Self OpFault };
 
-    /// Reads the member of a number from its records. Fails with the first fault, or with 14 `Memory`.
+    /// Reads the member with this number from its records. Fails with the first fault, or with 14 `Memory`.
     fn read(alloc: Global, number: u32, records: &[Record<'_>]) -> Result<Self, OpFault>
         ensures { Gives (λ m. m) result (reading number (all number (views records.now))) };
 

@@ -26,13 +26,13 @@ use std::alloc::Global;
 /// A vertex of the build graph, as its entry has it.
 pub struct Op {
     pub inputs: Many<Input>,
-    /// The member that is set, if any.
+    /// The member of the oneof that is set, if any.
     pub kind: Option<Kind>,
     /// The records of fields that the message doesn't name, as they are.
     pub extra: Bytes,
 }
 
-// Written out, so that the crates above drop one by this one function.
+// Written by hand, so that it is proved once; a derived one is proved again in every function that drops such a value.
 impl Drop for Op {
     fn drop(self) {
         let Op {
@@ -62,7 +62,7 @@ pub struct Input {
     pub extra: Bytes,
 }
 
-// Written out, so that what owns one drops it by this one function.
+// Written by hand, so that it is proved once; a derived one is proved again in every function that drops such a value.
 impl Drop for Input {
     fn drop(self) {
         let Input {

@@ -1,4 +1,4 @@
-//! Owners of what a file action makes: users and groups by what they are of their records, and their canonical bytes.
+//! Owners of what a file action makes: users and groups, read from their records, and their canonical bytes.
 
 use crate::fault::OpFault;
 use crate::message::{Member, Message, one, one_of};
@@ -8,14 +8,14 @@ use crate::writing::{put_extra, put_message, put_one_of, put_set_bytes, put_set_
 use llb_wire::{Bytes, Memory};
 use std::alloc::Global;
 
-/// The owner that made or copied entries get.
+/// The owner of the entries that an action makes or copies.
 pub struct ChownOpt {
     pub user: Option<UserOpt>,
     pub group: Option<UserOpt>,
     pub extra: Bytes,
 }
 
-// Written out, so that what owns one drops it by this one function.
+// Written by hand, so that it is proved once; a derived one is proved again in every function that drops such a value.
 impl Drop for ChownOpt {
     fn drop(self) {
         let ChownOpt {
@@ -65,7 +65,7 @@ pub struct UserOpt {
     pub extra: Bytes,
 }
 
-// Written out, so that what owns one drops it by this one function.
+// Written by hand, so that it is proved once; a derived one is proved again in every function that drops such a value.
 impl Drop for UserOpt {
     fn drop(self) {
         let UserOpt { user: _, extra: _ } = self;

@@ -1,4 +1,4 @@
-//! Equality by value of ops and of the messages in them: all fields are the same, those that no message names too. Attributes
+//! Equality by value of ops and of the messages in them: all fields are compared, also those that no message names. Attributes
 //! of a source are compared as a list of keys and attributes, in order. Nothing here allocates.
 
 ghost use Rattle.std.specs.Prelude.{◌≡◌, ◌↔◌, IsTrue, slice_get};

@@ -21,7 +21,7 @@ pub struct SourceOp {
     pub extra: Bytes,
 }
 
-// Written out, so that what owns one drops it by this one function.
+// Written by hand, so that it is proved once; a derived one is proved again in every function that drops such a value.
 impl Drop for SourceOp {
     fn drop(self) {
         let SourceOp {
@@ -38,20 +38,20 @@ pub struct Attributes {
     held: IndexMap<Text, Attribute>,
 }
 
-// Written out, so that what owns one drops it by this one function.
+// Written by hand, so that it is proved once; a derived one is proved again in every function that drops such a value.
 impl Drop for Attributes {
     fn drop(self) {
         let Attributes { held: _ } = self;
     }
 }
 
-/// What follows a key.
+/// The value of an attribute, with the extra bytes of its entry.
 pub struct Attribute {
     pub value: Text,
     pub extra: Bytes,
 }
 
-// Written out, so that what owns one drops it by this one function.
+// Written by hand, so that it is proved once; a derived one is proved again in every function that drops such a value.
 impl Drop for Attribute {
     fn drop(self) {
         let Attribute { value: _, extra: _ } = self;

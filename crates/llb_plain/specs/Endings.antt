@@ -1,15 +1,15 @@
--- What the crate's outcomes represent, in the words of the machine's definitions.
+-- What the crate's outcomes represent in the model.
 use Rattle.std.specs.Prelude.{ℕ, List, slice_get, Option}
 use Rattle.llb_model.specs.Outcome as model
 use Rattle.llb_plain.specs.declared.outcome.Outcome.{Outcome}
 use Rattle.llb_plain.specs.declared.outcome.Outcome.TheVariants.{Done, Failed, Blocked}
 
--- an outcome as the model's
+-- an outcome of the code as one of the model
 abbrev pub outcome_of : Outcome → model.Outcome
 outcome_of (Done trees) = model.Ended (model.Done trees)
 outcome_of (Failed f) = model.Ended (model.Failed f)
 outcome_of Blocked = model.Blocked
 
--- how the vertices of some outcomes end, by number
+-- how vertex k ended, among these outcomes
 abbrev pub ending_among : List model.Outcome → ℕ → Option model.Ending
 ending_among outcomes k = model.ending_in (slice_get outcomes k)

@@ -4,13 +4,13 @@ use Rattle.llb_wire.specs.Answer as answer
 use Rattle.llb_plain.specs.declared.fault.PlainFault.{PlainFault}
 use Rattle.llb_plain.specs.declared.fault.PlainFault.TheVariants.{MissingLocal, HasCache, Memory}
 
--- the fault for refused memory, which no rule returns
+-- whether a fault is `Memory`, which no rule returns
 abbrev pub is_memory : PlainFault → Bool
 is_memory Memory = true
 is_memory (MissingLocal name) = false
 is_memory (HasCache v) = false
 
--- the result of a call, seen by view, is the result of its rule
+-- the result of a call is that of its rule, or the call fails for want of memory
 abbrev pub Gives : {X Y : Type 0} → (X → Y) → Result X PlainFault → Result Y PlainFault → Type 0
 Gives = answer.Gives is_memory
 
@@ -21,7 +21,7 @@ may_want_memory (Err (MissingLocal name)) = true
 may_want_memory (Err (HasCache v)) = false
 may_want_memory (Err Memory) = false
 
--- and `Memory` is last, but for the name of a missing local tree
+-- `Memory` is reported last, except for the name of a missing local tree
 abbrev pub MemoryLast : {X Y : Type 0} → Result X PlainFault → Result Y PlainFault → Type 0
 MemoryLast (Ok x) rule = Unit {0}
 MemoryLast (Err e) rule = is_memory e ≡ true → may_want_memory rule ≡ true

@@ -26,7 +26,7 @@ pub enum Outcome {
 }
 
 impl Outcome {
-    /// Returns the output of that number, if the vertex is done and has it.
+    /// Returns the output with this number, if the vertex is done and has it.
     pub fn output(&self, index: u32) -> Option<&Tree>
         ensures { option_map (λ t. t.now) result ≡ output_in (ending_in (Some (outcome_of self.now))) index }
     {
@@ -37,12 +37,12 @@ impl Outcome {
     }
 }
 
-/// The outcomes of vertices, by number. Contracts see the list of them, in the words of the machine's definitions.
+/// The outcomes of vertices, by number. Contracts see the list of them, as outcomes of the model.
 pub struct Outcomes {
     items: Vec<Outcome>,
 }
 
-// Written out, so that what owns one drops it by this one function.
+// Written by hand, so that it is proved once; a derived one is proved again in every function that drops such a value.
 impl Drop for Outcomes {
     fn drop(self) {
         let Outcomes { items: _ } = self;

@@ -1,18 +1,18 @@
--- The rule of the queue. It speaks of what the queue holds, oldest first, and of what each pass knows.
+-- The rule of the queue: it relates what the queue holds, oldest first, and what the passes have put and taken.
 use Rattle.std.specs.Prelude.{◌≡◌, ℕ, ◌+◌, ◌*◌, ◌<◌, ◌≤◌, List, [], length, slice_index, sum, sum_by}
 use mathlib.Core.Option.{some}
 use lib.ListN.{get_elem?}
 use Rattle.llb_ready.specs.declared.hand.Hand.{Hand}
 
--- A pass has this weight of the unit as its part. With no part it has put and taken nothing; with some it knows the room.
+-- The pass has this weight as its fraction of the unit. A pass with fraction 0 has put and taken nothing; any other knows the queue's room.
 pub record IsPart (unit room weight : ℕ) (v : Hand) : Type 0 where
   pub whole : 0 < v.den
   pub is : weight * v.den ≡ v.num * unit
   pub idle : v.num ≡ 0 → (v.put ≡ []) × (v.taken ≡ [])
   pub same_room : 0 < v.num → v.room ≡ room
 
--- The passes' parts add up to the whole. However numbers are weighed, what was put is what was taken and what the queue holds, which is no
--- more than there is room for.
+-- The fractions of the passes add up to the whole. For every way to weigh numbers, the sum of those that were put is that of those taken and those that
+-- the queue holds; and it holds no more than it has room for.
 pub record IsBalanced (items : List ℕ) (views : List Hand) : Type 0 where
   pub unit : ℕ
   pub room : ℕ

@@ -1,20 +1,20 @@
--- What a pass knows, and what each call makes of that.
+-- What contracts know of a pass, and how each call changes that. A pass is the right to put and take; it can be split into fractions.
 use Rattle.std.specs.Prelude.{◌≡◌, ℕ, ◌+◌, ◌*◌, ◌<◌, List, [], ◌∷◌, ◌++◌}
 use Rattle.llb_ready.specs.declared.hand.Hand.{Hand}
 
--- A pass has a part num/den of the whole, knows the queue's room, and has put and taken these numbers.
+-- A pass with the fraction num/den of the whole, which knows the queue's room, and has put and taken these numbers.
 abbrev pub hand : ℕ → ℕ → ℕ → List ℕ → List ℕ → Hand
 hand num den room put taken = record { num = num; den = den; room = room; put = put; taken = taken }
 
--- A pass that may put and take has a part above zero.
+-- A pass that may put and take has a fraction above zero.
 abbrev pub HasPart : Hand → Type 0
 HasPart v = (0 < v.num) × (0 < v.den)
 
--- A pass is whole if it has all parts.
+-- A pass is whole if its fraction is 1.
 abbrev pub HasAll : Hand → Type 0
 HasAll v = v.num ≡ v.den
 
--- A pass that puts and takes has the same part afterwards.
+-- A pass has the same fraction after it puts or takes.
 abbrev pub SamePart : Hand → Hand → Type 0
 SamePart old new = (new.num ≡ old.num) × (new.den ≡ old.den)
 
@@ -34,18 +34,18 @@ with_put v x = hand v.num v.den v.room (v.put ++ x ∷ []) v.taken
 abbrev pub with_taken : Hand → ℕ → Hand
 with_taken v x = hand v.num v.den v.room v.put (v.taken ++ x ∷ [])
 
--- A pass that is cut in two keeps half of its part, and its lists.
+-- A pass that is split keeps half of its fraction, and its numbers.
 abbrev pub halved : Hand → Hand
 halved v = hand v.num (2 * v.den) v.room v.put v.taken
 
--- The pass that is cut off gets the other half, and has put and taken nothing.
+-- The new pass gets the other half, and has put and taken nothing.
 abbrev pub other_half : Hand → Hand
 other_half v = hand v.num (2 * v.den) v.room [] []
 
--- Two passes that are joined have both parts, and what the first put and took is followed by what the other did.
+-- Two passes that are joined have the sum of both fractions; the numbers that the first put and took are followed by those of the other.
 abbrev pub together : Hand → Hand → Hand
 together v w = hand (v.num * w.den + w.num * v.den) (v.den * w.den) v.room (v.put ++ w.put) (v.taken ++ w.taken)
 
--- A pass that was joined to another one has no part any more.
+-- A pass that was joined to another one has the fraction 0.
 abbrev pub spent : Hand
 spent = hand 0 1 0 [] []

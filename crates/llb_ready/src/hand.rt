@@ -1,9 +1,9 @@
-//! What a pass knows. It is in clauses alone.
+//! What contracts know of a pass. It exists in clauses alone.
 
 use std::collections::LinkedList;
 
-/// A part `num`/`den` of the whole; `room`, how many numbers the queue has room for; and the numbers that the pass put and took,
-/// each in their order. No value of it is made.
+/// The fraction `num`/`den` of the whole; `room`, how many numbers the queue has room for; and the numbers that the pass put and took,
+/// each in their order. No value of this type exists at run time.
 pub struct Hand {
     pub num: u64,
     pub den: u64,

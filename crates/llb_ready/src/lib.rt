@@ -1,9 +1,9 @@
-//! A queue of numbers that threads share. A thread puts and takes by a pass, which has counted what it put and took; the passes are parts of
-//! one whole. It uses the array queue of `crossbeam_queue`, under a rule.
+//! A queue of numbers that threads share. A thread puts and takes by a pass, for which contracts count what it put and took; the passes are fractions
+//! of one whole. It is built on the array queue of `crossbeam_queue`, under a rule.
 //!
-//! Types: `ReadyQueue`, `ReadyPass` (a part of the whole, as a fraction), `Full` and `ReadyFault`.
-//! Promise: `ReadyQueue::close` (`conserved`): each number was put as often as it was taken and is still there. With the whole pass,
-//! `ReadyQueue::put` (`full`, `whole`) returns `Full` only where the queue is full. The order of the numbers is only tested.
+//! Types: `ReadyQueue`, `ReadyPass` (a fraction of the whole), `Full` and `ReadyFault`.
+//! Promise: `ReadyQueue::close` (`conserved`): each number was put as often as it was taken and is still in the queue. With the whole pass,
+//! `ReadyQueue::put` (`full`, `whole`) returns `Full` only if the queue is full. The order of the numbers is only tested.
 //!
 //! A caller:
 //!

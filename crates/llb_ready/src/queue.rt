@@ -1,4 +1,4 @@
-//! The queue and its passes. A queue begins with one pass, the whole; a thread's part is cut from it, and comes back to it before
+//! The queue and its passes. A queue begins with one pass, the whole; a fraction for each thread is split off, and joined again before
 //! the queue is closed.
 
 ghost use Rattle.std.specs.Prelude.{◌≡◌, ◌≤◌, ◌+◌, ℕ, List, length, IfOk, IfErr, IfSome, IfNone, OnOk, MatchResult, MatchOption};
@@ -19,7 +19,7 @@ pub struct ReadyQueue {
     queue: RuledArrayQueue<u32, Hand, Fair>,
 }
 
-/// The right of one thread to put and take. It has no bytes, and in clauses it knows its part of the whole, and what was put and
+/// The right of one thread to put and take. It has no bytes; in clauses it has its fraction of the whole, and what was put and
 /// taken by it.
 #[derive(Drop)]
 pub struct ReadyPass {
@@ -30,7 +30,7 @@ pub struct ReadyPass {
 impl ReadyQueue {
     ghost use Rattle.llb_ready.specs.Passes.{hand_of, IsReadyPassOf, capacity_of, IsWhole};
 
-    /// Makes a queue with room for `n` numbers, 1 to 65,536, and its whole pass: part 1/1, nothing put, nothing taken.
+    /// Makes a queue with room for `n` numbers, 1 to 65,536, and its whole pass (fraction 1/1), which has put and taken nothing.
     /// Fails with 145 `Memory` alone.
     pub fn new(alloc: Global, n: u32) -> Result<(ReadyQueue, ReadyPass), ReadyFault>
         requires { (1 ≤ n) × (n ≤ 65536) }
@@ -40,14 +40,14 @@ impl ReadyQueue {
     {
         let (queue, whole) = RuledArrayQueue::ruled(alloc, n as usize)?;
         let mut pass = whole;
-        // The rule gains the room, one number at a time. This changes nothing in the queue.
+        // The queue begins with a rule that allows no numbers; it is changed n times, each time to allow one more. The queue's content stays.
         for _i in 0..n {
             drop(queue.another::<Widens>(&mut pass));
         }
         Ok((ReadyQueue { queue }, ReadyPass { pass }))
     }
 
-    /// Cuts a pass's part in two. The first keeps its lists; the second is new, with nothing put and nothing taken.
+    /// Splits a pass into halves. The first keeps its numbers; the second is new, and has put and taken nothing.
     pub fn split(&self, pass: ReadyPass) -> (ReadyPass, ReadyPass)
         requires { IsReadyPassOf self.now pass }
         ensures passes { IsReadyPassOf self.now result.0 × IsReadyPassOf self.now result.1 }
@@ -59,7 +59,7 @@ impl ReadyQueue {
         (ReadyPass { pass: first }, ReadyPass { pass: second })
     }
 
-    /// Joins two passes: their parts are added, and after what the first put and took comes what the other one did.
+    /// Joins two passes: their fractions are added, and the numbers that the first put and took are followed by those of the other.
     pub fn join(&self, pass: ReadyPass, other: ReadyPass) -> ReadyPass
         requires { IsReadyPassOf self.now pass × IsReadyPassOf self.now other }
         ensures pass { IsReadyPassOf self.now result }
@@ -81,7 +81,7 @@ impl ReadyQueue {
         ensures ok { OnOk result (hand_of pass.new ≡ with_put (hand_of pass.old) v) }
         ensures full { IfErr result (λ e. (e.0 ≡ v) × (hand_of pass.new ≡ hand_of pass.old)) }
 
-        // To the whole pass the queue is full exactly if it has put as many numbers more than it took as there is room
+        // With the whole pass the queue is full exactly if the pass has put as many numbers more than it took as there is room
         // for.
         ensures whole { let before = hand_of pass.old in IsWhole pass.old → MatchResult result (λ _. HasRoom before) (λ _. HasNoRoom before) }
     {
@@ -100,7 +100,7 @@ impl ReadyQueue {
         ensures some { IfSome result (λ v. hand_of pass.new ≡ with_taken (hand_of pass.old) v) }
         ensures none { IfNone result (hand_of pass.new ≡ hand_of pass.old) }
 
-        // To the whole pass the queue is empty exactly if it took all that it put; else it gets one that was put more
+        // With the whole pass the queue is empty exactly if the pass took all that it put; else it takes a number that was put more
         // often than taken.
         ensures whole { let before = hand_of pass.old in IsWhole pass.old → MatchOption result (HasTakenAll before) (HasLeft before) }
     {
@@ -108,8 +108,8 @@ impl ReadyQueue {
         self.queue.pop_as::<Takes, R>(rt, pass)
     }
 
-    /// Takes the whole pass, and drops the queue with what is present in it. Each number was put as often as it was taken and is
-    /// present.
+    /// Takes the whole pass, and drops the queue with what it still has. Each number was put as often as it was taken and is
+    /// still there.
     pub fn close(self, pass: ReadyPass)
         requires pass { IsReadyPassOf self pass }
         requires whole { IsWhole pass }

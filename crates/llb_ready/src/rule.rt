@@ -1,9 +1,9 @@
-//! The rule of the queue, and what each kind of step does to a pass and shows of the queue. Nothing here runs.
+//! The rule of the queue, and how each kind of step changes a pass and the queue. Nothing here runs.
 
 use crate::hand::Hand;
 use crossbeam_queue::protocol::{Join, Lesson, Outcome, Protocol, Split};
 
-/// The rule: what was put is what was taken and what is present, and the passes are parts of one whole.
+/// The rule: what was put is what was taken and what the queue holds, and the passes are fractions of one whole.
 pub(crate) struct Fair;
 
 impl Protocol<u32, Hand> for Fair {
@@ -15,7 +15,7 @@ impl Protocol<u32, Hand> for Fair {
     ghost first = { first_hand 0 };
 }
 
-/// The whole pass gains room for one more number.
+/// The step in which the queue's room grows by one number while it is made.
 pub(crate) struct Widens;
 
 impl Split<Hand> for Widens {
@@ -26,7 +26,7 @@ impl Split<Hand> for Widens {
     ghost right = { λ _. spent };
 }
 
-/// A pass is cut in two.
+/// The step in which a pass is split into halves.
 pub(crate) struct Halves;
 
 impl Split<Hand> for Halves {
@@ -37,7 +37,7 @@ impl Split<Hand> for Halves {
     ghost right = { other_half };
 }
 
-/// Two passes become one.
+/// The step in which two passes are joined.
 pub(crate) struct Joins;
 
 impl Join<Hand> for Joins {
@@ -48,7 +48,7 @@ impl Join<Hand> for Joins {
     ghost spent = { spent };
 }
 
-/// A number is put.
+/// The step in which a number is put.
 pub(crate) struct Puts;
 
 impl Outcome<u32, Hand> for Puts {
@@ -57,7 +57,7 @@ impl Outcome<u32, Hand> for Puts {
     ghost then = { GainsPut };
 }
 
-/// A number is taken.
+/// The step in which a number is taken.
 pub(crate) struct Takes;
 
 impl Outcome<u32, Hand> for Takes {
@@ -78,7 +78,7 @@ impl Lesson<u32, Hand> for Takes {
     ghost fact = { Knows };
 }
 
-/// The whole pass learns what is present.
+/// The step in which the whole pass learns what the queue still holds.
 pub(crate) struct Learns;
 
 impl Lesson<u32, Hand> for Learns {

@@ -1,4 +1,4 @@
-//! File actions and merges. A tree on which one works is a copy of the one that it is given; here each is compared with one that was made in
+//! File actions and merges. An action works on a copy of the given tree; here the given tree is compared afterwards with one that was made in
 //! the same steps.
 
 use super::growths::{Row, Trial, are_refused};
@@ -20,7 +20,7 @@ enum Answer {
     LaidOver(Result<(), Memory>),
 }
 
-// Two trees, each with one that is the same; copies of the first, for two calls that take it; and an op of one action.
+// Two trees, each with another that is equal to it; copies of the first tree, for two calls that take one; and an op with one action.
 #[derive(Drop)]
 struct OnTrees {
     call: &'static str,
@@ -41,14 +41,14 @@ fn two_copies(rt: &impl Abort, alloc: Global, tree: &Tree) -> Vec<Tree> {
     vec![in alloc; copied(rt, tree), copied(rt, tree)].expect(rt, "memory")
 }
 
-// The first op of entries.
+// Returns the op of the first entry.
 fn op_in(rt: &impl Abort, alloc: Global, written: &str) -> Op {
     let entries = entries_of(rt, alloc, written);
     let entry = entries.as_slice().first().expect(rt, "an entry");
     read_op(alloc, entry.as_slice()).expect(rt, "an op")
 }
 
-// The text of the op of one action: its member, and its fields with a comma between them.
+// Returns the text of an op with one action: the action's member of the oneof, and its fields with a comma between them.
 fn op_text(rt: &impl Abort, alloc: Global, action: &str) -> String {
     let mut text = String::new(alloc);
     let (kind, fields) = action.split_once(": ").unwrap_or((action, ""));
@@ -60,7 +60,7 @@ fn op_text(rt: &impl Abort, alloc: Global, action: &str) -> String {
     text
 }
 
-// The op of a call that is an action; of another call any.
+// Returns the op of a call that is an action; for any other call an op that is not used.
 fn op_of(rt: &impl Abort, alloc: Global, call: &str) -> Op {
     let action = if call.contains(": ") {
         call
@@ -100,7 +100,7 @@ fn laid_onto(handed: &mut Vec<Tree>, second: &Tree) -> Answer {
 }
 
 impl OnTrees {
-    // The answer of the call.
+    // Makes the call, and returns its result.
     fn answered(&mut self, alloc: Global) -> Answer {
         match self.call {
             "lay" => laid(alloc, &self.base, &self.second),

@@ -1,4 +1,4 @@
-//! What a definition is loaded and opened as, by the call that meets the premises of the machine's aim.
+//! Loads and opens a definition by the call that meets the premises of the project's aim.
 
 use super::boards::copy_of;
 use super::growths::{Row, Trial, are_refused};
@@ -15,7 +15,7 @@ use llb_wire::Bytes;
 use std::alloc::Global;
 use std::process::Abort;
 
-// A text, its entries and their definition, and the boards that are opened on it.
+// A text, its entries and their definition, and what the boards are opened with.
 #[derive(Drop)]
 struct OnDefinition {
     text: String,
@@ -49,7 +49,7 @@ fn board_in(stepper: &Stepper) -> &Board {
     stepper.board()
 }
 
-// The trees of the results, once each board is run to its end.
+// Returns the trees of the results, after each board is run to its end.
 fn results_told(rt: &impl Abort, alloc: Global, board: &Board, stepper: &Stepper) -> String {
     let mut text = copy_told(rt, alloc, board);
     let other = copy_told(rt, alloc, board_in(stepper));

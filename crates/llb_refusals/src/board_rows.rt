@@ -1,5 +1,5 @@
-//! The rows of calls on boards: the call, what the board is opened on and the events that it has, the fault of refused memory, and what the
-//! call leaves.
+//! The rows for calls on boards: the call; what the board is opened on and the events that it has; the fault for refused memory; and the result of the
+//! call if no memory is refused.
 
 use super::boards::TWO_FILES;
 use super::growths::Row;

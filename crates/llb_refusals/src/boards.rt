@@ -1,5 +1,5 @@
-//! Boards: an opening, claims, steps, copies and work. A board is written as the number of its workers and its definition, after ` on ` its
-//! local trees and after ` after ` the events that were done on it.
+//! Boards: an opening, claims, steps, copies and work. A board is written as the number of its workers and its definition, then ` on ` and its
+//! local trees, and then ` after ` and the events that were done on it.
 
 use super::board_rows::ROWS;
 use super::growths::{Row, Trial, are_refused};
@@ -17,7 +17,7 @@ use std::alloc::Global;
 use std::mem;
 use std::process::Abort;
 
-/// Lets all work begin.
+/// A gate that stops no worker.
 pub(crate) struct Open;
 
 impl Gate for Open {
@@ -50,7 +50,7 @@ enum Answer {
     Looked(bool),
 }
 
-/// What is written of a board.
+/// A board as it is written in a row.
 #[derive(Clone, Copy)]
 pub(crate) struct Written {
     pub workers: u32,
@@ -91,7 +91,7 @@ fn parts_of(rt: &impl Abort, alloc: Global, written: &Written) -> Parts {
     }
 }
 
-/// Makes a board before any event.
+/// Makes a board on which no event was done.
 pub(crate) fn board_on(rt: &impl Abort, alloc: Global, written: &Written) -> Board {
     match opened(parts_of(rt, alloc, written), written.workers, alloc) {
         Answer::Opened(Ok(board)) => board,
@@ -139,7 +139,7 @@ fn is_done(board: &mut Board, event: Event) -> bool {
     }
 }
 
-/// Makes a board after its events.
+/// Makes a board, and does its events on it.
 pub(crate) fn board_of(rt: &impl Abort, alloc: Global, written: &Written) -> Board {
     let mut board = board_on(rt, alloc, written);
     for line in written.events.split("; ") {
@@ -158,7 +158,7 @@ pub(crate) fn are_same(board: &Board, other: &Board) -> bool {
     board.same(other)
 }
 
-// What a board is opened on, with the like of it, and such a board.
+// What a board is opened on, and an equal copy of that.
 #[derive(Drop)]
 struct OnParts {
     workers: u32,
@@ -168,7 +168,7 @@ struct OnParts {
 }
 
 impl OnParts {
-    // What is handed in, the first time and again where it came back.
+    // Returns what is handed in: the first time the parts, and after a refusal those that it returned.
     fn taken(&mut self) -> Option<Parts> {
         let answer = mem::replace(&mut self.answer, Answer::None);
         match answer {
@@ -254,7 +254,7 @@ fn openings(rt: HostRuntime) {
     are_refused::<OnParts>(&rt, rt.alloc(), OPENINGS);
 }
 
-// A board, one that is the same, and one on which the event was done that is asked for; and jobs for calls that take them.
+// A board, one that is equal to it, and one on which the event of the call was done; and jobs for calls that take one.
 #[derive(Drop)]
 struct OnBoard {
     call: &'static str,
@@ -269,7 +269,7 @@ fn job_of(board: &mut Board, v: u32) -> Option<Job> {
     board.claim(0, v).ok()
 }
 
-// The job of a claim.
+// Appends the job of a claim.
 fn push_job(rt: &impl Abort, jobs: &mut Vec<Job>, board: &mut Board, v: u32) {
     let job = job_of(board, v).expect(rt, "a job");
     jobs.push(job).expect(rt, "memory");
@@ -313,12 +313,12 @@ fn board_called(board: &mut Board, call: &str) -> Answer {
     }
 }
 
-// A worker at work on a vertex, and how the board is then.
+// Returns which worker works at which vertex, and whether the board is as it should be then.
 fn work_told(rt: &impl Abort, alloc: Global, w: u32, v: u32, name: &str) -> String {
     format!(in alloc; "{w} at {v}, {name}").expect(rt, "memory")
 }
 
-// A micro-step, and how the board is then.
+// Returns what a micro-step did, and whether the board is as it should be then.
 fn stepped_told(rt: &impl Abort, alloc: Global, stepped: Stepped, name: &str) -> String {
     format!(in alloc; "{stepped:?}, {name}").expect(rt, "memory")
 }
@@ -328,7 +328,7 @@ fn name_of(is_same: bool) -> &'static str {
 }
 
 impl OnBoard {
-    // How the board is behind an event.
+    // Returns whether the board is as it should be after the event of the call, in words.
     fn behind(&self) -> &'static str {
         name_of(self.board.same(&self.goal))
     }
@@ -346,7 +346,7 @@ impl OnBoard {
         if are_same { "the events" } else { "others" }
     }
 
-    // A vertex whose claim was refused is ready.
+    // Returns whether the vertex whose claim was refused is still Ready; true for any other call.
     fn is_ready(&self) -> bool {
         match event_in(self.call) {
             Some(Event::Claim(_, v)) => self.board.status(v) == Some(Status::Ready),
@@ -361,7 +361,7 @@ fn outcome_told(rt: &impl Abort, alloc: Global, outcome: &Outcome) -> String {
 }
 
 impl OnBoard {
-    // The answer of the call.
+    // Makes the call, and returns its result.
     fn answered(&mut self, alloc: Global) -> Answer {
         match self.call {
             "Board::copy" => copied(&self.board),

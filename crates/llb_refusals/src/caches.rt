@@ -1,4 +1,4 @@
-//! Leases of caches. A need is the ID of its key and the mode, with the tree that a new instance begins with; needs have a comma between them.
+//! Leases of caches. A need is the ID and the mode of its key, with the tree that a new instance begins with; there is a comma between two needs.
 
 use super::growths::{Row, Trial, are_refused};
 use super::told::{fault_told, text_of, text_told};
@@ -15,7 +15,7 @@ enum Answer {
     Ready(Result<Lent, Memory>),
 }
 
-// Caches, twice, needs for two calls that take them, and instances of their keys.
+// Two equal values of caches, needs for two calls that take them, and instances of their keys.
 #[derive(Drop)]
 struct OnCaches {
     call: &'static str,
@@ -34,7 +34,7 @@ fn mode_of(way: &str) -> Mode {
     }
 }
 
-// A key with a seed where a tree is named.
+// Returns a key, with a seed if a tree is named.
 fn key_of(rt: &impl Abort, alloc: Global, id: &str, way: &str, tree: &str) -> Key {
     let seed = if tree.is_empty() {
         None
@@ -72,12 +72,12 @@ fn leased(caches: &mut Caches, needs: Many<Need>) -> Answer {
     Answer::None
 }
 
-// Takes a lease, where one can be had.
+// Takes a lease if it is granted.
 fn lease_out(caches: &mut Caches, needs: Many<Need>) {
     let _ = leased(caches, needs);
 }
 
-// Caches with leases out, each of which has needs.
+// Returns caches with a lease for each of these lists of needs.
 fn caches_of(rt: &impl Abort, alloc: Global, out: &'static str) -> Caches {
     let mut caches = Caches::new(alloc);
     for needs in out.split(" then ") {
@@ -105,7 +105,7 @@ fn two_needs(rt: &impl Abort, alloc: Global, written: &'static str) -> Vec<Many<
     needs
 }
 
-// The first instance of each key that is needed.
+// Returns instance 0 of each key that is needed.
 fn instances_of(rt: &impl Abort, alloc: Global, written: &'static str) -> Vec<Instance> {
     let mut instances = Vec::new(alloc);
     for need in needs_of(rt, alloc, written).into_vec() {
@@ -119,7 +119,7 @@ fn instances_of(rt: &impl Abort, alloc: Global, written: &'static str) -> Vec<In
 }
 
 impl OnCaches {
-    // The lease with the instance that its first need has, and how many leases are out.
+    // Returns the number of the lease, that of the instance for its first need, and how many leases are current.
     fn lease_told(&self, rt: &impl Abort, alloc: Global, lease: Lease) -> String {
         let number = lease.number();
         let mut instance = u32::MAX;
@@ -140,7 +140,7 @@ impl OnCaches {
 }
 
 impl OnCaches {
-    // The answer of the call.
+    // Makes the call, and returns its result.
     fn answered(&mut self, alloc: Global) -> Answer {
         match self.call {
             "Caches::copy" => Answer::Copied(self.caches.copy()),

@@ -1,4 +1,4 @@
-//! Definitions as graphs, local trees, and the plain outcomes.
+//! Definitions as graphs, local trees, and plain outcomes.
 
 use super::growths::{Row, Trial, are_refused};
 use super::told::{fault_told, numbers_told, say, text_of, text_told, tree_told};
@@ -20,7 +20,7 @@ enum Answer {
     Outcomes(Result<Outcomes, PlainFault>),
 }
 
-// A definition, its rows, and its graph and local trees, each of these two twice; names and trees for two calls that take them.
+// A definition, its rows, and its graph and local trees, these two with equal copies; names and trees for two calls that take them.
 #[derive(Drop)]
 struct OnGraph {
     call: &'static str,
@@ -34,7 +34,7 @@ struct OnGraph {
     answer: Answer,
 }
 
-// The entries under names of one letter, the last of which is the terminal.
+// Returns the entries as rows with names of one letter as digest texts; the last row is the terminal.
 fn rows_of(rt: &impl Abort, alloc: Global, written: &str) -> Vec<Linked> {
     let mut rows = Vec::new(alloc);
     for one in written.split(" = ") {
@@ -49,7 +49,7 @@ fn rows_of(rt: &impl Abort, alloc: Global, written: &str) -> Vec<Linked> {
     rows
 }
 
-// A name and a tree for each of two calls.
+// Returns a name and a tree for each of two calls.
 fn handed(rt: &impl Abort, alloc: Global, name: &str) -> Vec<(Text, Tree)> {
     let mut handed = Vec::new(alloc);
     for _ in 0..2 {
@@ -75,7 +75,7 @@ fn linked(alloc: Global, rows: &[Linked]) -> Answer {
     Answer::Graph(link(alloc, rows))
 }
 
-// How many vertices there are, and the vertex of the result.
+// Returns how many vertices there are, and the vertex of the result.
 fn graph_told(rt: &impl Abort, alloc: Global, graph: &Graph) -> String {
     numbers_told(rt, alloc, graph.vertices().len(), graph.result().vertex)
 }
@@ -96,7 +96,7 @@ fn locals_told(rt: &impl Abort, alloc: Global, locals: &Locals) -> String {
     text
 }
 
-// The first output of the last vertex.
+// Returns the first output of the last vertex.
 fn outcomes_told(rt: &impl Abort, alloc: Global, outcomes: &Outcomes) -> String {
     match outcomes.as_slice().last() {
         Some(outcome) => match outcome.output(0) {
@@ -108,7 +108,7 @@ fn outcomes_told(rt: &impl Abort, alloc: Global, outcomes: &Outcomes) -> String 
 }
 
 impl OnGraph {
-    // The answer of the call.
+    // Makes the call, and returns its result.
     fn answered(&mut self, alloc: Global) -> Answer {
         match self.call {
             "load" => Answer::Graph(load(alloc, self.definition.as_slice())),
@@ -121,12 +121,12 @@ impl OnGraph {
     }
 }
 
-// A text that one call needs, and another for the other calls.
+// Returns one text for the call `wanted`, and another for all other calls.
 fn on_call<'a>(call: &str, wanted: &str, text: &'a str, other: &'a str) -> &'a str {
     if call == wanted { text } else { other }
 }
 
-// The entries of the graph that a call is made on; any where the call makes one.
+// Returns the entries of the graph that a call is made on; a call that makes a graph itself does not use them.
 fn graph_for<'a>(call: &str, written: &'a str) -> &'a str {
     match call {
         "load" | "link" => "MAKES_A; RESULT 0",

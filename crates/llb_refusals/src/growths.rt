@@ -1,28 +1,28 @@
-//! Each growth of a call refused in turn. A test asks `tools/llbm_tools/refuse.c`, which is between a test and its memory, by the sizes of requests
-//! that no allocator grants.
+//! Refuses each growth (each request for memory) of a call in turn. A test does so through `tools/llbm_tools/refuse.c`, a library between the test and its
+//! allocator, to which it speaks by requests of sizes that no allocator grants.
 
 use super::told::is_same;
 use llb_samples::tree_text;
 use std::alloc::Global;
 use std::process::Abort;
 
-/// A call in words, what it is called on, its result in words where memory is refused, and its result where it is granted. A call that does
-/// not allocate has no text for the first of these. Of faults with ` and ` between them each comes; with ` or ` any may. The last may be the name
-/// of a tree, in the place of its text.
+/// A call in words; what it is called on; its result in words if memory is refused; and its result if not. For a call that does
+/// not allocate the third text is empty. If it has faults with ` and ` between them, each has to come; with ` or `, any may. The last text may be the name
+/// of a tree instead of the tree's text.
 pub(crate) type Row = (&'static str, &'static str, &'static str, &'static str);
 
-/// A call with what it needs, and its last result.
+/// A call with what it needs, and its latest result.
 pub(crate) trait Trial: Sized + Drop {
-    /// Makes anew what the call of a row needs.
+    /// Makes what the call of a row needs.
     fn ready(rt: &impl Abort, alloc: Global, row: &Row) -> Self;
 
     /// Makes the call and nothing else.
     fn call(&mut self, alloc: Global);
 
-    /// Returns the result in words.
+    /// Returns the result of the call in words.
     fn told(&self, rt: &impl Abort, alloc: Global) -> String;
 
-    /// Returns whether what the call was made on is as it was before, by a second one that was made in the same steps.
+    /// Returns whether what the call was made on is unchanged, by comparing it with another that was made in the same steps.
     fn is_as_before(&mut self, rt: &impl Abort, alloc: Global) -> bool;
 }
 
@@ -35,22 +35,22 @@ const TELL: usize = 0x2000_0000_0000_0000;
 /// More growths than any call takes.
 pub(crate) const MOST: usize = 100_000;
 
-/// Refuses the growth of that number from now on, where the library is in between; else refuses none.
+/// From now on refuses the growth with this number, if the library is loaded; else refuses none.
 pub(crate) fn refuse(alloc: Global, k: usize) {
     let _ = Vec::<u8>::with_capacity(alloc, ASK | k);
 }
 
-/// Refuses the start of the thread of that number from now on, where the library is in between; else refuses none.
+/// From now on refuses the start of the thread with this number, if the library is loaded; else refuses none.
 pub(crate) fn refuse_thread(alloc: Global, k: usize) {
     let _ = Vec::<u8>::with_capacity(alloc, START | k);
 }
 
-/// Returns whether a growth or a thread was refused, and refuses none from now on.
+/// Returns whether a growth or a start of a thread was refused, and from now on refuses none.
 pub(crate) fn was_refused(alloc: Global) -> bool {
     Vec::<u8>::with_capacity(alloc, TELL).is_ok()
 }
 
-/// Returns whether a refusal in words is one of those that may come for want of memory.
+/// Returns whether a result in words is one of the faults that may come if memory is refused.
 pub(crate) fn is_lack(told: &str, lacks: &str) -> bool {
     for lack in lacks.split(" and ") {
         if lack == told {
@@ -65,7 +65,7 @@ pub(crate) fn is_lack(told: &str, lacks: &str) -> bool {
     false
 }
 
-// The result in words where a growth of that number was refused, else `None`. All is as before after it, and the same call is granted.
+// Returns the result in words if the growth with this number was refused, else `None`. Checks that a refusal changes nothing and the same call then succeeds.
 fn told_at<T: Trial>(rt: &impl Abort, alloc: Global, row: &Row, k: usize) -> Option<String> {
     let (call, on, lacks, wanted) = *row;
     let mut trial = T::ready(rt, alloc, row);
@@ -108,7 +108,7 @@ fn all_came(lacks: &str, came: &[String]) -> bool {
     true
 }
 
-// Refuses one growth after the other, each in a call of its own, until the call is granted; what came of each.
+// Refuses one growth after another, each in a call of its own, until the call has no such growth; returns the results.
 fn growths<T: Trial>(rt: &impl Abort, alloc: Global, row: &Row) -> Vec<String> {
     let mut came = Vec::new(alloc);
     for k in 1..MOST {

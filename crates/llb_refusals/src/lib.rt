@@ -1,5 +1,5 @@
-//! Each growth of each call that can want memory, refused in turn: tests, and nothing else. What refuses is a library that `tools/refuse`
-//! loads beside the tests; without it each test is one call of each row, which is granted.
+//! Tests, and nothing else: each growth (each request for memory) of each call that allocates is refused in turn. This is done by a library that `tools/refuse`
+//! loads into the tests; without it each test makes each call once, and nothing is refused.
 #![tactic(auto)]
 
 #[cfg(test)]

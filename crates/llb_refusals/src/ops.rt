@@ -1,4 +1,4 @@
-//! Entries and definitions, read and written. What is read can't change.
+//! Entries and definitions, read and written. What was read can't be changed by these calls.
 
 use super::growths::{Row, Trial, are_refused};
 use super::told::{bytes_told, fault_told, text_told};
@@ -21,7 +21,7 @@ enum Answer {
     Actions(Result<Actions, Memory>),
 }
 
-// A definition, its entries, and the op of the first, each twice.
+// A definition, its entries, and the op of the first entry, each with an equal copy.
 #[derive(Drop)]
 struct OnEntries {
     call: &'static str,
@@ -66,14 +66,14 @@ fn copy_actions(op: &Op) -> Answer {
     }
 }
 
-// An op by its bytes, and a definition by its.
+// Returns the canonical bytes of an op in words.
 fn op_told(rt: &impl Abort, alloc: Global, op: &Op) -> String {
     let bytes = write_op(alloc, op).expect(rt, "memory");
     bytes_told(rt, alloc, bytes.as_slice())
 }
 
 impl OnEntries {
-    // The answer of the call.
+    // Makes the call, and returns its result.
     fn answered(&mut self, alloc: Global) -> Answer {
         match self.call {
             "read_op" => read_first(alloc, &self.entries),
@@ -128,7 +128,7 @@ impl Trial for OnEntries {
     }
 }
 
-// A file `/a` with the content `hi` on nothing.
+// A file `/a` with the content `hi`, made on the empty tree.
 const A: &str =
     "raw 2230122e08ffffffffffffffffff0110ffffffffffffffffff012a160a022f6110a4031a02686928ffffffffffffffffff01";
 

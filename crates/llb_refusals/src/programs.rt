@@ -30,7 +30,7 @@ fn ran_nothing(rt: &impl Abort, alloc: Global) -> Ran {
     }
 }
 
-// What is read: a definition, or a text.
+// Returns what the command reads: a definition or a text.
 fn input_of(rt: &impl Abort, alloc: Global, call: &str, on: &str) -> Vec<u8> {
     match call {
         "asm_over" => entries_text(rt, alloc, on).into_bytes(),
@@ -44,7 +44,7 @@ impl Ran {
         self.err.clear();
     }
 
-    // The first refusal in what is written.
+    // Returns the first refusal in what is written.
     fn refusal(&self) -> Option<&str> {
         let text = str::from_utf8(self.out.as_slice()).ok()?;
         for line in text.lines() {
@@ -55,7 +55,7 @@ impl Ran {
         None
     }
 
-    // A status that is not 0 with what is on `err`, else the first refusal that is written, else what is written.
+    // Returns a status other than 0 with what is on `err`, else the first refusal that is written, else all that is written.
     fn told(&self, rt: &impl Abort, alloc: Global, is_text: bool) -> String {
         let (status, err) = (
             self.status,
@@ -103,7 +103,7 @@ fn step(alloc: Global, mut file: &[u8], commands: &str, handed: &mut Vec<Locals>
     }
 }
 
-// The other commands take no local trees.
+// Makes the call of a command that takes no local trees.
 fn other(alloc: Global, call: &str, mut input: &[u8], ran: &mut Ran) {
     let Ran { status, out, err } = ran;
     *status = match call {
@@ -113,7 +113,7 @@ fn other(alloc: Global, call: &str, mut input: &[u8], ran: &mut Ran) {
     };
 }
 
-// Commands, each in a line.
+// Returns the commands of a session, each on its line.
 fn lines_of(rt: &impl Abort, alloc: Global, commands: &str) -> String {
     let lines: Vec<&str> = commands.split("; ").collect(alloc).expect(rt, "memory");
     let mut text = lines.join(alloc, "\n").expect(rt, "memory");
@@ -166,7 +166,7 @@ impl Trial for OnInput {
         self.ran.told(rt, alloc, self.call != "asm_over")
     }
 
-    // What is written is the beginning of what is to be written; a session goes on after its refusals.
+    // Returns whether what is written is the beginning of what should be written; a session may go on after a refusal.
     fn is_as_before(&mut self, _rt: &impl Abort, _alloc: Global) -> bool {
         match (self.call, str::from_utf8(self.ran.out.as_slice())) {
             ("asm_over", _) => self.ran.out.is_empty(),
@@ -177,7 +177,7 @@ impl Trial for OnInput {
     }
 }
 
-// Whether a session printed the beginning of what it should, or a refusal for want of memory and then what the commands after it print.
+// Returns whether a session printed the beginning of what it should, or a refusal for want of memory followed by what the later commands then print.
 fn is_session(out: &str, wanted: &str) -> bool {
     match out.split_once("fault ") {
         None => wanted.starts_with(out),
@@ -196,7 +196,7 @@ fn is_text(text: &str, other: &str) -> bool {
     text == other
 }
 
-// Whether a row has what was printed before a refusal, the refusal, and what was printed after it.
+// Returns whether a row has this text before a refusal, the refusal, and this text after it.
 fn is_row(before: &str, fault: &str, after: &str) -> bool {
     for (wanted, lacks, behind) in GONE_ON {
         if is_text(before, wanted) && is_lack(fault, lacks) && is_text(after, behind) {
@@ -236,7 +236,7 @@ const SETTLED: &str =
     "1 claim 0 0 -> file 1\n2 step 0 -> acted 0\n3 settle 0 -> 0 done\nstop\nback 2\n0 running 0\n\
     3 settle 0 -> 0 done\n";
 
-// For each command of the session: what is printed before it, the faults by which it is refused memory, and what the commands after it print then.
+// For each command of the session: what is printed before it, the faults with which it fails if memory is refused, and what the later commands then print.
 const GONE_ON: &[(&str, &str, &str)] = &[
     // Without the breakpoint the run goes to its end.
     (
@@ -251,7 +251,7 @@ const GONE_ON: &[(&str, &str, &str)] = &[
         "171 141 or 174",
         "fault 172\n0 ready\n1 claim 0 0 -> file 1\nnone\n",
     ),
-    // The settle stays.
+    // The settle was not taken back.
     (
         GONE,
         "174",
@@ -365,7 +365,7 @@ fn commands(rt: HostRuntime) {
     are_refused::<OnInput>(&rt, rt.alloc(), ROWS);
 }
 
-// The words of a command line, or bytes that are read up to a bound. All that is kept of the result is its text.
+// The words of a command line, or bytes that are read up to a bound. Of the result only its text is kept.
 #[derive(Drop)]
 struct OnWords {
     call: &'static str,
@@ -443,7 +443,7 @@ fn run_many<R: Threads + Wait + Sync>(
     *status = run_many_over(rt, alloc, &mut input, out, err, locals, workers);
 }
 
-// Whether growth k of a run by two workers was refused. The status is then 3, or the run did without.
+// Returns whether growth k of a run by two workers was refused. The status is then 3, or the run could do without that memory.
 fn is_growth<R: Abort + Threads + Wait + Sync>(rt: &R, alloc: Global, row: &Row, k: usize) -> bool {
     let (_, on, lacks, wanted) = *row;
     let input = input_of(rt, alloc, "run_many_over", on);

@@ -1,4 +1,4 @@
-//! Runs to the end: alone, and by threads; and the queue that threads share.
+//! Runs to the end: on one thread, and in several; and the queue that threads share.
 
 use super::boards::{Open, TWO_FILES, are_same, board_in, board_of, board_on};
 use super::growths::{
@@ -23,7 +23,7 @@ fn replayed(stepper: &mut Stepper, board: &Board) -> bool {
     stepper.replay(board.events().as_slice()).is_ok()
 }
 
-// Whether the record of a run, on a board that was opened in the same way, leads to where the run ended, and is as long as the record before
+// Returns whether the record of a run leads from a board that was opened in the same way to the board at its end, and its length is that of the record before
 // the run with the workers' counts.
 fn is_replayed(alloc: Global, end: &RunEnd, opened: Board, before: usize) -> bool {
     let mut stepper = Stepper::new(alloc, opened);
@@ -36,7 +36,7 @@ fn is_replayed(alloc: Global, end: &RunEnd, opened: Board, before: usize) -> boo
         && made == end.board.events().len() as u64
 }
 
-// The tree of the result of a run, or its fault.
+// Returns the tree of the result of a run, or its fault.
 fn end_told(rt: &impl Abort, alloc: Global, end: &RunEnd) -> String {
     let edge = end.board.graph().result();
     match (&end.fault, end.board.output(edge.vertex, edge.index)) {
@@ -46,7 +46,7 @@ fn end_told(rt: &impl Abort, alloc: Global, end: &RunEnd) -> String {
     }
 }
 
-// A board, how its run ended, and another such board.
+// The line of a test, the board that it is opened on, and the end of that board's run.
 #[derive(Drop)]
 struct OnRun {
     on: &'static str,
@@ -55,7 +55,7 @@ struct OnRun {
 }
 
 impl OnRun {
-    // What is to be run: the board that was made, and then the one that the first run ended with.
+    // Returns the board to be run: first the one that was made, and then the one with which the first run ended.
     fn taken(&mut self) -> Option<Board> {
         match self.end.take() {
             Some(
@@ -92,7 +92,7 @@ impl Trial for OnRun {
         }
     }
 
-    // The events that were done stay.
+    // Returns whether the record is as it should be; events that were done before a refusal stay in it.
     fn is_as_before(&mut self, rt: &impl Abort, alloc: Global) -> bool {
         let opened = board_on(rt, alloc, &board_in(rt, self.on));
         match &self.end {
@@ -132,7 +132,7 @@ fn crew<R: Threads + Wait + Sync>(rt: &R, alloc: Global, board: Board) -> RunEnd
     run_workers(rt, alloc, board, &Open)
 }
 
-// Whether no worker runs anything, and no cache is held.
+// Returns whether no worker runs anything, and no cache is held.
 fn are_idle(board: &Board) -> bool {
     for w in 0..64 {
         if matches!(board.worker(w), Some(WorkerStatus::Runs(..))) {
@@ -146,7 +146,7 @@ pub(crate) fn alone_told(rt: &impl Abort, alloc: Global, board: Board) -> String
     end_told(rt, alloc, &alone(board))
 }
 
-// Whether growth k of a run by threads was refused. Then the run has ended for that, or has done without; its record stays, and is gone on with alone.
+// Returns whether growth k of a run in threads was refused. Such a run ends because of that or does without; its record is right, and one driver finishes it.
 fn is_growth<R: Abort + Threads + Wait + Sync>(rt: &R, alloc: Global, row: &Row, k: usize) -> bool {
     let (_, on, lacks, wanted) = *row;
     let board = board_on(rt, alloc, &board_in(rt, on));
@@ -217,7 +217,7 @@ fn runs_by_threads(rt: HostRuntime) {
     }
 }
 
-// Whether a vertex is done. `None` is no vertex.
+// Returns whether a vertex is done; true if none is given.
 fn is_done(board: &Board, v: Option<u32>) -> bool {
     match v {
         Some(v) => board.status(v) == Some(Status::Done),
@@ -225,7 +225,7 @@ fn is_done(board: &Board, v: Option<u32>) -> bool {
     }
 }
 
-// The vertex that the worker of thread k runs, the first thread being 1.
+// Returns the vertex that the worker of thread k runs; the first thread is number 1.
 fn run_by(board: &Board, k: usize) -> Option<u32> {
     let worker = u32::try_from(k.checked_sub(1)?).ok()?;
     match board.worker(worker) {
@@ -234,8 +234,8 @@ fn run_by(board: &Board, k: usize) -> Option<u32> {
     }
 }
 
-// Whether thread k of a run could not be started. Then the run has ended for that, and what the thread's worker ran is done; the record stays,
-// and is gone on with alone.
+// Returns whether thread k of a run could not be started. Such a run ends because of that; the vertex of the thread's worker is done, the record is right,
+// and one driver finishes the run.
 fn is_thread<R: Abort + Threads + Wait + Sync>(rt: &R, alloc: Global, row: &Row, k: usize) -> bool {
     let (_, on, fault, wanted) = *row;
     let written = board_in(rt, on);
@@ -269,7 +269,7 @@ fn threads<R: Abort + Threads + Wait + Sync>(rt: &R, alloc: Global, row: &Row) -
     panic!(rt; "no end of threads");
 }
 
-// Of each board every thread can't be started in turn. All workers but the first run something; the last row's second and last do.
+// For each of these boards, each thread in turn can't be started. All workers but the first run something; in the last row only the second and the last.
 const THREADS: &[Row] = &[
     (
         "run_workers",
@@ -299,7 +299,7 @@ fn runs_without_a_thread(rt: HostRuntime) {
     }
 }
 
-// A queue is closed where it is made.
+// A queue that is closed in the call that makes it.
 #[derive(Drop)]
 struct OnQueue {
     answer: Option<Result<(), ReadyFault>>,

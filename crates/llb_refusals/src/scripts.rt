@@ -20,7 +20,7 @@ enum Answer {
     Ran(Result<u8, llb_applet::Memory>),
 }
 
-// The arguments of a script, its commands, where they run, and a view with its like; mounts for two calls that take them.
+// The arguments of a script, its commands, where they run, and a view with an equal copy; mounts for two calls that take them.
 #[derive(Drop)]
 struct OnView {
     call: &'static str,
@@ -48,7 +48,7 @@ fn read(alloc: Global, args: &[Text]) -> Answer {
     Answer::Script(read_script(alloc, args))
 }
 
-// The script of a text; `true` where it is none.
+// Returns the script of a text; that of `true` if the text is no script.
 fn script_of(rt: &impl Abort, alloc: Global, text: &str) -> Script {
     let args = args_of(rt, alloc, text);
     assert!(rt; !args.is_empty());
@@ -88,7 +88,7 @@ fn push_mount(
     mounts.push(shown).expect(rt, "memory");
 }
 
-// A tree at `/`, a tmpfs at `/t`, and `/sub` of another tree at `/t/in`.
+// Returns the mounts of a view: a tree at `/`, a tmpfs at `/t`, and `/sub` of another tree at `/t/in`.
 fn mounts_of(rt: &impl Abort, alloc: Global, root: &'static str) -> Vec<Shown> {
     let mut mounts = Vec::new(alloc);
     push_mount(rt, &mut mounts, "/", "/", root);
@@ -102,7 +102,7 @@ fn view_of(rt: &impl Abort, mounts: Vec<Shown>) -> View {
     View::make(Many::new(mounts)).expect(rt, "a view")
 }
 
-// Mounts for two calls.
+// Returns mounts for two calls.
 fn handed(rt: &impl Abort, alloc: Global, root: &'static str) -> Vec<Many<Shown>> {
     let mut handed = Vec::new(alloc);
     for _ in 0..2 {
@@ -151,7 +151,7 @@ fn ran(alloc: Global, script: &Script, setting: &Setting, view: &mut View) -> An
     }
 }
 
-// The trees of a view, each after a bar.
+// Returns the trees of a view, each after a bar.
 fn view_told(rt: &impl Abort, alloc: Global, view: &View) -> String {
     let mut text = String::new(alloc);
     for shown in view.mounts() {
@@ -185,7 +185,7 @@ impl OnView {
 }
 
 impl OnView {
-    // The answer of the call.
+    // Makes the call, and returns its result.
     fn answered(&mut self, alloc: Global) -> Answer {
         let view = &mut self.view;
         match self.call {

@@ -1,4 +1,4 @@
-//! Steppers. One is written as its board (`boards`), and after ` then ` what was asked of it, in the words of a session.
+//! Steppers. A stepper is written as its board (`boards`), and after ` then ` the commands that were done on it, in the words of a session.
 
 use super::boards::{are_same, board_in, board_of};
 use super::growths::{Row, Trial, are_refused};
@@ -18,7 +18,7 @@ enum Answer {
     Line(Result<Option<Text>, StepperFault>),
 }
 
-// A stepper, one that is the same, and events to be replayed.
+// A stepper, one that is equal to it, and events to be replayed.
 #[derive(Drop)]
 struct OnStepper {
     call: &'static str,
@@ -57,7 +57,7 @@ fn asked(stepper: &mut Stepper, line: &str) -> Answer {
     }
 }
 
-// Asks, and lets the answer go.
+// Does a command on a stepper, and drops the reply.
 fn ask(stepper: &mut Stepper, line: &str) {
     let _ = asked(stepper, line);
 }
@@ -71,7 +71,7 @@ fn stepper_of(rt: &impl Abort, alloc: Global, on: &'static str) -> Stepper {
     stepper
 }
 
-// The events of a run to its end by one worker.
+// Returns the events of a run to its end by one worker.
 fn run_of(rt: &impl Abort, alloc: Global, on: &'static str) -> Vec<Event> {
     let mut stepper = stepper_of(rt, alloc, on);
     let _ = stop_of(&mut stepper);
@@ -90,7 +90,7 @@ fn line_told(rt: &impl Abort, alloc: Global, line: &Option<Text>) -> String {
 }
 
 impl OnStepper {
-    // The last line of the record.
+    // Returns the last line of the record, or the fault.
     fn last_told(&self, rt: &impl Abort, alloc: Global) -> String {
         let count = self.stepper.board().events().len();
         match self.stepper.record_line(count as u64) {
@@ -99,7 +99,7 @@ impl OnStepper {
         }
     }
 
-    // Whether the stepper and the like of it go to the same place, from which each comes back.
+    // Returns whether the stepper and its equal get to the same board by `go`; takes the events back.
     fn goes_alike(&mut self) -> bool {
         match (stop_of(&mut self.stepper), stop_of(&mut self.twin)) {
             (Some(stop), Some(other)) => {
@@ -114,7 +114,7 @@ impl OnStepper {
 }
 
 impl OnStepper {
-    // The answer of the call.
+    // Makes the call, and returns its result.
     fn answered(&mut self, _alloc: Global) -> Answer {
         match self.call {
             "replay" => replayed(&mut self.stepper, &self.events),

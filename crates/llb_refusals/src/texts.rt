@@ -26,7 +26,7 @@ enum Answer {
     Entries(Result<Entries, AsmFault>),
 }
 
-// A text to read, or a tree or entries to write, each twice, and room for what is written.
+// A text to be read, or a tree or entries to be written, each with an equal copy, and memory for what is written.
 #[derive(Drop)]
 struct OnText {
     call: &'static str,
@@ -40,7 +40,7 @@ struct OnText {
     answer: Answer,
 }
 
-// Which of three paths a pattern matches.
+// Returns which of three paths a pattern matches, in words.
 fn matches_told(rt: &impl Abort, alloc: Global, pattern: &Pattern) -> String {
     let mut text = String::new(alloc);
     for path in ["/abc", "/*", "/d"] {
@@ -101,7 +101,7 @@ impl OnText {
 }
 
 impl OnText {
-    // The answer of the call.
+    // Makes the call, and returns its result.
     fn answered(&mut self, alloc: Global) -> Answer {
         let text = self.text.as_str();
         match self.call {
@@ -155,7 +155,7 @@ impl Trial for OnText {
         }
     }
 
-    // What was written is the beginning of what is to be written.
+    // Returns whether what was written is the beginning of what should be written.
     fn is_as_before(&mut self, _rt: &impl Abort, _alloc: Global) -> bool {
         self.wanted.as_bytes().starts_with(self.out.as_slice())
             && self.tree.same(&self.twin)

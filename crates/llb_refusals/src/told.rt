@@ -1,4 +1,4 @@
-//! The texts of values.
+//! Values in words.
 
 use llb_samples::{push_path, text_of_tree};
 use llb_tree::{Path, Tree};
@@ -8,7 +8,7 @@ use std::alloc::Global;
 use std::fmt::Display;
 use std::process::Abort;
 
-// Ends the test where a text is not the expected one; the failure shows both.
+// Ends the test if a text is not the expected one; the failure shows both.
 pub(crate) fn is_same(rt: &impl Abort, told: &str, wanted: &str) {
     assert_eq!(rt; told, wanted);
 }
@@ -17,7 +17,7 @@ pub(crate) fn say(rt: &impl Abort, text: &mut String, more: &str) {
     text.push_str(more).expect(rt, "memory");
 }
 
-// What a fault prints.
+// Returns what a fault prints.
 pub(crate) fn fault_told<E: Display>(rt: &impl Abort, alloc: Global, fault: &E) -> String {
     format!(in alloc; "{fault}").expect(rt, "memory")
 }
@@ -32,7 +32,7 @@ pub(crate) fn bytes_told(rt: &impl Abort, alloc: Global, bytes: &[u8]) -> String
     text
 }
 
-// A path by its names.
+// Returns a path, as its names with `/` before each.
 pub(crate) fn path_told(rt: &impl Abort, alloc: Global, path: &Path) -> String {
     let mut text = String::new(alloc);
     push_path(&mut text, path).expect(rt, "memory");
@@ -44,7 +44,7 @@ fn digest_told(rt: &impl Abort, alloc: Global, tree: &Tree) -> String {
     text_told(rt, alloc, digest.as_str())
 }
 
-// A tree by its text, or by its digest where that is long.
+// Returns the text of a tree, or its digest if the text is long.
 pub(crate) fn tree_told(rt: &impl Abort, alloc: Global, tree: &Tree) -> String {
     let text = text_of_tree(alloc, tree).expect(rt, "a text");
     if text.len() > 1000 {
@@ -53,7 +53,7 @@ pub(crate) fn tree_told(rt: &impl Abort, alloc: Global, tree: &Tree) -> String {
     text
 }
 
-// What a tree that a call makes is, or its fault.
+// Returns the text of the tree that a call makes, or its fault.
 pub(crate) fn tree_or_fault<E: Display>(
     rt: &impl Abort,
     alloc: Global,
@@ -65,7 +65,7 @@ pub(crate) fn tree_or_fault<E: Display>(
     }
 }
 
-// Two numbers, with a space between them.
+// Returns two numbers, with a space between them.
 pub(crate) fn numbers_told(rt: &impl Abort, alloc: Global, one: usize, other: u32) -> String {
     format!(in alloc; "{one} {other}").expect(rt, "memory")
 }

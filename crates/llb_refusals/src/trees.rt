@@ -1,4 +1,4 @@
-//! Paths and trees, which are named as in `written`.
+//! Paths and trees; trees are named as in `written`.
 
 use super::growths::{Row, Trial, are_refused};
 use super::told::{fault_told, path_of, path_told, say, text_told, tree_or_fault, tree_told};
@@ -30,7 +30,7 @@ struct OnTree {
     answer: Answer,
 }
 
-// Two files of one content, for two calls.
+// Returns two equal contents, for two calls.
 fn two_contents(rt: &impl Abort, alloc: Global) -> Vec<Bytes> {
     let mut contents = Vec::new(alloc);
     for _ in 0..2 {
@@ -49,7 +49,7 @@ fn names_told(rt: &impl Abort, alloc: Global, names: &Names) -> String {
     text
 }
 
-// What is below `/a`.
+// Returns the subtree at `/a` of the tree `A_B`.
 fn subtree_a(rt: &impl Abort, alloc: Global) -> Tree {
     let path = path_of(rt, alloc, "/a");
     let tree = tree_named(rt, alloc, "A_B");
@@ -73,7 +73,7 @@ impl OnTree {
 }
 
 impl OnTree {
-    // Makes the call, and returns its answer.
+    // Makes the call, and returns its result.
     fn answered(&mut self, alloc: Global) -> Answer {
         let (tree, path) = (&mut self.tree, &self.path);
         match self.call {

@@ -6,7 +6,7 @@ use llb_wire::{Memory, Wire, write_record, write_varint};
 use std::alloc::Global;
 use std::process::Abort;
 
-// The end of a text that a record is written behind.
+// Bytes to which a record is appended.
 #[derive(Drop)]
 struct OnBytes {
     call: &'static str,

@@ -1,4 +1,4 @@
-//! What calls are made on, as it is written: trees by their names, definitions by their entries (`llb_samples`), and local trees.
+//! What calls are made on, from short texts: trees by their names, definitions by their entries (`llb_samples`), and local trees.
 
 use super::told::{bytes_told, text_of};
 use llb_loader::{Graph, Locals};
@@ -9,12 +9,12 @@ use llb_wire::Bytes;
 use std::alloc::Global;
 use std::process::Abort;
 
-/// Returns the tree of that name.
+/// Returns the tree with this name.
 pub(crate) fn tree_named(rt: &impl Abort, alloc: Global, name: &str) -> Tree {
     samples::tree_named(alloc, name).expect(rt, "a tree")
 }
 
-/// Makes a tree, and another that is the same: a copy, which shares its nodes, where `copy of` comes before the name; else one that is made in
+/// Makes a tree, and another that is equal to it: a copy, which shares its nodes, if `copy of` comes before the name; else one that is made in
 /// the same steps.
 pub(crate) fn tree_and_twin(rt: &impl Abort, alloc: Global, on: &'static str) -> (Tree, Tree) {
     match on.strip_prefix("copy of ") {
@@ -27,7 +27,7 @@ pub(crate) fn tree_and_twin(rt: &impl Abort, alloc: Global, on: &'static str) ->
     }
 }
 
-/// Returns the assembler's text of entries.
+/// Returns the assembler's text of entries that are given by a short text.
 pub(crate) fn entries_text(rt: &impl Abort, alloc: Global, written: &str) -> String {
     samples::entries_text(alloc, written).expect(rt, "memory")
 }
@@ -57,7 +57,7 @@ fn add_local(rt: &impl Abort, alloc: Global, locals: &mut Locals, name: &str, tr
         .expect(rt, "memory");
 }
 
-/// Makes local trees, as `NAME=TREE`, with a space between them.
+/// Returns local trees that are given as `NAME=TREE`, with a space between two of them.
 pub(crate) fn locals_of(rt: &impl Abort, alloc: Global, given: &'static str) -> Locals {
     let mut locals = Locals::new(alloc);
     for local in given.split(' ') {

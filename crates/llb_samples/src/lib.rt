@@ -1,5 +1,5 @@
-//! Samples for the crates of tests: entries of definitions and trees by their names, what is written of them, and paths and trees as texts. Nothing
-//! here ends a test: each call returns `None`, or the refusal of memory, where it has no answer.
+//! Samples for the crates of tests: entries of definitions and trees by their names, definitions and local trees from short texts, and paths and trees as
+//! texts. No call here ends a test: it returns `None`, or the fault for refused memory, if it has no result.
 #![tactic(auto)]
 
 mod entries;

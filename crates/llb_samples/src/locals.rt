@@ -1,11 +1,11 @@
-//! Local trees by the texts of their trees, each after a line with `== ` and the name of its source.
+//! Local trees as texts, each tree after a line with `== ` and the name of its source.
 
 use crate::trees::tree_from;
 use llb_loader::Locals;
 use llb_wire::Text;
 use std::alloc::Global;
 
-// A local tree `p`, which is empty, and no other.
+// The local tree `p` alone, which is empty.
 const EMPTY_P: &str = "== p\nd 0755 0 0 /\n";
 
 /// The local tree `p`, which has a file `/old`, and `q`, which has a file `/f`.
@@ -26,7 +26,7 @@ d 0755 0 0 /sub
 f 0644 0 0 6869 /sub/f
 ";
 
-// The same with a token in the place of the content of `/sub/f`: the byte 255, and the number 1 in four bytes.
+// The trees above with a token in place of the content of `/sub/f`: the byte 255, and the number 1 in four bytes.
 const SUB_BY_A_TOKEN: &str = "== p
 d 0755 0 0 /
 == q
@@ -43,7 +43,7 @@ f 0644 0 0 68656c6c6f2c0a /text/head
 f 0644 0 0 776f726c640a /text/tail
 ";
 
-/// Returns the text of the local trees of that name; none where there is none.
+/// Returns the text of the local trees with this name; an empty text if there are none.
 pub fn locals_named(name: &str) -> &'static str {
     match name {
         "EMPTY_P" => EMPTY_P,
@@ -62,7 +62,7 @@ fn is_added(locals: &mut Locals, alloc: Global, name: &str, text: &str) -> bool 
     }
 }
 
-/// Returns the local trees of a text.
+/// Returns the local trees that a text gives.
 pub fn locals_of(alloc: Global, given: &str) -> Option<Locals> {
     let mut locals = Locals::new(alloc);
     for local in given.split("== ") {

@@ -5,7 +5,7 @@ use llb_treetext::print_tree;
 use llb_wire::Over;
 use std::alloc::{AllocError, Global};
 
-/// Puts a path at the end of a text, by its names.
+/// Appends a path to a text, as its names with `/` before each.
 pub fn push_path(text: &mut String, path: &Path) -> Result<(), AllocError> {
     for name in path.names() {
         text.push_str("/")?;

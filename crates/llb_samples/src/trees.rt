@@ -87,7 +87,7 @@ f 0644 2 2 7570 /c/d
 f 0644 2 2 7570 /z
 ";
 
-/// Returns the text of the tree of that name; the name itself where there is none.
+/// Returns the text of the tree with this name; if there is none, the name itself, which is then a text.
 pub fn tree_text<'a>(name: &'a str) -> &'a str {
     block(TREES, name).unwrap_or(name)
 }
@@ -97,7 +97,7 @@ pub fn tree_from(alloc: Global, text: &str) -> Option<Tree> {
     read_tree(alloc, text.as_bytes()).ok()
 }
 
-// A directory `/d` with the empty files `000` to `999`.
+// Returns a directory `/d` with the empty files `000` to `999`.
 fn wide_text(alloc: Global) -> Result<String, AllocError> {
     let mut text = String::new(alloc);
     text.push_str("d 0755 0 0 /\nd 0755 0 0 /d\n")?;
@@ -107,7 +107,7 @@ fn wide_text(alloc: Global) -> Result<String, AllocError> {
     Ok(text)
 }
 
-/// Returns the tree of that name, or of the text that is in the place of a name. `WIDE` has a directory `/d` with the empty files `000` to `999`.
+/// Returns the tree with this name, or with this text if there is no such name. `WIDE` has a directory `/d` with the empty files `000` to `999`.
 pub fn tree_named(alloc: Global, name: &str) -> Option<Tree> {
     match name {
         "WIDE" => tree_from(alloc, wide_text(alloc).ok()?.as_str()),

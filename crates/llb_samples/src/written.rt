@@ -1,9 +1,9 @@
-//! Definitions by the entries that are written of them, with `; ` between them.
+//! Definitions from short texts: their entries, with `; ` between them.
 //!
-//! An entry is a name of `entries`; `RESULT_N` or `RESULT N`, the terminal on entry N; a script on the empty tree at `/`, `sh: SCRIPT`; a script that has
-//! the cache `k` at `/c` too, after the way in which that is shared: `locked: SCRIPT`, `private: SCRIPT` or `shared: SCRIPT`; or lines of the
-//! assembler's text. A new instance of the cache begins empty, or, where the way is followed by ` on 0`, with the output of the first entry. A `;`
-//! of a script is written as `\x3b`.
+//! An entry is a name of `entries`; `RESULT_N` or `RESULT N`, the terminal that names entry N; `sh: SCRIPT`, a script on the empty tree at `/`; a script with
+//! the cache `k` at `/c` besides, after the mode of the cache: `locked: SCRIPT`, `private: SCRIPT` or `shared: SCRIPT`; or lines of the
+//! assembler's text. A new instance of the cache begins empty, or, if ` on 0` follows the mode, with the output of the first entry. A `;`
+//! in a script is written as `\x3b`.
 
 use crate::entries::ENTRIES;
 use llb_asm::assemble;
@@ -12,7 +12,7 @@ use llb_ops::{Entries, write_definition};
 use llb_wire::Bytes;
 use std::alloc::{AllocError, Global};
 
-/// Returns the lines after the one with `== ` and the name; what comes there after `: ` is for the reader.
+/// Returns the lines after the one with `== ` and this name; a description may follow the name after `: `.
 pub fn block<'a>(text: &'a str, wanted: &str) -> Option<&'a str> {
     for block in text.split("== ") {
         if let Some((head, lines)) = block.split_once('\n') {
@@ -30,7 +30,7 @@ fn push_lines(text: &mut String, lines: &str) -> Result<(), AllocError> {
     text.push_str("\n")
 }
 
-// An exec up to its first mount, without its end.
+// Appends the text of an exec up to its first mount, without its closing lines.
 fn push_exec(text: &mut String, inputs: &str, script: &str) -> Result<(), AllocError> {
     write!(
         text,
@@ -72,7 +72,7 @@ fn push_result(text: &mut String, on: &str) -> Result<(), AllocError> {
     write!(text, "op {{\ninputs {{\ndigest %{on}\n}}\n}}\n")
 }
 
-// The text of an entry that has no name.
+// Appends the text of an entry that has no name.
 fn push_made(text: &mut String, entry: &str) -> Result<(), AllocError> {
     if let Some(on) = entry.strip_prefix("RESULT") {
         return push_result(text, on.strip_prefix('_').unwrap_or(on).trim());
@@ -90,7 +90,7 @@ fn push_entry(text: &mut String, entry: &str) -> Result<(), AllocError> {
     }
 }
 
-/// Returns the assembler's text of entries.
+/// Returns the assembler's text of entries that are given by a short text.
 pub fn entries_text(alloc: Global, written: &str) -> Result<String, AllocError> {
     let mut text = String::new(alloc);
     for entry in written.split("; ") {
@@ -104,19 +104,19 @@ pub fn entries_in(alloc: Global, text: &str) -> Option<Entries> {
     assemble(alloc, text.as_bytes()).ok()
 }
 
-/// Returns the entries that are written.
+/// Returns the entries that are given by a short text.
 pub fn entries_of(alloc: Global, written: &str) -> Option<Entries> {
     let text = entries_text(alloc, written).ok()?;
     entries_in(alloc, text.as_str())
 }
 
-/// Returns the definition of the entries that are written.
+/// Returns the definition of the entries that are given by a short text.
 pub fn definition_of(alloc: Global, written: &str) -> Option<Bytes> {
     let entries = entries_of(alloc, written)?;
     write_definition(alloc, &entries).ok()
 }
 
-// The graph of entries.
+// Returns the graph of entries.
 fn graph_with(alloc: Global, entries: &Entries) -> Option<Graph> {
     let definition = write_definition(alloc, entries).ok()?;
     load(alloc, definition.as_slice()).ok()
@@ -128,7 +128,7 @@ pub fn graph_in(alloc: Global, text: &str) -> Option<Graph> {
     graph_with(alloc, &entries)
 }
 
-/// Returns the graph of the entries that are written.
+/// Returns the graph of the entries that are given by a short text.
 pub fn graph_of(alloc: Global, written: &str) -> Option<Graph> {
     let entries = entries_of(alloc, written)?;
     graph_with(alloc, &entries)

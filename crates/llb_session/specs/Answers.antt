@@ -1,4 +1,4 @@
--- The reply to each line of a session, and the stepper after it.
+-- The reply to each line of a session, and the stepper after the line.
 use Rattle.std.specs.Prelude.{◌≡◌, ◌⊎◌, ◌-◌, ◌++◌, ◌∷◌, ℕ, Bool, true, false, if◌then◌else◌, List, [], length, codes, Option, Some, None, Result, Ok, Err, Vec}
 use Rattle.std.specs.Prelude.{option_map, slice_get, ⊤}
 use Rattle.std.specs.Global.{Global}
@@ -20,28 +20,28 @@ use Rattle.llb_session.specs.Request.{request_in}
 use Rattle.llb_session.specs.Streams.{Stream, IsKept, IsWritten, IsPartWritten}
 use Rattle.llb_session.specs.Texts.{status_lines, record_line, record_lines, tree_lines, work_lines, key_lines, fault_line, back_line}
 
--- ---- a request that is granted: what it prints, and where it leads
+-- ---- a request that is granted: what it prints, and the stepper after it
 
 -- an event: the line of the record that it adds
 abbrev pub GrantsEvent : Event → Stepping → List ℕ → Stepping → Type 0
 GrantsEvent e s text t = (done_of s e ≡ Ok t) × (text ≡ record_line t (length t.board.events))
 
--- the chosen event, where there is one
+-- the chosen event, if there is one; else `end`
 abbrev pub GrantsNext : Option Event → Stepping → List ℕ → Stepping → Type 0
 GrantsNext None s text t = (t ≡ s) × (text ≡ codes "end\n")
 GrantsNext (Some e) s text t = GrantsEvent e s text t
 
--- the last line of a `go`: `stop` after a breakpoint, `end` where no event is chosen
+-- the last line of a `go`: `stop` after a breakpoint, `end` if the board is complete
 abbrev pub stop_line : Bool → List ℕ
 stop_line at_break = if at_break then codes "stop\n" else codes "end\n"
 
--- a granted `go` leads from stepper s to stepper t and prints the lines of the events that it did, then how it ended
+-- a granted `go` changes stepper s to stepper t, and prints the lines of the events that it did, then how it ended
 pub record GrantsGo (s : Stepping) (text : List ℕ) (t : Stepping) : Type 0 where
   pub stop : Stop
   pub goes : IsGo s t stop
   pub lines : text ≡ record_lines t (length s.board.events) (length t.board.events - length s.board.events) ++ stop_line stop.at_break
 
--- the request is granted on stepper s: it prints the text and leads to stepper t
+-- the request is granted on stepper s: it prints the text, and t is the stepper after it
 abbrev pub Grants : Request → Stepping → List ℕ → Stepping → Type 0
 Grants (ask.Break b) s text t = (t ≡ record s { breaks = s.breaks ++ b ∷ [] }) × (text ≡ [])
 Grants ask.Clear s text t = (t ≡ record s { breaks = [] }) × (text ≡ [])
@@ -60,7 +60,7 @@ Grants ask.Quit s text t = (t ≡ s) × (text ≡ [])
 
 -- ---- a request that is refused for another cause than memory
 
--- the fault is one with which the request is refused
+-- the request is refused with this fault, which is not that of memory
 abbrev pub Refuses : Request → Stepping → StepperFault → Type 0
 Refuses (ask.Event e) s fault = done_of s e ≡ Err fault
 Refuses ask.Back s fault = (s.past ≡ []) × (fault ≡ NothingBefore)
@@ -76,8 +76,8 @@ Refuses ask.Caches s fault = ⊥
 Refuses (ask.Cache k i) s fault = ⊥
 Refuses ask.Quit s fault = ⊥
 
--- the fault is one by which the request is refused memory: `clear` and `quit` take none, an event, `next` and `go` take the board's and the stepper's, and
--- the others the stepper's alone
+-- this fault may come if the request is refused memory: `clear` and `quit` need none; an event, `next` and `go` need the board's and the stepper's;
+-- the others need the stepper's alone
 abbrev pub Wants : Request → StepperFault → Type 0
 Wants ask.Clear fault = ⊥
 Wants ask.Quit fault = ⊥
@@ -93,40 +93,40 @@ Wants (ask.WorkTree w i) fault = fault ≡ Memory
 Wants ask.Caches fault = fault ≡ Memory
 Wants (ask.Cache k i) fault = fault ≡ Memory
 
--- a request fails with the fault: memory was refused to it, or a cause applies
+-- a request fails with this fault: memory was refused to it, or there is another cause
 abbrev pub FailsWith : Request → Stepping → StepperFault → Type 0
 FailsWith r s fault = (stepper_memory fault ≡ true → Wants r fault) × (stepper_memory fault ≡ false → Refuses r s fault)
 
--- the result of a request: it is granted, or it fails and all is as before
+-- the result of a request: it is granted, or it fails and the stepper is unchanged
 abbrev pub IsPerformed : Request → Stepping → Stepping → Result (Vec ℕ Global) StepperFault → Type 0
 IsPerformed r s t (Ok text) = Grants r s text.items t
 IsPerformed r s t (Err fault) = (t ≡ s) × FailsWith r s fault
 
 -- ---- a line
 
--- a refusal prints a line, and changes nothing
+-- a refusal prints its line and changes nothing
 pub record PrintsRefusal (r : Request) (s : Stepping) (text : List ℕ) (t : Stepping) : Type 0 where
   pub fault : StepperFault
   pub fails : FailsWith r s fault
   pub printed : text ≡ fault_line fault
   pub same : t ≡ s
 
--- a line that asks for nothing prints its number, or that memory was refused for that, and changes nothing
+-- a line that is no request prints its number, or that memory was refused for that, and changes nothing
 pub record PrintsNumber (s : Stepping) (n : ℕ) (text : List ℕ) (t : Stepping) : Type 0 where
   pub printed : (text ≡ fault_line (BadCommand n)) ⊎ (text ≡ fault_line Memory)
   pub same : t ≡ s
 
--- the reply to line n, by what it asks for, if anything; where memory was refused for the line of a refusal, the reply says that
+-- the reply to line n, by its request if it is one; if memory was refused for the line of a refusal, the reply is that
 abbrev pub AnswersAs : Option Request → Stepping → ℕ → List ℕ → Stepping → Type 0
 AnswersAs None s n text t = PrintsNumber s n text t
 AnswersAs (Some r) s n text t = Grants r s text t ⊎ PrintsRefusal r s text t
 
--- what a line asks for may be refused: it is neither `clear` nor `quit`
+-- whether a line may fail for want of memory: it is neither `clear` nor `quit`
 abbrev pub MayFail : Option Request → Type 0
 MayFail None = ⊤
 MayFail (Some r) = Wants r Memory
 
--- the whole reply to line n, by what it asks for, if anything: a line that asks for nothing prints its number, and changes nothing
+-- the whole reply to line n, by its request if it is one; a line that is no request prints its number and changes nothing
 abbrev pub RespondsAs : Option Request → Stepping → ℕ → List ℕ → Stepping → Type 0
 RespondsAs None s n text t = (text ≡ fault_line (BadCommand n)) × (t ≡ s)
 RespondsAs (Some r) s n text t = Grants r s text t ⊎ PrintsRefusal r s text t
@@ -135,25 +135,25 @@ RespondsAs (Some r) s n text t = Grants r s text t ⊎ PrintsRefusal r s text t
 abbrev pub Quits : List ℕ → Type 0
 Quits line = request_in line ≡ Some ask.Quit
 
--- The result of line n of a session: its whole reply, and where it leads; no reply where it ends the session. Or memory was refused for the line of a refusal,
--- and nothing is changed: a line that may fail.
+-- The result of line n of a session: its whole reply, or no reply if it ends the session; t is the stepper afterwards. Or memory was refused for the line of
+-- a refusal: then nothing is changed, and the line is neither `clear` nor `quit`.
 abbrev pub Responds : Stepping → ℕ → List ℕ → Stepping → Result (Option (Vec ℕ Global)) AllocError → Type 0
 Responds s n line t (Ok (Some text)) = (¬ Quits line) × RespondsAs (request_in line) s n text.items t
 Responds s n line t (Ok None) = Quits line × (t ≡ s)
 Responds s n line t (Err e) = MayFail (request_in line) × (t ≡ s)
 
--- line n of a session, from 1, where it does not end the session: what it prints, and where it leads
+-- line n of a session, counted from 1, if it does not end the session: what it prints, and the stepper after it
 pub record Answers (s : Stepping) (n : ℕ) (line text : List ℕ) (t : Stepping) : Type 0 where
   pub goes_on : ¬ Quits line
   pub answers : AnswersAs (request_in line) s n text t
 
--- bytes are written, and the session goes on; or a prefix of them is, where the writer failed
+-- the reply is written, and the session goes on; or the writer failed and a prefix of the reply is written
 abbrev pub IsReplyWritten : List ℕ → Stream → Result Bool Failed → Type 0
 IsReplyWritten bytes out (Ok true) = IsWritten out bytes
 IsReplyWritten bytes out (Ok false) = ⊥
 IsReplyWritten bytes out (Err e) = IsPartWritten out bytes
 
--- what is written after a line: its reply, a prefix of it where the writer failed, or nothing where it ends the session
+-- what is written after a line: its reply, a prefix of it if the writer failed, or nothing if the line ends the session
 abbrev pub Says : Stepping → ℕ → List ℕ → Stepping → Stream → Result Bool Failed → Type 0
 Says s n line t out (Ok true) = (text : List ℕ) × Answers s n line text t × IsWritten out text
 Says s n line t out (Ok false) = Quits line × (t ≡ s) × IsKept out

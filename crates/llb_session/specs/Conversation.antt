@@ -1,4 +1,4 @@
--- A session as a conversation: which lines bytes spell, the replies to them one after the other, and how it ends.
+-- A session as a conversation: which lines some bytes spell, the replies to them one after another, and how it ends.
 use Rattle.std.specs.Prelude.{◌≡◌, ◌≢◌, ◌≤◌, ◌<◌, ◌+◌, ◌⊎◌, ℕ, List, [], ◌∷◌, ◌++◌, length, All, Result, Ok, Err}
 use Rattle.std.specs.Io.KnownBytes.{Consumes, IsAtEnd}
 use Rattle.std.specs.declared.io.ErrorKind.TheVariants.{Interrupted}
@@ -10,45 +10,45 @@ use Rattle.llb_session.specs.Answers.{Answers, Quits}
 
 -- ---- lines
 
--- no byte of a line is the end of one
+-- a line has no line end (byte 10) in it
 abbrev pub IsLine : List ℕ → Type 0
 IsLine line = All (λ b. b ≢ 10) line
 
--- lines, each with its end
+-- lines, each followed by a line end
 abbrev pub with_line_ends : List (List ℕ) → List ℕ
 with_line_ends [] = []
 with_line_ends (line ∷ lines) = line ++ 10 ∷ with_line_ends lines
 
--- bytes are lines, each with its end, and after them a rest without one
+-- the bytes are some lines, each followed by a line end, and then a rest without one
 pub record Spelled (lines : List (List ℕ)) (rest bytes : List ℕ) : Type 0 where
   pub are : bytes ≡ with_line_ends lines ++ rest
   pub each : All IsLine lines
   pub begun : IsLine rest
 
--- the lines after the last line end: none, or one without its end
+-- the last line if it has no line end; none if nothing follows the last line end
 abbrev pub last_line : List ℕ → List (List ℕ)
 last_line [] = []
 last_line (b ∷ rest) = (b ∷ rest) ∷ []
 
--- ---- the replies to them
+-- ---- the replies to lines
 
--- the lines, counted from n, get their replies one after the other: texts are appended, states handed on
+-- the replies to some lines, counted from n, are this text; s is the stepper before them and t the one after them
 abbrev pub Talks : Stepping → ℕ → List (List ℕ) → List ℕ → Stepping → Type 0
 Talks s n [] text t = (text ≡ []) × (t ≡ s)
 Talks s n (line ∷ lines) text t =
     (said : List ℕ) × (more : List ℕ) × (u : Stepping) × Answers s n line said u × Talks u (n + 1) lines more t × (text ≡ said ++ more)
 
--- the state of a conversation: the session, the number of the line that is begun, and what was heard of it
+-- the state of a conversation: the stepper, the number of the line that is being read, and the bytes of it so far
 pub record Standing : Type 0 where
   pub session : Stepping
   pub number : ℕ
   pub line : List ℕ
 
--- before the first byte: line 1 is begun
+-- the state before the first byte: line 1 has no bytes so far
 abbrev pub opening : Stepping → Standing
 opening s = record { session = s; number = 1; line = [] }
 
--- bytes were heard: the lines that end in them get their replies, and the last one is begun
+-- after some bytes: the lines that they complete have got their replies, and the rest belongs to the line that is being read
 pub record Talked (p : Standing) (bytes text : List ℕ) (q : Standing) : Type 0 where
   pub lines : List (List ℕ)
   pub spelled : Spelled lines q.line (p.line ++ bytes)
@@ -57,7 +57,7 @@ pub record Talked (p : Standing) (bytes text : List ℕ) (q : Standing) : Type 0
 
 -- ---- what is written when it ends
 
--- the replies to the lines that ended in the bytes are written, and nothing else
+-- the replies to the lines that the bytes complete are written, and nothing else
 pub record Answered (p : Standing) (bytes : List ℕ) (t : Stepping) (out : Stream) : Type 0 where
   pub text : List ℕ
   pub at : Standing
@@ -65,12 +65,12 @@ pub record Answered (p : Standing) (bytes : List ℕ) (t : Stepping) (out : Stre
   pub same : t ≡ at.session
   pub printed : IsWritten out text
 
--- the same, and the line that is begun ends the session, without a reply
+-- the replies to the lines that the bytes complete are written, and the line that is being read ends the session, without a reply
 pub record Quit (p : Standing) (bytes : List ℕ) (t : Stepping) (out : Stream) : Type 0 where
   pub before : Answered p bytes t out
   pub quits : Quits before.at.line
 
--- the line that is begun gets its reply too, of which a prefix is written
+-- the replies to the lines that the bytes complete are written, and then a prefix of the reply to the line that is being read
 pub record CutShort (p : Standing) (bytes : List ℕ) (t : Stepping) (out : Stream) : Type 0 where
   pub text : List ℕ
   pub at : Standing
@@ -82,11 +82,11 @@ pub record CutShort (p : Standing) (bytes : List ℕ) (t : Stepping) (out : Stre
   pub split : said ≡ front ++ rest
   pub printed : IsWritten out (text ++ front)
 
--- bytes are heard up to a line end, and so it is before that
+-- the bytes end with a line end, and P holds of the bytes before it
 abbrev pub AtLineEnd : List ℕ → (List ℕ → Type 0) → Type 0
 AtLineEnd heard P = (before : List ℕ) × (heard ≡ before ++ 10 ∷ []) × P before
 
--- all lines of an input get their replies, a last one without its end too
+-- all lines of an input have got their replies, also a last line without a line end
 pub record Concluded (s : Stepping) (input : List ℕ) (t : Stepping) (out : Stream) : Type 0 where
   pub lines : List (List ℕ)
   pub rest : List ℕ
@@ -97,7 +97,7 @@ pub record Concluded (s : Stepping) (input : List ℕ) (t : Stepping) (out : Str
 
 -- ---- how it ends
 
--- a conversation: the most bytes that are heard, the most reads that are made, the stepper before and after it, and its streams
+-- a conversation: the most bytes and the most reads that it may take, the stepper before and after it, and its two streams
 pub record Conversation : Type 0 where
   pub limit : ℕ
   pub reads : ℕ
@@ -106,11 +106,11 @@ pub record Conversation : Type 0 where
   pub commands : Stream
   pub replies : Stream
 
--- the input has ended, and all of it was heard
+-- the input has ended, and every byte of it was used
 abbrev pub AllHeard : Stream → List ℕ → Type 0
 AllHeard commands unheard = (unheard ≡ []) × IsAtEnd commands.after
 
--- How a conversation ends, by what was heard of the bytes that were taken, and what was not. A last line without its end is one if it is not empty. Where
+-- How a conversation ends, by the bytes that it used and those that it read but did not use. A last line without a line end counts if it is not empty. If
 -- the bound on reads was met, each read returned a byte or was interrupted.
 abbrev pub EndsSo : Conversation → List ℕ → List ℕ → Result (Unit {0}) SessionFault → Type 0
 EndsSo c heard unheard (Ok u) =
@@ -126,8 +126,8 @@ EndsSo c heard unheard (Err (Unending interrupted)) =
 EndsSo c heard unheard (Err Memory) = Answered (opening c.before) heard c.after c.replies
 EndsSo c heard unheard (Err TooLong) = (length heard ≡ c.limit) × (0 < length unheard) × Answered (opening c.before) heard c.after c.replies
 
--- A conversation takes bytes from its reader, in no more reads than are given, and hears them from the start, no more than the limit. Without a fault it
--- ends where the input ends or a line ends the session.
+-- A conversation reads bytes, in no more reads than `reads`, and uses them from the start, at most `limit` of them. Without a fault it
+-- ends with the input or with a line that ends the session.
 pub record Converses (c : Conversation) (result : Result (Unit {0}) SessionFault) : Type 0 where
   pub heard : List ℕ
   pub unheard : List ℕ

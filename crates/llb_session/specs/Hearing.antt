@@ -1,4 +1,4 @@
--- How a conversation hears bytes, from one standing to the next.
+-- How a conversation uses bytes one by one, from one state to the next.
 use Rattle.std.specs.Prelude.{◌≡◌, ◌+◌, ◌<◌, length, ◌⊎◌, ℕ, Bool, true, false, List, [], ◌++◌, Result, Ok, Err}
 use Rattle.llb_stepper.specs.Stepping.{Stepping}
 use Rattle.llb_session.specs.declared.conversation.Pending.{Pending}
@@ -8,11 +8,11 @@ use Rattle.llb_session.specs.Answers.{Answers, Quits}
 use Rattle.llb_session.specs.Streams.{Stream, IsKept, IsWritten, IsPartWritten}
 use Rattle.llb_session.specs.Conversation.{Talks, Talked, Standing, Answered, Quit, CutShort, AtLineEnd, last_line}
 
--- the state of a conversation
+-- the state of a conversation, by what the code keeps of it
 abbrev pub standing : Stepping → Pending → Standing
 standing s p = record { session = s; number = p.answered + 1; line = p.line.items }
 
--- the reply to the line that is begun, once it has ended
+-- what is written for the line that is being read once its line end has come
 abbrev pub IsSaid : Standing → Stepping → Stream → Result Bool SessionFault → Type 0
 IsSaid p t out (Ok true) = (text : List ℕ) × Answers p.session p.number p.line text t × IsWritten out text
 IsSaid p t out (Ok false) = Quits p.line × (t ≡ p.session) × IsKept out
@@ -22,7 +22,7 @@ IsSaid p t out (Err (Unending interrupted)) = ⊥
 IsSaid p t out (Err Memory) = ⊥
 IsSaid p t out (Err TooLong) = ⊥
 
--- the reply to it at the end of the input
+-- what is written at the end of the input for a last line without a line end
 abbrev pub IsLast : Standing → Stepping → Stream → Result (Unit {0}) SessionFault → Type 0
 IsLast p t out (Ok u) =
     ((text : List ℕ) × Talks p.session p.number (last_line p.line) text t × IsWritten out text)
@@ -33,13 +33,13 @@ IsLast p t out (Err (Unending interrupted)) = ⊥
 IsLast p t out (Err Memory) = ⊥
 IsLast p t out (Err TooLong) = ⊥
 
--- bytes were heard, and the text of the lines that ended in them is written
+-- after some bytes: the replies to the lines that they complete are written
 pub record Went (p : Standing) (bytes : List ℕ) (q : Standing) (out : Stream) : Type 0 where
   pub text : List ℕ
   pub talked : Talked p bytes text q
   pub printed : IsWritten out text
 
--- the result of bytes that were heard, where some after them were not
+-- the result of using some bytes, if others after them were not used
 abbrev pub IsHeard : Standing → List ℕ → List ℕ → Standing → Stream → Result Bool SessionFault → Type 0
 IsHeard p heard unheard q out (Ok true) = (unheard ≡ []) × Went p heard q out
 IsHeard p heard unheard q out (Ok false) = AtLineEnd heard (λ bytes. Quit p bytes q.session out)
@@ -49,7 +49,7 @@ IsHeard p heard unheard q out (Err (Failed kind)) = ⊥
 IsHeard p heard unheard q out (Err (Unending interrupted)) = ⊥
 IsHeard p heard unheard q out (Err TooLong) = ⊥
 
--- bytes are heard, from the start
+-- the bytes are used from the start, and some of them may remain unused
 pub record Hears (p : Standing) (bytes : List ℕ) (q : Standing) (out : Stream) (result : Result Bool SessionFault) : Type 0 where
   pub heard : List ℕ
   pub unheard : List ℕ

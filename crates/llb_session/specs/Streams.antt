@@ -1,21 +1,21 @@
--- What the streams of a call hold, if it is known, each before the call and after it.
+-- What the streams of a call hold before it and after it, if that is known.
 use Rattle.std.specs.Prelude.{ℕ, List, Option}
 use Rattle.std.specs.Io.KnownBytes.{Appends, Keeps}
 use Rattle.llb_wire.specs.Sink.{PartOut}
 
--- a stream that is read holds the bytes that are left to be read, and one that is written those that were written
+-- what a stream holds: for one that is read the bytes still to be read, for one that is written the bytes written so far
 pub record Stream : Type 0 where
   pub before : Option (List ℕ)
   pub after : Option (List ℕ)
 
--- nothing is written to a stream
+-- nothing is written to the stream
 abbrev pub IsKept : Stream → Type 0
 IsKept s = Keeps s.before s.after
 
--- the text is written to it, and nothing else
+-- exactly this text is written to the stream
 abbrev pub IsWritten : Stream → List ℕ → Type 0
 IsWritten s text = Appends s.before s.after text
 
--- a prefix of the text is written to it, and no more
+-- exactly a prefix of this text is written to the stream
 abbrev pub IsPartWritten : Stream → List ℕ → Type 0
 IsPartWritten s text = PartOut s.before s.after text

@@ -1,4 +1,4 @@
--- What a session prints: how vertices look, lines of the record, trees, what workers work on, caches, and refusals.
+-- What a session prints: statuses of vertices, lines of the record, trees, the work of workers, caches, and refusals.
 use Rattle.std.specs.Prelude.{ℕ, zero, suc, ◌+◌, ◌==◌, if◌then◌else◌, List, [], ◌++◌, codes, length, Option, Some, None, option_map, slice_get}
 use Rattle.std.specs.Map.{keys_of}
 use Rattle.std.specs.Fmt.{decimal}
@@ -21,7 +21,7 @@ use Rattle.llb_stepper.specs.Faults.{stepper_text}
 use Rattle.llb_stepper.specs.Records.{record_text, record_at}
 use Rattle.llb_stepper.specs.Stepping.{Stepping}
 
--- how a vertex looks
+-- the word for the status of a vertex
 abbrev pub look_text : Status → List ℕ
 look_text Waiting = codes "waiting"
 look_text Ready = codes "ready"
@@ -30,16 +30,16 @@ look_text (Running w) = codes "running " ++ decimal w
 look_text Done = codes "done"
 look_text (Failed f) = codes "failed " ++ failure_text f
 
--- the line of a vertex
+-- the line for the status of a vertex
 abbrev pub status_line : ℕ → Status → List ℕ
 status_line v look = decimal v ++ (codes " " ++ (look_text look ++ codes "\n"))
 
--- the same; empty if there is no such vertex
+-- the line for the status of a vertex; empty if there is no such vertex
 abbrev pub status_line_of : ℕ → Option Status → List ℕ
 status_line_of v None = []
 status_line_of v (Some look) = status_line v look
 
--- a line for each vertex below a number
+-- the lines of the vertices with lower numbers than this
 unfoldable pub status_lines : BoardValue → ℕ → List ℕ
 status_lines b zero = []
 status_lines b (suc v) = status_lines b v ++ status_line_of v (look_at b.build b.state v)
@@ -58,12 +58,12 @@ unfoldable pub record_lines : Stepping → ℕ → ℕ → List ℕ
 record_lines s from zero = []
 record_lines s from (suc k) = record_lines s from k ++ record_line s (from + k + 1)
 
--- the text of a tree, or that there is none
+-- the text of a tree; `none` if there is no tree
 abbrev pub tree_lines : Option TreeMap → List ℕ
 tree_lines None = codes "none\n"
 tree_lines (Some t) = tree_text t
 
--- what a tree is to the worker that works on it
+-- the words for a tree that a worker works on
 abbrev pub role_text : Role → List ℕ
 role_text Local = codes "local"
 role_text Input = codes "input"
@@ -71,53 +71,53 @@ role_text (ResultOf a) = codes "result " ++ decimal a
 role_text Laid = codes "laid"
 role_text (MountAt dest) = codes "mount " ++ path_text dest
 
--- the line of tree i of a worker
+-- the line for tree i of a worker
 abbrev pub role_line : ℕ → Role → List ℕ
 role_line i role = decimal i ++ (codes " " ++ (role_text role ++ codes "\n"))
 
--- the same; empty if there is no such tree
+-- the line for tree i of a worker; empty if there is no such tree
 abbrev pub role_line_of : ℕ → Option Role → List ℕ
 role_line_of i None = []
 role_line_of i (Some role) = role_line i role
 
--- a line for each tree of a worker below a number
+-- the lines of a worker's trees with lower numbers than this
 unfoldable pub role_lines : List Role → ℕ → List ℕ
 role_lines roles zero = []
 role_lines roles (suc i) = role_lines roles i ++ role_line_of i (slice_get roles i)
 
--- a line for each of these trees, or that there is none
+-- a line for each of these trees; `none` if there are none
 abbrev pub part_lines : List Role → List ℕ
 part_lines roles = if length roles == 0 then codes "none\n" else role_lines roles (length roles)
 
--- a line for each tree of what a worker runs, or that there is none
+-- a line for each tree of what a worker runs; `none` if there are none
 abbrev pub work_lines : Option Workspace → List ℕ
 work_lines None = codes "none\n"
 work_lines (Some own) = part_lines (roles_of own)
 
--- the word of a mode
+-- the word for a mode
 abbrev pub mode_word : Mode → List ℕ
 mode_word Shared = codes "shared"
 mode_word Private = codes "private"
 mode_word Locked = codes "locked"
 
--- the text of a seed, or that there is none
+-- the text of a seed; `-` if there is none
 abbrev pub seed_text : Option Seed → List ℕ
 seed_text None = codes "-"
 seed_text (Some s) = s.digest ++ (codes "." ++ decimal s.index)
 
--- the line of key k, which has n instances
+-- the line for key k, which has n instances
 abbrev pub key_line : ℕ → Key → ℕ → List ℕ
 key_line k key n =
     decimal k
     ++ (codes " "
     ++ (mode_word key.mode ++ (codes " " ++ (decimal n ++ (codes " " ++ (seed_text key.seed ++ (codes " " ++ (key.id ++ codes "\n"))))))))
 
--- the same; empty if there is no such key
+-- the line for key k; empty if there is no such key
 abbrev pub key_line_of : List Row → ℕ → Option Key → List ℕ
 key_line_of rows k None = []
 key_line_of rows k (Some key) = key_line k key (length (trees_of rows key))
 
--- a line for each key below a number
+-- the lines of the keys with lower numbers than this
 unfoldable pub key_lines : List Row → ℕ → List ℕ
 key_lines rows zero = []
 key_lines rows (suc k) = key_lines rows k ++ key_line_of rows k (slice_get (keys_of rows) k)
@@ -126,6 +126,6 @@ key_lines rows (suc k) = key_lines rows k ++ key_line_of rows k (slice_get (keys
 abbrev pub fault_line : StepperFault → List ℕ
 fault_line e = codes "fault " ++ (stepper_text e ++ codes "\n")
 
--- how many events are left after one that was taken back
+-- the line after an event was taken back: how many events the record has then
 abbrev pub back_line : ℕ → List ℕ
 back_line left = codes "back " ++ (decimal left ++ codes "\n")

@@ -9,20 +9,20 @@ use Rattle.llb_stepper.specs.Stepping.{Stepping}
 use Rattle.llb_session.specs.Answers.{GrantsGo, stop_line}
 use Rattle.llb_session.specs.Texts.{record_line, record_lines}
 
--- After a `go` from s to t, the record of t is a run from the board's opening to its state; and the line of each event that the `go` added is that of the
--- event, with its number and its reply in this run.
+-- After a `go` from s to t: the record of t is a run from the board's opening to its state, and the line of each event that the `go` appended has the
+-- event, its number, and its reply in that run.
 pub record LinesOfTheRun (s t : Stepping) : Type 0 where
   pub replies : List Reply
   pub runs : run t.board.build (opening t.board.build t.board.opening) t.board.events ≡ Some (t.board.state, replies)
   pub each : (i : ℕ) (e : Event) (r : Reply) → length s.board.events < i → slice_get t.board.events (i - 1) ≡ Some e → slice_get replies (i - 1) ≡ Some r
       → record_line t i ≡ record_text t.board.build.graph.vertices i (e, r) ++ codes "\n"
 
--- The text has the lines of the run, one for each event that was added to the record of s, and then `stop` or `end`.
+-- The text is the lines of the run of t's whole record, one for each event that was appended to the record of s, and then `stop` or `end`.
 pub record PrintsTheRun (s : Stepping) (text : List ℕ) (t : Stepping) : Type 0 where
   pub lines : LinesOfTheRun s t
   pub at_break : Bool
   pub printed : text ≡ record_lines t (length s.board.events) (length t.board.events - length s.board.events) ++ stop_line at_break
 
--- Whenever a `go` is granted on stepper s, the text that it prints has the lines of the run.
+-- Whenever a `go` is granted on stepper s, its text is the lines of the run of the whole record, for the events that it did.
 abbrev pub GoPrintsTheRun : Stepping → Type 0
 GoPrintsTheRun s = (text : List ℕ) (t : Stepping) → GrantsGo s text t → PrintsTheRun s text t

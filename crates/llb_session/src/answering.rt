@@ -1,4 +1,4 @@
-//! A line of a session: what it asks for is done on the stepper, and the reply is a text.
+//! Replies to a line of a session: does on the stepper what the line asks for, and returns the reply as a text.
 
 ghost use Rattle.std.specs.Prelude.{◌≡◌, ◌++◌, ◌-◌, length, IfOk, IfErr, OnErr, string_bytes};
 ghost use Rattle.llb_session.specs.declared.request.Request.TheVariants as ask;
@@ -90,7 +90,7 @@ fn go(alloc: Global, stepper: &mut Stepper) -> Result<Vec<u8>, StepperFault>
     }
 }
 
-// Takes the last event back, and returns its line. The line is made first, since an event that was taken back is not done again.
+// Takes the last event back, and returns its line. The line is made first: if memory for it is refused, the event is not yet taken back.
 fn back(alloc: Global, stepper: &mut Stepper) -> Result<Vec<u8>, StepperFault>
     ensures { IsPerformed ask.Back stepper.old stepper.new result }
 {
@@ -100,7 +100,7 @@ fn back(alloc: Global, stepper: &mut Stepper) -> Result<Vec<u8>, StepperFault>
     Ok(text.into_bytes())
 }
 
-// Returns how the vertices look.
+// Returns the statuses of the vertices.
 fn status(alloc: Global, stepper: &mut Stepper) -> Result<Vec<u8>, StepperFault>
     ensures { IsPerformed ask.Status stepper.old stepper.new result }
 {
@@ -114,7 +114,7 @@ fn tree(alloc: Global, stepper: &mut Stepper, v: u32, i: u32) -> Result<Vec<u8>,
     tree_text(alloc, stepper.board().output(v, i))
 }
 
-// Returns what the trees are that a worker works on.
+// Returns a line for each tree that a worker works on.
 fn work(alloc: Global, stepper: &mut Stepper, w: u32) -> Result<Vec<u8>, StepperFault>
     ensures { IsPerformed (ask.Work w) stepper.old stepper.new result }
 {
@@ -128,7 +128,7 @@ fn work_tree(alloc: Global, stepper: &mut Stepper, w: u32, i: u32) -> Result<Vec
     tree_text(alloc, stepper.board().worked_on(w, i))
 }
 
-// Returns the keys of the caches.
+// Returns a line for each key of the caches.
 fn caches(alloc: Global, stepper: &mut Stepper) -> Result<Vec<u8>, StepperFault>
     ensures { IsPerformed ask.Caches stepper.old stepper.new result }
 {
@@ -142,7 +142,7 @@ fn cache(alloc: Global, stepper: &mut Stepper, k: u32, i: u32) -> Result<Vec<u8>
     tree_text(alloc, stepper.board().cached(k, i))
 }
 
-// Does what is asked for, and returns what it prints; to remove the breakpoints and to end the session never fails.
+// Does what is asked for, and returns what it prints; `clear` and `quit` never fail.
 fn perform(alloc: Global, stepper: &mut Stepper, request: Request) -> Result<Vec<u8>, StepperFault>
     ensures performed { IsPerformed request stepper.old stepper.new result }
     ensures fails { IfErr result (λ _. Wants request refusal.Memory) }
@@ -167,7 +167,7 @@ fn perform(alloc: Global, stepper: &mut Stepper, request: Request) -> Result<Vec
     }
 }
 
-// Does what a line asks for and returns what it prints: 173 and its number if it asks for nothing. If memory for the line of a refusal is
+// Does what a line asks for and returns what it prints: 173 and its number if it is no request. If memory for the line of a refusal is
 // refused, nothing is changed; neither `clear` nor `quit` is refused.
 fn respond_to(
     alloc: Global,
@@ -190,7 +190,7 @@ fn respond_to(
 }
 
 /// Replies to line `number` of a session, counted from 1, on the stepper, and returns the whole reply: no text if the line is granted and
-/// prints nothing; `fault 173` and its number if it asks for nothing; `fault` and 171, 172 or 174 if what it asks for is refused, and then
+/// prints nothing; `fault 173` and its number if it is no request; `fault` and 171, 172 or 174 if what it asks for is refused, and then
 /// nothing is changed. Returns `None` if the line ends the session. Fails if memory is refused for the line of a refusal, and then nothing
 /// is changed either; neither `clear` nor a line that ends the session fails.
 pub fn respond(
@@ -211,7 +211,7 @@ pub fn respond(
     }
 }
 
-// Writes a reply, and returns true: the session goes on.
+// Writes a reply, and returns true, which means that the session goes on.
 fn write_reply<W: Write>(bytes: &[u8], out: &mut W) -> Result<bool, Failed>
     ensures { IsReplyWritten bytes.now (record { before = W.contents out.old; after = W.contents out.new }) result }
 {
@@ -219,8 +219,8 @@ fn write_reply<W: Write>(bytes: &[u8], out: &mut W) -> Result<bool, Failed>
     Ok(true)
 }
 
-/// Does the same, and writes the reply to `out`; if memory is refused for the line of a refusal, the reply is `fault 174`. Returns false if
-/// the line ends the session; nothing is written then. Fails with `Failed` if the writer failed, and a prefix of the reply is written.
+/// Replies to a line as `respond` does, and writes the reply to `out`; if memory is refused for the line of a refusal, the reply is `fault 174`. Returns false
+/// if the line ends the session; nothing is written then. Fails with `Failed` if the writer failed, and a prefix of the reply is written.
 pub fn answer<W: Write>(
     alloc: Global,
     stepper: &mut Stepper,

@@ -14,14 +14,14 @@ const PIECE: usize = 4096;
 
 const LINE_END: u8 = b'\n';
 
-// How many lines got a reply, and what was heard of the next one.
+// How many lines got a reply, and the bytes of the next line so far.
 #[derive(Drop)]
 struct Pending {
     answered: u64,
     line: Vec<u8>,
 }
 
-// Replies to the line that was heard, under its number, and flushes the reply. Returns false if it ends the session.
+// Replies to the line that was read, and flushes the reply. Returns false if the line ends the session.
 fn say<W: Write>(
     alloc: Global,
     session: &mut Stepper,
@@ -42,7 +42,7 @@ fn say<W: Write>(
     }
 }
 
-// Hears a byte. Returns false if the line that it ends ends the session.
+// Takes one more byte. Returns false if it completes a line that ends the session.
 fn hear<W: Write>(
     alloc: Global,
     session: &mut Stepper,
@@ -67,7 +67,7 @@ fn hear<W: Write>(
     Ok(goes_on)
 }
 
-// Hears bytes one by one, up to one that ends the session; returns false then.
+// Takes bytes one by one, up to the end of a line that ends the session; returns false then.
 fn hear_all<W: Write>(
     alloc: Global,
     session: &mut Stepper,
@@ -106,8 +106,8 @@ fn conclude<W: Write>(
 }
 
 /// Replies to the lines that are read from `commands`, each as soon as it has ended, under its number from 1, and flushes each reply before
-/// more is read. A last line without its end counts; nothing after the last line end is no line. A line that says quit ends the session.
-/// No more than `limit` bytes are heard, and the end is met in `reads` reads; an interrupted read is done again, and counts.
+/// more is read. A last line without its end counts, unless it is empty. A line `quit` ends the session.
+/// At most `limit` bytes are used, and `reads` reads are made; an interrupted read is done again, and counts.
 pub fn converse<R: Read, W: Write>(
     alloc: Global,
     session: &mut Stepper,

@@ -1,12 +1,12 @@
-//! Why a conversation ends before its end. A fault prints what comes after the word `fault`, and does not allocate for it.
+//! Why a conversation ends early. A fault prints what comes after the word `fault`, and does not allocate for it.
 
 use std::io::ErrorKind;
 use thiserror::Error;
 
-/// Why a conversation ends before its end.
+/// Why a conversation ends early.
 #[derive(Clone, Copy, Debug, PartialEq, Eq, Error)]
 pub enum SessionFault {
-    /// 181: a read failed, in this way.
+    /// 181: a read failed; it holds the error.
     #[error("181")]
     Failed(ErrorKind),
     /// 181: the bound on reads was met; it holds how many reads were interrupted.

@@ -4,7 +4,7 @@
 //! Types: `Request` (what a line asks for), `SessionFault` (181, 182, 184, 185).
 //! Promise: `request_in` returns the request that a line spells, or none. `respond` does it and returns its whole reply, `answer` writes it; if
 //! it is refused, nothing is changed and the reply is the refusal; only an event, `next` and `go` fail with 171 141, and `clear` and `quit`
-//! never fail. `converse` replies to the lines of a reader in their order, up to one that ends the session or a device's fault.
+//! never fail. `converse` replies to the lines of a reader in their order, up to one that ends the session, or until a read or a write fails.
 //!
 //! A caller:
 //!

@@ -23,15 +23,15 @@ pub enum Request {
     Go,
     /// Takes the last event back.
     Back,
-    /// Prints how the vertices look.
+    /// Prints the statuses of the vertices.
     Status,
     /// Prints an output of a vertex as text: the number of the vertex and that of the output.
     Tree(u32, u32),
-    /// Prints what the trees are that a worker works on, by the number of the worker.
+    /// Prints a line for each tree that a worker works on, by the number of the worker.
     Work(u32),
     /// Prints a tree that a worker works on as text: the number of the worker and that of the tree.
     WorkTree(u32, u32),
-    /// Prints the keys of the caches.
+    /// Prints a line for each key of the caches.
     Caches,
     /// Prints the tree of an instance of a cache as text: the number of the key and that of the instance.
     Cache(u32, u32),
@@ -161,7 +161,7 @@ fn by_words(line: &str) -> Option<Request>
     }
 }
 
-/// Returns what a line without its end asks for: `None` for any other line, an empty one and one that is not UTF-8 among them. Words are parted by
+/// Returns what a line without its end asks for: `None` for any other line, also for an empty one and for one that is not UTF-8. Words are separated by
 /// exactly one space, and numbers are decimal digits below 2^32. Does not allocate.
 pub fn request_in(line: &[u8]) -> Option<Request>
     ensures { result ≡ request_in line.now }

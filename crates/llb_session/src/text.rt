@@ -1,4 +1,4 @@
-//! The texts that a session prints: how vertices look, lines of the record, trees, what workers work on, caches, and refusals.
+//! The texts that a session prints: statuses of vertices, lines of the record, trees, the work of workers, caches, and refusals.
 
 ghost use Rattle.std.specs.Prelude.{◌≡◌, ◌++◌, ◌-◌, ◌+◌, codes, length, option_map, IfOk, IfErr, string_bytes};
 ghost use Rattle.llb_session.specs.Texts.{status_line, status_lines, record_line, record_lines, tree_lines, fault_line, back_line};
@@ -58,7 +58,7 @@ fn push_record(text: &mut String, stepper: &Stepper, number: u64) -> Result<(), 
     Ok(())
 }
 
-/// Returns the line of an event of the record; `None` past its end, at 0, and for events that the board had at first.
+/// Returns the line of an event of the record; `None` past its end, at 0, and for events that the board had when the stepper was made.
 pub(crate) fn line_text(
     alloc: Global,
     stepper: &Stepper,
@@ -90,7 +90,7 @@ pub(crate) fn record_text(
     Ok(text)
 }
 
-/// Returns the text of a tree, and the line for no tree.
+/// Returns the text of a tree; the line `none` if there is no tree.
 pub(crate) fn tree_text(alloc: Global, tree: Option<&Tree>) -> Result<Vec<u8>, StepperFault>
     ensures lines { IfOk result (λ v. v.items ≡ tree_lines (option_map (λ t. t.now) tree.entry)) }
     ensures memory { IfErr result (λ e. e ≡ refusal.Memory) }
@@ -126,7 +126,7 @@ fn push_part(text: &mut String, i: usize, part: Part<'_>) -> Result<(), StepperF
     Ok(())
 }
 
-// Returns the line for nothing.
+// Returns the line `none`.
 fn none_text(alloc: Global) -> Result<String, StepperFault>
     ensures lines { IfOk result (λ s. string_bytes s ≡ codes "none\n") }
     ensures memory { IfErr result (λ e. e ≡ refusal.Memory) }
@@ -136,7 +136,7 @@ fn none_text(alloc: Global) -> Result<String, StepperFault>
     Ok(text)
 }
 
-// Returns a line for each tree of a workspace, or the line for nothing if it has none.
+// Returns a line for each tree of a workspace, or the line `none` if it has none.
 #[tactic(auto, unfolding(crate::specs::Texts::role_lines))]
 fn parts_text(alloc: Global, workspace: &Workspace) -> Result<String, StepperFault>
     ensures lines { IfOk result (λ s. string_bytes s ≡ part_lines (roles_of workspace.now)) }
@@ -154,7 +154,7 @@ fn parts_text(alloc: Global, workspace: &Workspace) -> Result<String, StepperFau
     Ok(text)
 }
 
-/// Returns a line for each tree of what a worker runs, and the line for nothing.
+/// Returns a line for each tree of what a worker runs, or the line `none`.
 pub(crate) fn work_text(
     alloc: Global,
     workspace: Option<&Workspace>,
@@ -168,7 +168,7 @@ pub(crate) fn work_text(
     }
 }
 
-// Returns the word of a mode.
+// Returns the word for a mode.
 fn mode_word(mode: Mode) -> &'static str
     ensures { result.now ≡ mode_word mode }
 {
@@ -195,7 +195,7 @@ fn push_seed(text: &mut String, seed: &Option<Seed>) -> Result<(), StepperFault>
     Ok(())
 }
 
-// Appends the line of key k, which has n instances.
+// Appends the line for key k, which has n instances.
 fn push_key(text: &mut String, k: usize, key: &Key, n: u32) -> Result<(), StepperFault>
     ensures line { IfOk result (λ _. string_bytes text.new ≡ string_bytes text.old ++ key_line k key.now n) }
     ensures memory { IfErr result (λ e. e ≡ refusal.Memory) }
@@ -230,7 +230,7 @@ pub(crate) fn fault_line(alloc: Global, fault: &StepperFault) -> Result<String, 
     format!(in alloc; "fault {fault}\n")
 }
 
-/// Returns the line after an event that was taken back: how many are left.
+/// Returns the line after an event was taken back: how many events the record has then.
 pub(crate) fn back_line(alloc: Global, left: usize) -> Result<String, AllocError>
     ensures { IfOk result (λ s. string_bytes s ≡ back_line left) }
 {

@@ -1,4 +1,4 @@
--- What vertices with one digest have in common, in graphs of definitions that do not collide.
+-- What vertices with the same digest have in common, in the graphs of two definitions that do not collide.
 use Rattle.std.specs.Prelude.{◌≡◌, ℕ, List, Ok, Some, slice_get}
 use Rattle.std.specs.List.{Contains}
 use Rattle.llb_wire.specs.Digest.{digest_text}
@@ -13,28 +13,28 @@ use Rattle.llb_model.specs.Outcome.{outcome, is_plain}
 
 -- ---- two definitions
 
--- an entry of one definition and an entry of another that have one digest are the same bytes
+-- if an entry of one definition and an entry of another have the same digest, they are the same bytes
 abbrev pub DoNotCollide : List ℕ → List ℕ → Type 0
 DoNotCollide d e = (xs ys : List (List ℕ)) → definition_of d ≡ Ok xs → definition_of e ≡ Ok ys
     → (x y : List ℕ) → Contains xs x → Contains ys y → digest_text x ≡ digest_text y → x ≡ y
 
--- two definitions are loaded as two graphs, and do not collide
+-- two definitions are loaded as these two graphs, and do not collide
 pub record LoadWithoutCollision (d : List ℕ) (g : Numbered) (e : List ℕ) (h : Numbered) : Type 0 where
   pub first : IsGraphIn d g
   pub second : IsGraphIn e h
   pub apart : DoNotCollide d e
 
--- each entry of one definition is an entry of another
+-- each entry of definition d is an entry of definition f
 abbrev pub IsPartOf : List ℕ → List ℕ → Type 0
 IsPartOf d f = (xs zs : List (List ℕ)) → definition_of d ≡ Ok xs → definition_of f ≡ Ok zs → (x : List ℕ) → Contains xs x → Contains zs x
 
--- definitions whose entries are all entries of one definition that is loaded do not collide
+-- definitions whose entries are all entries of one loaded definition do not collide
 abbrev pub PartsDoNotCollide : List ℕ → Numbered → Type 0
 PartsDoNotCollide f g = IsGraphIn f g → (d e : List ℕ) → IsPartOf d f → IsPartOf e f → DoNotCollide d e
 
 -- ---- two vertices
 
--- vertex v of one graph and vertex w of another have one digest
+-- vertex v of graph g and vertex w of graph h have the same digest
 pub record HaveOneDigest (g : Numbered) (v : ℕ) (h : Numbered) (w : ℕ) : Type 0 where
   pub first : Vertex
   pub second : Vertex
@@ -54,17 +54,17 @@ pub record IsSourceOf (g : Numbered) (v : ℕ) (name : List ℕ) : Type 0 where
 abbrev pub HaveSameSources : Numbered → ℕ → List Local → List Local → Type 0
 HaveSameSources g v ls ms = (name : List ℕ) → IsSourceOf g v name → tree_of_local ls name ≡ tree_of_local ms name
 
--- two vertices have one plain outcome, and a cache mount is at or before both or neither
+-- two vertices have the same plain outcome, and a cache mount is at or before both or neither
 pub record HaveOneOutcome (b : Build) (v : ℕ) (c : Build) (w : ℕ) : Type 0 where
   pub same : outcome b v ≡ outcome c w
   pub plain : is_plain b v ≡ is_plain c w
 
--- vertices of two graphs with one digest have one outcome, whatever the local trees, if those of the sources at or before the vertex are the same
+-- vertices with the same digest have the same outcome, whatever the local trees, if those of the sources at or before the vertex are the same
 abbrev pub ShareOutcomes : Numbered → Numbered → Type 0
 ShareOutcomes g h = (ls ms : List Local) (v w : ℕ) → HaveOneDigest g v h w → HaveSameSources g v ls ms
     → HaveOneOutcome (record { graph = g; locals = ls }) v (record { graph = h; locals = ms }) w
 
--- the outcome of a vertex depends on no local trees but those of the sources at or before it
+-- the outcome of a vertex depends only on the local trees of the sources at or before it
 abbrev pub DependOnSources : Numbered → Type 0
 DependOnSources g = (ls ms : List Local) (v : ℕ) → HaveSameSources g v ls ms
     → outcome (record { graph = g; locals = ls }) v ≡ outcome (record { graph = g; locals = ms }) v

@@ -1,4 +1,4 @@
--- The work of vertices with one digest: the job of one is that of the other, but for the numbers of worker and vertex, and so is the job's outcome.
+-- The jobs of vertices with the same digest: they are the same but for the numbers of worker and vertex, and so are the jobs' outcomes.
 use Rattle.std.specs.Prelude.{◌≡◌, ℕ, true, List, Some, option_map, slice_get}
 use Rattle.llb_loader.specs.Graph.{Numbered}
 use Rattle.llb_loader.specs.Locals.{Local}
@@ -11,20 +11,20 @@ use Rattle.llb_board.specs.Begun.{plain_job, IsKnown}
 use Rattle.llb_board.specs.Landing.{CanLand}
 use Rattle.llb_sharing.specs.Digests.{HaveOneDigest, HaveSameSources}
 
--- the job as worker w has it at vertex v
+-- a job with these numbers of worker and vertex
 abbrev pub given_to : ℕ → ℕ → Job → Job
 given_to w v job = record job { worker = w; vertex = v }
 
--- the outcome as worker w has it of vertex v
+-- an outcome whose job has these numbers of worker and vertex
 abbrev pub credited_to : ℕ → ℕ → OutcomeValue → OutcomeValue
 credited_to w v o = record o { job = given_to w v o.job }
 
--- the plain jobs of two vertices with one digest are the same, but for the numbers of worker and vertex, if the sources at or before them have the same trees
+-- the plain jobs of two vertices with the same digest are the same but for the numbers of worker and vertex, if the sources at or before them have the same
 abbrev pub ShareJobs : Numbered → Numbered → Type 0
 ShareJobs g h = (ls ms : List Local) (v u a w : ℕ) → HaveOneDigest g v h u → HaveSameSources g v ls ms
     → plain_job (record { graph = h; locals = ms }) w u ≡ option_map (given_to w u) (plain_job (record { graph = g; locals = ls }) a v)
 
--- an outcome was worked out, over graph g and these local trees, from the plain job of vertex v; on the board, worker w has done no micro-step of a vertex with
+-- o is the outcome of the plain job of vertex v over graph g and these local trees. On board b worker w has done no micro-step yet of a vertex with
 -- the same digest, with no cache mount at or before it and with the same trees of the sources
 pub record IsWorkedElsewhere (g : Numbered) (ls : List Local) (v : ℕ) (b : BoardValue) (w : ℕ) (x : Execution) (o : OutcomeValue) : Type 0 where
   pub worker : ℕ
@@ -36,13 +36,13 @@ pub record IsWorkedElsewhere (g : Numbered) (ls : List Local) (v : ℕ) (b : Boa
   pub runs : slice_get b.state.workers w ≡ Some (Runs x)
   pub first : x.done ≡ 0
 
--- the outcome, credited to worker w, is one that lands on the board, and no other is an outcome of the job that the worker has there
+-- the outcome, with the numbers of worker w and its vertex, can be landed on the board, and it is the only outcome of the job that the worker has there
 pub record LandsHere (b : BoardValue) (w : ℕ) (x : Execution) (o : OutcomeValue) : Type 0 where
   pub known : IsKnown b w (given_to w x.vertex o.job)
   pub can : CanLand b w (given_to w x.vertex o.job)
   pub whole : IsOutcome (given_to w x.vertex o.job) o.count o.left
   pub only : (p : OutcomeValue) → p.job ≡ given_to w x.vertex o.job → IsOutcome p.job p.count p.left → p ≡ credited_to w x.vertex o
 
--- an outcome that was worked out over graph g lands on the board
+-- an outcome that was computed over graph g can be landed on the board
 abbrev pub WorkedElsewhereLands : Numbered → BoardValue → Type 0
 WorkedElsewhereLands g b = (ls : List Local) (v w : ℕ) (x : Execution) (o : OutcomeValue) → IsWorkedElsewhere g ls v b w x o → LandsHere b w x o

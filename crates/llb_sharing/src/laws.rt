@@ -1,4 +1,4 @@
-//! What holds of vertices with one digest, in two graphs or on two boards. If you read only one contract, read that of
+//! What holds of vertices with the same digest, in two graphs or on two boards. If you read only one contract, read that of
 //! `one_digest_one_outcome`. Its premise on SHA-256 is about the entries of the two definitions alone;
 //! `parts_do_not_collide` says for which definitions it always holds.
 
@@ -10,7 +10,7 @@ use llb_board::Board;
 use llb_board::laws::{begun_are_plain, settled_are_plain};
 use llb_loader::Graph;
 
-/// Proves that vertices with one digest, in the graphs of two definitions that do not collide, have one plain outcome if the sources at or before
+/// Proves that vertices with the same digest, in the graphs of two definitions that do not collide, have the same plain outcome if the sources at or before
 /// them have the same local trees, and that a cache mount is at or before both or neither.
 pub fn one_digest_one_outcome(first: &[u8], graph: &Graph, second: &[u8], other: &Graph)
     ensures { LoadWithoutCollision first.now graph.now second.now other.now → ShareOutcomes graph.now other.now }
@@ -21,14 +21,14 @@ pub fn one_digest_one_outcome(first: &[u8], graph: &Graph, second: &[u8], other:
     other.is_graph();
 }
 
-/// Proves that the plain outcome of a vertex depends on no local trees but those of the sources at or before it.
+/// Proves that the plain outcome of a vertex depends only on the local trees of the sources at or before it.
 pub fn outcome_by_sources(graph: &Graph)
     ensures { DependOnSources graph.now }
 {
     graph.is_graph();
 }
 
-/// Proves that vertices with one digest that are done or failed on two boards, over the graphs of definitions that do
+/// Proves that vertices with the same digest that are done or failed on two boards, over the graphs of definitions that do
 /// not collide, ended alike, failures included, if no cache mount is at or before them and their sources have the same
 /// trees. This holds for any workers and any order of events, whatever caches are shared elsewhere.
 pub fn boards_settle_alike(first: &[u8], board: &Board, second: &[u8], other: &Board)
@@ -42,7 +42,7 @@ pub fn boards_settle_alike(first: &[u8], board: &Board, second: &[u8], other: &B
     settled_are_plain(other);
 }
 
-/// Proves that definitions whose entries are all entries of one definition that is loaded do not collide. So a definition does not collide with
+/// Proves that definitions whose entries are all entries of one loaded definition do not collide. So a definition does not collide with
 /// itself, nor with one that has further entries.
 pub fn parts_do_not_collide(definition: &[u8], graph: &Graph)
     ensures { PartsDoNotCollide definition.now graph.now }
@@ -51,7 +51,7 @@ pub fn parts_do_not_collide(definition: &[u8], graph: &Graph)
     let _ = graph;
 }
 
-/// Proves that vertices with one digest have the same job, except for the numbers of worker and vertex, if the sources
+/// Proves that vertices with the same digest have the same job, except for the numbers of worker and vertex, if the sources
 /// at or before them have the same local trees. It is the job without cache instances, which a claim hands out if no
 /// cache mount is at or before the vertex.
 pub fn one_digest_one_job(first: &[u8], graph: &Graph, second: &[u8], other: &Graph)
@@ -63,7 +63,7 @@ pub fn one_digest_one_job(first: &[u8], graph: &Graph, second: &[u8], other: &Gr
     other.is_graph();
 }
 
-/// Proves that an outcome that was worked out over another graph, of a vertex with one digest and the same trees of its sources, is the outcome of
+/// Proves that an outcome that was computed over another graph, of a vertex with the same digest and the same trees of its sources, is the outcome of
 /// the job that a worker of the board has: with the numbers of worker and vertex in its job replaced, it meets the condition of `land_known`.
 pub fn worked_elsewhere_lands(first: &[u8], graph: &Graph, second: &[u8], board: &Board)
     ensures { LoadWithoutCollision first.now graph.now second.now board.now.build.graph → WorkedElsewhereLands graph.now board.now }

@@ -1,10 +1,10 @@
-//! Laws of digests: what vertices of two graphs with one digest have in common, so that what one run has worked out holds in another run too.
+//! Laws of digests: what vertices of two graphs with the same digest have in common, so that work done in one run can be used in another.
 //! It is built on `llb_board`; it has laws, and one caller of them.
 //!
 //! Types: none of its own.
-//! Promise: `laws::one_digest_one_outcome`: in two definitions that do not collide, vertices with one digest have one plain outcome, if their
-//! sources have the same trees. `laws::one_digest_one_job`: they have one job, but for the numbers of worker and vertex.
-//! `laws::outcome_by_sources`: nothing else of the sources counts.
+//! Promise: `laws::one_digest_one_outcome`: in two definitions that do not collide, vertices with the same digest have the same plain outcome, if their
+//! sources have the same trees. `laws::one_digest_one_job`: they have the same job, but for the numbers of worker and vertex.
+//! `laws::outcome_by_sources`: the outcome depends on no other local trees.
 //!
 //! A caller:
 //!

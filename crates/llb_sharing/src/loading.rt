@@ -1,4 +1,4 @@
-//! Two definitions, loaded side by side.
+//! Loads two definitions, one after the other.
 
 ghost use Rattle.std.specs.Prelude.{IfOk};
 ghost use Rattle.llb_sharing.specs.Digests.{DoNotCollide, LoadWithoutCollision, ShareOutcomes};
@@ -7,7 +7,7 @@ use crate::laws::one_digest_one_outcome;
 use llb_loader::{Graph, LoadFault, load};
 use std::alloc::Global;
 
-/// Returns the graphs of two definitions. If the definitions do not collide, vertices of the graphs with one digest share their outcomes. Fails as
+/// Returns the graphs of two definitions. If the definitions do not collide, vertices of the graphs with the same digest have the same outcomes. Fails as
 /// `load` does for the first definition, else as for the second.
 pub fn load_both(alloc: Global, first: &[u8], second: &[u8]) -> Result<(Graph, Graph), LoadFault>
     ensures { IfOk result (λ made. DoNotCollide first.now second.now

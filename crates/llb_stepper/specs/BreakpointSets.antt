@@ -1,4 +1,4 @@
--- What is kept of breakpoints by their kinds, so that none of them is tried at an event.
+-- The sets in which the breakpoints of an event are looked up, so that they are not tried one by one.
 use Rattle.std.specs.Prelude.{◌≡◌, ℕ, ◌==◌, ◌||◌, Bool, true, false, List}
 use Rattle.std.specs.List.{list_any}
 use Rattle.std.specs.Ordering.{nat_cmp}
@@ -30,32 +30,32 @@ is_at_failures (stop.Claims u) = false
 is_at_failures (stop.Settles u) = false
 is_at_failures stop.Fails = true
 
--- the kinds are those of the breakpoints of a list
+-- the sets are those of a list of breakpoints
 pub record AreKinds (breaks : List Break) (kinds : Kinds) : Type 0 where
   pub claims : (v : ℕ) → contains nat_cmp kinds.claims v ≡ list_any (is_at_claims v) breaks
   pub settles : (v : ℕ) → contains nat_cmp kinds.settles v ≡ list_any (is_at_settles v) breaks
   pub failures : kinds.failures ≡ list_any is_at_failures breaks
 
--- the new kinds are the old ones and that of one breakpoint more
+-- the new sets are the old ones with one more breakpoint
 pub record AreKindsOfOneMore (old : Kinds) (b : Break) (new : Kinds) : Type 0 where
   pub claims : (v : ℕ) → contains nat_cmp new.claims v ≡ (contains nat_cmp old.claims v || is_at_claims v b)
   pub settles : (v : ℕ) → contains nat_cmp new.settles v ≡ (contains nat_cmp old.settles v || is_at_settles v b)
   pub failures : new.failures ≡ (old.failures || is_at_failures b)
 
--- the new kinds are the old ones
+-- the new sets are equal to the old ones
 pub record AreUnchanged (old new : Kinds) : Type 0 where
   pub claims : (v : ℕ) → contains nat_cmp new.claims v ≡ contains nat_cmp old.claims v
   pub settles : (v : ℕ) → contains nat_cmp new.settles v ≡ contains nat_cmp old.settles v
   pub failures : new.failures ≡ old.failures
 
--- whether one of the kinds is met by an event, whatever its reply
+-- whether an event meets a breakpoint of the sets, whatever its reply
 abbrev pub is_met_by_event : Kinds → Event → Bool
 is_met_by_event kinds (Claim w v) = contains nat_cmp kinds.claims v
 is_met_by_event kinds (Step w) = false
 is_met_by_event kinds (Settle w) = false
 is_met_by_event kinds (Cancel w) = false
 
--- whether one of the kinds is met by a reply
+-- whether a reply meets a breakpoint of the sets
 abbrev pub is_met_by_reply : Kinds → Reply → Bool
 is_met_by_reply kinds (reply.Settled (settled.Done v)) = contains nat_cmp kinds.settles v
 is_met_by_reply kinds (reply.Settled (settled.Failed v)) = kinds.failures || contains nat_cmp kinds.settles v

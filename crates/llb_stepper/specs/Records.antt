@@ -37,17 +37,17 @@ failed_text v = decimal v ++ codes " failed"
 abbrev pub pair_text : ℕ → ℕ → List ℕ
 pair_text a b = decimal a ++ (codes " " ++ decimal b)
 
--- what is printed of a micro-step that faulted: the fault of an action, or that a command ran, with its status
+-- the text for a micro-step that faulted: the fault of an action, or, for a command, that it ran with its status
 abbrev pub fault_text : VertexFault → List ℕ
 fault_text (vertex.Action a n) = codes "fault " ++ pair_text a n
 fault_text (vertex.Exit c s) = codes "ran " ++ pair_text c s
 
--- what is printed of a claimed vertex: the kind of its op, and how many micro-steps it has
+-- the text for a claimed vertex: the kind of its op, and how many micro-steps it has
 abbrev pub claimed_text : Option Vertex → List ℕ
 claimed_text (Some v) = kind_text v.op.kind ++ (codes " " ++ decimal v.steps)
 claimed_text None = codes "none"
 
--- the vertex of a claim; 0 for any other event, where it is not used
+-- the vertex of a claim; 0 for any other event, for which the result is not used
 abbrev pub vertex_of : Event → ℕ
 vertex_of (Claim w v) = v
 vertex_of (Step w) = 0
@@ -68,7 +68,7 @@ abbrev pub settle_text : Settled → List ℕ
 settle_text (ended.Done v) = done_text v
 settle_text (ended.Failed v) = failed_text v
 
--- the reply to an event as it is printed; that to a claim names what was claimed
+-- the reply to an event as it is printed; for a claim, what was claimed
 abbrev pub reply_text : List Vertex → Event → Reply → List ℕ
 reply_text vertices e (Claimed job) = claimed_text (slice_get vertices (vertex_of e))
 reply_text vertices e (HasStepped s) = step_text s
@@ -79,19 +79,19 @@ reply_text vertices e (HasCancelled c) = pair_text c.vertex c.done
 abbrev pub record_text : List Vertex → ℕ → Event × Reply → List ℕ
 record_text vertices number p = decimal number ++ (codes " " ++ (event_text p.0 ++ (codes " -> " ++ reply_text vertices p.0 p.1)))
 
--- an event on a board, with its reply, if there are both and the event is granted
+-- an event on a board, with its reply; none if the board or the event is missing, or the event is refused
 abbrev pub replied : Option BoardValue → Option Event → Option (Event × Reply)
 replied None e = None
 replied (Some b) None = None
 replied (Some b) (Some e) = option_map (λ (p : BoardValue × Reply). (e, p.1)) (answered b e)
 
--- event i of the board's record, counted from 1, with its reply; none for an event that the board already had when the stepper was made
+-- event i of the board's record, counted from 1, with its reply; none if the board already had the event when the stepper was made
 abbrev pub record_at : Stepping → ℕ → Option (Event × Reply)
 record_at s i =
     if nat_le 1 i && nat_le i (length s.board.events) then replied (slice_get s.past (length s.board.events - i)) (slice_get s.board.events (i - 1)) else None
 
--- The events and replies that `record_at` returns are those of the run of the whole record from the board's opening, and it returns each event that was
--- done here.
+-- Each event and reply that `record_at` returns is that of the run of the whole record from the board's opening, and `record_at` returns one for each event
+-- that the stepper did.
 pub record RecordIsTheRun (s : Stepping) : Type 0 where
   pub sound : (i : ℕ) (e : Event) (r : Reply) (t : State) (replies : List Reply)
       → run s.board.build (opening s.board.build s.board.opening) s.board.events ≡ Some (t, replies) → record_at s i ≡ Some (e, r)
@@ -100,11 +100,11 @@ pub record RecordIsTheRun (s : Stepping) : Type 0 where
       → run s.board.build (opening s.board.build s.board.opening) s.board.events ≡ Some (t, replies) → 1 ≤ i → length s.board.events < i + length s.past
       → slice_get s.board.events (i - 1) ≡ Some e → slice_get replies (i - 1) ≡ Some r → record_at s i ≡ Some (e, r)
 
--- Stepper t did the whole record of board b: it is on b, and its lines are the events of the record with their replies.
+-- Stepper t has done the whole record of board b: it is on b, and its lines are the events of the record with their replies.
 pub record HasRun (b : BoardValue) (t : Stepping) : Type 0 where
   pub leads : t.board ≡ b
   pub lines : (i : ℕ) (e : Event) (r : Reply) → slice_get b.events i ≡ Some e → slice_get (replies_in b) i ≡ Some r → record_at t (i + 1) ≡ Some (e, r)
 
--- Whoever did the events of board b, a stepper without breakpoints over b as it was opened that replays its record has run it.
+-- However the events of board b were done, a stepper without breakpoints over b as it was opened that replays b's record has done the whole record.
 abbrev pub ReplaysOnAStepper : BoardValue → Type 0
 ReplaysOnAStepper b = (s t : Stepping) (p : Stop) → s.board ≡ at_first b → s.breaks ≡ [] → IsStop s b.events t p → HasRun b t

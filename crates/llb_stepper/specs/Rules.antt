@@ -21,11 +21,11 @@ stepper_memory fault.NothingBefore = false
 stepper_memory (fault.BadCommand n) = false
 stepper_memory fault.Memory = true
 
--- a call returns what the rule says; but memory may be refused in place of it
+-- a call returns what the rule says, or it fails for want of memory
 abbrev pub GivesEvent : {X Y : Type 0} → (X → Y) → Result X StepperFault → Result Y StepperFault → Type 0
 GivesEvent = answer.Gives stepper_memory
 
--- one event, or the board's refusal of it
+-- the stepper after one event, or the board's refusal of it
 abbrev pub done_by : Stepping → Result (BoardValue × short.Reply) WalkFault → Result Stepping StepperFault
 done_by s (Ok p) = Ok (onward s p.0)
 done_by s (Err e) = Err (fault.Board e)
@@ -42,11 +42,11 @@ ChosenIsDone s = (e : Event) (fault : StepperFault) → chosen s.board.build s.b
 abbrev pub ThereAndBack : Stepping → Type 0
 ThereAndBack s = (e : Event) (t u : Stepping) → done_of s e ≡ Ok t → GoesBack t u → u ≡ s
 
--- one event was granted, and the stop says whether it meets a breakpoint
+-- one event was granted, and `met` says whether it meets a breakpoint
 abbrev pub MeetsOn : Stepping → Event → Stepping → Bool → Type 0
 MeetsOn s e t met = (b : BoardValue) × (r : Reply) × (answered s.board e ≡ Some (b, r)) × (t ≡ onward s b) × (met ≡ list_any (meets e r) s.breaks)
 
--- An event of a list is refused with this fault, on the board to which the events before it lead; none of those meets a breakpoint.
+-- An event of a list is refused with this fault, on the board after the events before it; none of those meets a breakpoint.
 pub record IsRefusedAt (s : Stepping) (es : List Event) (e : StepperFault) : Type 0 where
   pub count : ℕ
   pub board : BoardValue

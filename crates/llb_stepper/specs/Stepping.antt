@@ -1,4 +1,4 @@
--- A stepper as contracts see it, and what its calls do: one event, one back, and the events up to a stop.
+-- A stepper as contracts see it, and what its calls do: one event, one event back, and events up to a stop.
 use Rattle.std.specs.Prelude.{◌≡◌, ℕ, zero, suc, ◌+◌, ◌-◌, slice_get, ◌<◌, ◌==◌, nat_lt, if◌then◌else◌, Bool, true, false, List, []}
 use Rattle.std.specs.Prelude.{◌∷◌, length, take, drop, Option, Some, None, option_map}
 use Rattle.std.specs.List.{list_any}
@@ -13,7 +13,7 @@ use Rattle.llb_stepper.specs.declared.stop.Break.{Break}
 use Rattle.llb_stepper.specs.declared.stop.Break.TheVariants as stop
 use Rattle.llb_stepper.specs.declared.stop.Stop.{Stop}
 
--- a stepper: its board, the boards before the events that it did, the latest first, and its breakpoints
+-- a stepper: its board, the boards before each event that it did, the latest first, and its breakpoints
 pub record Stepping : Type 0 where
   pub board : BoardValue
   pub past : List BoardValue
@@ -25,7 +25,7 @@ pub record Stepping : Type 0 where
 abbrev pub answered : BoardValue → Event → Option (BoardValue × Reply)
 answered b e = option_map (λ (a : State × Reply). (after_event b e a.0, a.1)) (table b.build b.state e)
 
--- a stepper on another board, after the one that it was on
+-- the stepper after an event: it is on the new board, and remembers the one before
 abbrev pub onward : Stepping → BoardValue → Stepping
 onward s b = record s { board = b; past = s.board ∷ s.past }
 
@@ -81,7 +81,7 @@ meets_any breaks b e = meets_by breaks e (answered b e)
 
 -- ---- lists of events
 
--- how a run of boards goes on: from the board after an event, if the event was granted
+-- what comes after an event in a run of boards: `go` on the board after it; nothing if the event was refused
 abbrev pub then_on : Option (BoardValue × Reply) → (BoardValue → Option BoardValue) → Option BoardValue
 then_on None go = None
 then_on (Some p) go = go p.0
@@ -91,12 +91,12 @@ unfoldable pub run_on : BoardValue → List Event → Option BoardValue
 run_on b [] = Some b
 run_on b (e ∷ es) = then_on (answered b e) (λ c. run_on c es)
 
--- a test of the board after an event; false if the event was refused
+-- whether the board after an event passes a test; false if the event was refused
 abbrev pub meets_from : Option (BoardValue × Reply) → (BoardValue → Bool) → Bool
 meets_from None go = false
 meets_from (Some p) go = go p.0
 
--- whether event k of a list meets a breakpoint, on the board to which those before it lead
+-- whether event k of a list meets a breakpoint, when the events before it have been done
 unfoldable pub meets_at : List Break → BoardValue → List Event → ℕ → Bool
 meets_at breaks b [] k = false
 meets_at breaks b (e ∷ es) zero = meets_any breaks b e
@@ -110,12 +110,12 @@ at_first b = record b { state = opening b.build b.opening; rows = b.first; event
 abbrev pub IsReplayed : BoardValue → Type 0
 IsReplayed b = run_on (at_first b) b.events ≡ Some b
 
--- Board k of the past is the one to which the record leads without its last k + 1 events.
+-- Board k of the past is the board after all events of the record but the last k + 1.
 abbrev pub PastIsTheRecords : Stepping → Type 0
 PastIsTheRecords s = (k : ℕ) (c : BoardValue) → slice_get s.past k ≡ Some c
     → run_on (at_first s.board) (take (length s.board.events - (k + 1)) s.board.events) ≡ Some c
 
--- the board now, and those before it, the latest first
+-- the present board and those before it, the latest first
 abbrev pub timeline : Stepping → List BoardValue
 timeline s = s.board ∷ s.past
 
@@ -140,12 +140,12 @@ abbrev pub ChosenThen : Option (BoardValue × Reply) → (BoardValue → Type 0)
 ChosenThen None Are = ⊥
 ChosenThen (Some p) Are = Are p.0
 
--- each event is granted, and is the chosen one on the board to which those before it lead
+-- each event is granted, and is the chosen event of the board before it
 unfoldable pub AreChosen : BoardValue → List Event → Type 0
 AreChosen b [] = Unit {0}
 AreChosen b (e ∷ es) = (chosen b.build b.state ≡ Some e) × ChosenThen (answered b e) (λ c. AreChosen c es)
 
--- Stepper t is s after a `go`: the events that the driver chooses were done, up to a stop; if none of them meets a breakpoint, no event is chosen after them.
+-- Stepper t is s after a `go`: chosen events were done, up to a stop; if none of them meets a breakpoint, the board is complete after them.
 pub record IsGo (s t : Stepping) (p : Stop) : Type 0 where
   pub events : List Event
   pub are : AreChosen s.board events

@@ -1,4 +1,4 @@
--- Breakpoints and lines by the board's own type of replies, in which a claim's job is left out.
+-- Breakpoints and lines, stated with the type of replies of `walk`, in which the reply to a claim has no job.
 use Rattle.std.specs.Prelude.{ℕ, ◌==◌, Bool, true, false, List, ◌++◌, codes, slice_get}
 use Rattle.std.specs.Fmt.{decimal}
 use Rattle.llb_loader.specs.declared.graph.Vertex.{Vertex}
@@ -29,13 +29,13 @@ failed_told reply.Claimed = false
 failed_told (reply.Stepped s) = false
 failed_told (reply.Cancelled c) = false
 
--- an event with its reply meets a breakpoint
+-- whether an event with its reply meets a breakpoint
 abbrev pub meets_told : Event → Reply → Break → Bool
 meets_told e r (stop.Claims v) = claims v e
 meets_told e r (stop.Settles v) = settles_told v r
 meets_told e r stop.Fails = failed_told r
 
--- the reply to an event as it is printed; that to a claim names what was claimed
+-- the reply to an event as it is printed; for a claim, what was claimed
 abbrev pub told_text : List Vertex → Event → Reply → List ℕ
 told_text vertices e reply.Claimed = claimed_text (slice_get vertices (vertex_of e))
 told_text vertices e (reply.Stepped s) = step_text s

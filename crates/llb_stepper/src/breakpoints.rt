@@ -1,4 +1,4 @@
-//! The breakpoints of a stepper: the list of them, and beside it the vertices by kind of breakpoint, in which those of an event are looked
+//! The breakpoints of a stepper: the list of them, and besides it sets of vertices, one for each kind of breakpoint, in which the vertex of an event is looked
 //! up. So an event costs at most the logarithm of the number of breakpoints.
 
 ghost use Rattle.std.specs.Prelude.{◌≡◌, ◌++◌, ◌∷◌, [], OnOk, OnErr};
@@ -12,7 +12,7 @@ use std::alloc::{AllocError, Global};
 use std::collections::BTreeSet;
 use std::marker::Model;
 
-// The breakpoints of a list, by what they wait for.
+// The breakpoints of a list as sets, one for each kind.
 #[derive(Drop)]
 struct Kinds {
     /// The vertices with a breakpoint at their claims.
@@ -26,7 +26,7 @@ struct Kinds {
 /// Breakpoints, in the order in which they were added. Contracts see the list of them.
 #[derive(Drop)]
 pub(crate) struct Breakpoints {
-    /// The breakpoints as contracts see them; code searches `kinds`.
+    /// The list that contracts see; code searches `kinds`.
     list: Vec<Break>,
     kinds: Kinds,
 }
@@ -44,7 +44,7 @@ impl Model for Breakpoints {
 }
 
 impl Kinds {
-    // The kinds of no breakpoints.
+    // Returns the sets of no breakpoints.
     fn new(alloc: Global) -> Kinds
         ensures { AreKinds [] result }
     {
@@ -55,7 +55,7 @@ impl Kinds {
         }
     }
 
-    // Adds the kind of one breakpoint more.
+    // Adds one breakpoint to the sets.
     fn add(&mut self, stop: Break) -> Result<(), AllocError>
         ensures ok { OnOk result (AreKindsOfOneMore self.old stop self.new) }
         ensures err { OnErr result (AreUnchanged self.old self.new) }
@@ -72,7 +72,7 @@ impl Kinds {
         Ok(())
     }
 
-    // Removes all kinds.
+    // Empties the sets.
     fn clear(&mut self)
         ensures { AreKinds [] self.new }
     {

@@ -12,7 +12,7 @@ use std::{error, fmt};
 pub enum StepperFault {
     /// 171: the board refuses the event, 131 to 138 and 141.
     Board(WalkFault),
-    /// 172: there is no event that was done here.
+    /// 172: the stepper has done no event that it could take back.
     NothingBefore,
     /// 173 N: line N of a session is no command.
     BadCommand(u64),

@@ -21,7 +21,7 @@ fn event_text(alloc: Global, event: Event) -> Result<String, AllocError>
     }
 }
 
-// What is claimed: the kind of its op, and how many micro-steps it has.
+// Returns the text for a claim: the kind of the vertex's op, and how many micro-steps it has.
 fn claimed_text(alloc: Global, vertex: Option<&Vertex>) -> Result<String, AllocError>
     ensures { IfOk result (λ s. string_bytes s ≡ claimed_text (option_map (λ v. v.now) vertex.entry)) }
 {
@@ -66,7 +66,7 @@ fn settle_text(alloc: Global, settled: Settled) -> Result<String, AllocError>
     }
 }
 
-// The vertex that was given up, and the micro-steps that were done.
+// Returns the text for a cancel: the vertex, and how many of its micro-steps were done.
 fn cancel_text(alloc: Global, cancelled: Cancelled) -> Result<String, AllocError>
     ensures { IfOk result (λ s. string_bytes s ≡ pair_text cancelled.vertex cancelled.done) }
 {
@@ -74,7 +74,7 @@ fn cancel_text(alloc: Global, cancelled: Cancelled) -> Result<String, AllocError
     format!(in alloc; "{v} {done}")
 }
 
-// The vertex of a claim; of another event 0, which is not asked for.
+// Returns the vertex of a claim; 0 for any other event, for which the result is not used.
 fn vertex_of(event: Event) -> u32
     ensures { result ≡ vertex_of event }
 {
@@ -100,7 +100,7 @@ fn reply_text(
     }
 }
 
-/// Returns the line of an event under its number, with its reply, and without its end.
+/// Returns the line of an event with its number and its reply, without a line end.
 pub(crate) fn line_text(
     alloc: Global,
     vertices: &[Vertex],

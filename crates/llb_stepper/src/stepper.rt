@@ -1,4 +1,4 @@
-//! The board that is gone through, what undoes each event that was done here, and the breakpoints.
+//! The stepper: the board, what takes back each event that the stepper did, and the breakpoints.
 
 ghost use Rattle.std.specs.Prelude.{◌≡◌, ◌≤◌, ◌+◌, ◌++◌, ◌∷◌, [], length, drop, Bool, true, map, option_map, false, IfOk, IfErr};
 ghost use Rattle.std.specs.Prelude.{OnOk, OnErr, Some, string_bytes};
@@ -20,7 +20,7 @@ use llb_wire::Text;
 use std::alloc::Global;
 use std::marker::Model;
 
-/// A board, what undoes each event that was done on it here, and breakpoints. Contracts see the board, the boards before these events,
+/// A board, what takes back each event that the stepper did on it, and breakpoints. Contracts see the board, the boards before these events,
 /// the last first, and the breakpoints.
 pub struct Stepper {
     alloc: Global,
@@ -29,7 +29,7 @@ pub struct Stepper {
     breaks: Breakpoints,
 }
 
-// Written out, so that the crates above drop one by this one function.
+// Written by hand, so that it is proved once; a derived one is proved again in every function that drops such a value.
 impl Drop for Stepper {
     fn drop(self) {
         let Stepper {
@@ -59,7 +59,7 @@ impl Model for Stepper {
 }
 
 impl Stepper {
-    /// Makes a stepper over a board, without breakpoints. What the board has done before is not taken back. Does not allocate.
+    /// Makes a stepper over a board, without breakpoints. Events that the board has already can't be taken back. Does not allocate.
     pub fn new(alloc: Global, board: Board) -> Stepper
         ensures { result ≡ record { board = board; past = []; breaks = [] } }
     {
@@ -95,7 +95,7 @@ impl Stepper {
         self.breaks.clear();
     }
 
-    /// Does one event. Fails with 171 and the board's refusal, or with 174. Memory may be refused, 171 141 or 174, at any growth.
+    /// Does one event. Fails with 171 and the board's refusal, or with 174. Memory may be refused, as 171 141 or 174, whenever something grows.
     pub fn do_event(&mut self, event: Event) -> Result<(), StepperFault>
         ensures gives { GivesEvent (λ _. self.new) result (done_of self.old event) }
         ensures err { OnErr result (self.new ≡ self.old) }
@@ -104,14 +104,14 @@ impl Stepper {
         Ok(())
     }
 
-    /// Returns the chosen event, without doing it: `None` where the board is complete. Does not allocate.
+    /// Returns the chosen event, without doing it: `None` if the board is complete. Does not allocate.
     pub fn next(&self) -> Option<Event>
         ensures { result ≡ chosen self.now.board.build self.now.board.state }
     {
         self.board.chosen()
     }
 
-    /// Goes back to the board before the last event; breakpoints stay. Fails with 172 where no event was done here, or all were taken back. Does not allocate.
+    /// Goes back to the board before the last event; breakpoints stay. Fails with 172 if the stepper did no event, or all are taken back. Does not allocate.
     pub fn back(&mut self) -> Result<(), StepperFault>
         ensures ok { OnOk result (GoesBack self.old self.new) }
         ensures fewer { OnOk result (length self.old.board.events ≡ length self.new.board.events + 1) }
@@ -129,7 +129,7 @@ impl Stepper {
     }
 
     /// Returns the line of event i of the board's record, counted from 1, with its reply: `None` past the end, at 0, and for events that the board
-    /// had at first. Fails with 174 alone.
+    /// had when the stepper was made. Fails with 174 alone.
     pub fn record_line(&self, i: u64) -> Result<Option<Text>, StepperFault>
         ensures line { IfOk result (λ o. option_map (λ t. t) o ≡ option_map (record_text self.now.board.build.graph.vertices i) (record_at self.now i)) }
         ensures memory { IfErr result (λ e. e ≡ fault.Memory) }
@@ -141,7 +141,7 @@ impl Stepper {
         Ok(Some(Text::new(line)))
     }
 
-    // Event i with its reply.
+    // Returns event i with its reply.
     fn recorded(&self, i: u64) -> Option<(Event, Reply)>
         ensures { result ≡ option_map told_pair (record_at self.now i) }
     {
@@ -166,7 +166,7 @@ impl Stepper {
         self.walked.len()
     }
 
-    // One event, and whether it meets a breakpoint.
+    // Does one event, and returns whether it meets a breakpoint.
     fn walk(&mut self, event: Event) -> Result<bool, StepperFault>
         ensures gives { GivesEvent (λ _. self.new) result (done_of self.old event) }
         ensures met { IfOk result (MeetsOn self.old event self.new) }
@@ -195,7 +195,7 @@ impl Stepper {
         }
     }
 
-    /// Takes back `count` of the last events, or all that were done here where they are fewer; breakpoints stay. Does not allocate.
+    /// Takes back the last `count` events, or all that the stepper did if there are fewer; breakpoints stay. Does not allocate.
     pub fn back_many(&mut self, count: usize)
         ensures timeline { timeline self.new ≡ drop (lesser count (length self.old.past)) (timeline self.old) }
         ensures build { self.new.board.build ≡ self.old.board.build }
@@ -205,8 +205,8 @@ impl Stepper {
         self.back_by(if count < depth { count } else { depth });
     }
 
-    /// Does the chosen events, up to the first that meets a breakpoint, or to where none is chosen; at least one where there is one. Fails with
-    /// 171 141 and 174 alone: then all that it did is taken back.
+    /// Does the chosen events, up to the first that meets a breakpoint, or until the board is complete; at least one if it is not complete before. Fails
+    /// with 171 141 and 174 alone: then all that it did is taken back.
     pub fn go(&mut self) -> Result<Stop, StepperFault>
         ensures goes { IfOk result (IsGo self.old self.new) }
         ensures refused { IfErr result (λ e. stepper_memory e ≡ true) }
@@ -237,7 +237,7 @@ impl Stepper {
         })
     }
 
-    /// Does the given events, up to the first that meets a breakpoint. Where one is refused, 171 or 174, all that it did is taken back.
+    /// Does the given events, up to the first that meets a breakpoint. If one is refused, with 171 or 174, all that it did is taken back.
     pub fn replay(&mut self, events: &[Event]) -> Result<Stop, StepperFault>
         ensures stops { IfOk result (IsStop self.old events.now self.new) }
         ensures refused { IfErr result (IsRefusedAt self.old events.now) }
@@ -282,7 +282,7 @@ pub fn there_and_back(stepper: &Stepper)
     let _ = &stepper.board;
 }
 
-/// A law: the boards before are those to which the record leads without its last events, however these were done.
+/// A law: the boards of the past are those to which the record without its last events leads, however these events were done.
 pub fn past_is_the_records(stepper: &Stepper)
     ensures { PastIsTheRecords stepper.now }
 {
@@ -296,7 +296,7 @@ pub fn record_is_the_run(stepper: &Stepper)
     let _ = &stepper.board;
 }
 
-/// A law: the record of a board, whoever did its events, done again on the board as it was opened, leads to the board; and so a stepper without
+/// A law: the record of a board, however its events were done, done again on the board as it was opened, leads to the board; and so a stepper without
 /// breakpoints over that opening board that replays the record is then on the board, with a line for each event of the record and its reply.
 pub fn replay_is_the_run(board: &Board)
     ensures leads { IsReplayed board.now }
@@ -305,8 +305,8 @@ pub fn replay_is_the_run(board: &Board)
     board.replays();
 }
 
-/// A law: what a call on a board returns that does an event is the reply that the record has for it, the last of the replies of the board after it.
-/// The calls are `claim`, `step`, `settle`, `cancel`, and `land`, whose steps have their replies before.
+/// A law: the reply that a call on a board returns is the one in the record of the board afterwards, the last one there.
+/// The calls are `claim`, `step`, `settle`, `cancel`, and `land`, where the replies of its steps come before its own.
 pub fn replies_are_recorded(board: &Board)
     ensures { RepliesAreRecorded board.now }
 {

@@ -3,9 +3,9 @@
 /// A breakpoint: a `go` or a replay stops after an event that meets it.
 #[derive(Clone, Copy, Debug, PartialEq, Eq)]
 pub enum Break {
-    /// After a claim of that vertex.
+    /// After a claim of this vertex.
     Claims(u32),
-    /// After a settle of that vertex.
+    /// After a settle of this vertex.
     Settles(u32),
     /// After a settle of a vertex that failed.
     Fails,

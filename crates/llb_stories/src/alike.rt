@@ -1,4 +1,4 @@
-//! Boards that are the same by value, boards that differ in one thing, and copies.
+//! Boards that are equal by value, boards that differ in one thing, and copies.
 
 use super::calls::{are_done, are_same, copy_of};
 use super::runs::{IN_A_ROW, TWO_FILES};
@@ -8,7 +8,7 @@ use llb_board::Board;
 use std::alloc::Global;
 use std::process::Abort;
 
-// A board: what it was opened on, for how many workers, and the events that were done on it, a line each.
+// A board: its definition, the number of its workers, and the events that were done on it, a line each.
 type Side = (&'static str, u32, &'static str);
 
 const OPENED: Side = (TWO_FILES, 2, "");
@@ -19,23 +19,23 @@ const IN_A_ROW_OPENED: Side = (IN_A_ROW, 2, "");
 
 const ON_A_CACHE: Side = ("locked: write /c/a x && false; RESULT_0", 2, "claim 0 0");
 
-// A board, the events that are done on it once it is copied, and another board; whether the copy is the other board, and whether it is
-// still the board.
+// A board, the events that are done on it after it is copied, and another board; whether the copy equals the other board, and whether it
+// still equals the board.
 type Copied = (Side, &'static str, Side, [bool; 2]);
 
 const COPIES: &[Copied] = &[
-    // Boards of the same events are the same.
+    // Boards with the same events are equal.
     (OPENED, "", OPENED, [true, true]),
     (CLAIMED, "", OPENED, [false, true]),
     (CLAIMED, "", CLAIMED, [true, true]),
-    // Two claims in two orders: the same state, and another record.
+    // Two claims in two orders give the same state and another record.
     (
         (TWO_FILES, 2, "claim 0 0\nclaim 1 1"),
         "",
         (TWO_FILES, 2, "claim 1 1\nclaim 0 0"),
         [false, true],
     ),
-    // Another number of workers, and another file.
+    // Boards with another number of workers, or another file, differ.
     (OPENED, "", (TWO_FILES, 3, ""), [false, true]),
     (
         OPENED,
@@ -43,7 +43,7 @@ const COPIES: &[Copied] = &[
         ("MAKES_Z; MAKES_B; MERGES_0_1; RESULT_2", 2, ""),
         [false, true],
     ),
-    // A copy stays where the board was.
+    // A copy does not change with the board.
     (OPENED, "claim 0 0", OPENED, [true, false]),
     (CLAIMED, "step 0", CLAIMED, [true, false]),
     (

@@ -16,7 +16,7 @@ use std::alloc::{AllocError, Global};
 use std::sync::Wait;
 use std::thread::Threads;
 
-// The kinds of a graph's vertices, by number, a line each.
+// Returns the kinds of a graph's vertices, by number, a line each.
 fn kinds(alloc: Global, graph: &Graph) -> Result<String, AllocError> {
     let mut text = String::new(alloc);
     for vertex in graph.vertices() {
@@ -26,13 +26,13 @@ fn kinds(alloc: Global, graph: &Graph) -> Result<String, AllocError> {
     Ok(text)
 }
 
-// The same for a definition, or why it is refused.
+// Returns the kinds of the vertices of a definition's graph, or why it is refused.
 fn kinds_in(alloc: Global, definition: &[u8]) -> Result<String, LoadFault> {
     let graph = load(alloc, definition)?;
     Ok(kinds(alloc, &graph)?)
 }
 
-// The text of a graph's result, with a tree for one local source.
+// Returns the text of a graph's result, with a tree for one local source.
 fn result_text(alloc: Global, graph: Graph, name: Text, tree: Tree) -> Option<Vec<u8>> {
     let mut locals = Locals::new(alloc);
     locals.add(name, tree).ok()?;
@@ -45,7 +45,7 @@ fn result_text(alloc: Global, graph: Graph, name: Text, tree: Tree) -> Option<Ve
     Some(text)
 }
 
-// Lets every worker begin every vertex but vertex 0.
+// A gate that stops every worker at vertex 0, and nowhere else.
 struct AllButTheFirst;
 
 impl Gate for AllButTheFirst {
@@ -58,7 +58,7 @@ impl Gate for AllButTheFirst {
     }
 }
 
-// Whether a run in threads, one for each worker of the board, was stopped by the gate.
+// Returns whether a run in threads, one for each worker of the board, was stopped by the gate.
 fn is_stopped<R: Threads + Wait + Sync>(rt: &R, alloc: Global, board: Board) -> bool {
     let end = run_workers(rt, alloc, board, &AllButTheFirst);
     matches!(&end.fault, Some(RunFault::Stopped))
@@ -71,7 +71,7 @@ fn by_hand(board: &mut Board, vertex: u32) -> Option<Settled> {
     board.settle(0).ok()
 }
 
-// Goes to the first failure or to the end, takes the last event back, and counts the events that are left.
+// Goes on to the first failure or to the end, takes the last event back, and returns how many events remain.
 fn looked_at(stepper: &mut Stepper) -> Option<usize> {
     stepper.break_at(Break::Fails).ok()?;
     stepper.go().ok()?;
@@ -79,7 +79,7 @@ fn looked_at(stepper: &mut Stepper) -> Option<usize> {
     Some(stepper.board().events().len())
 }
 
-// The definition that a text is read as.
+// Returns the definition that a text is read as.
 fn assembled(alloc: Global, text: &[u8]) -> Option<Bytes> {
     let entries = assemble(alloc, text).ok()?;
     write_definition(alloc, &entries).ok()

@@ -1,5 +1,5 @@
-//! Calls on boards and steppers as stories make them, each in a function without clauses: a story compares values, and what a call promises
-//! besides need not be carried through it.
+//! Calls on boards and steppers, each in a function without clauses, since a story compares values and needs nothing else of what a call
+//! promises.
 
 use llb_board::{Board, Event, Gate, Job, LandFault, OpenFault, Outcome, WorkFault, work};
 use llb_cache::Caches;
@@ -10,7 +10,7 @@ use llb_wire::Same;
 use std::alloc::Global;
 use std::process::Abort;
 
-// No lease of the caches may be out.
+// Opens a board. No lease of the caches may be current.
 pub(crate) fn opened(
     rt: &impl Abort,
     alloc: Global,
@@ -23,7 +23,7 @@ pub(crate) fn opened(
     Board::open(alloc, graph, locals, caches, workers)
 }
 
-// The event that a line of a session asks for.
+// Returns the event that a line of a session asks for.
 pub(crate) fn event_in(line: &str) -> Option<Event> {
     match request_in(line.as_bytes()) {
         Some(Request::Event(event)) => Some(event),
@@ -63,7 +63,7 @@ fn is_done(board: &mut Board, line: &str) -> bool {
     }
 }
 
-// Whether events are done, each written in a line as in a session.
+// Returns whether these events are granted, each written in a line as in a session.
 pub(crate) fn are_done(board: &mut Board, events: &str) -> bool {
     for line in events.lines() {
         if !is_done(board, line) {
@@ -73,7 +73,7 @@ pub(crate) fn are_done(board: &mut Board, events: &str) -> bool {
     true
 }
 
-// Puts what each of these events prints where it is refused, or `done`, a line each, at the end of a text.
+// Appends for each of these events a line: what its refusal prints, or `done`.
 pub(crate) fn say_events(rt: &impl Abort, text: &mut String, board: &mut Board, events: &str) {
     for line in events.lines() {
         let event = event_in(line).expect(rt, "an event");
@@ -96,7 +96,7 @@ pub(crate) fn claimed(board: &mut Board, w: u32, v: u32) -> Option<Job> {
     board.claim(w, v).ok()
 }
 
-// What is worked out of a job behind a gate, or the number of the fault.
+// Returns the outcome of a job behind a gate, or the number of the fault.
 pub(crate) fn worked_out<G: Gate>(alloc: Global, job: Job, gate: &G) -> Result<Outcome, u32> {
     match work(alloc, job, gate) {
         Ok(outcome) => Ok(outcome),
@@ -105,7 +105,7 @@ pub(crate) fn worked_out<G: Gate>(alloc: Global, job: Job, gate: &G) -> Result<O
     }
 }
 
-// What worker w works out of a vertex behind a gate, or the number of the fault.
+// Returns the outcome of what worker w does at a vertex behind a gate, or the number of the fault.
 pub(crate) fn worked<G: Gate>(
     alloc: Global,
     board: &mut Board,
@@ -119,7 +119,7 @@ pub(crate) fn worked<G: Gate>(
     }
 }
 
-// By which fault an outcome does not land; 0 where it does.
+// Returns the number of the fault with which an outcome does not land; 0 if it lands.
 pub(crate) fn landed(board: &mut Board, w: u32, outcome: Outcome) -> u32 {
     match board.land(w, outcome) {
         Ok(_) => 0,

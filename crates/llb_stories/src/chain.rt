@@ -1,4 +1,4 @@
-//! A chain of as many vertices as a definition may have: it is read, evaluated, run, and walked to its end and back. As `rt ci` builds it, it
+//! A chain of as many vertices as a definition may have: it is read, evaluated, run, and stepped through to its end and back. As `rt ci` builds it, this
 //! takes seconds; `rt try --test`, whose programs check each call, takes minutes for it (`--seconds 900`).
 
 use llb_asm::assemble;
@@ -15,12 +15,12 @@ use llb_work::{RunEnd, run_alone};
 use std::alloc::Global;
 use std::process::Abort;
 
-// The vertices, and the events of each: a claim, one micro-step, and a settle.
+// How many vertices there are; each has three events: a claim, one micro-step and a settle.
 const COUNT: u32 = 65_535;
 
 const EVENTS: usize = 196_605;
 
-// An op that makes `/d`, on the entry of that number or on nothing.
+// Appends an op that makes `/d` on the output of the entry with this number, or on the empty tree.
 fn push_op(rt: &impl Abort, text: &mut String, below: Option<u32>) {
     match below {
         None => text.push_str("op {\nfile {\nactions {\ninput -1\n"),
@@ -52,7 +52,7 @@ fn is_chain(graph: &Graph) -> bool {
     graph.vertices().len() == 65_535 && result.vertex == 65_534 && result.index == 0
 }
 
-// Whether a tree has the directory `/d`, and nothing else.
+// Returns whether a tree has the directory `/d`, and nothing else.
 fn has_d(rt: &impl Abort, alloc: Global, tree: Option<&Tree>) -> bool {
     let Some(tree) = tree else {
         return false;
@@ -86,7 +86,7 @@ fn goes_back(stepper: &mut Stepper) -> bool {
     stepper.back().is_ok()
 }
 
-// Whether all events are taken back, and then there is none.
+// Returns whether all events can be taken back, and no more.
 fn is_taken_back(stepper: &mut Stepper) -> bool {
     for _event in 0..EVENTS {
         if !goes_back(stepper) {

@@ -1,5 +1,5 @@
-//! Sessions as conversations: the lines that are commands and those that are none, the end of a session, its bounds, and that each line is
-//! gets its reply before the next is waited for.
+//! Sessions as conversations: which lines are commands and which are not, the end of a session, its bounds, and that each line
+//! gets its reply before the next one is read.
 
 use super::runs::ONE_FILE;
 use super::sessions::{LIMIT, READS};
@@ -13,9 +13,9 @@ use std::io;
 use std::io::{ErrorKind, Read, Write};
 use std::process::Abort;
 
-// What is said to a stepper on one file by one worker, and all that it prints.
+// The commands to a stepper over one file with one worker, and all that they print.
 const CONVERSATIONS: &[(&str, &str)] = &[
-    // A session ends with its commands, or with a line that says so.
+    // A session ends with its commands, or with a line `quit`.
     ("", ""),
     ("next\n", "1 claim 0 0 -> file 1\n"),
     (
@@ -30,7 +30,7 @@ const CONVERSATIONS: &[(&str, &str)] = &[
     ),
     ("next", "1 claim 0 0 -> file 1\n"),
     ("tree 0 0\ntree 0 1\ntree 7 0\n", "none\nnone\nnone\n"),
-    // Any other line is refused by its number.
+    // Any other line is refused, with its number.
     (
         "\nnext \n next\nbreak\nbreak fail 1\nclaim 0\nclaim 0  0\nstep +0\nstep 4294967296\ngo\r\nclaim 00 00\nQUIT\n",
         "fault 173 1\nfault 173 2\nfault 173 3\nfault 173 4\nfault 173 5\nfault 173 6\nfault 173 7\nfault 173 8\nfault 173 9\n\
@@ -42,7 +42,7 @@ fn on_one_file(rt: &impl Abort, alloc: Global) -> Stepper {
     Stepper::new(alloc, board_of(rt, alloc, ONE_FILE, "", 1))
 }
 
-// How a conversation on one file ends within bounds, where it prints this.
+// Returns how a conversation over one file ends within these bounds, if it prints this.
 fn ended(
     rt: &impl Abort,
     alloc: Global,
@@ -78,7 +78,7 @@ fn lines_are_answered_up_to_the_end(rt: HostRuntime) {
 
 const TWICE: &str = "next\nnext\n";
 
-// The bounds on bytes and on reads, what two lines print within them, and the fault, or 0.
+// The bounds on bytes and on reads, what two lines print within them, and the number of the fault, or 0.
 const BOUNDS: &[(usize, u64, &str, u32)] = &[
     (9, 5, "1 claim 0 0 -> file 1\n", 185),
     (5, 5, "1 claim 0 0 -> file 1\n", 185),
@@ -104,7 +104,7 @@ fn lines_within_the_bounds_are_answered(rt: HostRuntime) {
     }
 }
 
-// A reader that returns a byte a read, and those of a line only once the lines before it have their replies.
+// A reader that returns a byte in each read, and the bytes of a line only after the lines before it have their replies.
 #[derive(Drop)]
 struct Waits<'a> {
     bytes: &'a [u8],
@@ -149,7 +149,7 @@ impl Write for Counts<'_> {
     }
 }
 
-// Whether each line gets its reply before the next is waited for.
+// Returns whether each line gets its reply before the next one is read.
 fn is_conversation(alloc: Global, stepper: &mut Stepper, commands: &str, wanted: &str) -> bool {
     let answered = Cell::new(0);
     let mut lines = Waits {

@@ -1,4 +1,4 @@
-//! Two workers, each in a thread of its own: a gate that holds each until the other has come.
+//! Two workers, each in a thread of its own, with a gate that holds each until the other has arrived.
 
 use super::calls::{breaks_at, goes_back, replayed};
 use super::runs::TWO_FILES;
@@ -10,7 +10,7 @@ use llb_work::{RunEnd, RunFault, run_workers};
 use std::sync::atomic::{AtomicU64, Ordering};
 use std::thread;
 
-// Holds vertices 0 and 1 each until the other has arrived, at most 100,000 turns, and keeps of each vertex the worker that it let pass.
+// A gate that holds vertices 0 and 1 each until the other has arrived, for at most 100,000 turns, and notes for each vertex the worker that it let pass.
 #[derive(Drop)]
 struct Meet {
     arrived: AtomicU64,
@@ -37,7 +37,7 @@ impl Meet {
         }
     }
 
-    // Whether the worker was let pass for the vertex.
+    // Returns whether the gate let this worker pass at this vertex.
     fn let_pass(&self, w: u32, v: u32) -> bool {
         self.seat(v).load(Ordering::SeqCst) == u64::from(w)
     }
@@ -65,7 +65,7 @@ impl Gate for Meet {
     }
 }
 
-// How many claims there are, each of which the gate let pass; none where it did not.
+// Returns how many claims there are, if the gate let each of them pass.
 fn claims_let_pass(events: &[Event], gate: &Meet) -> Option<u32> {
     let mut count = 0u32;
     for event in events {
@@ -79,8 +79,8 @@ fn claims_let_pass(events: &[Event], gate: &Meet) -> Option<u32> {
     Some(count)
 }
 
-// The fewest and the most events that one of two workers made, and how many claims there are, each of which the gate let pass; none where
-// there is a fault, or something is left to do.
+// Returns the fewest and the most events that one of two workers made, and how many claims there are, all of which the gate let pass; nothing if
+// there is a fault, or the board is not complete.
 fn told(end: &RunEnd, gate: &Meet) -> Option<(u64, u64, u32)> {
     let [first, second, ..] = end.made;
     let claims = claims_let_pass(end.board.events().as_slice(), gate)?;
@@ -90,7 +90,7 @@ fn told(end: &RunEnd, gate: &Meet) -> Option<(u64, u64, u32)> {
     Some((first.min(second), first.max(second), claims))
 }
 
-// Whether one of the two files is made, and the worker of the other has finished it and not settled.
+// Returns whether one of the two files is made, and the worker of the other one has finished it and not settled.
 fn is_half_made(board: &Board) -> bool {
     match (board.status(0), board.status(1)) {
         (Some(Status::Done), Some(Status::Running(w))) => {
@@ -108,7 +108,7 @@ const AT_THE_MERGE: Stop = Stop {
     at_break: true,
 };
 
-// Whether a record stops behind the claim of the merge, its seventh event, and with two events less has one file and half of the other.
+// Returns whether a replay stops after the claim of the merge, its seventh event, and whether two events earlier one file is made and the other finished.
 fn is_walked(stepper: &mut Stepper, events: &[Event]) -> [bool; 3] {
     let broken = breaks_at(stepper, Break::Claims(2));
     let stopped = replayed(stepper, events) == Some(AT_THE_MERGE);
@@ -137,7 +137,7 @@ fn two_workers_are_at_work_together_and_their_record_is_walked(rt: HostRuntime) 
     );
 }
 
-// Whether the run was stopped right after its claim of vertex 0, which the worker then gave up: the vertex is ready, no cache is held,
+// Returns whether the run was stopped right after its claim of vertex 0, which the worker then gave up: the vertex is ready, no cache is held,
 // and the record and the worker's count have both events.
 fn is_stopped(end: &RunEnd) -> bool {
     let [first, ..] = end.made;
@@ -155,7 +155,7 @@ fn a_worker_alone_waits_for_nobody_and_is_stopped(rt: HostRuntime) {
     is_so(&rt, is_stopped(&end));
 }
 
-// A cache that is locked, and one that its worker steps under the lock.
+// A locked cache, and a shared one, whose vertex is stepped under the lock.
 const ON_CACHES: &[&str] = &[
     "locked: write /c/a x; RESULT_0",
     "shared: write /c/a x; RESULT_0",

@@ -1,4 +1,4 @@
-//! Runs by more workers than there is work for, so that most of them sleep: each ends, many times over, and with all its events.
+//! Runs with more workers than there is work for, so that most of them sleep: each run ends, in many repetitions, with all its events.
 
 use super::calls::{are_same, is_event_done, replayed};
 use super::farm::{counts, have_one_tree, push_merge};
@@ -15,7 +15,7 @@ use std::sync::atomic::{AtomicU64, Ordering};
 use std::thread;
 use std::thread::Threads;
 
-// Lets everybody pass, and a vertex with a number that 3 divides after 20 turns of others.
+// A gate that lets everybody pass, but at every third vertex only after 20 turns of other threads.
 struct Slow;
 
 impl Gate for Slow {
@@ -33,7 +33,7 @@ impl Gate for Slow {
     }
 }
 
-// Stops any worker at the gate of that vertex.
+// A gate that stops any worker at this vertex.
 struct Shut(u32);
 
 impl Gate for Shut {
@@ -46,7 +46,7 @@ impl Gate for Shut {
     }
 }
 
-// Lets ten vertices pass, and stops any worker that comes after them.
+// A gate that lets workers pass ten times, and then stops every worker.
 #[derive(Drop)]
 struct Ten {
     passed: AtomicU64,
@@ -73,18 +73,18 @@ impl Gate for Ten {
     }
 }
 
-// The vertex of a number: a file made on the vertex before it, a file by itself, or a command that ends with a status, on up to two caches.
+// What each vertex is: a file made on the vertex before it, a file by itself, or a command that ends with a status, on up to two caches.
 #[derive(Clone, Copy)]
 enum Shape {
     Chain,
     Fan,
-    // Every third one fails.
+    // Every third vertex fails.
     Failing,
-    // All on one locked cache.
+    // All vertices use one locked cache.
     Locked,
-    // On two of three locked caches, in turn.
+    // Each vertex uses two of three locked caches, in turn.
     TwoOfThree,
-    // On a cache that is shared in each of the three ways, in turn.
+    // The vertices use a shared, a private and a locked cache in turn.
     Mixed,
 }
 
@@ -104,7 +104,7 @@ fn push_file(rt: &impl Abort, text: &mut String, before: Option<u32>, v: u32) {
     .expect(rt, "memory");
 }
 
-// A command on the empty tree at `/`, and on caches, each by its ID and the way in which it is shared.
+// Appends an exec of a command on the empty tree at `/` and on caches, each given by its ID and its mode.
 fn push_command(rt: &impl Abort, text: &mut String, script: &str, v: u32, caches: &[(u32, u32)]) {
     write!(
         text,
@@ -136,7 +136,7 @@ fn push_vertex(rt: &impl Abort, text: &mut String, shape: Shape, v: u32) {
     }
 }
 
-// The definition of `count` vertices, and of a merge of what they give.
+// Returns the definition of `count` vertices, and of a merge of their outputs.
 fn definition(rt: &impl Abort, alloc: Global, shape: Shape, count: u32) -> String {
     let mut text = String::new(alloc);
     for v in 0..count {
@@ -146,12 +146,12 @@ fn definition(rt: &impl Abort, alloc: Global, shape: Shape, count: u32) -> Strin
     text
 }
 
-// Whether a run ended whole, with this number of events.
+// Returns whether a run has ended without a fault, with this number of events.
 fn is_whole(end: &RunEnd, events: u64) -> bool {
     matches!(counts(end, 64), Some((all, _)) if all == events)
 }
 
-// Whether `runs` runs end whole, each with this number of events.
+// Returns whether `runs` runs end without a fault, each with this number of events.
 fn all_end<R: Abort + Threads + Wait + Sync>(
     rt: &R,
     alloc: Global,
@@ -169,7 +169,7 @@ fn all_end<R: Abort + Threads + Wait + Sync>(
     true
 }
 
-// A row of its own for each shape and number of workers, which is below 100.
+// Returns a row number of its own for each shape and number of workers, which is below 100.
 fn row(at: usize, workers: u32) -> usize {
     at.wrapping_mul(100).wrapping_add(workers as usize)
 }
@@ -193,7 +193,7 @@ fn runs_by_any_number_of_workers_end(rt: HostRuntime) {
     }
 }
 
-// Whether no worker runs anything, and no lease is out.
+// Returns whether no worker runs anything, and no lease is current.
 fn are_idle(board: &Board, workers: u32) -> bool {
     for w in 0..workers {
         if board.worker(w) != Some(WorkerStatus::Idle) {
@@ -203,7 +203,7 @@ fn are_idle(board: &Board, workers: u32) -> bool {
     board.caches().leases() == 0
 }
 
-// Whether a run is stopped at the last vertex that is no merge, and nobody is left at work.
+// Returns whether a run was stopped before its board was complete, and no worker runs anything.
 fn is_stopped(end: &RunEnd, workers: u32) -> bool {
     matches!(end.fault, Some(RunFault::Stopped))
         && !end.board.is_complete()
@@ -229,20 +229,20 @@ fn a_stop_ends_the_run_of_those_that_sleep_and_leaves_nobody_at_work(rt: HostRun
     }
 }
 
-// Whether the record of a run is replayed from an opening of its board.
+// Returns whether the record of a run leads from an opening of its board to its end.
 fn is_replayed(alloc: Global, opened: Board, end: &Board) -> bool {
     let mut stepper = Stepper::new(alloc, opened);
     let stop = replayed(&mut stepper, end.events().as_slice());
     stop.is_some() && are_same(stepper.board(), end)
 }
 
-// Whether one driver completes a board, with the same tree as another board has as the output of a vertex.
+// Returns whether one driver completes a board, and an output of a vertex is then the same tree as on another board.
 fn is_completed(board: Board, wanted: &Board, v: u32) -> bool {
     let end = run_alone(board);
     end.fault.is_none() && end.board.is_complete() && have_one_tree(&end.board, wanted, v)
 }
 
-// Of the 30 vertices ten pass the gate.
+// Ten of the 30 vertices pass the gate.
 #[test]
 fn workers_that_are_stopped_in_the_middle_leave_what_one_driver_completes(rt: HostRuntime) {
     let shapes = [
@@ -271,7 +271,7 @@ fn is_cancel(event: &Event) -> bool {
     matches!(event, Event::Cancel(_))
 }
 
-// Whether vertex 0, which worker 1 ran before the run, is done, and vertex 1 alone was given up.
+// Returns whether vertex 0, which worker 1 ran before the run, is done, and only vertex 1 was cancelled.
 fn is_ended(end: &RunEnd) -> bool {
     let cancels = end
         .board

@@ -17,7 +17,7 @@ use std::sync::atomic::{AtomicU64, Ordering};
 use std::thread;
 use std::thread::Threads;
 
-// Holds each of the first vertices until `count` have arrived, at most 1,000,000 turns.
+// A gate that holds each of the first vertices until `count` have arrived, for at most 1,000,000 turns.
 #[derive(Drop)]
 struct Gather {
     count: u64,
@@ -44,7 +44,7 @@ impl Gate for Gather {
     }
 }
 
-// `count` entries that make the files `/00`, `/01` and so on.
+// Appends `count` entries that make the files `/00`, `/01` and so on.
 fn push_files(rt: &impl Abort, text: &mut String, count: u32) {
     for i in 0..count {
         let entry = write!(
@@ -67,7 +67,7 @@ fn push_layers(rt: &impl Abort, text: &mut String, count: u32) {
     }
 }
 
-// The merge of `count` entries, which is the result.
+// Appends the merge of `count` entries, and the terminal that names it.
 pub(crate) fn push_merge(rt: &impl Abort, text: &mut String, count: u32) {
     text.push_str("op {\n").expect(rt, "memory");
     push_digests(rt, text, count);
@@ -76,8 +76,8 @@ pub(crate) fn push_merge(rt: &impl Abort, text: &mut String, count: u32) {
     write!(text, "}}\n}}\nop {{\ninputs {{\ndigest %{count}\n}}\n}}\n").expect(rt, "memory");
 }
 
-// How many events were made in all, and by the worker that made the fewest of the first ones; none where there is a fault, or something is
-// left to do.
+// Returns how many events were made in all, and by the one of the first workers that made the fewest; nothing if there is a fault, or the board is
+// not complete.
 pub(crate) fn counts(end: &RunEnd, workers: usize) -> Option<(u64, u64)> {
     if end.fault.is_some() || !end.board.is_complete() {
         return None;
@@ -105,7 +105,7 @@ fn sixty_four_workers_are_at_work_together(rt: HostRuntime) {
     is_so(&rt, matches!(counts(&end, 64), Some((258, 3..))));
 }
 
-// Whether the merge alone is a user of either file, and nothing of the merge.
+// Returns whether the merge is the only user of either file, and has no users itself.
 fn have_users(board: &Board) -> bool {
     board.users(0) == [2].as_slice()
         && board.users(1) == [2].as_slice()
@@ -119,7 +119,7 @@ fn users_are_those_that_have_an_edge_to_a_vertex(rt: HostRuntime) {
     is_so(&rt, have_users(&board));
 }
 
-// Whether two boards have one tree as the first output of a vertex.
+// Returns whether the first output of a vertex is the same tree on both boards.
 pub(crate) fn have_one_tree(one: &Board, other: &Board, v: u32) -> bool {
     match (one.output(v, 0), other.output(v, 0)) {
         (Some(tree), Some(wanted)) => tree.same(wanted),
@@ -127,7 +127,7 @@ pub(crate) fn have_one_tree(one: &Board, other: &Board, v: u32) -> bool {
     }
 }
 
-// How many events a run of a number of workers has, where its result is that of the board given.
+// Returns how many events a run with a number of workers has, if its result is that of the given board.
 fn made_by<R: Abort + Threads + Wait + Sync>(
     rt: &R,
     alloc: Global,
@@ -155,7 +155,7 @@ const ON_CACHES: &str =
     "locked: write /c/a x; locked: write /c/b y; private: write /c/a x; private: write /c/b y; \
     shared: append /c/l a && append /c/l b; shared: append /c/l c && append /c/l d";
 
-// The merge of the outputs of a number of entries.
+// Returns the text of the merge of the outputs of a number of entries.
 pub(crate) fn merge_on(
     rt: &impl Abort,
     alloc: Global,
@@ -169,7 +169,7 @@ pub(crate) fn merge_on(
     board_from(rt, alloc, text.as_str(), workers)
 }
 
-// Executions on a cache that is shared in each of the three ways, two of each, and the merge of their outputs.
+// Returns a board of executions on a shared, a private and a locked cache, two on each, and of the merge of their outputs.
 fn on_caches(rt: &impl Abort, alloc: Global) -> Board {
     merge_on(rt, alloc, ON_CACHES, 6, 64)
 }
@@ -184,7 +184,7 @@ fn a_record_of_threads_on_caches_is_replayed(rt: HostRuntime) {
     is_so(&rt, stop.is_some() && are_same(stepper.board(), &end.board));
 }
 
-// The vertices with a shared cache have numbers after the first four.
+// The vertices that mount a shared cache have numbers from 4 on.
 #[test]
 fn each_vertex_passes_the_gate_once(rt: HostRuntime) {
     let gate = Counting::new(4);
@@ -205,7 +205,7 @@ const WRITTEN: &str = "
     0
     ";
 
-// While one worker has the cache and waits, the other finds it held, and has to put the vertex back.
+// While one worker holds the cache and waits, the other finds it held, and puts the vertex back into the queue.
 #[test]
 fn a_vertex_whose_cache_is_held_is_taken_later(rt: HostRuntime) {
     let alloc = rt.alloc();

@@ -1,4 +1,4 @@
-//! What calls on a board print where memory is refused. The other refusals of claims, steps, settles and cancels are printed by sessions (`runs`,
+//! What calls on a board print if memory is refused. The other refusals of claims, steps, settles and cancels are printed by sessions (`runs`,
 //! `caches`), and those of an opening by the program (`run` in `llbm`).
 
 use super::runs::IN_A_ROW;

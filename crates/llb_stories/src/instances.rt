@@ -1,4 +1,4 @@
-//! Stories of calls on boards: where the workers are, and which instances of caches there are, with what in them.
+//! Stories of calls on boards: what each worker does, and which instances caches have, with their trees.
 
 use super::sessions::{Way, are_stories};
 use super::written::CacheRow;

@@ -1,4 +1,4 @@
-//! Work of jobs away from the board: its outcome, gates that stop it, and where an outcome lands.
+//! The work of jobs away from the board: the outcome, gates that stop it, and on which boards the outcome lands.
 
 use super::calls::{are_done, claimed, copy_of, landed, opened, say_events, worked, worked_out};
 use super::runs::TWO_FILES;
@@ -10,7 +10,7 @@ use llb_loader::Locals;
 use std::alloc::Global;
 use std::process::Abort;
 
-// Lets all work begin.
+// A gate that stops no worker.
 struct Passes;
 
 impl Gate for Passes {
@@ -23,7 +23,7 @@ impl Gate for Passes {
     }
 }
 
-// Lets worker 1 work, and no other.
+// A gate that stops every worker but worker 1.
 struct Stops;
 
 impl Gate for Stops {
@@ -48,7 +48,7 @@ const SECOND_COMMAND_FAILS: &str =
 
 const APPENDS: &str = "locked: append /c/l a && append /c/l b; RESULT_0";
 
-// What worker w works out of vertex 0, or the number of the fault.
+// Returns the outcome of what worker w does at vertex 0, or the number of the fault.
 fn outcome_from<G: Gate>(
     rt: &impl Abort,
     alloc: Global,
@@ -60,7 +60,7 @@ fn outcome_from<G: Gate>(
     worked(alloc, &mut board, w, 0, gate)
 }
 
-// How many micro-steps were done, and whether the last has failed; or the number of the fault.
+// Returns how many micro-steps were done, and whether the last one has failed; or the number of the fault.
 fn counted<G: Gate>(
     rt: &impl Abort,
     alloc: Global,
@@ -74,7 +74,7 @@ fn counted<G: Gate>(
     }
 }
 
-// What worker 0 counts at vertex 0.
+// What worker 0 does at vertex 0, and the two numbers that `counted` returns of its outcome.
 const COUNTS: &[(&str, (u32, bool))] = &[
     (TWO_FILES, (1, false)),
     (FIRST_FAILS, (1, true)),
@@ -99,23 +99,23 @@ fn a_gate_stops_whom_it_does_not_let_work(rt: HostRuntime) {
     );
 }
 
-// What an outcome of vertex 0 is worked out on by worker 0, the board that it is brought to, what was done there, who brings it, and the
-// fault, or 0 where it lands.
+// An outcome, and whether it lands: the definition over which worker 0 works at vertex 0; the definition of the board to which the outcome is brought;
+// the events done on that board; the worker that brings it; and the number of the fault, or 0 if it lands.
 type Landing = (&'static str, &'static str, &'static str, u32, u32);
 
 const CLAIMED: &str = "claim 0 0";
 
 const LANDINGS: &[Landing] = &[
-    // An outcome is brought by a worker that runs.
+    // The worker that brings an outcome has to run a vertex.
     (TWO_FILES, TWO_FILES, CLAIMED, 0, 0),
     (TWO_FILES, TWO_FILES, CLAIMED, 1, 136),
     (TWO_FILES, TWO_FILES, CLAIMED, 5, 131),
     (TWO_FILES, TWO_FILES, "", 0, 136),
-    // It lands only where its worker has just that to do: not over another graph, nor once a step was done.
+    // The job has to be what remains for that worker: not one over another graph, and no step may have been done.
     (OTHER_FILES, TWO_FILES, CLAIMED, 0, 139),
     (TWO_FILES, TWO_FILES, "claim 0 0\nstep 0", 0, 139),
-    // The outcome of a claim that was given up lands where the vertex is claimed anew alike, and not for another worker, nor with what
-    // was written to its cache before.
+    // The outcome of a claim that was cancelled lands if the same claim is made again, but not for another worker, nor after its
+    // cache was written to.
     (TWO_FILES, TWO_FILES, "claim 0 0\ncancel 0\nclaim 0 0", 0, 0),
     (APPENDS, APPENDS, "claim 0 0\ncancel 0\nclaim 1 0", 1, 139),
     (
@@ -132,7 +132,7 @@ const LANDINGS: &[Landing] = &[
         1,
         139,
     ),
-    // A vertex with a shared cache can't land.
+    // The outcome of a vertex with a shared cache can't land.
     (ON_A_SHARED_CACHE, ON_A_SHARED_CACHE, CLAIMED, 0, 140),
 ];
 
@@ -151,7 +151,7 @@ fn an_outcome_lands_where_its_worker_has_just_that_to_do(rt: HostRuntime) {
     }
 }
 
-// Whether the outcome of a board lands on it as the steps that are left and the settle.
+// Returns whether landing an outcome has the effect of the remaining steps and the settle.
 fn is_a_block(board: &mut Board, outcome: Outcome) -> [bool; 3] {
     let record = [Event::Claim(0, 0), Event::Step(0), Event::Settle(0)];
     let lands = landed(board, 0, outcome) == 0;
@@ -162,7 +162,7 @@ fn is_a_block(board: &mut Board, outcome: Outcome) -> [bool; 3] {
     ]
 }
 
-// Whether an outcome doesn't land once a step was done of the job that it is of, and its worker can still settle.
+// Returns whether an outcome does not land after a step of the same vertex was done, and its worker can still settle.
 fn is_late(board: &mut Board, outcome: Outcome) -> [bool; 3] {
     let stepped = are_done(board, "step 0");
     let refused = landed(board, 0, outcome) == 139;
@@ -186,7 +186,7 @@ fn an_outcome_does_not_land_once_a_step_was_done(rt: HostRuntime) {
     is_so(&rt, is_late(&mut board, outcome) == [true; 3]);
 }
 
-// Events, each in a line, and what they print.
+// Events, a line each, and what they print.
 type Told = (&'static str, &'static str);
 
 const IDLE: Told = (
@@ -206,7 +206,7 @@ fn are_told(rt: &impl Abort, alloc: Global, board: &mut Board, told: Told) {
     is_same(rt, text.as_str(), told.1);
 }
 
-// Whether a board for that number of workers is not opened.
+// Returns whether no board with this number of workers is opened.
 fn are_refused(rt: &impl Abort, alloc: Global, workers: u32) -> bool {
     let graph = graph_from(rt, alloc, TWO_FILES);
     let board = opened(
@@ -220,13 +220,13 @@ fn are_refused(rt: &impl Abort, alloc: Global, workers: u32) -> bool {
     matches!(board, Err(OpenFault::Workers(..)))
 }
 
-// Whether nothing was done on a board yet.
+// Returns whether no event was done on a board yet.
 fn is_opening(board: &Board) -> bool {
     board.status(0) == Some(Status::Ready) && board.events().is_empty()
 }
 
-// From the opening of a board for two workers to its first settle: each call that is refused on the way, and what a copy from before the claim
-// keeps. The other outcome is of a board whose first vertex makes another file.
+// From the opening of a board for two workers to its first settle: each call that is refused on the way, and a copy from before the claim,
+// which does not change. The other outcome is of a board whose first vertex makes another file.
 #[test]
 fn a_vertex_is_claimed_worked_on_and_settled_with_each_refusal_on_the_way(rt: HostRuntime) {
     let alloc = rt.alloc();
@@ -253,8 +253,8 @@ fn a_vertex_is_claimed_worked_on_and_settled_with_each_refusal_on_the_way(rt: Ho
     );
 }
 
-// The outcome of the job that a worker gave up does not land for the one that claims the vertex anew: it is of another worker, and the cache
-// has what was written to it.
+// The outcome of a cancelled job does not land for the worker that claims the vertex next: it is of another worker, and the cache
+// has changed.
 const GIVEN_UP: Told = (
     "step 0\ncancel 0\ncancel 0\ncancel 9\nclaim 1 0",
     "done\ndone\n136\n131\ndone\n",

@@ -1,4 +1,4 @@
-//! Worked examples of whole runs: boards, and the workers on them: tests, and nothing else. The values are written out
+//! Worked examples of whole runs: tests of boards and of the workers on them, and nothing else. The values are written out
 //! from the rules by hand.
 #![tactic(auto)]
 

@@ -1,4 +1,4 @@
-//! Stories of looks: the trees that a worker works on, and what is in caches. A look changes nothing.
+//! Stories of calls that only read: the trees that a worker works on, and what caches have. They change nothing.
 
 use super::sessions::{Way, are_stories};
 

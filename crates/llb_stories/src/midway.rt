@@ -1,4 +1,4 @@
-//! Workers on a board that is given in the middle of a run: each first ends what it runs.
+//! Workers on a board that is given in the middle of a run: each first ends the vertex that it runs.
 
 use super::calls::is_event_done;
 use super::farm::{counts, have_one_tree};
@@ -28,7 +28,7 @@ const BY_ONE: [Event; 11] = [
     Event::Settle(0),
 ];
 
-// A board on which these events were done.
+// Returns a board on which these events were done.
 fn board_after(rt: &impl Abort, alloc: Global, workers: u32, events: &[Event]) -> Board {
     let mut board = board_of(rt, alloc, DEFINITION, "", workers);
     for event in events {
@@ -37,7 +37,7 @@ fn board_after(rt: &impl Abort, alloc: Global, workers: u32, events: &[Event]) -
     board
 }
 
-// Whether the record is that of one worker, who made all of it but the first events.
+// Returns whether the record is that of one worker, who made all events but the first `before`.
 fn is_by_one(end: &RunEnd, before: usize) -> bool {
     let [made, ..] = end.made;
     let events = end.board.events().as_slice();
@@ -46,7 +46,7 @@ fn is_by_one(end: &RunEnd, before: usize) -> bool {
         && made == 11u64.saturating_sub(before as u64)
 }
 
-// The worker has claimed the second vertex, has done one of its micro-steps, and has done both; and it has settled.
+// The worker has claimed the second vertex; then has done one of its micro-steps; then both; and then it has settled.
 #[test]
 fn a_worker_first_ends_what_it_runs(rt: HostRuntime) {
     for before in 1..=4 {
@@ -57,7 +57,7 @@ fn a_worker_first_ends_what_it_runs(rt: HostRuntime) {
     }
 }
 
-// Each of two workers runs a vertex and has two events of it left. One of them then does the merge, which has four.
+// Each of two workers runs a vertex with two events to go. One of them then does the merge, which has four events.
 #[test]
 fn two_workers_first_end_what_they_run(rt: HostRuntime) {
     let alloc = rt.alloc();

@@ -1,4 +1,4 @@
-//! What the opening of a board takes and gives back, and what a board that is left hands to the next. The program prints which local tree is
+//! What the opening of a board takes and returns, and what one board leaves for the next. The program prints which local tree is
 //! missing (`run` in `llbm`).
 
 use super::calls::{are_done, opened};
@@ -13,7 +13,7 @@ use llb_samples::OLD_AND_F;
 use std::alloc::Global;
 use std::process::Abort;
 
-// Numbers of workers, and how many vertices the graph has that comes back, where the number is refused.
+// Numbers of workers, and, if the number is refused, how many vertices the returned graph has.
 const WORKERS: &[(u32, Option<usize>)] = &[
     (0, Some(3)),
     (65, Some(3)),
@@ -23,7 +23,7 @@ const WORKERS: &[(u32, Option<usize>)] = &[
     (64, None),
 ];
 
-// How many vertices the graph has that comes back with a refused number of workers.
+// Returns how many vertices the graph has that is returned with a refused number of workers.
 fn vertices_back(fault: &OpenFault) -> Option<usize> {
     match fault {
         OpenFault::Workers(back, _, _) => Some(back.vertices().len()),
@@ -74,7 +74,7 @@ fn a_record_is_copied(rt: HostRuntime) {
     is_so(&rt, record.len() == 1);
 }
 
-// The caches of a board that is left after some events.
+// Returns the caches of a board after some events.
 fn left(rt: &impl Abort, alloc: Global, definition: &str, events: &str) -> Caches {
     let mut board = board_of(rt, alloc, definition, "", 2);
     assert!(rt; are_done(&mut board, events));
@@ -82,7 +82,7 @@ fn left(rt: &impl Abort, alloc: Global, definition: &str, events: &str) -> Cache
     caches
 }
 
-// Makes caches that have an empty instance of each key, in that order.
+// Returns caches with an empty instance of each key, in that order.
 fn in_order(rt: &impl Abort, alloc: Global, rows: &[CacheRow]) -> Caches {
     let needs = needs_of(rt, alloc, rows);
     let mut caches = Caches::new(alloc);
@@ -109,7 +109,7 @@ fn keys_stand_in_the_order_of_the_first_claims(rt: HostRuntime) {
     );
 }
 
-// The results on a board with the caches of one that was left in the middle.
+// The results on a board that is opened on the caches of another one, which was in the middle of its run.
 const BEHIND: &str = "
     > worker 0
     idle
@@ -148,7 +148,7 @@ fn a_board_that_is_left_in_the_middle_gives_its_caches_to_the_next(rt: HostRunti
     is_so(&rt, is_answered(&rt, alloc, &mut board, BEHIND));
 }
 
-// Whether these caches come back with a refused number of workers.
+// Returns whether these caches are returned with a refused number of workers.
 fn has_caches(fault: &OpenFault, caches: &Caches) -> bool {
     match fault {
         OpenFault::Workers(_, _, back) => back.same(caches),

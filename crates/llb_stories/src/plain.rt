@@ -1,4 +1,4 @@
-//! Plain outcomes: what an evaluation without a board returns. A line with `@ ` first has the name of the local trees and the entries of the
+//! Plain outcomes: what an evaluation without a board returns. A line that begins with `@ ` has the name of the local trees and the entries of the
 //! definition (`written`); the lines after it are the result: for each vertex how it ended, and for one that is done the trees of its
 //! outputs; or the refusal.
 
@@ -183,7 +183,7 @@ fn told(rt: &impl Abort, alloc: Global, head: &str) -> String {
     text
 }
 
-// Whether the result for the local trees and the definition of a story's first line is what comes after it.
+// Returns whether the local trees and the definition of a story's first line have the result that the lines after it say.
 pub(crate) fn are_outcomes(rt: &impl Abort, alloc: Global, head: &str, lines: &str) -> bool {
     told(rt, alloc, head).as_str() == wanted(rt, alloc, lines).as_str()
 }
@@ -199,7 +199,7 @@ fn a_fault_of_an_evaluation_prints_its_number_and_its_argument(rt: HostRuntime) 
     prints(&rt, rt.alloc(), &PlainFault::Memory, "103");
 }
 
-// Whether the vertex of that number is there, with output 0 and no output 1.
+// Returns whether the vertex with this number has an output 0 and no output 1.
 fn has_one_output(outcomes: &Outcomes, v: u32) -> bool {
     match outcomes.get(v) {
         Some(outcome) => outcome.output(0).is_some() && outcome.output(1).is_none(),

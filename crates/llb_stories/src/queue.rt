@@ -7,7 +7,7 @@ use super::told::{is_same, is_so};
 use llb_ready::{Full, ReadyFault, ReadyPass, ReadyQueue};
 use std::sync::Wait;
 
-// The results of a put and a take. Of what they promise a story needs that the pass stays one of the queue, and of the same part.
+// Puts a number; `take` takes one. Of what these calls promise, a story needs that the pass stays one of the queue, with the same fraction.
 fn put<R: Wait>(rt: &R, queue: &ReadyQueue, pass: &mut ReadyPass, v: u32) -> Result<(), Full>
     requires { IsReadyPassOf queue.now pass.old }
     ensures pass { IsReadyPassOf queue.now pass.new }

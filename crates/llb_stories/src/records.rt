@@ -1,4 +1,4 @@
-//! Records of workers, each in a thread of its own, on caches that are not shared: a stepper goes through such a record again, line by line;
+//! Records of workers in threads, on caches that are not shared: a stepper replays such a record, line by line;
 //! and one worker that takes the vertices in the order of its claims leaves the same trees.
 
 use super::calls::{are_same, is_event_done, replayed};
@@ -19,7 +19,7 @@ fn board_by(rt: &impl Abort, alloc: Global, workers: u32) -> Board {
     merge_on(rt, alloc, DEFINITION, 5, workers)
 }
 
-// The replies to the events of each vertex, in their order; the last is the merge of the others.
+// The replies to the events of each vertex, in order; the last vertex is the merge of the others.
 const ANSWERS: &[&[&str]] = &[
     &["file 1", "acted 0", "0 done"],
     &["file 1", "acted 0", "1 done"],
@@ -37,7 +37,7 @@ fn worker_of(event: Event) -> u32 {
     }
 }
 
-// The reply to the last of these events: that of its place among those of its worker from its claim on.
+// Returns the reply to the last of these events, by its position among the events of its worker since its claim.
 fn answer_to(events: &[Event]) -> &'static str {
     let mut place = 0usize;
     let worker = events.last().map(|event| worker_of(*event));
@@ -53,7 +53,7 @@ fn answer_to(events: &[Event]) -> &'static str {
     "none"
 }
 
-// The line of the last of these events, with which the record begins.
+// Returns the line of the last of these events, which are the first of the record.
 fn line_of(rt: &impl Abort, alloc: Global, events: &[Event]) -> String {
     let (number, answer) = (events.len(), answer_to(events));
     let mut text = String::new(alloc);
@@ -99,7 +99,7 @@ fn is_run(board: &mut Board, v: u32) -> bool {
     false
 }
 
-// Whether the vertices of the claims are run one by one in their order, up to the end.
+// Returns whether the vertices of the claims can be run one by one in their order, to the end.
 fn are_run(board: &mut Board, events: &[Event]) -> bool {
     for event in events {
         if let Event::Claim(_, v) = event {
@@ -111,7 +111,7 @@ fn are_run(board: &mut Board, events: &[Event]) -> bool {
     board.is_complete()
 }
 
-// Whether two boards have the same trees in their outputs and in their caches.
+// Returns whether two boards have the same trees in their outputs and in their caches.
 fn have_same_trees(one: &Board, other: &Board) -> bool {
     for v in 0..6 {
         if !have_one_tree(one, other, v) {
@@ -126,7 +126,7 @@ const WHOLE: Stop = Stop {
     at_break: false,
 };
 
-// Whether the record of a board is replayed to the same board, with these lines, and leaves its trees in the order of its claims.
+// Returns whether the record of a board is replayed to an equal board, with these lines, and running its claims in their order leaves the same trees.
 fn is_record(rt: &impl Abort, alloc: Global, ended: &Board, workers: u32) -> [bool; 5] {
     let events = ended.events().as_slice();
     let mut stepper = Stepper::new(alloc, board_by(rt, alloc, workers));

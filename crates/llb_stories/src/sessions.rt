@@ -1,6 +1,6 @@
-//! Stories as transcripts, most of them of sessions on boards. A line with `@ ` first opens a board (`written`); one with `> ` first is a
-//! command, and the lines after it are what it prints; one with `# ` first says what the story shows. Each line is read without the spaces
-//! before and after it. Stories of calls (`told`), of plain outcomes (`plain`) and of shared vertices (`sharing`) have the same form.
+//! Stories as transcripts, most of them of sessions on boards. A line that begins with `@ ` opens a board (`written`); one that begins with `> ` is a
+//! command, and the lines after it are what it prints; one that begins with `# ` describes the story. Spaces before and after a line are not
+//! read. Stories of calls (`told`), of plain outcomes (`plain`) and of shared vertices (`sharing`) have the same form.
 
 use super::plain::are_outcomes;
 use super::sharing::are_shared;
@@ -15,7 +15,7 @@ pub(crate) const LIMIT: usize = 1 << 20;
 
 pub(crate) const READS: u64 = 1 << 20;
 
-// The expected lines of a transcript, without the spaces before and after each.
+// Returns the expected lines of a transcript, without the spaces before and after each.
 pub(crate) fn wanted(rt: &impl Abort, alloc: Global, told: &str) -> String {
     let mut text = String::new(alloc);
     for line in told.lines() {
@@ -28,7 +28,7 @@ pub(crate) fn wanted(rt: &impl Abort, alloc: Global, told: &str) -> String {
     text
 }
 
-// A command as a transcript has it, and what it prints; nothing for a line that is no command.
+// Appends a command as a transcript has it, and what it prints; nothing for a line that is no command.
 fn say(rt: &impl Abort, alloc: Global, stepper: &mut Stepper, line: &str, out: &mut Vec<u8>) {
     if let Some(command) = line.strip_prefix("> ") {
         out.extend_from_slice(line.as_bytes()).expect(rt, "memory");
@@ -47,7 +47,7 @@ pub(crate) fn is_told(rt: &impl Abort, alloc: Global, stepper: &mut Stepper, tol
     out.as_slice() == wanted(rt, alloc, told).as_bytes()
 }
 
-// How a story is written: by the commands of a session, by calls on a board, by its plain outcomes, or by the vertices that two definitions share.
+// What a story is made of: the commands of a session, calls on a board, plain outcomes, or the vertices that two definitions share.
 #[derive(Clone, Copy)]
 pub(crate) enum Way {
     Session,
@@ -75,7 +75,7 @@ fn is_story(rt: &impl Abort, alloc: Global, way: Way, head: &str, lines: &str) -
     }
 }
 
-// Ends the test at the first story that goes otherwise than it is written.
+// Ends the test at the first story that does not go as it is written.
 pub(crate) fn are_stories(rt: &impl Abort, alloc: Global, way: Way, told: &str) {
     let (_, stories) = told.split_once("@ ").expect(rt, "a story");
     for story in stories.split("@ ") {

@@ -1,5 +1,5 @@
-//! Vertices that two definitions share. A line with `@ ` first has the entries of both definitions, with ` AND ` between them (`written`). The lines
-//! after it have each pair of vertices with one digest: the number in the first graph, and the number in the second.
+//! Vertices that two definitions share. A line that begins with `@ ` has the entries of both definitions, with ` AND ` between them (`written`). The lines
+//! after it have each pair of vertices with the same digest: the number in the first graph, and the number in the second.
 
 use super::sessions::{Way, are_stories, wanted};
 use super::written::definition_from;
@@ -46,7 +46,7 @@ fn shared(rt: &impl Abort, alloc: Global, head: &str) -> String {
     text
 }
 
-/// Whether the pairs of vertices with one digest are those of the story.
+/// Returns whether the pairs of vertices with the same digest are those of the story.
 pub(crate) fn are_shared(rt: &impl Abort, alloc: Global, head: &str, lines: &str) -> bool {
     shared(rt, alloc, head).as_str() == wanted(rt, alloc, lines).as_str()
 }

@@ -1,7 +1,7 @@
-//! What a session doesn't say of a board: where its workers are, and which instances of caches there are. Such a story is a transcript of the
-//! form of a session's: a line with `> ` first is a call, and the lines after it are its result. The calls are a session's events, which
-//! print nothing where they are done; `job W V`, a claim that prints its job and the instances of caches that it takes;
-//! `worker W`; `instance WAY I`, the tree of an instance of the cache `k` that is shared in that way; and `leases`.
+//! What a session does not print of a board: what each worker does, and which instances caches have. Such a story is a transcript of the
+//! same form as a session's: a line that begins with `> ` is a call, and the lines after it are its result. The calls are a session's events, which
+//! print nothing if they are granted; `job W V`, a claim that prints its job and the instances of caches that it takes;
+//! `worker W`; `instance MODE I`, the tree of an instance of the cache `k` with that mode; and `leases`.
 
 use super::calls::{event_in, is_event_done};
 use super::instances::{K_LOCKED, K_PRIVATE, K_SEEDED, K_SHARED};
@@ -53,7 +53,7 @@ pub(crate) fn say_tree(rt: &impl Abort, text: &mut String, tree: &Tree) {
     say(rt, text, lines.as_str());
 }
 
-// The numbers of instances, each with its tree.
+// Appends the numbers of instances, each with its tree.
 fn say_instances(rt: &impl Abort, text: &mut String, instances: &[u32], trees: &[Tree]) {
     for (number, tree) in instances.iter().zip(trees) {
         say(rt, text, "instance ");
@@ -84,7 +84,7 @@ fn cache_of(way: &str) -> CacheRow {
     }
 }
 
-// The text of the tree that an instance of a cache has.
+// Appends the text of the tree that an instance of a cache has.
 fn say_instance(rt: &impl Abort, text: &mut String, board: &Board, way: &str, number: u32) {
     let key = key_of(rt, *text.allocator(), &cache_of(way));
     match board.caches().instance(&key, number) {
@@ -108,7 +108,7 @@ fn law(board: &Board) {
     headline(board);
 }
 
-// A call as a transcript has it, and its result; nothing for a line that is no call.
+// Appends a call as a transcript has it, and its result; nothing for a line that is no call.
 fn say_line(rt: &impl Abort, text: &mut String, board: &mut Board, line: &str) {
     if let Some(call) = line.strip_prefix("> ") {
         say(rt, text, line);
@@ -129,29 +129,29 @@ fn transcript(rt: &impl Abort, alloc: Global, board: &mut Board, told: &str) -> 
     text
 }
 
-// Ends the test where something does not hold.
+// Ends the test if something does not hold.
 pub(crate) fn is_so(rt: &impl Abort, holds: bool) {
     assert!(rt; holds);
 }
 
-// Ends the test where the row of a number does not hold; the failure names it.
+// Ends the test if the row with a number does not hold; the failure names it.
 pub(crate) fn row_holds(rt: &impl Abort, row: usize, is_so: bool) {
     assert!(rt; is_so, "row {row}");
 }
 
-// Ends the test where a text is not the expected one; the failure shows both.
+// Ends the test if a text is not the expected one; the failure shows both.
 pub(crate) fn is_same(rt: &impl Abort, told: &str, wanted: &str) {
     assert_eq!(rt; told, wanted);
 }
 
-// Ends the test where a fault prints something else.
+// Ends the test if a fault prints something else.
 pub(crate) fn prints<E: Display>(rt: &impl Abort, alloc: Global, fault: &E, wanted: &str) {
     let mut text = String::new(alloc);
     write!(text, "{fault}").expect(rt, "memory");
     is_same(rt, text.as_str(), wanted);
 }
 
-// Whether the calls of a transcript on a board have the results that come after them.
+// Returns whether the calls of a transcript on a board have the results that come after them.
 pub(crate) fn is_answered(rt: &impl Abort, alloc: Global, board: &mut Board, told: &str) -> bool {
     let text = transcript(rt, alloc, board, told);
     text.as_str() == wanted(rt, alloc, told).as_str()

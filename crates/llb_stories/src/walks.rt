@@ -1,4 +1,4 @@
-//! Runs that are walked to their ends and taken back, event by event: then all is as it was. And records that are gone through again.
+//! Runs that are stepped through to their ends and taken back, event by event: then everything is as before. And records that are replayed.
 
 ghost use Rattle.std.specs.Prelude.{◌≡◌};
 
@@ -12,7 +12,7 @@ use llb_stepper::{Break, Stepper, Stop};
 use std::alloc::Global;
 use std::process::Abort;
 
-// Walks the chosen events, at most `most` of them, and takes them back: whether the board was complete in between.
+// Does the chosen events, at most `most` of them, and takes them back. Returns whether the board was complete in between.
 fn there_and_back(board: &mut Board, most: u32) -> bool
     ensures { board.new ≡ board.old }
 {
@@ -41,7 +41,7 @@ fn finish(board: &mut Board) -> bool {
     board.is_complete()
 }
 
-// Definitions, and the results then on the complete board.
+// Definitions, and the results on the complete board.
 const WALKED: &[(&str, &str)] = &[
     (FAILS_FIRST, "> leases\n0"),
     (IN_A_ROW, "> worker 0\nidle"),
@@ -59,7 +59,7 @@ const WALKED: &[(&str, &str)] = &[
     ),
 ];
 
-// Whether a run that is walked and taken back leaves a board as its copy, and both go on to the same end, with these results.
+// Returns whether a run that is done and taken back leaves a board equal to its copy, and both go on to the same end, with these results.
 fn is_walked(rt: &impl Abort, alloc: Global, definition: &str, ended: &str) -> [bool; 4] {
     let mut board = board_of(rt, alloc, definition, "", 2);
     let mut fresh = copy_of(&board).expect(rt, "memory");
@@ -82,7 +82,7 @@ fn a_run_that_is_walked_is_taken_back(rt: HostRuntime) {
     }
 }
 
-// What the walk of an event that is refused prints.
+// Returns whether an event is refused and its refusal prints this.
 fn is_refused(alloc: Global, board: &mut Board, event: Event, wanted: &str) -> bool {
     match board.walk(event) {
         Ok(_) => false,
@@ -103,7 +103,7 @@ fn a_walk_is_refused_as_the_event_is(rt: HostRuntime) {
     );
 }
 
-// The record of two workers on two files and both of them.
+// The record of two workers on two files and the merge of both.
 const OF_TWO_WORKERS: [Event; 10] = [
     Event::Claim(0, 0),
     Event::Claim(1, 1),
@@ -117,7 +117,7 @@ const OF_TWO_WORKERS: [Event; 10] = [
     Event::Settle(0),
 ];
 
-// Whether the stepper is two events before a breakpoint at the merge: one file is done, and the other is finished and not settled.
+// Returns whether the stepper is two events before a breakpoint at the merge: one file is done, and the other one is finished and not settled.
 fn is_two_before(board: &Board) -> bool {
     board.events().len() == 5
         && board.status(0) == Some(Status::Done)
@@ -125,7 +125,7 @@ fn is_two_before(board: &Board) -> bool {
         && board.worker(1) == Some(WorkerStatus::Runs(1, 1, true))
 }
 
-// Whether a replay of that record stops with a breakpoint at a claim of the merge, and is taken back from there.
+// Returns whether a replay of the record of two workers stops at a breakpoint at a claim of the merge, and can be taken back from there.
 fn is_replayed(stepper: &mut Stepper) -> [bool; 3] {
     let broken = breaks_at(stepper, Break::Claims(2));
     let wanted = Stop {

@@ -9,7 +9,7 @@ use llb_stepper::Stepper;
 use std::alloc::Global;
 use std::process::Abort;
 
-// All events that two workers may have on three vertices.
+// All events that two workers can have on three vertices.
 const EVENTS: [Event; 10] = [
     Event::Claim(0, 0),
     Event::Claim(0, 1),
@@ -39,7 +39,7 @@ const END: &str = "
     f 0644 0 0 686f /b
     ";
 
-// All events of two workers on one vertex.
+// All events that two workers can have on one vertex.
 const ON_ONE_VERTEX: [Event; 8] = [
     Event::Claim(0, 0),
     Event::Claim(1, 0),
@@ -51,7 +51,7 @@ const ON_ONE_VERTEX: [Event; 8] = [
     Event::Cancel(1),
 ];
 
-// How many cancels are left after an event; none where it is one too many.
+// Returns how many more cancels there may be after an event; nothing if it is one too many.
 fn cancels_left(event: Event, cancels: u32) -> Option<u32> {
     match event {
         Event::Cancel(_) => cancels.checked_sub(1),
@@ -59,7 +59,7 @@ fn cancels_left(event: Event, cancels: u32) -> Option<u32> {
     }
 }
 
-// The most events of a run that leads on from here with at most this number of cancels. No run is longer than `most` further events.
+// Returns the most events of a run that goes on from here with at most this number of cancels; only runs of at most `most` further events are tried.
 fn longest_run(stepper: &mut Stepper, cancels: u32, most: u32) -> usize {
     let mut longest = stepper.board().events().len();
     if most == 0 {
@@ -87,7 +87,7 @@ fn a_run_has_four_events_for_a_claim_of_two_commands(rt: HostRuntime) {
     }
 }
 
-// How many runs lead on from here to an end, and how many of the ends print what they should. No run is longer than `most` events.
+// Returns how many runs go on from here to an end, and how many of the ends print what they should; only runs of at most `most` events are tried.
 fn ends(rt: &impl Abort, alloc: Global, stepper: &mut Stepper, most: u32) -> [u32; 2] {
     let mut all = 0u32;
     let mut right = 0u32;
@@ -110,7 +110,7 @@ fn ends(rt: &impl Abort, alloc: Global, stepper: &mut Stepper, most: u32) -> [u3
     [1, u32::from(is_told(rt, alloc, stepper, END))]
 }
 
-// Two vertices by one worker: 2 workers and 2 orders; by two workers: 2 ways and 20 interleavings; then either worker merges.
+// Two vertices by one worker: 2 workers and 2 orders; by two workers: 2 ways to share them and 20 interleavings; then either worker merges.
 #[test]
 fn all_88_interleavings_of_two_workers_end_in_the_same_trees(rt: HostRuntime) {
     let board = board_of(&rt, rt.alloc(), TWO_FILES, "", 2);

@@ -1,4 +1,4 @@
-//! Boards over what is written: definitions by their entries and local trees by their texts (`llb_samples`), and keys of caches by rows.
+//! Boards from short texts: definitions by their entries, local trees by their texts (`llb_samples`), and keys of caches by rows.
 
 use llb_board::Board;
 use llb_cache::{Caches, Key, Mode, Need, Seed};
@@ -12,7 +12,7 @@ use std::process::Abort;
 // A key: its ID, its mode, and the output of the first entry that is its seed, or none.
 pub(crate) type CacheRow = (&'static str, Mode, Option<u32>);
 
-/// Puts the text of some entries at the end.
+/// Appends the text of some entries.
 pub(crate) fn push_entries(rt: &impl Abort, text: &mut String, entries: &str) {
     let entries = entries_text(*text.allocator(), entries).expect(rt, "memory");
     text.push_str(entries.as_str()).expect(rt, "memory");
@@ -32,13 +32,13 @@ fn board_on(rt: &impl Abort, alloc: Global, graph: Graph, locals: Locals, worker
     board.ok().expect(rt, "a board")
 }
 
-// A board over the definition that a text is assembled to, without local trees.
+// Returns a board over the definition that a text is assembled to, without local trees.
 pub(crate) fn board_from(rt: &impl Abort, alloc: Global, text: &str, workers: u32) -> Board {
     let graph = graph_in(alloc, text).expect(rt, "a graph");
     board_on(rt, alloc, graph, Locals::new(alloc), workers)
 }
 
-// Local trees by a text: each after a line with `== ` and its name.
+// Returns local trees from a text: each tree follows a line with `== ` and its name.
 pub(crate) fn locals_of(rt: &impl Abort, alloc: Global, given: &str) -> Locals {
     llb_samples::locals_of(alloc, given).expect(rt, "local trees")
 }
@@ -54,7 +54,7 @@ pub(crate) fn board_of(
     board_on(rt, alloc, graph, locals_of(rt, alloc, given), workers)
 }
 
-/// Returns the board of a story by its first line: the number of workers, after ` on ` the name of its local trees where it has some, and after `: `
+/// Returns the board of a story by its first line: the number of workers, after ` on ` the name of its local trees if it has some, and after `: `
 /// the entries of its definition.
 pub(crate) fn board_in(rt: &impl Abort, alloc: Global, head: &str) -> Board {
     let (opened, definition) = head.split_once(": ").expect(rt, "a definition");
@@ -63,7 +63,7 @@ pub(crate) fn board_in(rt: &impl Abort, alloc: Global, head: &str) -> Board {
     board_of(rt, alloc, definition, locals_named(locals), workers)
 }
 
-// The digest of the entry that makes `/a`, which is the first where a cache begins with an output.
+// The digest of the entry that makes `/a`, which is the first entry if a cache begins with an output.
 const DIGEST_OF_A: &str = "sha256:17d299b0a332287e9d0f57a4a7f23e97dbf1203cd154f7157e30471c769cda1b";
 
 fn seed_of(rt: &impl Abort, alloc: Global, index: u32) -> Seed {
@@ -81,7 +81,7 @@ pub(crate) fn key_of(rt: &impl Abort, alloc: Global, row: &CacheRow) -> Key {
     Key { id, seed, mode }
 }
 
-// A need of each key, with the empty tree for a new instance.
+// Returns a need for each key, with the empty tree for a new instance.
 pub(crate) fn needs_of(rt: &impl Abort, alloc: Global, rows: &[CacheRow]) -> Vec<Need> {
     let mut needs = Vec::new(alloc);
     for row in rows {

@@ -1,4 +1,4 @@
--- The tree of what is at or below a path.
+-- What a subtree has at each path.
 use Rattle.std.proofs.Common.{◌≡◌, ℕ, Bool, true, false, cond, List, [], ◌∷◌, ◌++◌, length, drop, map, Option, Some, None, IsSome, Ok, refl}
 use Rattle.std.proofs.Common.{sym, ap, subst, ◌∙◌, true≢false, arith, length-append}
 use Rattle.std.proofs.lemmas.List.{drop_at, append-nil}
@@ -18,7 +18,7 @@ pub map-map : {A B C : Type 0} (g : B → C) (f : A → B) (xs : List A) → map
 map-map g f [] = refl
 map-map g f (x ∷ xs) = ap (λ ys. g (f x) ∷ ys) (map-map g f xs)
 
--- the root first, and then the rest below the first name
+-- the parents of a path: the root first, then the parents below the first name
 pub walk-cons : (look : Look) (n : List ℕ) (p : List (List ℕ)) → walk look (n ∷ p) ≡ all_dirs (look [] ∷ map (λ q. look (n ∷ q)) (parents p))
 walk-cons look n p = ap (λ ys. all_dirs (look [] ∷ ys)) (map-map look (λ q. n ∷ q) (parents p))
 
@@ -26,11 +26,11 @@ walk-cons look n p = ap (λ ys. all_dirs (look [] ∷ ys)) (map-map look (λ q. 
 abbrev pub Pair : Type 0
 Pair = List (List ℕ) × Entry
 
--- those of the entries that are at or below a path, in their order, each without that path at the front of its own
+-- the entries at or below a path, in order, with that path removed from the front of their own
 abbrev pub inside : List (List ℕ) → List Pair → List Pair
 inside p es = map (moved (length p) []) (where_key path_cmp (is_within p) es)
 
--- what is found among the moved entries
+-- a subtree has at q what the tree has at p followed by q
 find_inside : (p q : List (List ℕ)) (es : List Pair) → finite.find path_cmp q (inside p es) ≡ finite.find path_cmp (p ++ q) es
 find_inside p q [] = refl
 find_inside p q (e ∷ es) = by_test (is_within p e.0) refl (find_inside p q es)
@@ -53,7 +53,7 @@ pub get-tree_at : (t : TreeMap) (p q : List (List ℕ)) → finite.get (tree_at 
 get-tree_at t p q = finite.get-from_entries path_cmp-IsTotalOrder (inside p (finite.entries t)) q ∙ find_inside p q (finite.entries t)
     ∙ sym (finite.get-entries t (p ++ q))
 
--- a walk goes on below
+-- if all these entries are directories, so are all but the first
 rest_walks : (o : Option Entry) (os : List (Option Entry)) → all_dirs (o ∷ os) ≡ Ok tt → all_dirs os ≡ Ok tt
 rest_walks None os is = absurd cc
 rest_walks (Some (File m b)) os is = absurd cc

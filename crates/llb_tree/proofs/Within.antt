@@ -9,11 +9,11 @@ use Rattle.std.specs.Cmp.Lexicographic.{pointwise, pointwise_decides, bytes_deci
 use Rattle.llb_tree.specs.Path.{name_cmp, path_cmp, is_within}
 use Rattle.llb_tree.specs.PathOrder.{path_cmp-IsTotalOrder, name_cmp-IsAntisymmetric}
 
--- the other way round
+-- comparing two paths the other way round reverses the result
 pub turned : (p q : List (List ℕ)) (o : Ordering) → path_cmp p q ≡ o → path_cmp q p ≡ ordering_reverse o
 turned p q o is = path_cmp-IsTotalOrder.antisymm q p ∙ ap ordering_reverse is
 
--- what is at or below a path has it as a prefix
+-- a path at or below p begins with p
 pub within_split : (p q : List (List ℕ)) → is_within p q ≡ true → q ≡ p ++ drop (length p) q
 within_split p q is = sym (take-append-drop (length p) q)
     ∙ ap (λ x. x ++ drop (length p) q) (sym ((pointwise_decides bytes_decides p (take (length p) q)).0 is))
@@ -24,7 +24,7 @@ within-append p q = (pointwise_decides bytes_decides p (take (length p) (p ++ q)
 pub within_itself : (p : List (List ℕ)) → is_within p p ≡ true
 within_itself p = ap (is_within p) (sym (append-nil p)) ∙ within-append p []
 
--- what is before both decides nothing
+-- the same names in front of two paths do not change how they compare
 pub cmp-append : (p q r : List (List ℕ)) → path_cmp (p ++ q) (p ++ r) ≡ path_cmp q r
 cmp-append [] q r = refl
 cmp-append (n ∷ p) q r = ap (λ o. ordering_then o (path_cmp (p ++ q) (p ++ r))) (tied_itself nat_list_cmp_total n) ∙ cmp-append p q r

@@ -1,15 +1,15 @@
--- How entries and trees are coded by numbers, so that they are values of models. No contract speaks of it.
+-- Entries and trees as plain values (pairs, numbers, lists), so that a type whose contract value has a tree can be compared by it. No contract uses them.
 use Rattle.std.specs.Prelude.{◌≡◌, ℕ, List, Option, Some, None, refl}
 use Rattle.std.specs.FinMap as finite
 use Rattle.std.specs.Coded.{Coded, code_by, coded×, coded_ℕ, coded_list, coded_option}
 use Rattle.llb_tree.specs.Tree.{Entry, Dir, File, TreeMap}
 
--- an entry is stored as its meta, and the content of a file
+-- an entry as its mode and owner, and the content if it is a file
 abbrev pub packed : Entry → (ℕ × (ℕ × ℕ)) × Option (List ℕ)
 packed (Dir m) = ((m.mode, (m.uid, m.gid)), None)
 packed (File m bytes) = ((m.mode, (m.uid, m.gid)), Some bytes)
 
--- what is stored as an entry again: a directory if there is no content, and a file if there is
+-- the entry that was made into such a pair: a directory if there is no content, else a file
 abbrev pub unpacked : (ℕ × (ℕ × ℕ)) × Option (List ℕ) → Entry
 unpacked (m, None) = Dir (record { mode = m.0; uid = m.1.0; gid = m.1.1 })
 unpacked (m, Some bytes) = File (record { mode = m.0; uid = m.1.0; gid = m.1.1 }) bytes
@@ -18,11 +18,11 @@ pub unpacked-packed : (e : Entry) → unpacked (packed e) ≡ e
 unpacked-packed (Dir m) = refl
 unpacked-packed (File m bytes) = refl
 
--- an entry by its mode, its owner and, of a file, its content
+-- entries can be turned into plain values and back
 abbrev pub coded_entry : Coded Entry
 coded_entry = code_by ((ℕ × (ℕ × ℕ)) × Option (List ℕ))
     (coded× (coded× coded_ℕ (coded× coded_ℕ coded_ℕ)) (coded_option (coded_list coded_ℕ))) packed unpacked unpacked-packed
 
--- a tree by its entries
+-- trees can be turned into plain values and back
 abbrev pub coded_tree : Coded TreeMap
 coded_tree = finite.code (coded_list (coded_list coded_ℕ)) coded_entry

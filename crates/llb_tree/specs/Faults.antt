@@ -1,11 +1,11 @@
--- The results of this crate's calls: the result of the call's rule, or the fault `Memory`. A rule is a function into values
--- or faults that never returns `Memory`.
+-- The results of this crate's calls: the result of the call's rule, or the fault `Memory`. A rule is a function that returns a value
+-- or a fault, and never `Memory`.
 use Rattle.std.specs.Prelude.{Bool, true, false, Result}
 use Rattle.llb_wire.specs.Answer as answer
 use Rattle.llb_tree.specs.declared.fault.TreeFault.{TreeFault}
 use Rattle.llb_tree.specs.declared.fault.TreeFault.TheVariants.{NotFound, NotDir, IsDir, Conflict, Root, BadName, Memory}
 
--- the fault for refused memory, which no rule returns
+-- whether a fault is `Memory`, which no rule returns
 abbrev pub is_memory : TreeFault → Bool
 is_memory Memory = true
 is_memory NotFound = false
@@ -15,10 +15,10 @@ is_memory Conflict = false
 is_memory Root = false
 is_memory BadName = false
 
--- the result of a call, seen by view, is the result of its rule
+-- the result of a call is that of its rule, or the call fails for want of memory
 abbrev pub Gives : {X Y : Type 0} → (X → Y) → Result X TreeFault → Result Y TreeFault → Type 0
 Gives = answer.Gives is_memory
 
--- and `Memory` is last: a call fails with it only if its rule has no refusal
+-- `Memory` is reported last: a call fails with it only if its rule has no refusal
 abbrev pub MemoryLast : {X Y : Type 0} → Result X TreeFault → Result Y TreeFault → Type 0
 MemoryLast = answer.MemoryLast is_memory

@@ -10,88 +10,88 @@ use Rattle.llb_tree.specs.Overlay.{WayValue, is_mode, laid_meta, over, over_at}
 use Rattle.llb_tree.specs.declared.node.Child.{Child}
 use Rattle.llb_tree.specs.declared.node.Piece.{Piece}
 
--- each entry in the mode and the owner that are given
+-- a tree whose entries have the given mode and owner
 abbrev pub dress : WayValue → TreeMap → TreeMap
 dress w t = finite.from_entries (map (λ (e : List (List ℕ) × Entry). (e.0, over w None e.1)) (finite.entries t))
 
--- the same for the tree of a child, which keeps its name
+-- a child whose tree gets the given mode and owner at each entry; its name stays
 abbrev pub dress_pair : WayValue → List ℕ × TreeMap → List ℕ × TreeMap
 dress_pair w k = (k.0, dress w k.1)
 
--- the children after others are laid over them
+-- the new children are the old ones after the upper ones are laid over them
 pub record Lays (w : WayValue) (upper old new : List Child) : Type 0 where
   pub sorted : AreSorted new
   pub children : (m : List ℕ) (q : List (List ℕ)) → look_in (child m new) q ≡ over_at w (look_in (child m old)) (look_in (child m upper)) q
 
--- the tree in the place of an upper child: it laid over the lower one of its name, if there is one
+-- t is the tree of an upper child laid over the lower child of the same name, if there is one
 abbrev pub IsOver : WayValue → List Child → Child → TreeMap → Type 0
 IsOver w old upper t = (q : List (List ℕ)) → finite.get t q ≡ over_at w (look_in (child (name_of upper) old)) (finite.get upper.node) q
 
--- a child made of the upper one and of the lower one of its name, if there is one
+-- a child made of an upper one and of the lower one of the same name, if there is one
 pub record IsLaid (w : WayValue) (old : List Child) (upper made : Child) : Type 0 where
   pub named : name_of made ≡ name_of upper
   pub laid : (q : List (List ℕ)) → finite.get made.node q ≡ over_at w (look_in (child (name_of upper) old)) (finite.get upper.node) q
 
--- the upper children, laid, child by child: one is made of each, in the same order, and no more
+-- each upper child is laid over the lower one of its name, in the same order, and there are no other children
 abbrev pub AreLaid : WayValue → List Child → List Child → List Child → Type 0
 AreLaid w old [] [] = Unit {0}
 AreLaid w old [] (k ∷ made) = ⊥
 AreLaid w old (u ∷ upper) [] = ⊥
 AreLaid w old (u ∷ upper) (k ∷ made) = IsLaid w old u k × AreLaid w old upper made
 
--- the upper pieces, laid, piece by piece
+-- the children of each upper piece are laid as `AreLaid` says, and make a piece of their own
 abbrev pub PiecesLaid : WayValue → List Child → List Piece → List Piece → Type 0
 PiecesLaid w old [] [] = Unit {0}
 PiecesLaid w old [] (p ∷ made) = ⊥
 PiecesLaid w old (u ∷ upper) [] = ⊥
 PiecesLaid w old (u ∷ upper) (p ∷ made) = AreLaid w old (rows_in u) (rows_in p) × PiecesLaid w old upper made
 
--- an entry that is laid stays as it is, whatever was there
+-- every entry that is laid stays as it is, whatever was there before
 pub record TakesWhole (w : WayValue) : Type 0 where
   pub own : (m : MetaValue) → laid_meta w m ≡ m
   pub upper : w.keeps ≡ false
 
--- children are laid without change
+-- upper children are laid without change
 pub record StandWhole (w : WayValue) (upper new : List Child) : Type 0 where
   pub way : TakesWhole w
   pub same : map pair_of new ≡ map pair_of upper
 
--- each name of the lower children is one of the upper ones'
+-- each name of the lower children is also a name of an upper child
 abbrev pub Covers : List Child → List Child → Type 0
 Covers upper lower = (n : List ℕ) → is_some (child n lower) ≡ true → is_some (child n upper) ≡ true
 
--- one of the children has the name, and theirs are the names of those after it
+-- one of the children `kids` has the name n, and they have all names of the children `more`
 pub record HasLater (n : List ℕ) (kids more : List Child) : Type 0 where
   pub here : is_some (child n kids) ≡ true
   pub later : Covers kids more
 
--- the children that were made, or the given ones if none were
+-- the children that were made, or the given ones if none were made
 abbrev pub those : Option (Vec Child Global) → List Child → List Child
 those None ks = ks
 those (Some made) ks = made.items
 
--- the pieces that were made, or the given ones if none were
+-- the pieces that were made, or the given ones if none were made
 abbrev pub those_pieces : Option (Vec Piece Global) → List Piece → List Piece
 those_pieces None ps = ps
 those_pieces (Some made) ps = made.items
 
--- the children with another tree under the name at a position
+-- the children after the tree of the one at a position is replaced
 abbrev pub written : ℕ → TreeMap → Pairs → Pairs
 written i t [] = []
 written zero t (k ∷ ks) = (k.0, t) ∷ ks
 written (suc i) t (k ∷ ks) = k ∷ written i t ks
 
--- children after others are put in one by one, each in the place of the one of its name
+-- the children after others are put in one by one, each in place of the one of the same name
 abbrev pub puts : Pairs → Pairs → Pairs
 puts [] old = old
 puts (k ∷ ks) old = puts ks (finite.put name_cmp k.0 k.1 old)
 
--- an owner that is given is a number of 32 bits
+-- a number of 32 bits as owner, if one is given
 abbrev pub owner_fits : Option ℕ → Type 0
 owner_fits None = Unit {0}
 owner_fits (Some owner) = owner < 2 ^ 32
 
--- the mode of a way is a mode, and its owners are owners
+-- the mode, if given, is at most 4095, and the owners, if given, have 32 bits
 pub record IsWay (w : WayValue) : Type 0 where
   pub mode : is_mode w.mode ≡ true
   pub uid : owner_fits w.uid

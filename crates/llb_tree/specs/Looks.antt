@@ -1,4 +1,4 @@
--- What is found in a node's map, by its children.
+-- What the map of a node has at a path, by the node's children.
 use Rattle.std.specs.Prelude.{ℕ, ◌≡◌, List, [], ◌∷◌, ◌++◌, map, true, false, cond, Option, Some, None, refl}
 use Rattle.std.proofs.Common.{sym, ◌∙◌, ap}
 use Rattle.std.specs.Option.{option_or}
@@ -13,7 +13,7 @@ use Rattle.llb_tree.specs.Nodes.{name_of, below, flat, kids_of, own_entry, entri
 use Rattle.llb_tree.specs.declared.node.Kind.{Kind}
 use Rattle.llb_tree.specs.declared.node.Child.{Child}
 
--- the first child of that name that has something at the path
+-- what the children have at a path below the name n
 abbrev pub look_kids : List Child → List ℕ → List (List ℕ) → Option Entry
 look_kids [] n p = None
 look_kids (k ∷ ks) n p = option_or (cond (is_eq (name_cmp n (name_of k))) (finite.get k.node p) None) (look_kids ks n p)
@@ -47,10 +47,10 @@ find_flat n q (k ∷ ks) =
     ∙ ap (λ o. cond (is_eq (name_cmp n (name_of k))) o None) (sym (finite.get-entries k.node q)))
     ∙ ap (option_or (cond (is_eq (name_cmp n (name_of k))) (finite.get k.node q) None)) (find_flat n q ks)
 
--- what is found below a node
+-- what the map of a node has below the node
 pub get-below : (k : Kind) (n : List ℕ) (q : List (List ℕ)) → finite.get (map_of k) (n ∷ q) ≡ look_kids (kids_of k) n q
 get-below k n q = finite.get-from_entries path_cmp-IsTotalOrder (entries_of k) (n ∷ q) ∙ find_flat n q (kids_of k)
 
--- what is found at a node
+-- what the map of a node has at the node itself
 pub get-root : (k : Kind) → finite.get (map_of k) [] ≡ Some (own_entry k)
 get-root k = finite.get-from_entries path_cmp-IsTotalOrder (entries_of k) []

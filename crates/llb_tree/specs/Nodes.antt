@@ -1,5 +1,5 @@
--- What the nodes of a tree represent: a file alone, or a directory with its children in the order of their names. Only this
--- file and the proofs know how a tree is kept; the clauses of the calls on a tree speak of its map.
+-- What the nodes of a tree represent: a node is a file, or a directory with its children in the order of their names. Only this
+-- file and the proofs know how a tree is kept; contracts of calls speak of its map.
 use Rattle.std.specs.Prelude.{cond, ◌≡◌, ℕ, ◌+◌, ◌≤◌, List, [], ◌∷◌, ◌++◌, map, T, Option, Some, None, Result, Ok, Err}
 use denote.Ref.{Bor}
 use Rattle.std.specs.Arc.{arc_value}
@@ -26,7 +26,7 @@ abbrev pub seen : Entry → base.Entry
 seen (entry.Dir m) = base.Dir m
 seen (entry.File m b) = base.File m b.now
 
--- a borrowed path with its entry, both by value
+-- a borrowed path with its entry, as values
 abbrev pub pair_seen : Bor (List (List ℕ)) × Entry → Pair
 pair_seen (p, e) = (p.now, seen e)
 
@@ -34,11 +34,11 @@ pair_seen (p, e) = (p.now, seen e)
 abbrev pub name_of : Child → List ℕ
 name_of k = arc_value k.name
 
--- the entries of a child, from its parent's place
+-- the entries of a child, by their paths from the parent
 abbrev pub below : Child → List Pair
 below k = map (λ (e : Pair). (name_of k ∷ e.0, e.1)) (finite.entries k.node)
 
--- the entries of children, one child after another, from their parent's place
+-- the entries of children, one child after another, by their paths from the parent
 abbrev pub flat : List Child → List Pair
 flat [] = []
 flat (k ∷ ks) = below k ++ flat ks
@@ -61,12 +61,12 @@ pieces_of (kind.Dir m pieces) = (arc_value pieces).items
 abbrev pub kids_of : Kind → List Child
 kids_of k = kids_in (pieces_of k)
 
--- the entry at the node itself
+-- the entry of the node itself
 abbrev pub own_entry : Kind → base.Entry
 own_entry (kind.File m c) = base.File m (arc_value c)
 own_entry (kind.Dir m kids) = base.Dir m
 
--- the entries of a node, from its own place: its own entry at the root, and then those of its children
+-- the entries of a node, by their paths from it: its own entry at the root, and then those of its children
 abbrev pub entries_of : Kind → List Pair
 entries_of k = ([], own_entry k) ∷ flat (kids_of k)
 
@@ -78,11 +78,11 @@ map_of k = finite.from_entries (entries_of k)
 abbrev pub pair_of : Child → List ℕ × TreeMap
 pair_of k = (name_of k, k.node)
 
--- children are sorted by name, each once
+-- the children are sorted by name, each name once
 abbrev pub AreSorted : List Child → Type 0
 AreSorted ks = T (finite.is_sorted name_cmp (map pair_of ks))
 
--- the child of a name
+-- the tree of the child with this name
 abbrev pub child : List ℕ → List Child → Option TreeMap
 child n ks = finite.find name_cmp n (map pair_of ks)
 
@@ -91,28 +91,28 @@ abbrev pub look_in : Option TreeMap → Look
 look_in None q = None
 look_in (Some t) q = finite.get t q
 
--- a position, one child further
+-- a position in a list of children after one more child is put in front of them
 abbrev pub later : Result ℕ ℕ → Result ℕ ℕ
 later (Ok i) = Ok (i + 1)
 later (Err i) = Err (i + 1)
 
--- the position of a name among the children, or that at which it would be put
+-- the position of the child with this name, or, as `Err`, the position at which it would be inserted
 abbrev pub place : List ℕ → List Child → Result ℕ ℕ
 place p [] = Err 0
 place p (r ∷ rows) = by_order (name_cmp p (name_of r)) (Err 0) (Ok 0) (later (place p rows))
 
--- the entry at a path after a tree, or nothing, is set at another
+-- what there is at each path after a tree, or nothing, is set at one path
 abbrev pub set_look : List (List ℕ) → Option TreeMap → Look → Look
 set_look [] t old q = look_in t q
 set_look (n ∷ p) t old [] = old []
 set_look (n ∷ p) t old (m ∷ q) = cond (is_eq (name_cmp m n)) (set_look p t (λ r. old (n ∷ r)) q) (old (m ∷ q))
 
--- a directory at the root, with what is below another root
+-- what there is at each path if a directory replaces the root and everything below it stays
 abbrev pub dir_look : base.MetaValue → Look → Look
 dir_look m old [] = Some (base.Dir m)
 dir_look m old (n ∷ q) = old (n ∷ q)
 
--- a file with its mode, owner and content at the root, and nothing below it
+-- what there is at each path if the root is a file: nothing below it
 abbrev pub file_look : base.MetaValue → List ℕ → Look
 file_look m b [] = Some (base.File m b)
 file_look m b (n ∷ q) = None
@@ -127,17 +127,17 @@ pub record Sets (n : List ℕ) (p : List (List ℕ)) (t : Option TreeMap) (old n
   pub children : (m : List ℕ) (q : List (List ℕ)) → look_in (finite.find name_cmp m new) q
       ≡ cond (is_eq (name_cmp m n)) (set_look p t (look_in (finite.find name_cmp n old)) q) (look_in (finite.find name_cmp m old) q)
 
--- a node that is a tree, whose paths have at most `depth` names
+-- the node is a tree, whose paths have at most `depth` names
 pub record IsWhole (root : TreeMap) (depth : ℕ) : Type 0 where
   pub tree : base.IsTree root
   pub deep : base.height root ≤ depth + 1
   pub short : depth ≤ 128
 
--- the children that are left
+-- the remaining children of a directory: the rest of one piece, and the pieces after it
 abbrev pub left_in : Children → List Child
 left_in c = c.rows.now ++ kids_in c.pieces.now
 
--- the first child and those after it, or nothing if there is none
+-- the first child with those after it, or nothing if there is none
 abbrev pub SplitsFirst : List Child → Option (Bor Child × Children) → Type 0
 SplitsFirst ks None = ks ≡ []
 SplitsFirst ks (Some (kid, rest)) = ks ≡ kid.now ∷ left_in rest

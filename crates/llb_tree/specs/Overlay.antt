@@ -1,11 +1,11 @@
--- One tree over another, path by path. The upper tree's entries are kept, in the mode and the owner that are given for them, but that a
--- directory which both have can stay as the lower tree has it; of the lower tree's entries those are kept that are below no file of the upper.
+-- One tree laid over another, path by path. The upper tree's entries are kept, with the mode and the owner that are given for them; a directory
+-- that both have may instead stay as in the lower tree. Of the lower tree's entries those are kept that are below no file of the upper one.
 use Rattle.std.specs.Prelude.{ℕ, Bool, true, false, List, map, Option, Some, None, unwrap_or, nat_lt, if◌then◌else◌}
 use Rattle.std.specs.List.{list_any}
 use Rattle.llb_tree.specs.Meta.{MetaValue}
 use Rattle.llb_tree.specs.Tree.{Entry, Dir, File, Look, parents}
 
--- whether a file is there: false for a directory, and if there is nothing
+-- whether an entry is a file; false if there is none
 abbrev pub is_file : Option Entry → Bool
 is_file None = false
 is_file (Some (Dir m)) = false
@@ -15,7 +15,7 @@ is_file (Some (File m b)) = true
 abbrev pub below_file : Look → List (List ℕ) → Bool
 below_file look p = list_any is_file (map look (parents p))
 
--- the mode and the owners that are given to what is laid, and whether a directory that both have stays as the lower one has it
+-- how one tree is laid over another: the mode and owners to be set, if any, and whether a directory that both have stays as the lower tree has it
 pub record WayValue : Type 0 where
   pub mode : Option ℕ
   pub uid : Option ℕ
@@ -27,22 +27,22 @@ abbrev pub is_mode : Option ℕ → Bool
 is_mode None = true
 is_mode (Some mode) = if nat_lt 4095 mode then false else true
 
--- the way of a mode, a user, a group, each given or not, and of whether directories that both have stay; none exactly if a mode above 4095 is given
+-- the way with this mode, user and group, each optional; nothing if the mode is above 4095
 abbrev pub way_of : Option ℕ → Option ℕ → Option ℕ → Bool → Option WayValue
 way_of mode uid gid keeps = if is_mode mode then Some (record { mode = mode; uid = uid; gid = gid; keeps = keeps }) else None
 
--- the mode and the owner that are given, and an entry's own if none is
+-- the mode and the owner of an upper entry: those that are given, else its own
 abbrev pub laid_meta : WayValue → MetaValue → MetaValue
 laid_meta w m = record { mode = unwrap_or w.mode m.mode; uid = unwrap_or w.uid m.uid; gid = unwrap_or w.gid m.gid }
 
--- an entry of the upper tree, over what the lower one has there
+-- an entry of the upper tree, laid over what the lower one has at its path
 abbrev pub over : WayValue → Option Entry → Entry → Entry
 over w (Some (Dir m)) (Dir k) = Dir (if w.keeps then m else laid_meta w k)
 over w (Some (File m b)) (Dir k) = Dir (laid_meta w k)
 over w None (Dir k) = Dir (laid_meta w k)
 over w there (File k c) = File (laid_meta w k) c
 
--- the entry at a path, given what each tree has there, and whether a file of the upper one is above it
+-- the entry at a path, by what each tree has there, and by whether a file of the upper tree is above it
 abbrev pub laid_over : WayValue → Option Entry → Option Entry → Bool → Option Entry
 laid_over w there (Some e) hidden = Some (over w there e)
 laid_over w there None hidden = if hidden then None else there

@@ -40,21 +40,21 @@ pub record IsPath (path : List (List ℕ)) : Type 0 where
   pub short : length path ≤ 128
   pub named : All (λ name. IsTrue (is_name name)) path
 
--- the name that a part is, or its refusal
+-- the part as a name, or the refusal that it is none
 abbrev pub name_of : List ℕ → Result (List ℕ) TreeFault
 name_of part = if is_name part then Ok part else Err BadName
 
--- the path with one more name; there is no 129th
+-- the path with one more name; refused if it would be the 129th
 abbrev pub below : List (List ℕ) → List ℕ → Result (List (List ℕ)) TreeFault
 below path name = if nat_lt (length path) 128 then Ok (path ++ name ∷ []) else Err BadName
 
--- where a part of a text leads: nowhere, up by one name (the root is its own parent), or to a name
+-- the path after one part of a text: the same for an empty part and `.`, without its last name for `..`, else with one more name
 abbrev pub enter : List (List ℕ) → List ℕ → Result (List (List ℕ)) TreeFault
 enter path part =
     if length part == 0 || is_dot part then Ok path
     else (if is_dots part then Ok (take (length path - 1) path) else (name_of part >>= below path))
 
--- where parts lead, one after another
+-- the path after these parts of a text
 abbrev pub follow : List (List ℕ) → List (List ℕ) → Result (List (List ℕ)) TreeFault
 follow path [] = Ok path
 follow path (part ∷ parts) = enter path part >>= λ next. follow next parts
@@ -63,15 +63,15 @@ follow path (part ∷ parts) = enter path part >>= λ next. follow next parts
 abbrev pub parts_of : List ℕ → List (List ℕ)
 parts_of = slice_split (λ b. b == 47)
 
--- the path that a text reads as, from the root
+-- the path from the root that a text reads as
 abbrev pub path_of : List ℕ → Result (List (List ℕ)) TreeFault
 path_of text = follow [] (parts_of text)
 
--- the path that a text reads as from another: one that begins with `/` from the root
+-- the path that a text reads as, given the path from which it is read; a text that begins with `/` is read from the root
 abbrev pub path_from : List (List ℕ) → List ℕ → Result (List (List ℕ)) TreeFault
 path_from start text = if starts_with nat_eq text (47 ∷ []) then path_of text else follow start (parts_of text)
 
--- how many names the path has, if there is one
+-- how many names the path has; or the refusal
 abbrev pub depth : Result (List (List ℕ)) TreeFault → Result ℕ TreeFault
 depth (Ok path) = Ok (length path)
 depth (Err e) = Err e
@@ -80,11 +80,11 @@ depth (Err e) = Err e
 abbrev pub joined : List (List ℕ) → List ℕ
 joined = join_with_byte 47
 
--- a path's text reads as the path, and so it does after a `/`
+-- the text of a path reads as that path, also with a `/` in front
 pub record ReadsBack (path : List (List ℕ)) : Type 0 where
   pub relative : path_of (joined path) ≡ Ok path
   pub absolute : path_of (47 ∷ joined path) ≡ Ok path
 
--- the path is at or below the first
+-- whether a path is at or below the path p
 abbrev pub is_within : List (List ℕ) → List (List ℕ) → Bool
 is_within p path = starts_with (pointwise nat_eq) path p

@@ -1,5 +1,5 @@
--- The children of a directory in pieces: the pieces one after another are the children in the order of their names, and no piece
--- but the first is empty. Children are seen here as pairs of a name and of the tree that the node represents.
+-- The children of a directory are kept in pieces, which one after another have the children in the order of their names; no piece
+-- but the first is empty. A child is seen here as a pair: its name, and the tree that its node represents.
 use Rattle.std.specs.Prelude.{◌≡◌, ℕ, suc, ◌<◌, Bool, true, false, not, List, [], ◌∷◌, ◌++◌, length, map, drop, get_or, T, Option, Some, None}
 use Rattle.std.specs.List.{remove}
 use Rattle.std.specs.Ordering.{is_gt, eq_by_cmp}
@@ -14,12 +14,12 @@ use Rattle.llb_tree.specs.declared.node.Piece.{Piece}
 abbrev pub row_pairs : Piece → Pairs
 row_pairs p = map pair_of (rows_in p)
 
--- the pairs of all pieces, one piece after another, if each piece is given by its pairs
+-- the pairs of all pieces, one piece after another
 abbrev pub joined : List Pairs → Pairs
 joined [] = []
 joined (p ∷ ps) = p ++ joined ps
 
--- the same if the pieces are given as they are kept
+-- the pairs of all pieces, which are given as the code keeps them
 abbrev pub pairs_of : List Piece → Pairs
 pairs_of ps = joined (map row_pairs ps)
 
@@ -33,11 +33,11 @@ pub record IsPieced (ps : List Pairs) : Type 0 where
   pub sorted : T (finite.is_sorted name_cmp (joined ps))
   pub full : AllFull (drop 1 ps)
 
--- the same of pieces as they are kept
+-- `IsPieced` for pieces as the code keeps them
 abbrev pub ArePieced : List Piece → Type 0
 ArePieced ps = IsPieced (map row_pairs ps)
 
--- whether a piece begins with a name that is after another
+-- whether the first name of a piece comes after this name
 abbrev pub begins_after : List ℕ → Pairs → Bool
 begins_after n [] = false
 begins_after n (e ∷ es) = is_gt (name_cmp e.0 n)
@@ -48,20 +48,20 @@ pub record IsPieceOf (n : List ℕ) (ps : List Pairs) (j : ℕ) : Type 0 where
   pub before : 0 < j → begins_after n (get_or ps j []) ≡ false
   pub after : suc j < length ps → begins_after n (get_or ps (suc j) []) ≡ true
 
--- the pieces without an empty one at a position
+-- the pieces without the one at position j, if that piece is empty
 abbrev pub tidied_by : Pairs → ℕ → List Pairs → List Pairs
 tidied_by [] j ps = remove ps j
 tidied_by (e ∷ es) j ps = ps
 
--- the pieces without the one at position j where that is empty; else, also if there is no such position, all of them
+-- the pieces without the one at position j, if there is one and it is empty
 abbrev pub tidied : ℕ → List Pairs → List Pairs
 tidied j ps = tidied_by (get_or ps j []) j ps
 
--- the children without the one of a name
+-- the children without the one of this name
 abbrev pub without : List ℕ → Pairs → Pairs
 without n = where_key name_cmp (λ m. not (eq_by_cmp name_cmp n m))
 
--- the children with a tree, or nothing, in the place of the one of a name
+-- the children after the one of this name is replaced by a tree, or removed
 abbrev pub change : List ℕ → Option TreeMap → Pairs → Pairs
 change n (Some t) es = finite.put name_cmp n t es
 change n None es = without n es

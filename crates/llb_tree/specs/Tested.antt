@@ -1,4 +1,4 @@
--- Paths by tests of their names: the first test is one of the first name, and so on.
+-- Tests of names that select paths: the first test is for the first name, and so on.
 use Rattle.std.specs.Prelude.{◌≡◌, ℕ, Bool, true, false, ◌&&◌, not, cond, T, List, [], ◌∷◌, ◌++◌, map, Option, Some, None, is_some, unwrap_or}
 use Rattle.std.specs.Prelude.{Result, Ok, Err, if◌then◌else◌}
 use Rattle.std.specs.List.{list_any}
@@ -13,50 +13,50 @@ use Rattle.llb_tree.specs.declared.fault.TreeFault.{TreeFault}
 use Rattle.llb_tree.specs.declared.fault.TreeFault.TheVariants.{Root}
 
 module _ {X : Type 0} (passes : X → List ℕ → Bool) where
-  -- a path passes: it has as many names as there are tests, and each passes the test at its position
+  -- whether a path is selected: it has as many names as there are tests, and each name passes its test
   abbrev pub passes_all : List X → List (List ℕ) → Bool
   passes_all [] [] = true
   passes_all [] (n ∷ q) = false
   passes_all (t ∷ ts) [] = false
   passes_all (t ∷ ts) (n ∷ q) = passes t n && passes_all ts q
 
-  -- a path is at or below one that passes
+  -- whether a path is at or below a selected one
   abbrev pub goes : List X → List (List ℕ) → Bool
   goes [] q = true
   goes (t ∷ ts) [] = false
   goes (t ∷ ts) (n ∷ q) = passes t n && goes ts q
 
-  -- some path of a tree goes
+  -- whether some path of a tree is at or below a selected one
   abbrev pub any_goes : List X → TreeMap → Bool
   any_goes ts t = list_any (goes ts) (finite.keys t)
 
-  -- the tree without the paths that go
+  -- the tree without the paths at or below a selected one
   abbrev pub thin : List X → TreeMap → TreeMap
   thin ts t = finite.retain_keys t (λ q. not (goes ts q))
 
-  -- the same, if any path goes; the root can't go
+  -- the tree without the paths at or below a selected one; nothing if it has no such path; without tests the root is selected, which is refused
   abbrev pub rid_of : List X → TreeMap → Result (Option TreeMap) TreeFault
   rid_of [] t = Err Root
   rid_of (x ∷ ts) t = Ok (if any_goes (x ∷ ts) t then Some (thin (x ∷ ts) t) else None)
 
   -- ---- nodes
 
-  -- the entry at a path, unless that goes
+  -- the entry at a path, unless the path is at or below a selected one
   abbrev pub unless_goes : List X → List (List ℕ) → Option Entry → Option Entry
   unless_goes ts q o = cond (not (goes ts q)) o None
 
-  -- what is left of a node, if anything of it goes
+  -- what remains of a node; `new` is nothing if no path below it is selected
   pub record Thins (ts : List X) (old : TreeMap) (new : Option TreeMap) : Type 0 where
     pub any : is_some new ≡ any_goes ts old
     pub looks : (q : List (List ℕ)) → finite.get (unwrap_or new old) q ≡ unless_goes ts q (finite.get old q)
 
-  -- what is left of children, if anything of them goes
+  -- what remains of children; `new` is nothing if no path below them is selected
   pub record KeepsAll (ts : List X) (old : List Child) (new : Option (List Child)) : Type 0 where
     pub any : is_some new ≡ list_any (goes ts) (map (λ e. e.0) (flat old))
     pub order : AreSorted old → AreSorted (unwrap_or new old)
     pub looks : (n : List ℕ) (q : List (List ℕ)) → look_kids (unwrap_or new old) n q ≡ unless_goes ts (n ∷ q) (look_kids old n q)
 
-  -- what is left of a child is put after others, whatever comes later
+  -- what remains of a child is appended to the others, and later children may follow
   pub record Keeps (ts : List X) (kid : Child) (gone : Bool) (old new : List Child) : Type 0 where
     pub any : gone ≡ list_any (goes ts) (map (λ e. e.0) (below kid))
     pub order : (later : Pairs) → T (finite.is_sorted name_cmp (map pair_of old ++ pair_of kid ∷ later))

@@ -1,4 +1,4 @@
--- What is left of a walk over a tree's entries in path order.
+-- The entries that remain of a walk through a tree in path order.
 use Rattle.std.specs.Prelude.{ℕ, ◌≤◌, not, List, [], ◌∷◌, ◌++◌, length, map, T, Option, Some, None}
 use denote.Ref.{Bor}
 use Rattle.std.specs.List.{All}
@@ -11,29 +11,29 @@ use Rattle.llb_tree.specs.declared.node.Child.{Child}
 use Rattle.llb_tree.specs.declared.node.Node.{Node}
 use Rattle.llb_tree.specs.declared.children.Children.{Children}
 
--- the entries after the first and after all that is below it
+-- the entries without the first one and all that is below it
 abbrev pub past : List (List (List ℕ) × Entry) → List (List (List ℕ) × Entry)
 past [] = []
 past (e ∷ es) = where_key path_cmp (λ q. not (is_within e.0 q)) es
 
--- the children after those that a path leads through
+-- the lists of children in which the walk goes on, one for each directory on the current path
 abbrev pub levels_of : List Children → List (List Child)
 levels_of = map left_in
 
--- the entries of these children, the deepest first
+-- the entries of these children, those of the deepest directory first
 abbrev pub behind : List (List ℕ) → List (List Child) → List (List (List ℕ) × Entry)
 behind [] ls = []
 behind (n ∷ p) [] = []
 behind (n ∷ p) (l ∷ ls) = map (λ e. (n ∷ e.0, e.1)) (behind p ls) ++ flat l
 
--- for each name of the path a row of children: those after the name, in order
+-- for each name of the path there are the children that come after that name, in order
 abbrev pub AreBehind : List (List ℕ) → List (List Child) → Type 0
 AreBehind [] [] = Unit {0}
 AreBehind [] (l ∷ ls) = ⊥
 AreBehind (n ∷ p) [] = ⊥
 AreBehind (n ∷ p) (l ∷ ls) = (T (below_all name_cmp n (map pair_of l)) × AreSorted l) × AreBehind p ls
 
--- what is left from a node on, or at the end
+-- the entries that remain from the current node on; none at the end
 abbrev pub left : Option (Bor Node) → List (List ℕ) → List Children → List (List (List ℕ) × Entry)
 left None p ls = []
 left (Some node) p ls = map (moved 0 p) (finite.entries node.now) ++ behind p (levels_of ls)
@@ -42,7 +42,7 @@ left (Some node) p ls = map (moved 0 p) (finite.entries node.now) ++ behind p (l
 abbrev pub AreShort : List (List (List ℕ) × Entry) → Type 0
 AreShort = All (λ e. length e.0 ≤ 128)
 
--- a walk that is not at its end can go on
+-- a walk that has not ended can go on
 abbrev pub GoesOn : Option (Bor Node) → List (List ℕ) → List Children → Type 0
 GoesOn None p ls = Unit {0}
 GoesOn (Some node) p ls = AreBehind p (levels_of ls) × AreShort (left (Some node) p ls)

@@ -1,4 +1,4 @@
-//! The children of a directory one after another: a part of a piece, and whole pieces after it.
+//! The children of a directory one after another: the rest of one piece, and whole pieces after it.
 
 ghost use Rattle.std.specs.Prelude.{◌≡◌, []};
 ghost use Rattle.std.specs.Iterator.{YieldsFirstRef, item_count};

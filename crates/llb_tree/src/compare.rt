@@ -1,4 +1,4 @@
-//! Whether two trees are the same. Nodes are compared from the root down, and a directory's children one after another in the
+//! Whether two trees have the same entries. Nodes are compared from the root down, and a directory's children one after another in the
 //! order of their names.
 
 ghost use Rattle.std.specs.Prelude.{◌≡◌, ◌↔◌, IsTrue};
@@ -16,7 +16,7 @@ impl Same for Tree {
 }
 
 impl Node {
-    // Returns whether both have the same entries at the same paths. The calls of `entry` are for contracts: they say
+    // Returns whether both have the same entries at the same paths. The calls of `entry` do nothing at run time; they prove
     // that something is at a child's name, so a child that the other node lacks makes a difference.
     pub(crate) fn same(&self, other: &Node) -> bool
         ensures { IsTrue result ↔ (self.now ≡ other.now) }

@@ -1,5 +1,5 @@
-//! Contents that files share: to share a content copies none of its bytes, so a file is copied to another path, or gets
-//! another mode or owner, at the price of the edit alone.
+//! Contents that files share: sharing copies no bytes, so copying a file to another path, or giving it
+//! another mode or owner, costs only the edit.
 
 ghost use Rattle.std.specs.Prelude.{◌≡◌, [], Ok, List, ℕ, IfOk, OnErr};
 ghost use Rattle.std.specs.Arc.{arc_value};
@@ -18,12 +18,12 @@ use std::alloc::AllocError;
 use std::marker::Model;
 use std::sync::Arc;
 
-/// The content of a file, which others may share. Contracts see the list of its bytes.
+/// The content of a file, which several files may share. Contracts see the list of its bytes.
 pub struct Content {
     bytes: Arc<Bytes>,
 }
 
-// Written out, so that what owns one drops it by this one function.
+// Written by hand, so that it is proved once; a derived one is proved again in every function that drops such a value.
 impl Drop for Content {
     fn drop(self) {
         let Content { bytes: _ } = self;
@@ -47,7 +47,7 @@ impl Content {
         &self.bytes
     }
 
-    // Returns the bytes behind their pointer.
+    // Returns the bytes with their shared pointer.
     fn into_shared(self) -> Arc<Bytes>
         ensures { arc_value result ≡ self }
     {

@@ -1,4 +1,4 @@
-//! Children that others cover: each of their names is one of the others', so that laying the others over them makes children of the others'
+//! Whether upper children have all names of lower ones, so that laying them over the lower ones gives children with the upper ones'
 //! names alone.
 
 ghost use Rattle.std.specs.Prelude.{◌≡◌, IsTrue, IfSome, map};
@@ -26,7 +26,7 @@ fn after<'a>(kids: Children<'a>, name: &Name) -> Option<Children<'a>>
     None
 }
 
-// Returns whether two lists of children have the same names in the same order.
+// Returns whether two lists of children have the same names, in the same order.
 fn same_names(upper: &[Child], lower: &[Child]) -> bool
     ensures { IsTrue result → map name_of upper.now ≡ map name_of lower.now }
 {

@@ -1,6 +1,6 @@
-//! Edits of nodes that may be shared. A directory is made its own before it is changed: if it has other owners, a copy
-//! of its list of pieces takes the list's place, and a copy of the children in the piece that is changed takes theirs;
-//! what is below them stays shared, and the tree that the directory represents stays as it is. So an edit copies one
+//! Edits of nodes that may be shared. Before a directory is changed, it gets a copy of its own of what other owners share with it:
+//! of its list of pieces, and of the children in the piece that is changed;
+//! what is below them stays shared, and the other owners see no change. So an edit copies one
 //! piece of each directory on its path, and the lists of their pieces.
 
 ghost use Rattle.std.specs.Prelude.{[], Ok, Err, ◌≡◌, ◌<◌, ◌≤◌, ℕ, List, length, map, option_map, IfOk, OnOk, OnErr};
@@ -15,7 +15,7 @@ use crate::pieces::{drop_empty, make_room, own_list};
 use std::alloc::{AllocError, Global};
 use std::sync::Arc;
 
-// Copies children, with room for one more. Their names and nodes are shared.
+// Copies children into a list with room for one more. Their names and nodes are shared.
 pub(crate) fn copies(alloc: Global, kids: &[Child]) -> Result<Vec<Child>, AllocError>
     ensures { IfOk result (λ v. map pair_of v.items ≡ map pair_of kids.now) }
 {
@@ -27,7 +27,7 @@ pub(crate) fn copies(alloc: Global, kids: &[Child]) -> Result<Vec<Child>, AllocE
     Ok(copied)
 }
 
-// Replaces a list of children that is shared by its own copy; the trees that they represent are unchanged.
+// Makes a list of children that is shared this owner's own, by a copy; the trees that they represent are unchanged.
 pub(crate) fn own(alloc: Global, kids: &mut Arc<Vec<Child>>) -> Result<(), AllocError>
     ensures { map pair_of (arc_value kids.new).items ≡ map pair_of (arc_value kids.old).items }
 {
@@ -39,7 +39,7 @@ pub(crate) fn own(alloc: Global, kids: &mut Arc<Vec<Child>>) -> Result<(), Alloc
     Ok(())
 }
 
-// Replaces what is at the names below the child of a name, or that child if there are no names, by a node or by
+// Replaces what is at the names below the child of a name, or that child itself if there are no names, by a node or by
 // nothing.
 #[cycle(set)]
 fn set_in(
@@ -71,7 +71,7 @@ fn set_in(
     }
 }
 
-// Does the same in a piece, whose children may be shared: makes them its own first.
+// Does what `set_in` does in a piece, whose children may be shared: first makes them this owner's own.
 #[cycle(set)]
 fn set_rows(
     rows: &mut Arc<Vec<Child>>,
@@ -92,7 +92,7 @@ fn set_rows(
     }
 }
 
-// Does the same among pieces, in the one that the name belongs to.
+// Does what `set_in` does in a list of pieces: in the piece that the name belongs to.
 #[cycle(set)]
 fn set_piece(
     pieces: &mut Vec<Piece>,
@@ -113,7 +113,7 @@ fn set_piece(
     Ok(())
 }
 
-// Does the same if the list of the pieces may be shared: makes that its own first.
+// Does what `set_piece` does if the list of the pieces may be shared: first makes the list this owner's own.
 #[cycle(set)]
 fn set_below(
     kids: &mut Arc<Vec<Piece>>,
@@ -135,7 +135,7 @@ fn set_below(
     }
 }
 
-// Replaces the child at an index by a node, or removes it.
+// Replaces the child at an index by a node, or removes it if there is no node.
 fn set_child(list: &mut Vec<Child>, i: usize, branch: Option<Node>)
     requires within { i < length list.old.items }
     requires sorted { AreSorted list.old.items }

@@ -1,4 +1,4 @@
-//! Whether the entries of a tree have room at and below a path. Usually the bound of the tree's depth decides; otherwise the nodes
+//! Whether the entries of a tree have room at and below a path. Usually the known bound of the tree's depth is enough; otherwise the nodes
 //! are visited.
 
 ghost use Rattle.std.specs.Prelude.{◌≡◌, ◌↔◌, ◌≤◌, IsTrue, IfErr, false};
@@ -30,8 +30,8 @@ impl Tree {
 }
 
 impl Node {
-    // Returns whether what is at and below this node is on at most `levels` levels. A file and an empty directory are
-    // on one.
+    // Returns whether this node and what is below it have at most `levels` levels. A file and an empty directory have
+    // one level.
     pub(crate) fn is_within(&self, levels: usize) -> bool
         ensures { IsTrue result ↔ (height self.now ≤ levels) }
     {

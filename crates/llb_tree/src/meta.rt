@@ -1,4 +1,4 @@
-//! The mode and the owner of an entry. A value has a mode of at most 4095 by its type, and contracts see
+//! The mode and the owner of an entry. The type ensures that the mode is at most 4095; contracts see
 //! its three numbers. Nothing here allocates.
 
 ghost use Rattle.std.specs.Prelude.{◌≡◌, ◌≤◌};
@@ -40,7 +40,7 @@ impl Meta {
         }
     }
 
-    /// Returns the mode and the owner of a directory that is made without any: 0755 0:0.
+    /// Returns the mode and the owner of a new directory for which none are given: 0755 0:0.
     pub fn new_dir() -> Meta
         ensures { result ≡ new_dir_meta }
     {

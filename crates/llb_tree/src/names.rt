@@ -10,7 +10,7 @@ pub struct Names {
     names: Vec<Name>,
 }
 
-// Written out, so that what owns one drops it by this one function.
+// Written by hand, so that it is proved once; a derived one is proved again in every function that drops such a value.
 impl Drop for Names {
     fn drop(self) {
         let Names { names: _ } = self;

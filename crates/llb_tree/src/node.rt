@@ -1,6 +1,6 @@
 //! The nodes of a tree: a file with its content, or a directory with its children in the order of their names. Nodes
-//! are shared: a copy of a node copies nothing that is below it. A path has at most 128 names, so what recurses over
-//! nodes, their drop too, visits at most 129 levels.
+//! are shared: a copy of a node copies nothing below it. A path has at most 128 names, so a recursion over
+//! nodes, such as their drop, visits at most 129 levels.
 
 ghost use Rattle.std.specs.Prelude.{◌≡◌, ℕ, [], ◌∷◌, ◌++◌, ◌<◌, ◌≤◌, List, length, IfOk, IfErr, Some, false, option_map};
 ghost use Rattle.std.specs.FinMap as finite;
@@ -41,7 +41,7 @@ pub(crate) enum Kind {
     Dir(Meta, Arc<Vec<Piece>>),
 }
 
-// Some of a directory's children, one after another in the order of their names. Owners of the directory share its pieces.
+// Some of a directory's children, one after another in the order of their names. Copies of the directory share its pieces.
 #[cycle(node)]
 #[derive(Drop)]
 pub(crate) struct Piece {
@@ -78,7 +78,7 @@ impl Model for Node {
     ghost size_decreases = { λ a h. falls a.kind };
 }
 
-// Returns the index of the child of a name, or as `Err` the index at which it would be inserted. Looks at the last
+// Returns the index of the child with a name, or as `Err` the index at which it would be inserted. Looks at the last
 // child first, since names most often come in their order.
 pub(crate) fn place_of(kids: &[Child], name: &Name) -> Result<usize, usize>
     requires { AreSorted kids.now }
@@ -160,7 +160,7 @@ impl Node {
         })
     }
 
-    // Returns a directory of another mode and owner with the same below it; an empty one if this is a file.
+    // Returns a directory with another mode and owner and the same below it; an empty one if this node is a file.
     fn with_meta(&self, alloc: Global, meta: Meta) -> Result<Node, AllocError>
         ensures { IfOk result (λ n. (q : List (List ℕ)) → finite.get n q ≡ dir_look meta (finite.get self.now) q) }
     {
@@ -175,7 +175,7 @@ impl Node {
         }
     }
 
-    // Returns the directory at the names with another mode and owner; an empty one if no directory is there.
+    // Returns the directory at these names with another mode and owner; an empty one if no directory is there.
     pub(crate) fn dir_at(
         &self,
         alloc: Global,
@@ -190,7 +190,7 @@ impl Node {
         }
     }
 
-    // Checks that each proper prefix of the names is a directory. Fails with 21 `NotFound` or 22 `NotDir` at the first
+    // Checks that each proper prefix of these names is a directory. Fails with 21 `NotFound` or 22 `NotDir` at the first
     // that is none.
     pub(crate) fn walked(&self, names: &[Name]) -> Result<(), TreeFault>
         ensures walks { result ≡ walk (finite.get self.now) names.now }

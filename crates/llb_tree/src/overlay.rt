@@ -1,7 +1,7 @@
-//! One tree laid over another. It goes down both at once and touches only what both have: what only one of them has is
+//! Lays one tree over another. It goes down both at once and visits only what both have; what only one of them has is
 //! shared. At each level the upper children are put among the lower ones, each into the piece that its name belongs to.
-//! If they have every name of the lower ones, their pieces are taken as they are, except for the directories that both
-//! have, which are laid in turn. A refusal leaves what it is laid over as it was: the new children are put into copies
+//! If they have every name of the lower ones, their pieces are taken as they are, but for the directories that both
+//! have, which are laid one level deeper. A refusal leaves the lower tree as it was: the new children are put into copies
 //! of the lower pieces.
 
 ghost use Rattle.std.specs.Prelude.{◌≡◌, ℕ, List, option_map, IfOk, IfErr, OnOk, OnErr, map, true, unwrap_or};
@@ -26,7 +26,7 @@ use crate::writing::{with_node, with_rows};
 use std::alloc::{AllocError, Global};
 use std::sync::Arc;
 
-// Returns the node, and all that is below it, with the mode and the owner of the `Way`. Contents are shared, and so is
+// Returns the node, and all that is below it, with the mode and the owner of the `Way`. Contents are shared; so is
 // the whole node if the `Way` has neither mode nor owner.
 #[cycle(dress)]
 fn dressed(node: &Node, alloc: Global, way: &Way) -> Result<Node, AllocError>
@@ -134,7 +134,7 @@ fn lay_all(
     }
 }
 
-// Lays upper pieces over lower ones, and returns the upper ones with what changes replaced; `None` if nothing changes.
+// Lays upper pieces over lower ones, and returns the upper ones, with copies of those that change; `None` if none changes.
 #[cycle(lay)]
 fn laid_all(
     kids: &[Piece],
@@ -155,8 +155,8 @@ fn laid_all(
     Ok(made)
 }
 
-// Does the same for the upper children of one piece. Looks for the lower child of a name first at the same index of the
-// lower piece `at`.
+// Lays the upper children of one piece over the lower ones of their names; returns `None` if none changes. Looks for each name first at
+// the same index of the lower piece `at`.
 #[cycle(lay)]
 fn laid_rows(
     kids: &[Piece],
@@ -181,7 +181,7 @@ fn laid_rows(
     Ok(made)
 }
 
-// Lays an upper child over the lower one of its name; returns `None` if the upper one is unchanged.
+// Lays an upper child over the lower one of the same name; returns `None` if the upper one is unchanged.
 #[cycle(lay)]
 fn laid_over(
     lower: Option<&Child>,
@@ -203,7 +203,7 @@ fn laid_over(
     Ok(Some(node))
 }
 
-// Lays children over others one by one. Makes all of the result before it puts the first child in.
+// Lays children over others one by one. Makes all results before it puts the first child in.
 #[cycle(lay)]
 fn lay_each(
     kids: &mut Arc<Vec<Piece>>,
@@ -240,7 +240,7 @@ fn laid_children(
     Ok(ready)
 }
 
-// Lays a child over a copy of the one of its name; if there is none, returns it with the mode and the owner of the
+// Lays a child over a copy of the one of the same name; if there is none, returns it with the mode and the owner of the
 // `Way`.
 #[cycle(lay)]
 fn laid_child(kids: &[Piece], alloc: Global, way: &Way, upper: &Child) -> Result<Child, AllocError>
@@ -262,11 +262,11 @@ fn laid_child(kids: &[Piece], alloc: Global, way: &Way, upper: &Child) -> Result
 }
 
 impl Tree {
-    /// Lays another tree over this one, and returns the result: at a path it has what the other has there, in the mode
+    /// Lays another tree over this one, and returns the result: at a path it has what the other has there, with the mode
     /// and the owner of `way`, and else what this tree has there, unless a file of the other is above. A directory that
     /// both have is the other's, or stays as it is if `way` keeps it. Fails with 27 `Memory` alone. It goes down both
-    /// trees at once and touches only what both have; what only one has is shared, not copied. Only if `way` has a mode
-    /// or an owner does what is laid get nodes of its own, and even then its contents are shared.
+    /// trees at once and visits only what both have; what only one has is shared, not copied. Only if `way` has a mode
+    /// or an owner are there new nodes for all that is laid, and even then contents are shared.
     pub fn overlaid(self, way: &Way, upper: &Tree) -> Result<Tree, TreeFault>
         ensures paths { IfOk result (λ t. (q : List (List ℕ)) → finite.get t q ≡ over_at way.now (finite.get self) (finite.get upper.now) q) }
         ensures memory { IfErr result (λ e. is_memory e ≡ true) }
@@ -277,7 +277,7 @@ impl Tree {
     }
 
     /// Lays another tree over this one, as `overlaid` does. Fails with 27 `Memory` alone; then the tree is unchanged. The children
-    /// of the root are put in place, and what both trees have below them is laid on a copy of it, which shares what only one
+    /// of the root are replaced in place; below them, what both trees have is laid on copies, which share what only one
     /// of them has.
     pub fn overlay(&mut self, way: &Way, upper: &Tree) -> Result<(), TreeFault>
         ensures paths { OnOk result ((q : List (List ℕ)) → finite.get self.new q ≡ over_at way.now (finite.get self.old) (finite.get upper.now) q) }

@@ -1,4 +1,4 @@
-//! The paths of a tree that pass tests of their names. They are found by going down the nodes with the tests, one test for
+//! The paths of a tree whose names pass given tests. They are found by going down the nodes with the tests, one test for
 //! each name, into directories whose own names pass.
 
 ghost use Rattle.std.specs.Prelude.{◌≡◌, ◌∷◌, ◌++◌, ◌+◌, ◌≤◌, length, map, Ok, IfErr, OnOk};
@@ -16,7 +16,7 @@ use crate::path::Path;
 use crate::tested::NameTest;
 use crate::tree::Tree;
 
-// Appends the paths at and below a node that pass, each below the node's own path.
+// Appends the paths at and below a node that pass; `path` is the path of the node itself.
 #[cycle(find)]
 fn find<T: NameTest>(
     node: &Node,
@@ -47,7 +47,7 @@ fn find<T: NameTest>(
     Ok(())
 }
 
-// Does the same for a child of the node at the path.
+// Appends the paths at and below a child that pass; `path` is the path of the child's directory.
 #[cycle(find)]
 fn find_in<T: NameTest>(
     kid: &Child,

@@ -13,12 +13,12 @@ use std::alloc::Global;
 use std::cmp::Ordering;
 use std::marker::Model;
 
-/// A path: at most 128 names, from the root down. The root has none.
+/// A path: at most 128 names, from the root down. The root has no names.
 pub struct Path {
     names: Vec<Name>,
 }
 
-// Written out, so that what owns one drops it by this one function.
+// Written by hand, so that it is proved once; a derived one is proved again in every function that drops such a value.
 impl Drop for Path {
     fn drop(self) {
         let Path { names: _ } = self;
@@ -59,7 +59,7 @@ impl Path {
         Ok(path)
     }
 
-    /// Reads a text as a path from another one: a text that begins with `/` is read as by `read`, and any other
+    /// Reads a text as a path, given another path to start from: a text that begins with `/` is read as by `read`, and any other
     /// from `start`, in the same way. Fails with 26 `BadName` and 27 `Memory` as `read` does.
     pub fn read_from(alloc: Global, start: &Path, text: &str) -> Result<Path, TreeFault>
         ensures gives { Gives (λ p. p) result (path_from start.now text.now) }
@@ -75,7 +75,7 @@ impl Path {
         Ok(path)
     }
 
-    // Follows the parts of a text, one after another. If it fails, the parts before the fault have been followed.
+    // Applies the parts of a text to the path, one after another. If it fails, the parts before the fault have been applied.
     fn follow(&mut self, alloc: Global, text: &str) -> Result<(), TreeFault>
         ensures { Gives (λ _. self.new) result (follow self.old (parts_of text.now)) }
     {
@@ -85,7 +85,7 @@ impl Path {
         Ok(())
     }
 
-    // Follows one part of a text.
+    // Applies one part of a text to the path.
     fn enter(&mut self, alloc: Global, part: &str) -> Result<(), TreeFault>
         ensures gives { Gives (λ _. self.new) result (enter self.old part.now) }
         ensures err { OnErr result (self.new ≡ self.old) }
@@ -183,7 +183,7 @@ pub(crate) fn push_names(names: &mut Vec<Name>, more: &[Name]) -> Result<(), Tre
     Ok(())
 }
 
-// Returns how many names there are after a text is followed from a path of `start` names. Fails with 26 `BadName` as
+// Returns how many names the path has after a text is applied to a path of `start` names. Fails with 26 `BadName` as
 // `read` does. Does not allocate.
 fn depth_of(start: usize, text: &str) -> Result<usize, TreeFault>
     ensures depth { (path : List (List ℕ)) → length path ≡ start → result ≡ depth (follow path (parts_of text.now)) }
@@ -196,7 +196,7 @@ fn depth_of(start: usize, text: &str) -> Result<usize, TreeFault>
     Ok(names)
 }
 
-// Returns how many names there are after a part is followed from a path of `names` names. Fails with 26 `BadName`
+// Returns how many names the path has after a part is applied to a path of `names` names. Fails with 26 `BadName`
 // alone. Does not allocate.
 pub(crate) fn depth_after(names: usize, part: &str) -> Result<usize, TreeFault>
     ensures depth { (path : List (List ℕ)) → length path ≡ names → result ≡ depth (enter path part.now) }

@@ -1,4 +1,4 @@
-//! The children of a directory in pieces. Owners of the directory share the pieces: an edit of a shared directory
+//! The children of a directory in pieces. Copies of the directory share the pieces: an edit of a shared directory
 //! copies the list of the pieces and the piece that it changes. A piece that is full is split in two before another
 //! child goes into it.
 
@@ -35,7 +35,7 @@ impl Piece {
         Ok(Piece { rows })
     }
 
-    // Returns whether the name of the first child is after this one.
+    // Returns whether the name of the first child comes after this one.
     fn begins_after(&self, name: &Name) -> bool
         ensures { result ≡ begins_after name.now (row_pairs self.now) }
     {
@@ -110,7 +110,7 @@ fn row_at(pieces: &[Piece], at: usize, i: usize) -> Option<&Child>
     Some(&rows[i])
 }
 
-// Copies pieces, which share their children.
+// Copies a list of pieces; both copies share the children.
 pub(crate) fn second_owners(alloc: Global, pieces: &[Piece]) -> Result<Vec<Piece>, AllocError>
     ensures { IfOk result (λ v. map row_pairs v.items ≡ map row_pairs pieces.now) }
 {
@@ -122,7 +122,7 @@ pub(crate) fn second_owners(alloc: Global, pieces: &[Piece]) -> Result<Vec<Piece
     Ok(copied)
 }
 
-// Replaces a list of pieces that is shared by its own copy; the pieces may still be shared.
+// Makes a list of pieces that is shared this owner's own, by a copy; the pieces themselves may still be shared.
 pub(crate) fn own_list(alloc: Global, pieces: &mut Arc<Vec<Piece>>) -> Result<(), AllocError>
     ensures { map row_pairs (arc_value pieces.new).items ≡ map row_pairs (arc_value pieces.old).items }
 {
@@ -154,7 +154,7 @@ fn part(pieces: &mut Vec<Piece>, alloc: Global, at: usize) -> Result<(), AllocEr
     Ok(())
 }
 
-// Makes an empty piece if there is no piece.
+// Adds an empty piece if there is none.
 fn some_piece(pieces: &mut Vec<Piece>, alloc: Global) -> Result<(), AllocError>
     requires { ArePieced pieces.old.items }
     ensures same { pairs_of pieces.new.items ≡ pairs_of pieces.old.items }
@@ -168,7 +168,7 @@ fn some_piece(pieces: &mut Vec<Piece>, alloc: Global) -> Result<(), AllocError>
     Ok(())
 }
 
-// Makes room for a child of a name in the piece that the name belongs to, and returns the index of that piece.
+// Makes room for a child with this name in the piece that the name belongs to, and returns the index of that piece.
 pub(crate) fn make_room(
     pieces: &mut Vec<Piece>,
     alloc: Global,
@@ -210,7 +210,7 @@ fn end_piece(pieces: &mut Vec<Piece>, alloc: Global, rows: Vec<Child>) -> Result
     Ok(())
 }
 
-// Puts children into pieces, each full except the last.
+// Puts children into pieces, which are all full but the last.
 pub(crate) fn in_pieces(alloc: Global, rows: Vec<Child>) -> Result<Arc<Vec<Piece>>, AllocError>
     ensures same { IfOk result (λ v. kids_in (arc_value v).items ≡ rows.items) }
     ensures full { IfOk result (λ v. AllFull (map row_pairs (arc_value v).items)) }

@@ -1,4 +1,4 @@
-//! Children put among others, each replacing the one of its name, or inserted by the order of names.
+//! Puts children among others: each replaces the one of the same name, or is inserted in the order of names.
 
 ghost use Rattle.std.specs.Prelude.{◌≡◌, OnOk, OnErr, map};
 ghost use Rattle.std.specs.Arc.{arc_value};
@@ -32,7 +32,7 @@ fn put_child(list: &mut Vec<Child>, child: Child) -> Result<(), AllocError>
     }
 }
 
-// Does the same in a piece, whose children may be shared: makes them its own first.
+// Does what `put_child` does in a piece, whose children may be shared: first makes them this owner's own.
 fn put_in(rows: &mut Arc<Vec<Child>>, alloc: Global, child: Child) -> Result<(), AllocError>
     requires { AreSorted (arc_value rows.old).items }
     ensures ok { OnOk result (map pair_of (arc_value rows.new).items
@@ -47,7 +47,7 @@ fn put_in(rows: &mut Arc<Vec<Child>>, alloc: Global, child: Child) -> Result<(),
     }
 }
 
-// Does the same among pieces, in the one that the child's name belongs to.
+// Does what `put_child` does in a list of pieces: in the piece that the child's name belongs to.
 fn put_piece(pieces: &mut Vec<Piece>, alloc: Global, child: Child) -> Result<(), AllocError>
     requires { ArePieced pieces.old.items }
     ensures ok { OnOk result (pairs_of pieces.new.items ≡ finite.put name_cmp (name_of child) child.node (pairs_of pieces.old.items)) }
@@ -58,7 +58,7 @@ fn put_piece(pieces: &mut Vec<Piece>, alloc: Global, child: Child) -> Result<(),
     put_in(&mut piece.rows, alloc, child)
 }
 
-// Puts children in, each in place of the one of its name. They go into copies of the pieces, which replace the old ones
+// Puts children in, each in place of the one of the same name. They go into copies of the pieces, which replace the old ones
 // at the end: so a piece that no child goes into stays shared, and a refusal leaves all as it was.
 pub(crate) fn put_all(
     kids: &mut Arc<Vec<Piece>>,

@@ -1,5 +1,5 @@
-//! Whether a text reads as a given path. Of the path that the text's parts lead to only two numbers are kept: how many
-//! names it has, and how many of its first names are those of the given path. Nothing here allocates.
+//! Whether a text reads as a given path. While the parts of the text are gone through, only two numbers are kept: how many
+//! names the path so far has, and how many of its first names are those of the given path. Nothing here allocates.
 
 ghost use Rattle.std.specs.Prelude.{◌≡◌, ℕ, List, ◌↔◌, IsTrue, IfOk, IfErr, length, Ok, Err, Some, slice_get};
 ghost use Rattle.llb_tree.specs.Path.{enter, path_of};
@@ -28,7 +28,7 @@ impl Path {
     }
 }
 
-// Returns how many first names both paths share after a part, which leaves `next` names of the text's path.
+// Returns how many first names both paths share after one more part, after which the text's path has `next` names.
 fn shared_after(names: &[Name], depth: usize, same: usize, part: &str, next: usize) -> usize
     ensures { (path after : List (List ℕ)) → length path ≡ depth → shared names.now path ≡ same → enter path part.now ≡ Ok after → length after ≡ next
         → result ≡ shared names.now after }

@@ -1,4 +1,4 @@
-//! Paths by tests of their names, one test for each name from the root down. A call goes down the nodes with the tests and
+//! Paths selected by tests of their names, one test for each name from the root down. A call goes down the nodes with the tests and
 //! looks only at the children of directories whose own names pass, so never deeper than there are tests.
 
 ghost use Rattle.std.specs.Prelude.{◌≡◌, ◌∷◌, Bool, List, ℕ, IfOk, option_map};
@@ -48,7 +48,7 @@ fn thinned<T: NameTest>(
     }
 }
 
-// Does the same for children.
+// Returns what remains of children without all that passes the tests; `None` if nothing passes.
 #[cycle(thin)]
 fn thinned_children<T: NameTest>(
     kids: Children<'_>,

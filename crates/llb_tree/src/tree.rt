@@ -1,6 +1,6 @@
-//! The tree: a root directory, how deep its paths go at most, and where its memory comes from. Contracts state results by
-//! the map from paths to entries alone. A copy shares all that it copies; an edit makes the directories on its path its own
-//! before it changes the last of them. Tests that can refuse come first, on what is there.
+//! The tree: a root directory, a bound of how deep its paths go, and its allocator. Contracts state results by
+//! the map from paths to entries alone. A copy shares everything; an edit makes own copies of the directories on its path
+//! before it changes the last of them. Checks that can refuse an edit come first.
 
 ghost use Rattle.std.specs.Prelude.{◌≡◌, ◌++◌, ℕ, List, Ok, Err, MatchResult, IfOk, IfErr, OnOk, OnErr, false, option_map};
 ghost use Rattle.std.specs.FinMap as finite;
@@ -25,7 +25,7 @@ pub struct Tree {
     pub(crate) alloc: Global,
 }
 
-// Written out, so that the crates above drop a tree by this one function.
+// Written by hand, so that it is proved once; a derived one is proved again in every function that drops a tree.
 impl Drop for Tree {
     fn drop(self) {
         let Tree {
@@ -221,8 +221,8 @@ impl Tree {
         Ok(())
     }
 
-    /// Returns the tree of what is at and below a path, which it shares: what is at this path followed by another is
-    /// there at the other. Fails with 21 `NotFound` if nothing is there, also below a file, with 22 `NotDir` if a file
+    /// Returns the tree of what is at and below a path, and shares it: what is at this path followed by q is
+    /// at q there. Fails with 21 `NotFound` if nothing is there, also below a file, with 22 `NotDir` if a file
     /// is, else with 27 `Memory`.
     pub fn subtree(&self, path: &Path) -> Result<Tree, TreeFault>
         ensures gives { Gives (λ t. t) result (subtree self.now path.now) }

@@ -1,5 +1,5 @@
-//! A walk over the entries of a tree in path order. It goes down from the root, and keeps the current path and, of each
-//! directory above, the children that come later. So a step costs one name's copy, and no step looks at what it skips.
+//! A walk through the entries of a tree in path order. It goes down from the root, and keeps the current path and, for each
+//! directory above, the children that come later. So a step copies one name, and no step visits what it skips.
 
 ghost use Rattle.std.specs.Prelude.{◌≡◌, ◌<◌, [], ◌∷◌, ◌++◌, length, drop, Some, Ok, IfOk, IfErr, OnOk, OnErr};
 ghost use Rattle.std.specs.Option.{option_map};
@@ -17,14 +17,14 @@ use crate::path::Path;
 use crate::tree::Tree;
 use std::marker::Model;
 
-/// A walk over the entries of a tree in path order. Contracts see the current entry and those after it.
+/// A walk through the entries of a tree in path order. Contracts see the current entry and those after it.
 pub struct Walk<'a> {
     present: Option<&'a Node>,
     path: Path,
     levels: Vec<Children<'a>>,
 }
 
-// Written out, so that what owns one drops it by this one function.
+// Written by hand, so that it is proved once; a derived one is proved again in every function that drops such a value.
 impl<'a> Drop for Walk<'a> {
     fn drop(self) {
         let Walk {
@@ -107,7 +107,7 @@ fn descend<'a>(
 }
 
 impl Tree {
-    /// Starts a walk over the entries, at the root. Does not allocate.
+    /// Starts a walk through the entries, at the root. Does not allocate.
     pub fn walk(&self) -> Walk<'_>
         ensures { result ≡ finite.entries self.now }
     {
@@ -142,7 +142,7 @@ impl<'a> Walk<'a> {
         Ok(())
     }
 
-    /// Goes past the current entry and all that is below it, which it does not read; does nothing at the end. Fails
+    /// Goes past the current entry and all that is below it, without visiting that; does nothing at the end. Fails
     /// with 27 `Memory` alone, and is then at the end.
     pub fn skip(&mut self) -> Result<(), TreeFault>
         ensures gives { Gives (λ _. self.new) result (Ok (past self.old)) }

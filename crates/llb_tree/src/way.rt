@@ -9,8 +9,8 @@ ghost use Rattle.llb_tree.specs.Laying.{IsWay, TakesWhole, owner_fits};
 use crate::meta::Meta;
 use std::marker::Model;
 
-/// The mode and the owner that an overlay sets, each optional: an entry keeps its own of what is not set; and whether a
-/// directory that both trees have keeps those of the lower one.
+/// The mode and the owner that an overlay sets, each optional: what is not set stays the entry's own; and whether a
+/// directory that both trees have stays as the lower tree has it.
 #[derive(Clone, Copy)]
 pub struct Way {
     mode: Option<u16>,
@@ -33,8 +33,8 @@ impl Model for Way {
 }
 
 impl Way {
-    /// Makes a `Way` of a mode, a user and a group, each if given, and of whether directories that both trees have keep
-    /// theirs; `None` exactly if the mode is above 4095.
+    /// Makes a `Way` of a mode, a user and a group, each optional, and of whether a directory that both trees have stays as in the
+    /// lower one; `None` exactly if the mode is above 4095.
     pub fn new(mode: Option<u16>, uid: Option<u32>, gid: Option<u32>, keeps: bool) -> Option<Way>
         ensures { result ≡ way_of mode uid gid keeps }
     {
@@ -51,7 +51,7 @@ impl Way {
         })
     }
 
-    // Returns the mode and the owner that an upper entry gets, by its own.
+    // Returns the mode and the owner of an upper entry, given its own.
     pub(crate) fn laid_meta(&self, own: Meta) -> Meta
         ensures { result ≡ laid_meta self.now own }
     {
@@ -68,7 +68,7 @@ impl Way {
         self.mode.is_none() && self.uid.is_none() && self.gid.is_none()
     }
 
-    // Returns whether the upper tree stays unchanged, with the directories that both trees have.
+    // Returns whether every upper entry stays as it is, also a directory that both trees have.
     pub(crate) fn takes_whole(&self) -> bool
         ensures { IsTrue result → TakesWhole self.now }
     {

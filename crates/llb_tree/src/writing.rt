@@ -1,4 +1,4 @@
-//! What an overlay changes of the upper tree's children is written into copies of them, which are made at the first
+//! Copies of the upper tree's children into which an overlay writes its changes; they are made at the first
 //! change.
 
 ghost use Rattle.std.specs.Prelude.{◌≡◌, ◌<◌, length, IfOk, map, set};
@@ -11,8 +11,8 @@ use crate::node::{Child, Node, Piece};
 use crate::pieces::second_owners;
 use std::alloc::{AllocError, Global};
 
-// Writes a node as the child at an index, into the children made so far, or into a copy of the upper ones if none are
-// made.
+// Writes a node as the child at an index, into the copy of the children if there is one, else into a copy of the upper ones,
+// which it makes.
 pub(crate) fn with_node(
     made: Option<Vec<Child>>,
     alloc: Global,
@@ -31,8 +31,8 @@ pub(crate) fn with_node(
     Ok(list)
 }
 
-// Replaces the children of the piece at an index, in the pieces made so far, or in a copy of the upper ones if none are
-// made.
+// Replaces the children of the piece at an index, in the copy of the pieces if there is one, else in a copy of the upper ones,
+// which it makes.
 pub(crate) fn with_rows(
     made: Option<Vec<Piece>>,
     alloc: Global,

@@ -1,5 +1,5 @@
--- The results of this crate's calls: the result of the call's rule, or the fault `Memory`. A rule is a function into values
--- or faults that never returns `Memory`.
+-- The results of this crate's calls: the result of the call's rule, or the fault `Memory`. A rule is a function that returns a value
+-- or a fault, and never `Memory`.
 use Rattle.std.specs.Prelude.{ℕ, List, ◌++◌, Bool, true, false, Option, Result, codes}
 use Rattle.std.specs.Fmt.{decimal}
 use Rattle.llb_wire.specs.Answer as answer
@@ -9,22 +9,22 @@ use Rattle.llb_treetext.specs.declared.fault.TextFault.TheVariants as text
 use Rattle.llb_treetext.specs.declared.fault.PrintFault.{PrintFault}
 use Rattle.llb_treetext.specs.declared.fault.PrintFault.TheVariants as print
 
--- the fault for refused memory, which no rule returns
+-- whether a fault is `Memory`, which no rule returns
 abbrev pub is_memory : TextFault → Bool
 is_memory text.Memory = true
 is_memory (text.BadLine n) = false
 is_memory (text.Order n) = false
 is_memory (text.NoParent n) = false
 
--- the result of a call, seen by view, is the result of its rule
+-- the result of a call is that of its rule, or the call fails for want of memory
 abbrev pub Gives : {X Y : Type 0} → (X → Y) → Result X TextFault → Result Y TextFault → Type 0
 Gives = answer.Gives is_memory
 
--- and `Memory` is last: a call fails with it only if its rule has no refusal
+-- `Memory` is reported last: a call fails with it only if its rule has no refusal
 abbrev pub MemoryLast : {X Y : Type 0} → Result X TextFault → Result Y TextFault → Type 0
 MemoryLast = answer.MemoryLast is_memory
 
--- the fault for refused memory, among those of writing a text
+-- whether a fault of writing a text is that of refused memory
 abbrev pub is_refused_memory : PrintFault → Bool
 is_refused_memory print.Memory = true
 is_refused_memory print.Write = false

@@ -1,4 +1,4 @@
--- The fields of a line, each as it is written. Only this file and the proofs know how a line is taken apart.
+-- The fields of a line, each as it is written. Only this file and the proofs know how a line is split into fields.
 use Rattle.std.specs.Prelude.{ℕ, ◌+◌, ◌-◌, ◌*◌, ◌^◌, ◌==◌, ◌&&◌, ◌||◌, not, nat_lt, nat_le, nat_eq, Bool, false, if◌then◌else◌, List}
 use Rattle.std.specs.Prelude.{[], ◌∷◌, length, codes, Option, Some, None}
 use Rattle.std.specs.List.{list_all, position_or_len, before_first, after_first}
@@ -15,12 +15,12 @@ use Rattle.llb_treetext.specs.TreeText.{path_text}
 use Rattle.llb_treetext.specs.declared.parts.Parts.{Parts}
 use Rattle.llb_treetext.specs.declared.row.Row.{Row}
 
--- a reading goes on with the value of another
+-- f applied to a value, if there is one
 abbrev pub on : {A B : Type 0} → Option A → (A → Option B) → Option B
 on None f = None
 on (Some x) f = f x
 
--- the bytes before the first c of a text, and those after it; none if it has no c
+-- the bytes before the first c of a text, and those after it; nothing if it has no c
 abbrev pub cut_at : ℕ → List ℕ → Option (List ℕ × List ℕ)
 cut_at c text = if nat_lt (position_or_len (λ b. nat_eq b c) text) (length text) then
     Some (before_first (λ b. nat_eq b c) text, after_first (λ b. nat_eq b c) text) else None
@@ -29,25 +29,25 @@ cut_at c text = if nat_lt (position_or_len (λ b. nat_eq b c) text) (length text
 abbrev pub mode_in : List ℕ → Option ℕ
 mode_in text = if length text == 4 then mode_of text else None
 
--- the number that n and the decimal digits of a text after it spell; none from 2^32 on
+-- the number that n and the decimal digits after it spell; nothing if it has more than 32 bits
 unfoldable pub number_from : ℕ → List ℕ → Option ℕ
 number_from n [] = Some n
 number_from n (b ∷ text) = if nat_lt (n * 10 + (b - 48)) (2 ^ 32) then number_from (n * 10 + (b - 48)) text else None
 
--- a number as it is written
+-- the number of a text that is exactly its decimal spelling
 abbrev pub decimal_in : List ℕ → Option ℕ
 decimal_in text = on (number_from 0 text) (λ n. if pointwise nat_eq text (decimal n) then Some n else None)
 
--- the mode and the owners at the start of a text, and what is after them
+-- the mode and the owners at the start of a text, and the text after them
 abbrev pub meta_in : List ℕ → Option (MetaValue × List ℕ)
 meta_in text = on (cut_at 32 text) (λ m. on (cut_at 32 m.1) (λ u. on (cut_at 32 u.1) (λ g.
     on (mode_in m.0) (λ mode. on (decimal_in u.0) (λ uid. on (decimal_in g.0) (λ gid. on (meta_of mode uid gid) (λ meta. Some (meta, g.1))))))))
 
--- a text is at most 128 names between slashes
+-- a text is at most 128 names with slashes between them
 abbrev pub are_names : List ℕ → Bool
 are_names text = list_all is_name (parts_of text) && nat_le (length (parts_of text)) 128
 
--- a text is a slash, and names after it or nothing
+-- a text is a slash, and after it names or nothing
 abbrev pub is_path : List ℕ → Bool
 is_path [] = false
 is_path (b ∷ names) = (b == 47) && ((length names == 0) || are_names names)
@@ -56,56 +56,56 @@ is_path (b ∷ names) = (b == 47) && ((length names == 0) || are_names names)
 abbrev pub Fields : Type 0
 Fields = MetaValue × Option (List ℕ) × List ℕ
 
--- the fields in the parts that the code has of a line
+-- the fields of a line, given the code's type for them
 abbrev pub parts_seen : Parts → Fields
 parts_seen x = (x.meta, option_map (λ digits. digits.now) x.digits, x.path.now)
 
--- the fields of a directory's line; none if the text is no path as it is written
+-- the fields of a directory's line; nothing if its path is spelled in another way than it is written
 abbrev pub dir_parts : MetaValue → List ℕ → Option Fields
 dir_parts m path = if is_path path then Some (m, None, path) else None
 
--- the fields of a file's line; none if the content or the path is not spelled as it is written, or the path is the root
+-- the fields of a file's line; nothing if its content or its path is spelled in another way than it is written, or its path is the root
 abbrev pub file_parts : MetaValue → List ℕ → List ℕ → Option Fields
 file_parts m digits path = if is_hex digits && is_path path && not (nat_lt (length path) 2) then Some (m, Some digits, path) else None
 
--- the parts of a line
+-- the fields of a line
 abbrev pub parts_in : List ℕ → Option Fields
 parts_in line = on (cut_at 32 line) (λ k. on (meta_in k.1) (λ m.
     if pointwise nat_eq k.0 (codes "d") then dir_parts m.0 m.1
     else if pointwise nat_eq k.0 (codes "f") then on (cut_at 32 m.1) (λ c. file_parts m.0 c.0 c.1)
     else None))
 
--- the parts of an entry's line
+-- the fields of the line that is written for an entry
 abbrev pub parts_from : List (List ℕ) × Entry → Fields
 parts_from (p, Dir m) = (m, None, path_text p)
 parts_from (p, File m content) = (m, Some (hex_text content), path_text p)
 
--- the names of a path's text, a slash before each
+-- the names of a path's text, with a slash before each; empty for the root
 abbrev pub trail : List ℕ → List ℕ
 trail path = if length path == 1 then [] else path
 
--- an entry: a directory if there is no content
+-- the entry with this mode, owner and content: a directory if there is no content
 abbrev pub entry_of : MetaValue → Option (List ℕ) → Entry
 entry_of m None = Dir m
 entry_of m (Some content) = File m content
 
--- the path and the entry that the code has of a line
+-- the path and the entry of a line, given the code's type for them
 abbrev pub pair_of : Row → List (List ℕ) × Entry
 pair_of r = (r.path, entry_of r.meta r.content)
 
--- a directory at the path that the text reads as; none if it reads as no path
+-- a directory at the path that the text reads as; nothing if it reads as no path
 abbrev pub dir_in : MetaValue → List ℕ → Option (List (List ℕ) × Entry)
 dir_in m path = on (result_ok (path_of path)) (λ p. Some (p, Dir m))
 
--- a file with the bytes that the digits spell, at the path that the text reads as; none if the digits spell no bytes or the text reads as no path
+-- a file with the bytes that the digits spell, at the path that the text reads as; nothing if the digits spell no bytes or the text reads as no path
 abbrev pub file_in : MetaValue → List ℕ → List ℕ → Option (List (List ℕ) × Entry)
 file_in m digits path = on (bytes_in digits) (λ content. on (result_ok (path_of path)) (λ p. Some (p, File m content)))
 
--- the entry of parts
+-- the path and the entry of these fields
 abbrev pub row_from : Fields → Option (List (List ℕ) × Entry)
 row_from (m, None, path) = dir_in m path
 row_from (m, Some digits, path) = file_in m digits path
 
--- the entry of a line
+-- the path and the entry of a line
 abbrev pub row_in : List ℕ → Option (List (List ℕ) × Entry)
 row_in line = on (parts_in line) row_from

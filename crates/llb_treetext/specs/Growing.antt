@@ -1,4 +1,4 @@
--- The tree of the lines so far, of which a directory may be kept apart. Only the code and the proofs know of it.
+-- The tree of the lines so far; one of its directories may be kept apart. Only the code and the proofs use this file.
 use Rattle.std.specs.Prelude.{◌≡◌, ℕ, List, ◌++◌, Option, Some, None, Ok, false}
 use Rattle.std.specs.FinMap as finite
 use Rattle.llb_tree.specs.Path.{is_within}
@@ -9,12 +9,12 @@ use Rattle.llb_treetext.specs.declared.parts.Parts.{Parts}
 use Rattle.llb_treetext.specs.declared.grow.Growing.{Growing}
 use Rattle.llb_treetext.specs.declared.grow.Open.{Open}
 
--- a tree has at and below a path what another one has, and elsewhere what a third one has
+-- tree t has at and below a path what `dir` has, and everywhere else what `above` has
 pub record HasBelow (t above : TreeMap) (at : List (List ℕ)) (dir : TreeMap) : Type 0 where
   pub inside : (q : List (List ℕ)) → finite.get t (at ++ q) ≡ finite.get dir q
   pub outside : (q : List (List ℕ)) → is_within at q ≡ false → finite.get t q ≡ finite.get above q
 
--- a tree is the one that is kept, or has that one at its path
+-- t is the tree that is kept, or, if a directory is kept apart, the tree with that directory at its path
 abbrev pub IsKept : TreeMap → Option Open → TreeMap → Type 0
 IsKept kept None t = kept ≡ t
 IsKept kept (Some o) t = HasBelow t o.above o.at kept × (o.text.now ≡ names_text o.at)
@@ -33,7 +33,7 @@ abbrev pub IsIfAny : Option TreeMap → TreeMap → Type 0
 IsIfAny None t = Unit {0}
 IsIfAny (Some u) t = u ≡ t
 
--- a line's row that follows a tree: nothing is at its path yet, and it is put there
+-- the next line's entry can be put into the tree: nothing is at its path yet, and it is put there
 pub record Follows (t : TreeMap) (row : List (List ℕ) × Entry) (x : Parts) : Type 0 where
   pub tree : IsTree t
   pub of : IsOf row x

@@ -1,5 +1,5 @@
 -- Read first TreeText (the text of a tree) and Reading (which texts are such, and what is wrong with others), then Output (what is written) and Faults.
--- Fields, Placing, Growing and Lines are the code's own way through a text.
+-- Fields, Placing, Growing and Lines say how the code goes through a text.
 pub mod TreeText
 pub mod Faults
 pub mod Output

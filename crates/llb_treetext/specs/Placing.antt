@@ -1,4 +1,4 @@
--- The result of putting the next row in a tree. Only this file and the proofs know that a text is read row by row.
+-- The result of putting the entry of the next line into the tree. Only this file and the proofs know that a text is read line by line.
 use Rattle.std.specs.Prelude.{◌≡◌, ℕ, ◌+◌, ◌<◌, ◌==◌, Bool, true, false, List, [], ◌∷◌, ◌++◌, length, map, None, Result, Ok, Err, if◌then◌else◌}
 use Rattle.std.specs.FinMap as finite
 use Rattle.std.specs.declared.cmp.Ordering.{Ordering}
@@ -15,27 +15,27 @@ use Rattle.llb_treetext.specs.declared.parts.Parts.{Parts}
 use Rattle.llb_treetext.specs.declared.judge.Place.{Place}
 use Rattle.llb_treetext.specs.declared.judge.Line.{Line}
 
--- the tree after a row is put, or why it is not
+-- the tree after an entry is put, or why it can't be
 abbrev pub put_row : TreeMap → List (List ℕ) × Entry → Result TreeMap TreeFault
 put_row t (p, Dir m) = put_dir t p m
 put_row t (p, File m content) = put_file t p m content
 
--- these are the parts of the line of a row
+-- these are the fields of the line that is written for an entry
 abbrev pub IsOf : List (List ℕ) × Entry → Parts → Type 0
 IsOf row x = IsRow row × (parts_seen x ≡ parts_from row)
 
--- a line more is in the tree: what is before and what is left is the same text, and less is left
+-- one more line is in the tree: the text of the tree followed by the rest is the same as before, and the rest is shorter
 pub record GoesOn (old new : TreeMap) (rest later : List ℕ) : Type 0 where
   pub tree : IsTree new
   pub text : tree_text old ++ rest ≡ tree_text new ++ later
   pub shorter : length later < length rest
 
--- a tree of the lines at the start of a text, and what is left of the text
+-- the tree of the lines at the start of a text, and the rest of the text
 pub record IsFront (bytes : List ℕ) (t : TreeMap) (rest : List ℕ) : Type 0 where
   pub tree : IsTree t
   pub text : bytes ≡ tree_text t ++ rest
 
--- ---- without memory: of the tree so far the last line's path and kind are enough
+-- ---- checks without allocating: of the tree so far only the last line's path and kind are needed
 
 -- whether an entry is a directory
 abbrev pub is_dir : Entry → Bool
@@ -46,17 +46,17 @@ is_dir (File m content) = false
 abbrev pub rank : ℕ → ℕ
 rank b = if b == 47 then 0 else b
 
--- how two texts of names, with a slash before each name, stand in the order of paths
+-- how two texts of names, with a slash before each name, are ordered as paths
 abbrev pub trail_cmp : List ℕ → List ℕ → Ordering
 trail_cmp p q = slice_cmp nat_cmp (map rank p) (map rank q)
 
--- whether what is left of the last path after the names of a path shows that a directory is there: nothing is left and the last path
--- has a directory, or another name follows
+-- whether the last path shows that a directory is at an earlier path, given what follows that path in it: nothing, and the last entry is a directory,
+-- or another name
 abbrev pub opens : List ℕ → Bool → Bool
 opens [] dir = dir
 opens (b ∷ later) dir = b == 47
 
--- the last path of a tree, and whether a directory is there
+-- the last path of a tree, and whether its entry is a directory
 pub record IsLast (t : TreeMap) (place : Place) : Type 0 where
   pub front : List (List (List ℕ) × Entry)
   pub row : List (List ℕ) × Entry
@@ -64,12 +64,12 @@ pub record IsLast (t : TreeMap) (place : Place) : Type 0 where
   pub names : place.names.now ≡ names_text row.0
   pub kind : place.is_dir ≡ is_dir row.1
 
--- the tree of the first line, or what is wrong with it
+-- the tree of the first line, or what is wrong with the line
 abbrev pub Starts : List ℕ → Result Line TextFault → Type 0
 Starts bytes (Ok x) = let t = finite.insert empty_tree [] (Dir x.parts.meta) in IsFront bytes t x.later.now × IsLast t x.place × (finite.len t ≡ 1)
 Starts bytes (Err e) = (is_memory e ≡ false) × IsFault [] bytes e
 
--- the tree with one line more, whose path was free, or what is wrong with the line
+-- the tree after one more line, whose path was free, or what is wrong with the line
 abbrev pub GoesTo : TreeMap → List ℕ → Result Line TextFault → Type 0
 GoesTo t rest (Ok x) = (row : List (List ℕ) × Entry) × IsOf row x.parts × (finite.get t row.0 ≡ None) × (put_row t row ≡ Ok (finite.insert t row.0 row.1))
     × GoesOn t (finite.insert t row.0 row.1) rest x.later.now × IsLast (finite.insert t row.0 row.1) x.place

@@ -1,4 +1,4 @@
--- Which texts are the texts of trees, and what a text that is none has wrong first. Nothing here knows how a text is read.
+-- Which texts are texts of trees, and the first fault of any other text. Nothing here depends on how a text is read.
 use Rattle.std.specs.Prelude.{◌≡◌, ◌≢◌, ℕ, ◌+◌, Bool, true, false, List, [], ◌∷◌, ◌++◌, length, Result, Ok, Err, MatchResult, ◌⊎◌}
 use Rattle.std.specs.Ordering.{is_lt}
 use Rattle.std.specs.FinMap as finite
@@ -10,7 +10,7 @@ use Rattle.llb_treetext.specs.Faults.{is_memory}
 use Rattle.llb_treetext.specs.declared.fault.TextFault.{TextFault}
 use Rattle.llb_treetext.specs.declared.fault.TextFault.TheVariants.{BadLine, Order, NoParent, Memory}
 
--- an entry that has a line: it is allowed at its path, and the root is a directory
+-- an entry that can be on a line: it is valid at its path, and if that is the root it is a directory
 pub record IsRow (row : List (List ℕ) × Entry) : Type 0 where
   pub allowed : IsAllowedAt row.0 row.1
   pub root : row.0 ≡ [] → (m : MetaValue) × (row.1 ≡ Dir m)
@@ -20,23 +20,23 @@ pub record IsText (bytes : List ℕ) (t : TreeMap) : Type 0 where
   pub tree : IsTree t
   pub text : bytes ≡ tree_text t
 
--- no rows yet, or those of a tree
+-- no entries yet, or those of a tree
 abbrev pub AreBefore : List (List (List ℕ) × Entry) → Type 0
 AreBefore rows = (rows ≡ []) ⊎ ((t : TreeMap) × IsTree t × (rows ≡ finite.entries t))
 
--- the root comes first, and then each path after the last one
+-- whether a path may come next after some entries: first the root, and then only a path after the last one
 abbrev pub comes_next : List (List (List ℕ) × Entry) → List (List ℕ) → Bool
 comes_next [] [] = true
 comes_next [] (n ∷ p) = false
 comes_next (r ∷ []) p = is_lt (path_cmp r.0 p)
 comes_next (r ∷ s ∷ rows) p = comes_next (s ∷ rows) p
 
--- the line that a text begins with, and its entry
+-- a text begins with the line of this entry
 abbrev pub Begins : List ℕ → List (List ℕ) × Entry → Type 0
 Begins text row = IsRow row × ((later : List ℕ) × (text ≡ line_of row ++ later))
 
--- what is wrong with the line after some rows, the first that is: it is no entry's; or its path is not after the last one;
--- or that path's directories are not there
+-- the first thing that is wrong with the line after some entries: it is not the line of an entry; or its path does not come after the last one;
+-- or a directory above its path is missing
 abbrev pub IsFault : List (List (List ℕ) × Entry) → List ℕ → TextFault → Type 0
 IsFault rows rest (BadLine n) = (n ≡ length rows + 1) × ((row : List (List ℕ) × Entry) → ¬ Begins rest row)
 IsFault rows rest (Order n) = (n ≡ length rows + 1) × ((row : List (List ℕ) × Entry) × Begins rest row × (comes_next rows row.0 ≡ false))
@@ -44,7 +44,7 @@ IsFault rows rest (NoParent n) = (n ≡ length rows + 1)
     × ((row : List (List ℕ) × Entry) × Begins rest row × (comes_next rows row.0 ≡ true) × (walk (λ q. finite.find path_cmp q rows) row.0 ≢ Ok tt))
 IsFault rows rest Memory = ⊥
 
--- the text begins with the rows of a tree, or with none, and the line after them is faulty; no line at all is one with no rows
+-- the text begins with the lines of a tree (perhaps none), and the line after them has this fault; if the text is empty, the missing line is faulty
 pub record Stops (bytes : List ℕ) (e : TextFault) : Type 0 where
   pub rows : List (List (List ℕ) × Entry)
   pub rest : List ℕ
@@ -53,17 +53,17 @@ pub record Stops (bytes : List ℕ) (e : TextFault) : Type 0 where
   pub more : rest ≡ [] → rows ≡ []
   pub fault : IsFault rows rest e
 
--- what a text is: the text of a tree, or one with a first faulty line; of memory it says nothing
+-- the result of reading a text: the tree, or the first fault; it says nothing of refused memory
 abbrev pub Answers : List ℕ → Result TreeMap TextFault → Type 0
 Answers bytes (Ok t) = IsText bytes t
 Answers bytes (Err e) = is_memory e ≡ false → Stops bytes e
 
--- and `Memory` is last: a reading fails with it only if the text is a tree's
+-- `Memory` is reported last: a reading fails with it only if the text is that of a tree
 abbrev pub MemoryIsLast : List ℕ → Result TreeMap TextFault → Type 0
 MemoryIsLast bytes (Ok t) = Unit {0}
 MemoryIsLast bytes (Err e) = is_memory e ≡ true → (t : TreeMap) × IsText bytes t
 
--- a text has one tree at most, or one first fault, and never both
+-- a text is that of at most one tree, or has one first fault, and never both
 pub record HasOneAnswer (bytes : List ℕ) : Type 0 where
   pub trees : (t u : TreeMap) → IsText bytes t → IsText bytes u → t ≡ u
   pub apart : (t : TreeMap) (e : TextFault) → IsText bytes t → ¬ Stops bytes e

@@ -1,5 +1,5 @@
 //! The tree of a text while it is read. The files of a directory often follow one another, so the directory of the last
-//! line is kept apart as a tree of its own, where a file is put by its name alone; later it goes back to its path as a
+//! line is kept apart as a tree, into which a file is put by its name alone; later it is put back at its path as a
 //! whole.
 
 ghost use Rattle.std.specs.Prelude.{◌≡◌, ◌++◌, ◌∷◌, ℕ, List, [], Ok, None, true, false, IfSome, IfOk};
@@ -17,14 +17,14 @@ use llb_tree::{Meta, Name, Path, Tree, TreeFault};
 use llb_wire::{Memory, read_hex};
 use std::alloc::Global;
 
-// A tree, or a directory of one with the tree that it goes back to.
+// A tree, or a directory that is kept apart with the tree that it belongs to.
 #[derive(Drop)]
 pub(crate) struct Growing<'a> {
     tree: Tree,
     open: Option<Open<'a>>,
 }
 
-// Where a directory goes back to: a tree, the directory's path in it, and that path as a text.
+// Where a directory that is kept apart belongs: the tree, the directory's path in it, and that path as a text.
 #[derive(Drop)]
 pub(crate) struct Open<'a> {
     above: Tree,
@@ -53,7 +53,7 @@ pub(crate) fn started<'a>(alloc: Global, meta: Meta) -> Option<Growing<'a>>
     Some(Growing { tree, open: None })
 }
 
-// Returns the whole tree; `None` if memory is refused.
+// Puts the directory that is kept apart back, and returns the whole tree; `None` if memory is refused.
 fn whole(growing: Growing<'_>) -> Option<Tree>
     ensures { (t : TreeMap) → IsGrown growing.entry t → IsIfAny result t }
 {
@@ -81,7 +81,7 @@ pub(crate) fn whole_if_any(growing: Option<Growing<'_>>) -> Option<Tree>
     whole(growing?)
 }
 
-// Returns what a path has after a directory's path and a slash; `None` if it is not below the directory. Does not
+// Returns the rest of a path after a directory's path and a slash; `None` if the path is not below the directory. Does not
 // allocate.
 fn rest_below<'a>(dir: &str, path: &'a str) -> Option<&'a str>
     ensures { IfSome result (λ rest. path.now ≡ dir.now ++ 47 ∷ rest.now) }
@@ -107,7 +107,7 @@ fn path_of_name(alloc: Global, text: &str) -> Result<Option<Path>, Memory>
     }
 }
 
-// Puts a line's file by its name in the directory that is kept apart, and returns whether it did so; a line that is not
+// Puts a line's file by its name into the directory that is kept apart, and returns whether it did so; a line that is not
 // a file's directly below that directory changes nothing. A refusal of memory is an error and not `false`, so that it
 // is reported.
 fn is_put_below(alloc: Global, growing: &mut Growing<'_>, parts: &Parts<'_>) -> Result<bool, Memory>
@@ -155,7 +155,7 @@ fn opened<'a>(
     })
 }
 
-// Adds a row to the whole tree; `None` if memory is refused.
+// Adds an entry to the whole tree; `None` if memory is refused.
 fn with_row<'a>(alloc: Global, mut tree: Tree, row: Row, text: &'a str) -> Option<Growing<'a>>
     ensures { IsTree tree → finite.get tree row.path ≡ None → text.now ≡ names_text row.path
         → put_row tree (pair_of row) ≡ Ok (finite.insert tree row.path (pair_of row).1)
@@ -175,7 +175,7 @@ fn with_row<'a>(alloc: Global, mut tree: Tree, row: Row, text: &'a str) -> Optio
     }
 }
 
-// Adds the entry of a line's parts to the tree; `None` once memory is refused.
+// Adds the entry of a line to the tree; `None` once memory is refused.
 pub(crate) fn with_line<'a>(
     alloc: Global,
     growing: Option<Growing<'a>>,

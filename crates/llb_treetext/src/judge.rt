@@ -1,5 +1,5 @@
-//! A line is judged without allocating. The lines before it are those of a tree, so the last of them shows whether it
-//! lies after them, and whether its directory is there.
+//! Checks a line without allocating. The lines before it are those of a tree, so the last of them shows whether this one
+//! comes after them, and whether the directory of its path is there.
 
 ghost use Rattle.std.specs.Prelude.{◌≡◌, ◌≢◌, ◌+◌, ◌++◌, ◌∷◌, ℕ, List, IsTrue, true};
 ghost use Rattle.std.specs.FinMap as finite;
@@ -13,14 +13,14 @@ ghost use Rattle.llb_treetext.specs.Placing.{rank, trail_cmp, opens, IsLast, Sta
 use crate::fault::TextFault;
 use crate::parts::{Parts, next_parts};
 
-// The names of a path, a slash before each, and whether a directory is there.
+// The names of a path, with a slash before each, and whether its entry is a directory.
 #[derive(Clone, Copy)]
 pub(crate) struct Place<'a> {
     pub names: &'a [u8],
     pub is_dir: bool,
 }
 
-// A line: its parts, its `Place`, and the bytes after it.
+// A line: its fields, its `Place`, and the bytes after it.
 #[derive(Clone, Copy)]
 pub(crate) struct Line<'a> {
     pub parts: Parts<'a>,
@@ -61,7 +61,7 @@ fn is_before(first: &[u8], second: &[u8]) -> bool
     first.len() < second.len()
 }
 
-// Returns what is before the last slash.
+// Returns what is before the last slash of some names.
 fn parent(names: &[u8]) -> &[u8]
     ensures { (front last : List ℕ) → All (λ b. b ≢ 47) last → names.now ≡ front ++ 47 ∷ last → result.now ≡ front }
 {
@@ -75,7 +75,7 @@ fn parent(names: &[u8]) -> &[u8]
     rest
 }
 
-// Returns whether a directory is at a `Place`, or above it.
+// Returns whether a directory is at the path of a `Place`, or above that path.
 fn holds(place: &Place<'_>, dir: &[u8]) -> bool
     ensures found { IsTrue result → (later : List ℕ) × (place.now.names.now ≡ dir.now ++ later) × (opens later place.now.is_dir ≡ true) }
     ensures each { (later : List ℕ) → place.now.names.now ≡ dir.now ++ later → result ≡ opens later place.now.is_dir }

@@ -11,7 +11,7 @@ pub fn one_answer(bytes: &[u8])
     let _ = bytes;
 }
 
-/// Proves that what `print_tree` writes of a tree is read as that tree.
+/// Proves that what `print_tree` writes for a tree is read as that tree.
 pub fn reads_back(tree: &Tree)
     ensures { ReadsBack tree.now }
 {

@@ -1,5 +1,5 @@
-//! The line of an entry, as it is written: its kind, its mode and owners, the content of a file, and its path. It is
-//! appended to a text, so that one text's memory serves for all lines.
+//! The line of an entry: its kind, its mode and owners, the content of a file, and its path. It is
+//! appended to a text, so that one text's memory is used for all lines.
 
 ghost use Rattle.std.specs.Prelude.{◌≡◌, ◌++◌, ◌<◌, OnOk, string_bytes};
 ghost use Rattle.std.specs.Fmt.{decimal};
@@ -102,7 +102,7 @@ fn push_row(
     push_path(line, path)
 }
 
-// Replaces a text by the line of an entry.
+// Replaces a text with the line of an entry.
 pub(crate) fn set_line(
     alloc: Global,
     line: &mut String,

@@ -1,5 +1,5 @@
-//! A line is taken apart without allocating. Each field is accepted only as it is written, so a line that has all its
-//! parts is an entry's.
+//! Splits a line into its fields without allocating. Each field is accepted only as it is written, so a line that has all its
+//! fields is that of an entry.
 
 ghost use Rattle.std.specs.Prelude.{◌≡◌, ◌↔◌, nat_eq, IsTrue, position};
 ghost use Rattle.std.specs.Fmt.{decimal};
@@ -49,8 +49,8 @@ fn mode_of(text: &str) -> Option<Mode>
     Mode::read(text)
 }
 
-// Reads decimal digits as a number; `None` above 2^32 - 1. Other bytes give some number too: `decimal_of` checks that
-// the text is the number's.
+// Reads decimal digits as a number; `None` above 2^32 - 1. Bytes that are no digits give some number too: `decimal_of` checks that
+// the text is the spelling of the number.
 fn number(text: &str) -> Option<u32>
     ensures { result ≡ number_from 0 text.now }
 {
@@ -65,7 +65,7 @@ fn number(text: &str) -> Option<u32>
     Some(number)
 }
 
-// Returns whether a text is a number as it is written.
+// Returns whether a text is exactly the decimal spelling of a number.
 fn is_decimal(text: &[u8], number: u32) -> bool
     ensures { IsTrue result ↔ (text.now ≡ decimal number) }
 {
@@ -107,7 +107,7 @@ fn front(text: &str) -> Option<(Meta, &str)>
     Some((meta, rest))
 }
 
-// Returns whether a text is names with slashes between them, at most 128.
+// Returns whether a text is at most 128 names with slashes between them.
 fn are_names(text: &str) -> bool
     ensures { result ≡ are_names text.now }
 {
@@ -134,7 +134,7 @@ fn is_path(text: &str) -> bool
     }
 }
 
-// Reads the parts of a text; `None` if it is no line of an entry.
+// Reads the fields of a text; `None` if it is not the line of an entry.
 fn parts_in(text: &str) -> Option<Parts<'_>>
     ensures { option_map parts_seen result ≡ parts_in text.now }
 {
@@ -152,7 +152,7 @@ fn parts_in(text: &str) -> Option<Parts<'_>>
     file_parts(meta, digits, path)
 }
 
-// Returns a directory's parts; `None` if the text is no path.
+// Returns the fields of a directory; `None` if the text is no path.
 fn dir_parts(meta: Meta, path: &str) -> Option<Parts<'_>>
     ensures { option_map parts_seen result ≡ dir_parts meta path.now }
 {
@@ -166,7 +166,7 @@ fn dir_parts(meta: Meta, path: &str) -> Option<Parts<'_>>
     })
 }
 
-// Returns a file's parts; `None` if the digits or the path are none, or the path is the root.
+// Returns the fields of a file; `None` if the digits spell no bytes, or the text is no path or is the root.
 fn file_parts<'a>(meta: Meta, digits: &'a str, path: &'a str) -> Option<Parts<'a>>
     ensures { option_map parts_seen result ≡ file_parts meta digits.now path.now }
 {
@@ -186,7 +186,7 @@ fn file_parts<'a>(meta: Meta, digits: &'a str, path: &'a str) -> Option<Parts<'a
     })
 }
 
-// Reads the parts of a line, without its end; `None` if it is no line of an entry.
+// Reads the fields of a line, without its end; `None` if it is not the line of an entry.
 fn parts_of(line: &[u8]) -> Option<Parts<'_>>
     ensures { Spells line.now result }
 {
@@ -203,7 +203,7 @@ fn line_end(bytes: &[u8]) -> Option<usize>
     bytes.iter().position(|b| *b == b'\n')
 }
 
-// Reads the parts of the line that the bytes begin with, and returns them with the bytes after it.
+// Reads the fields of the line at the start of some bytes, and returns them with the bytes after it.
 pub(crate) fn next_parts(bytes: &[u8]) -> Option<(Parts<'_>, &[u8])>
     ensures { BeginsWith bytes.now result }
 {

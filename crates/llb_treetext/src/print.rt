@@ -1,4 +1,4 @@
-//! The text of a tree is written to a sink, a line at a time.
+//! Writes the text of a tree to a sink, a line at a time.
 
 ghost use Rattle.std.specs.Prelude.{◌≡◌};
 ghost use Rattle.llb_tree.specs.Rows.{seen};
@@ -11,7 +11,7 @@ use llb_tree::{Entry, Path, Tree};
 use llb_wire::{Sink, write_all};
 use std::alloc::Global;
 
-// Writes the line of an entry to a sink; `line` is the memory for it, which each call uses again.
+// Writes the line of an entry to a sink; `line` is memory that each call uses again.
 fn print_line<W: Sink>(
     alloc: Global,
     line: &mut String,

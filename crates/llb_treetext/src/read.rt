@@ -1,5 +1,5 @@
-//! A text of a tree is read in one pass: each line is judged without allocating, and then put at the end of the tree.
-//! Once memory is refused, the lines after it are only judged.
+//! Reads the text of a tree in one pass: each line is checked without allocating, and then its entry is put into the tree.
+//! Once memory is refused, the later lines are only checked.
 
 ghost use Rattle.llb_treetext.specs.Reading.{Answers, MemoryIsLast};
 

@@ -1,4 +1,4 @@
-//! The entry of a line: its path and its content are allocated.
+//! The path and the entry of a line; for these memory is needed.
 
 ghost use Rattle.std.specs.Prelude.{◌≡◌, IfOk};
 ghost use Rattle.std.specs.Option.{option_map};
@@ -11,7 +11,7 @@ use llb_tree::{Meta, Path, TreeFault};
 use llb_wire::{Bytes, Memory, read_hex};
 use std::alloc::Global;
 
-// What a line is read as: a directory's row has no content.
+// The entry of a line with its path; a directory has no content.
 #[derive(Drop)]
 pub(crate) struct Row {
     pub path: Path,
@@ -19,7 +19,7 @@ pub(crate) struct Row {
     pub content: Option<Bytes>,
 }
 
-// Reads a text as a path; `None` if it is none.
+// Reads a text as a path; `None` if it reads as none.
 fn path_of(alloc: Global, text: &str) -> Result<Option<Path>, Memory>
     ensures { IfOk result (λ o. option_map (λ p. p) o ≡ result_ok (path_of text.now)) }
 {
@@ -30,7 +30,7 @@ fn path_of(alloc: Global, text: &str) -> Result<Option<Path>, Memory>
     }
 }
 
-// Makes the row of a directory; `None` if the text is no path.
+// Makes the entry of a directory; `None` if the text is no path.
 fn dir_row(alloc: Global, meta: Meta, path: &str) -> Result<Option<Row>, Memory>
     ensures { IfOk result (λ o. option_map pair_of o ≡ dir_in meta path.now) }
 {
@@ -44,7 +44,7 @@ fn dir_row(alloc: Global, meta: Meta, path: &str) -> Result<Option<Row>, Memory>
     }
 }
 
-// Makes the row of a file; `None` if the digits or the text are none.
+// Makes the entry of a file; `None` if the digits spell no bytes or the text is no path.
 fn file_row(alloc: Global, meta: Meta, digits: &str, path: &str) -> Result<Option<Row>, Memory>
     ensures { IfOk result (λ o. option_map pair_of o ≡ file_in meta digits.now path.now) }
 {
@@ -61,7 +61,7 @@ fn file_row(alloc: Global, meta: Meta, digits: &str, path: &str) -> Result<Optio
     }
 }
 
-// Makes the row of a line's parts.
+// Makes the entry of a line from its fields.
 pub(crate) fn row_from(alloc: Global, parts: &Parts<'_>) -> Result<Option<Row>, Memory>
     ensures { IfOk result (λ o. option_map pair_of o ≡ row_from (parts_seen parts.now)) }
 {

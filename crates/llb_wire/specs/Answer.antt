@@ -1,24 +1,24 @@
--- How a result is specified, in every crate. A rule is a function into values or faults, and it never returns the fault for refused
--- memory; a call returns what its rule returns, or it lacked memory.
+-- How the result of a call is specified, in every crate. A rule is a function that returns a value or a fault, and never the fault for refused
+-- memory; a call returns what its rule returns, or it fails for want of memory.
 use Rattle.std.specs.Prelude.{◌≡◌, Bool, true, false, Result, Ok, Err, is_ok}
 
--- a refusal for another cause than memory is the one of the rule
+-- if a fault is not the one for refused memory, it is the rule's
 abbrev pub Fails : {Y F : Type 0} → (F → Bool) → F → Result Y F → Type 0
 Fails is_memory e rule = is_memory e ≡ false → rule ≡ Err e
 
--- the result of a call, seen by view, is the result of its rule
+-- the result of a call, as contracts see it, is that of its rule, or the call fails for want of memory
 abbrev pub Gives : {X Y F : Type 0} → (F → Bool) → (X → Y) → Result X F → Result Y F → Type 0
 Gives is_memory view (Ok x) rule = rule ≡ Ok (view x)
 Gives is_memory view (Err e) rule = Fails is_memory e rule
 
--- the fault for refused memory is last: it is returned only if the rule has no refusal
+-- the fault for refused memory is reported last: only if the rule has no refusal
 abbrev pub MemoryLast : {X Y F : Type 0} → (F → Bool) → Result X F → Result Y F → Type 0
 MemoryLast is_memory (Ok x) rule = Unit {0}
 MemoryLast is_memory (Err e) rule = is_memory e ≡ true → is_ok rule ≡ true
 
--- a rule goes on with the value of another, or has its fault
+-- two rules, one after the other: the second is applied to the value of the first
 infixl 10 ◌>>=◌
--- the first fault, or else what f makes of the result
+-- f applied to the value of the first result; or its fault
 abbrev pub ◌>>=◌ : {A B F : Type 0} → Result A F → (A → Result B F) → Result B F
 (Ok x) >>= f = f x
 (Err e) >>= f = Err e

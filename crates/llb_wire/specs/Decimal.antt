@@ -12,10 +12,10 @@ is_digit b = nat_le 48 b && nat_le b 57
 unfoldable pub magnitude : List ℕ → Option ℕ
 magnitude text = where_so (not (length text == 0) && list_all is_digit text) (digits_value 10 text)
 
--- a number as a 64-bit number holds it: 2^64 - 1 for all numbers above it
+-- a number as the code keeps it in 64 bits: 2^64 - 1 stands for all numbers above it
 abbrev pub capped : ℕ → ℕ
 capped n = if nat_lt n (2 ^ 64) then n else 2 ^ 64 - 1
 
--- a number that is below a limit
+-- the number, if it is below the limit
 abbrev pub below : ℕ → ℕ → Option ℕ
 below limit n = where_so (nat_lt n limit) n

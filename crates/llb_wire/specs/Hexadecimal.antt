@@ -5,7 +5,7 @@ use Rattle.std.specs.Cmp.Lexicographic.{pointwise}
 use Rattle.std.specs.Result.{result_ok}
 use Rattle.hex.specs.Hex.{encode_lower, decode_of}
 
--- the text of bytes
+-- the text that is written for bytes
 abbrev pub hex_text : List ℕ → List ℕ
 hex_text [] = codes "-"
 hex_text (b ∷ bytes) = encode_lower (b ∷ bytes)
@@ -18,6 +18,6 @@ is_lower b = (nat_le 48 b && nat_le b 57) || (nat_le 97 b && nat_le b 102)
 abbrev pub is_hex : List ℕ → Bool
 is_hex text = pointwise nat_eq text (codes "-") || (not (length text == 0) && (length text % 2 == 0) && list_all is_lower text)
 
--- the bytes that a dash (none) or pairs of hexadecimal digits spell
+-- the bytes that pairs of hexadecimal digits spell; none for a dash
 abbrev pub bytes_in : List ℕ → Option (List ℕ)
 bytes_in text = if pointwise nat_eq text (codes "-") then Some [] else result_ok (decode_of text)

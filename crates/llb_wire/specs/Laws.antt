@@ -1,4 +1,4 @@
--- Laws of the definitions beside this file, for whoever rests on them.
+-- Laws of the definitions in this folder, for proofs built on them.
 pub mod Varints
 pub mod Own
 pub mod Payloads

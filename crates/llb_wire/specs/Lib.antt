@@ -1,5 +1,5 @@
 -- Read first Answer (how a result is specified, in every crate), Spelling (the grammar of the wire), Reading (a record from left to right, with its first
--- fault) and Records, then Sink (what takes bytes), Hexadecimal, Texts, Decimal, Digest, Hashing and Faults. Laws are for those who rest on the grammar.
+-- fault) and Records, then Sink (what takes bytes), Hexadecimal, Texts, Decimal, Digest, Hashing and Faults. Laws are for proofs built on the grammar.
 pub mod Answer
 pub mod Spelling
 pub mod Reading

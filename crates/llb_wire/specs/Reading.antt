@@ -1,4 +1,4 @@
--- Reading a record from left to right, with the first fault that is met: the tag's varint, the field's number, the wire
+-- Reading a record from left to right, up to the first fault: the tag's varint, the field's number, the wire
 -- type, the payload.
 use Rattle.std.specs.Prelude.{ℕ, zero, suc, ◌+◌, ◌-◌, ◌*◌, ◌<◌, ◌≤◌, ◌/◌, ◌%◌, List, [], ◌∷◌, length, take, drop, Option, Some, None}
 use Rattle.std.specs.Prelude.{Result, Ok, Err, nat_lt, ◌==◌, if◌then◌else◌}
@@ -16,12 +16,12 @@ varint_from more [] = Err Truncated
 varint_from zero (b ∷ bs) = if nat_lt 1 b then Err LongVarint else Ok (b, 1)
 varint_from (suc more) (b ∷ bs) = if nat_lt b 128 then Ok (b, 1) else (varint_from more bs >>= λ m. Ok (b - 128 + 128 * m.0, suc m.1))
 
--- the number of the last n + 1 of a varint's ten bytes is below this
+-- an upper bound of the number that the last n + 1 of a varint's ten bytes spell
 abbrev pub varint_limit : ℕ → ℕ
 varint_limit zero = 2
 varint_limit (suc more) = 128 * varint_limit more
 
--- the number that the varint at a position spells, and where the varint ends
+-- the number that the varint at a position spells, and the position after it
 abbrev pub varint_at : List ℕ → ℕ → Result (ℕ × ℕ) WireFault
 varint_at bytes at = varint_from 9 (drop at bytes) >>= λ m. Ok (m.0, at + m.1)
 
@@ -31,16 +31,16 @@ varint_at bytes at = varint_from 9 (drop at bytes) >>= λ m. Ok (m.0, at + m.1)
 abbrev pub number_of : ℕ → Result ℕ WireFault
 number_of n = if n == 0 then Err BadField else if nat_lt 536_870_911 n then Err BadField else Ok n
 
--- the wire type that a code means
+-- the wire type with this code
 abbrev pub wire_of : ℕ → Result Wire WireFault
 wire_of code = if code == 0 then Ok Varint else if code == 1 then Ok I64 else if code == 2 then Ok Len else if code == 5 then Ok I32 else Err BadWireType
 
--- the number that the bytes of a fixed width at a position spell, and where they end
+-- the number of a fixed width at a position, and the position after it
 abbrev pub fixed_at : Width → List ℕ → ℕ → Result (ℕ × ℕ) WireFault
 fixed_at w bytes at = if nat_lt (length (drop at bytes)) (byte_len w) then
     Err Truncated else Ok (from_le_bytes w (take (byte_len w) (drop at bytes)), at + byte_len w)
 
--- a field with this number and wire type, whose payload begins at `start`; v is its value and its end
+-- a field with this number and wire type, whose payload begins at `start`; v has its value and its end
 abbrev pub as_field : ℕ → Wire → ℕ → ℕ × ℕ → Field
 as_field number wire start v = record { number = number; wire = wire; value = v.0; start = start; «end» = v.1 }
 
@@ -60,11 +60,11 @@ field_at bytes at = do
   wire ← wire_of (tag.0 % 8)
   payload_at number wire bytes tag.1
 
--- the record that begins at a position: none exactly at the end
+-- the record that begins at a position; nothing exactly at the end of the bytes
 unfoldable pub next_field : List ℕ → ℕ → Result (Option Field) WireFault
 next_field bytes at = if at == length bytes then Ok None else (field_at bytes at >>= λ f. Ok (Some f))
 
--- where a record lies that was read from a position on
+-- what holds of a record that was read at a position: it lies between there and the end of the bytes
 pub record IsWithin (bytes : List ℕ) (at : ℕ) (f : Field) : Type 0 where
   pub begins : at < f.start
   pub ordered : f.start ≤ f.«end»

@@ -1,4 +1,4 @@
--- A record with its bytes, and no position; and which bytes spell a list of records.
+-- A record with its bytes but without a position, and which bytes spell a list of records.
 use Rattle.std.specs.Prelude.{◌≡◌, ℕ, ◌+◌, ◌-◌, ◌*◌, ◌≤◌, List, [], ◌∷◌, ◌++◌, length, take, drop, Some, None, Ok}
 use Rattle.std.specs.List.{AllByRecursion, flat_map}
 use Rattle.std.specs.Int.{Width, w32, w64, byte_len, to_le_bytes, from_le_bytes}
@@ -30,27 +30,27 @@ record_at bytes at f = record {
   text = drop at (take f.«end» bytes);
 }
 
--- where a record lies whose bytes begin at a position
+-- the positions of a record whose bytes begin at `at`
 abbrev pub placed : ℕ → Record → Field
 placed at r = record { number = r.number; wire = r.wire; value = r.value; start = at + (length r.text - length r.payload); «end» = at + length r.text }
 
--- ---- the grammar of records, with no position
+-- ---- the grammar of records, without positions
 
 -- the bytes spell n in a fixed width, least significant byte first
 pub record IsFixed (w : Width) (bytes : List ℕ) (n : ℕ) : Type 0 where
   pub size : length bytes ≡ byte_len w
   pub value : n ≡ from_le_bytes w bytes
 
--- The bytes after the tag: for a LEN, the value as a varint, and then as many bytes, the payload. Otherwise all of them are the payload, and they spell the
--- value.
+-- The bytes after the tag. For a LEN: its value as a varint, and then that many bytes, the payload. For any other type all of them are the payload, which is
+-- the value's spelling.
 abbrev pub IsPayload : Wire → List ℕ → ℕ → List ℕ → Type 0
 IsPayload Varint bytes value payload = (payload ≡ bytes) × IsVarint bytes value
 IsPayload I64 bytes value payload = (payload ≡ bytes) × IsFixed w64 bytes value
 IsPayload Len bytes value payload = (count : List ℕ) × (bytes ≡ count ++ payload) × IsVarint count value × (length payload ≡ value)
 IsPayload I32 bytes value payload = (payload ≡ bytes) × IsFixed w32 bytes value
 
--- The record's own bytes: its tag, which is a varint of eight times the field's number plus the code of the wire type, and then its payload,
--- before which a LEN has its length.
+-- The bytes of a record: its tag, which is a varint of eight times the field's number plus the code of the wire type, and then its payload,
+-- with its length before it if it is a LEN.
 pub record IsRecord (r : Record) : Type 0 where
   pub tag : List ℕ
   pub behind : List ℕ
@@ -59,26 +59,26 @@ pub record IsRecord (r : Record) : Type 0 where
   pub tagged : IsVarint tag (8 * r.number + code_of r.wire)
   pub payload : IsPayload r.wire behind r.value r.payload
 
--- the records' own bytes, one after the other, are the bytes, and each spells its record
+-- the bytes are those of the records, one after another, and each record's bytes spell it
 pub record SpellRecords (bytes : List ℕ) (rs : List Record) : Type 0 where
   pub whole : bytes ≡ flat_map (λ r. r.text) rs
   pub each : AllByRecursion IsRecord rs
 
--- walking from record to record, from a position up to the end
+-- reading from record to record, from a position to the end, finds these records
 abbrev pub Walks : List ℕ → ℕ → List Record → Type 0
 Walks bytes at [] = next_field bytes at ≡ Ok None
 Walks bytes at (r ∷ rs) = (f : Field) × (next_field bytes at ≡ Ok (Some f)) × (r ≡ record_at bytes at f) × Walks bytes f.«end» rs
 
--- ---- what is written
+-- ---- the bytes that are written for records
 
--- the payload's own bytes
+-- the payload as it is kept in a record
 abbrev pub own_text : Wire → ℕ → List ℕ → List ℕ
 own_text Varint value payload = varint_text value
 own_text I64 value payload = to_le_bytes w64 value
 own_text Len value payload = payload
 own_text I32 value payload = to_le_bytes w32 value
 
--- the record that is written, with shortest varints: a LEN of its payload, and any other wire type of a value that fits it
+-- the record that is written, with the shortest varints: for a LEN of the payload, for any other wire type of the value, which has to fit it
 abbrev pub written_record : ℕ → Wire → ℕ → List ℕ → Record
 written_record number wire value payload = record {
   number = number;
@@ -88,7 +88,7 @@ written_record number wire value payload = record {
   text = record_text number wire value payload;
 }
 
--- The record has the bytes that spell it, and no record with the same field number, wire type and value has fewer bytes.
+-- The record's bytes spell it, and no record with the same field number, wire type and value has fewer bytes.
 pub record IsShortestRecord (r : Record) : Type 0 where
   pub is_one : IsRecord r
   pub bytes : AreBytes r.text

@@ -1,9 +1,9 @@
--- What a sink takes. It is seen as the bytes that it took so far, if they are known, and whether it has failed.
+-- How a sink takes bytes. Contracts see the bytes that it took so far, if they are known, and whether it has failed.
 use Rattle.std.specs.Prelude.{◌≡◌, ◌≤◌, ◌<◌, ℕ, Bool, true, false, List, ◌++◌, length, take, Option, Result, Ok, Err}
 use Rattle.std.specs.Io.KnownBytes.{Appends, Keeps}
 use Rattle.llb_wire.specs.declared.sink.Failed.{Failed}
 
--- one write: some bytes from the start, one at least if there are any; or it has failed. One that had failed fails again
+-- one write: the sink takes some bytes from the start, at least one if there are any; or it has failed, as it does in every later write
 abbrev pub Takes : Option (List ℕ) → Bool → Option (List ℕ) → Bool → List ℕ → Result ℕ Failed → Type 0
 Takes taken failed taken' failed' bytes (Ok n) = (failed ≡ false) × (failed' ≡ false)
     × (n ≤ length bytes) × (0 < length bytes → 0 < n) × Appends taken taken' (take n bytes)

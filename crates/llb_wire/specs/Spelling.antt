@@ -1,4 +1,4 @@
--- The grammar of the wire, apart from any reading: which bytes spell a number or a record, by the encoding guide of
+-- The grammar of the wire, which does not mention how it is read: which bytes spell a number or a record, by the encoding guide of
 -- Protocol Buffers ("Base 128 Varints", "Message Structure"), and which spelling is the shortest.
 use Rattle.std.specs.Prelude.{◌≡◌, ◌≢◌, ℕ, zero, suc, ◌+◌, ◌-◌, ◌*◌, ◌/◌, ◌%◌, ◌<◌, ◌≤◌, ◌^◌, ◌⊎◌, List, [], ◌∷◌, ◌++◌, length, take, drop}
 use Rattle.std.specs.Prelude.{nat_lt, if◌then◌else◌}
@@ -12,23 +12,23 @@ use Rattle.llb_wire.specs.declared.field.Field.{Field}
 
 -- ---- numbers
 
--- A byte below 128 spells itself. A byte of 128 and g before a spelling of m spells g + 128 m.
+-- A byte below 128 spells itself. A byte 128 + g before a spelling of m spells g + 128 m.
 abbrev pub Spells : List ℕ → ℕ → Type 0
 Spells [] n = ⊥
 Spells (b ∷ []) n = (b < 128) × (n ≡ b)
 Spells (b ∷ c ∷ bs) n = (128 ≤ b) × (m : ℕ) × (n + 128 ≡ b + 128 * m) × Spells (c ∷ bs) m
 
--- The bytes are a varint of n: they spell n, which has at most 64 bits, and are at most ten.
+-- The bytes are a varint of n: they spell n, which has at most 64 bits, and there are at most ten of them.
 pub record IsVarint (bytes : List ℕ) (n : ℕ) : Type 0 where
   pub spells : Spells bytes n
   pub short : length bytes ≤ 10
   pub small : n < 2 ^ 64
 
--- the bytes from one position up to another, which is not among them
+-- the bytes from one position up to another, without the byte at the second
 abbrev pub between : ℕ → ℕ → List ℕ → List ℕ
 between from to bytes = take (to - from) (drop from bytes)
 
--- a varint of n is spelled from `at` up to `last`
+-- the bytes from `at` up to `last` are a varint of n
 pub record VarintAt (bytes : List ℕ) (at n last : ℕ) : Type 0 where
   pub begins : at < last
   pub inside : last ≤ length bytes
@@ -39,12 +39,12 @@ abbrev pub IsOpen : List ℕ → Type 0
 IsOpen [] = Unit {0}
 IsOpen (b ∷ bs) = (128 ≤ b) × IsOpen bs
 
--- the bytes end within a varint
+-- the bytes end inside a varint
 pub record CutVarint (bytes : List ℕ) (at : ℕ) : Type 0 where
   pub more : IsOpen (drop at bytes)
   pub few : length (drop at bytes) ≤ 9
 
--- n bytes say that more follow, and the one after them is above 1
+-- n bytes are at least 128, which says that more follow, and the byte after them is above 1
 abbrev pub IsLong : ℕ → List ℕ → Type 0
 IsLong more [] = ⊥
 IsLong zero (b ∷ bs) = 1 < b
@@ -54,7 +54,7 @@ IsLong (suc more) (b ∷ bs) = (128 ≤ b) × IsLong more bs
 abbrev pub TenthAboveOne : List ℕ → ℕ → Type 0
 TenthAboveOne bytes at = IsLong 9 (drop at bytes)
 
--- why no number is read at a position
+-- why no number can be read at a position
 abbrev pub VarintCause : List ℕ → ℕ → WireFault → Type 0
 VarintCause bytes at Truncated = CutVarint bytes at
 VarintCause bytes at LongVarint = TenthAboveOne bytes at
@@ -79,13 +79,13 @@ pub record TagAt (bytes : List ℕ) (at number : ℕ) (wire : Wire) (last : ℕ)
   pub spelled : VarintAt bytes at (8 * number + code_of wire) last
   pub named : IsFieldNumber number
 
--- the number n is spelled from `at` up to `last` in a fixed width, least significant byte first
+-- the bytes from `at` up to `last` are n in a fixed width, least significant byte first
 pub record FixedAt (w : Width) (bytes : List ℕ) (at n last : ℕ) : Type 0 where
   pub size : last ≡ at + byte_len w
   pub inside : last ≤ length bytes
   pub value : n ≡ from_le_bytes w (between at last bytes)
 
--- the payload of field f is after a tag that ends at a position
+-- the payload of field f begins at a position, which is the end of its tag
 abbrev pub PayloadAt : Wire → List ℕ → ℕ → Field → Type 0
 PayloadAt Varint bytes at f = (f.start ≡ at) × VarintAt bytes at f.value f.«end»
 PayloadAt I64 bytes at f = (f.start ≡ at) × FixedAt w64 bytes at f.value f.«end»
@@ -112,14 +112,14 @@ LongPayload I64 bytes at = ⊥
 LongPayload Len bytes at = TenthAboveOne bytes at
 LongPayload I32 bytes at = ⊥
 
--- why no payload is read at a position
+-- why no payload can be read at a position
 abbrev pub PayloadCause : Wire → List ℕ → ℕ → WireFault → Type 0
 PayloadCause wire bytes at Truncated = CutPayload wire bytes at
 PayloadCause wire bytes at LongVarint = LongPayload wire bytes at
 PayloadCause wire bytes at BadField = ⊥
 PayloadCause wire bytes at BadWireType = ⊥
 
--- a good tag is at a position, and something is wrong after it
+-- a valid tag is at a position, and something is wrong after it
 pub record BehindTag (wrong : Wire → List ℕ → ℕ → Type 0) (bytes : List ℕ) (at : ℕ) : Type 0 where
   pub number : ℕ
   pub wire : Wire
@@ -127,14 +127,14 @@ pub record BehindTag (wrong : Wire → List ℕ → ℕ → Type 0) (bytes : Lis
   pub tag : TagAt bytes at number wire tag_end
   pub payload : wrong wire bytes tag_end
 
--- the tag names no field
+-- the tag's field number is not allowed
 pub record NamesNoField (bytes : List ℕ) (at : ℕ) : Type 0 where
   pub tag : ℕ
   pub tag_end : ℕ
   pub spelled : VarintAt bytes at tag tag_end
   pub number : ¬ IsFieldNumber (tag / 8)
 
--- the tag names a field, and none of the four wire types
+-- the tag's field number is allowed, but its code is that of none of the four wire types
 pub record HasNoWire (bytes : List ℕ) (at : ℕ) : Type 0 where
   pub tag : ℕ
   pub tag_end : ℕ
@@ -142,7 +142,7 @@ pub record HasNoWire (bytes : List ℕ) (at : ℕ) : Type 0 where
   pub number : IsFieldNumber (tag / 8)
   pub none : (w : Wire) → tag % 8 ≢ code_of w
 
--- why no record is read at a position: each cause holds only if everything before it in the record is good
+-- why no record can be read at a position: each cause counts only if everything before it in the record is valid
 abbrev pub RecordCause : List ℕ → ℕ → WireFault → Type 0
 RecordCause bytes at Truncated = CutVarint bytes at ⊎ BehindTag CutPayload bytes at
 RecordCause bytes at LongVarint = TenthAboveOne bytes at ⊎ BehindTag LongPayload bytes at
@@ -151,7 +151,7 @@ RecordCause bytes at BadWireType = HasNoWire bytes at
 
 -- ---- the shortest spellings
 
--- the shortest spelling of a number whose spelling has at most `more` + 1 bytes
+-- the shortest spelling of a number, of which no spelling needs more than `more` + 1 bytes
 unfoldable pub shortest : ℕ → ℕ → List ℕ
 shortest zero n = n ∷ []
 shortest (suc more) n = if nat_lt n 128 then n ∷ [] else (128 + n % 128) ∷ shortest more (n / 128)
@@ -185,26 +185,26 @@ tag_text number wire = varint_text (8 * number + code_of wire)
 abbrev pub record_text : ℕ → Wire → ℕ → List ℕ → List ℕ
 record_text number wire value payload = tag_text number wire ++ payload_text wire value payload
 
--- the number that is read of what was written: for a LEN its length
+-- the value that is read for what was written: for a LEN its length
 abbrev pub value_text : Wire → ℕ → List ℕ → ℕ
 value_text Varint value payload = value
 value_text I64 value payload = value
 value_text Len value payload = length payload
 value_text I32 value payload = value
 
--- where the payload of what was written begins after the tag
+-- the position of the payload after the tag in what was written
 abbrev pub payload_start : Wire → List ℕ → ℕ
 payload_start Varint payload = 0
 payload_start I64 payload = 0
 payload_start Len payload = length (varint_text (length payload))
 payload_start I32 payload = 0
 
--- the old bytes, and what was written after them
+-- some bytes are appended to the old ones
 pub record Extends (old new : List ℕ) : Type 0 where
   pub more : List ℕ
   pub bytes : new ≡ old ++ more
 
--- the record that is read of what was written
+-- the record that is read from what was written
 abbrev pub written_field : ℕ → Wire → ℕ → List ℕ → Field
 written_field number wire value payload = record {
   number = number;

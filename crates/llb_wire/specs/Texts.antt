@@ -1,4 +1,4 @@
--- Texts that are compared, and what is read from them, if anything.
+-- Comparisons of texts, and helpers for reading a value from one.
 use Rattle.std.specs.Prelude.{ℕ, nat_eq, Bool, true, false, List, Option, Some, None}
 use Rattle.std.specs.Cmp.Lexicographic.{pointwise}
 
@@ -6,12 +6,12 @@ use Rattle.std.specs.Cmp.Lexicographic.{pointwise}
 abbrev pub is_text : List ℕ → List ℕ → Bool
 is_text a b = pointwise nat_eq a b
 
--- a value, if a test passes
+-- a value if a test passes, else nothing
 abbrev pub where_so : {A : Type 0} → Bool → A → Option A
 where_so true x = Some x
 where_so false x = None
 
--- what f makes of a value, if there is one
+-- f applied to a value, if there is one
 abbrev pub then_in : {A B : Type 0} → Option A → (A → Option B) → Option B
 then_in None f = None
 then_in (Some x) f = f x

@@ -1,4 +1,4 @@
-//! A value on the heap, which contracts see as the value.
+//! A value on the heap; contracts see the value alone.
 
 ghost use Rattle.std.specs.Prelude.{◌≡◌, IfOk};
 
@@ -7,12 +7,12 @@ use crate::same::Same;
 use std::alloc::Global;
 use std::marker::Model;
 
-/// A value on the heap: an enum whose large variants are boxed is as small as its small ones allow.
+/// A value on the heap. It keeps an enum with large variants small.
 pub struct Boxed<T> {
     place: Box<T>,
 }
 
-// Written out, so that what owns one drops it by this one function.
+// Written by hand, so that it is proved once; a derived one is proved again in every function that drops such a value.
 impl<T: Drop> Drop for Boxed<T> {
     fn drop(self) {
         let Boxed { place: _ } = self;

@@ -1,4 +1,4 @@
-//! Byte strings, which contracts see as lists. The type keeps that the elements are bytes.
+//! Byte strings, which contracts see as lists. The type ensures that all elements are bytes.
 
 ghost use Rattle.std.specs.Prelude.{◌≡◌, IfOk};
 ghost use Rattle.llb_wire.specs.Spelling.{AreBytes};
@@ -14,7 +14,7 @@ pub struct Bytes {
     content: Vec<u8>,
 }
 
-// Written out, so that what owns one drops it by this one function.
+// Written by hand, so that it is proved once; a derived one is proved again in every function that drops such a value.
 impl Drop for Bytes {
     fn drop(self) {
         let Bytes { content: _ } = self;

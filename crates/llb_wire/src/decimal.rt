@@ -4,7 +4,7 @@ ghost use Rattle.std.specs.Prelude.{◌≡◌};
 ghost use Rattle.std.specs.Option.{option_map};
 ghost use Rattle.llb_wire.specs.Decimal.{capped, magnitude};
 
-/// Reads a decimal number; all above 2^64 - 1 are read as 2^64 - 1. Returns `None` if the text is empty or has a byte
+/// Reads a decimal number; a number above 2^64 - 1 is read as 2^64 - 1. Returns `None` if the text is empty or has a byte
 /// that is no digit. Does not allocate.
 #[tactic(auto, unfolding(crate::specs::Decimal::magnitude))]
 pub fn magnitude(text: &[u8]) -> Option<u64>

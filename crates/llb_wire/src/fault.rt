@@ -1,4 +1,4 @@
-//! What can be wrong with the bytes of a record, and that memory is refused. A fault prints what comes
+//! What can be wrong with the bytes of a record; and the fault for refused memory. A fault prints what comes
 //! after the word `fault` in a refusal: its number.
 
 ghost use Rattle.std.specs.Prelude.{Some};

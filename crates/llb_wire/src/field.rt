@@ -1,4 +1,4 @@
-//! A record as it lies in the bytes.
+//! A record by its position in some bytes.
 
 /// How the payload of a record is written.
 #[derive(Clone, Copy, Debug, PartialEq, Eq)]
@@ -13,7 +13,7 @@ pub enum Wire {
     I32,
 }
 
-/// A record and where it lies: the payload is `start..end` (for `Len` the bytes after the length),
+/// A record by its position in some bytes: the payload is `start..end` (for `Len` the bytes after the length),
 /// and the next record begins at `end`. For `Len` the value is the length.
 #[derive(Clone, Copy, Debug, PartialEq, Eq)]
 pub struct Field {

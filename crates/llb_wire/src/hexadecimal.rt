@@ -30,7 +30,7 @@ pub fn push_hex(alloc: Global, text: &mut String, bytes: &[u8]) -> Result<(), Al
     Ok(())
 }
 
-// Returns whether all are hexadecimal digits, none upper-case.
+// Returns whether all are lower-case hexadecimal digits.
 fn are_lower(digits: &[u8]) -> bool
     ensures { result ≡ list_all is_lower digits.now }
 {

@@ -1,11 +1,11 @@
 //! Bytes as records: the wire format of Protocol Buffers, read and written one record at a time. Also what every crate above needs: texts, byte
 //! strings and lists that own their memory, equality by value, and sinks that take bytes. It knows no message.
 //!
-//! Types: `Field` (a record and where it lies), `Bytes`, `Text`, `Many`, `Boxed`, `Sink` with `Over` (a sink over any writer), `Same`, `Memory`
+//! Types: `Field` (a record by its position), `Bytes`, `Text`, `Many`, `Boxed`, `Sink` with `Over` (a sink over any writer), `Same`, `Memory`
 //! (fault 5).
 //! Promise: `next_record` (`found`, `only`, `ends`, `faults`) returns exactly the record that the bytes spell at a position, by a grammar that
-//! is apart from the reader, or the first fault of its tag, field number, wire type and payload. `write_record` (`shortest`, `again`, `err`)
-//! appends the shortest spelling, which is read again whatever follows it.
+//! does not mention the reader, or the first fault of its tag, field number, wire type and payload. `write_record` (`shortest`, `again`, `err`)
+//! appends the shortest spelling, which is read as the same record whatever follows it.
 //!
 //! A caller:
 //!

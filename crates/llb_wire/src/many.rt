@@ -1,4 +1,4 @@
-//! Lists of a public type, which contracts see as lists.
+//! Lists that own their items, as a public type; contracts see the list of the items' values.
 
 ghost use Rattle.std.specs.Prelude.{◌≡◌, ◌==◌, length};
 
@@ -12,7 +12,7 @@ pub struct Many<T> {
     items: Vec<T>,
 }
 
-// Written out, so that what owns one drops it by this one function.
+// Written by hand, so that it is proved once; a derived one is proved again in every function that drops such a value.
 impl<T: Drop> Drop for Many<T> {
     fn drop(self) {
         let Many { items: _ } = self;
@@ -56,7 +56,7 @@ impl<T> Many<T> {
         self.items.is_empty()
     }
 
-    /// Returns the allocator of the items. No clause speaks of it: contracts see no allocator, and there is one.
+    /// Returns the allocator of the items. No clause is about it: contracts see no allocator, and there is only one.
     pub fn allocator(&self) -> Global {
         *self.items.allocator()
     }

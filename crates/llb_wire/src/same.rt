@@ -1,4 +1,4 @@
-//! Equality by value: two values are the same if contracts see the same. Here are numbers, flags, options and slices;
+//! Equality by value: two values are the same if contracts see the same of them. This file has it for numbers, flags, options and slices;
 //! the types of this crate have it in their own files. Nothing here allocates.
 
 ghost use Rattle.std.specs.Prelude.{◌≡◌, ◌↔◌, IsTrue};

@@ -1,4 +1,4 @@
-//! Sinks: what takes bytes from the start, or has failed.
+//! Sinks: what bytes are written to. A sink that has failed takes no more.
 
 ghost use Rattle.std.specs.Prelude.{◌≡◌, ℕ, Bool, List, Option, Some, None, false};
 ghost use Rattle.std.specs.Borrow.{GName};
@@ -6,18 +6,18 @@ ghost use Rattle.llb_wire.specs.Sink.{Takes, TakesAll};
 
 use std::io::Write;
 
-/// The sink has failed, and takes nothing from then on.
+/// The sink has failed, and takes no more bytes.
 #[derive(Clone, Copy, Debug, PartialEq, Eq)]
 pub struct Failed;
 
 /// A destination of bytes. Contracts see the bytes taken so far and whether the sink has failed.
 pub trait Sink {
-    // The bytes taken so far, if they are known.
+    // The bytes that were taken so far, if they are known.
     ghost taken: { Self → Option (List ℕ) };
 
     ghost failed: { Self → Bool };
 
-    // The reference behind which the bytes go, if there is one. No call changes it.
+    // The name of the reference to which the bytes go, if there is one. No call changes it.
     ghost lender: { Self → Option GName } = { λ _. None };
 
     /// Takes some bytes from the start, at least one if there are any, and returns how many. Fails with `Failed` alone,
@@ -28,7 +28,7 @@ pub trait Sink {
         ensures same { lender self.new ≡ lender self.old };
 }
 
-/// A sink over a writer. It has failed from the first write that failed, or accepted none of some bytes, and then
+/// A sink over a writer. It has failed from the first write that failed, or that accepted none of some bytes, and then
 /// writes no more.
 #[derive(Drop)]
 pub struct Over<'a, W> {

@@ -17,7 +17,7 @@ pub struct Text {
     content: String,
 }
 
-// Written out, so that what owns one drops it by this one function.
+// Written by hand, so that it is proved once; a derived one is proved again in every function that drops such a value.
 impl Drop for Text {
     fn drop(self) {
         let Text { content: _ } = self;

@@ -1,4 +1,4 @@
--- What a driver does to a board, and how it leaves a build that it runs to the end.
+-- What a driver does to a board, and in which state it leaves a board that it runs to the end.
 use Rattle.std.specs.Prelude.{◌≡◌, ℕ, ◌<◌, true, List, [], ◌∷◌, ◌++◌, length, drop, slice_index, Option, Some, None, ⊤}
 use Rattle.llb_model.specs.Program.{Build}
 use Rattle.llb_model.specs.State.{State, Opening, opening}
@@ -10,7 +10,7 @@ use Rattle.llb_model.specs.Order.{at_first, order, claims_in}
 use Rattle.llb_model.specs.Laws.{AreChosen}
 use Rattle.llb_board.specs.Seen.{BoardValue}
 
--- one event that the table grants is added at the end of the record
+-- one granted event is appended to the record
 pub record Takes (old : BoardValue) (e : Event) (new : BoardValue) : Type 0 where
   pub build : new.build ≡ old.build
   pub opening : new.opening ≡ old.opening
@@ -19,7 +19,7 @@ pub record Takes (old : BoardValue) (e : Event) (new : BoardValue) : Type 0 wher
   pub given : table old.build old.state e ≡ Some (new.state, reply)
   pub events : new.events ≡ old.events ++ e ∷ []
 
--- events that are chosen and granted one after another are added at the end of the record
+-- chosen and granted events are appended to the record, one after another
 pub record Goes (old new : BoardValue) : Type 0 where
   pub build : new.build ≡ old.build
   pub opening : new.opening ≡ old.opening
@@ -30,8 +30,8 @@ pub record Goes (old new : BoardValue) : Type 0 where
   pub chosen : AreChosen old.build old.state more
   pub events : new.events ≡ old.events ++ more
 
--- The chosen events lead from an opening to a complete state. There each vertex and each instance of a cache is as if each claimed vertex
--- had been run whole at its claim, one after the other.
+-- The chosen events lead from an opening to a complete state. There each vertex and each instance of a cache is as if the vertices had been run one after
+-- another in the order of their claims, each with all its micro-steps.
 pub record EndsInClaimOrder (b : Build) (o : Opening) (es : List Event) (s : State) : Type 0 where
   pub replies : List Reply
   pub leads : run b (opening b o) es ≡ Some (s, replies)
@@ -40,11 +40,11 @@ pub record EndsInClaimOrder (b : Build) (o : Opening) (es : List Event) (s : Sta
   pub statuses : s.statuses ≡ (order b (at_first b o.store) (claims_in replies)).statuses
   pub store : s.store ≡ (order b (at_first b o.store) (claims_in replies)).store
 
--- for each worker, how many of the events that were added are its own
+-- for each worker, how many of the appended events are its own
 abbrev pub MadeBy : BoardValue → BoardValue → List ℕ → Type 0
 MadeBy old new made = (w : ℕ) → w < 64 → slice_index made w ≡ events_by w (drop (length old.events) new.events)
 
--- an event that may end a run because memory is refused: a settle and a cancel take no memory
+-- an event whose refusal for want of memory can end a run; a settle and a cancel take no memory
 abbrev pub TakesMemory : Option Event → Type 0
 TakesMemory (Some (Claim w v)) = ⊤
 TakesMemory (Some (Step w)) = ⊤
@@ -52,7 +52,7 @@ TakesMemory (Some (Settle w)) = ⊥
 TakesMemory (Some (Cancel w)) = ⊥
 TakesMemory None = ⊥
 
--- why an event that takes no memory was not done: it is not granted
+-- the event was refused: a claim or a step perhaps for want of memory, a settle or a cancel only because the table does not grant it
 abbrev pub IsLeft : BoardValue → Event → Type 0
 IsLeft b (Claim w v) = ⊤
 IsLeft b (Step w) = ⊤

@@ -1,4 +1,4 @@
--- What workers that share one lock do to a board.
+-- What workers that share one lock may do to a board.
 use Rattle.std.specs.Prelude.{◌≡◌, ℕ, ◌+◌, ◌++◌, Bool, true, false, List, [], length, take, drop, sum, count_by, slice_get, Some, None, option_map}
 use Rattle.llb_model.specs.Program.{Build}
 use Rattle.llb_model.specs.State.{State, runs}
@@ -8,7 +8,7 @@ use Rattle.llb_model.specs.Table.{Reply}
 use Rattle.llb_model.specs.Run.{run}
 use Rattle.llb_board.specs.Seen.{BoardValue, opened}
 
--- events that are granted one after another are added at the end of the record
+-- granted events are appended to the record, one after another
 pub record GoesOn (old new : BoardValue) : Type 0 where
   pub build : new.build ≡ old.build
   pub opening : new.opening ≡ old.opening
@@ -18,11 +18,11 @@ pub record GoesOn (old new : BoardValue) : Type 0 where
   pub leads : run old.build old.state more ≡ Some (new.state, replies)
   pub events : new.events ≡ old.events ++ more
 
--- the state of an answer
+-- the state in the result of a run of events
 abbrev pub state_in : State × List Reply → State
 state_in a = a.0
 
--- the same, stated by equations only: the older record is a prefix of the record, and what is after it leads to the state
+-- a board goes on from an older one, by equations only: the older record is a prefix of the newer one, and the events after it lead to the newer state
 pub record IsAfter (start found : BoardValue) : Type 0 where
   pub build : found.build ≡ start.build
   pub opening : found.opening ≡ start.opening
@@ -30,18 +30,18 @@ pub record IsAfter (start found : BoardValue) : Type 0 where
   pub front : take (length start.events) found.events ≡ start.events
   pub leads : option_map state_in (run start.build start.state (drop (length start.events) found.events)) ≡ Some found.state
 
--- the sum of the workers' counts is the number of events that were added
+-- the sum of the workers' counts is the number of events that were appended
 abbrev pub Counts : List ℕ → BoardValue → BoardValue → Type 0
 Counts made old new = sum made + length old.events ≡ length new.events
 
--- whether an event gives a vertex up
+-- whether an event is a cancel
 abbrev pub is_cancel : Event → Bool
 is_cancel (Claim w v) = false
 is_cancel (Step w) = false
 is_cancel (Settle w) = false
 is_cancel (Cancel w) = true
 
--- the record has as many cancels as it had
+-- no cancel was appended to the record
 abbrev pub CancelsNothing : BoardValue → BoardValue → Type 0
 CancelsNothing old new = count_by is_cancel new.events ≡ count_by is_cancel old.events
 
@@ -49,10 +49,10 @@ CancelsNothing old new = count_by is_cancel new.events ≡ count_by is_cancel ol
 abbrev pub AreIdle : State → Type 0
 AreIdle s = (w : ℕ) → runs (slice_get s.workers w) ≡ None
 
--- a build without vertices; the board opened on it, on which nothing has happened, is used where no board is given
+-- a build without vertices; the board opened on it is used as a value if no board is given
 abbrev pub no_build : Build
 no_build = record { graph = record { vertices = []; result = record { vertex = 0; index = 0 } }; locals = [] }
 
--- the board that is used where none is given: of no graph and no workers
+-- the board that is used if none is given, without vertices and workers
 abbrev pub nothing : BoardValue
 nothing = opened no_build 0 []

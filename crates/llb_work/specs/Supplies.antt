@@ -1,11 +1,11 @@
--- What workers are supplied with.
+-- What workers are supplied with before their threads start.
 use Rattle.std.specs.Prelude.{◌≡◌, ℕ, ◌≤◌, List, Bool, false, vec_len, vec_capacity, unwrap_or, slice_get}
 use Rattle.llb_model.specs.Program.{Build}
 use Rattle.llb_model.specs.Outcome.{is_plain}
 use Rattle.llb_work.specs.declared.supply.Supply.{Supply}
 use Rattle.llb_work.specs.Passes.{IsUncut}
 
--- the marks of the vertices with no cache mount at or before them
+-- the marks are on exactly the vertices with no cache mount at or before them
 abbrev pub ArePlain : Build → List Bool → Type 0
 ArePlain b marks = (v : ℕ) → unwrap_or (slice_get marks v) false ≡ is_plain b v
 

@@ -15,7 +15,7 @@ use llb_board::laws::{
 };
 
 /// Does the chosen events until the board is complete. Ends with fault 151 `Memory` if memory is refused to a claim or a step. A board that
-/// was just opened ends, when it is complete, as if each claimed vertex had been run whole at its claim, one after the other, shared caches
+/// was just opened ends, when it is complete, as if the vertices had been run one after another in the order of their claims, shared caches
 /// included. If the graph has no caches, every vertex of a complete board has its plain outcome.
 pub fn run_alone(board: Board) -> RunEnd
     ensures goes { Goes board result.board }

@@ -48,7 +48,7 @@ impl<'x, S: Gated + Send + Sync, G: Gate + Sync, R: Threads + Wait + Sync> Crew<
     }
 }
 
-/// What a run in threads begins with: the board, a copy of it, the blank ledger that its events are counted by, and how many workers it has.
+/// What a run in threads begins with: the board, a copy of it, a ledger of no events, and how many workers there are.
 #[derive(Drop)]
 pub(crate) struct CrewStart {
     pub board: Board,
@@ -57,7 +57,7 @@ pub(crate) struct CrewStart {
     pub workers: u32,
 }
 
-/// What is left when the threads have ended: the board, the board that they began from as it was kept under the lock, how many events each
+/// What is left when the threads have ended: the board, the board that the run began from as it was kept under the lock, how many events each
 /// worker made, and the fault that was noted first.
 #[derive(Drop)]
 pub(crate) struct CrewEnd {
@@ -67,7 +67,7 @@ pub(crate) struct CrewEnd {
     pub noted: Option<Noted>,
 }
 
-/// Runs a board, with a copy of it kept beside it, in one thread for each of its workers. If memory is refused for what the workers need,
+/// Runs a board in one thread for each of its workers; a copy of the board is kept besides. If memory is refused for what the workers need,
 /// nothing is done, and the board is returned as it was given.
 pub(crate) fn run_crew<S: Gated + Send + Sync, G: Gate + Sync, R: Threads + Wait + Sync>(
     rt: &R,
@@ -125,7 +125,7 @@ pub(crate) fn run_crew<S: Gated + Send + Sync, G: Gate + Sync, R: Threads + Wait
     Ok(closed(board.into_inner(), share, made))
 }
 
-// Closes the book of a run whose threads have ended and have given back all shares of it. If the record has events that no worker has counted,
+// Closes the ledger of a run whose threads have ended and have given back all shares of it. If the record has events that no worker has counted,
 // counts them.
 fn closed<S: Gated>(shared: SharedBoard<S>, share: Share<S>, made: [u64; 64]) -> CrewEnd
     requires whole { share.parts ≡ S.parts }

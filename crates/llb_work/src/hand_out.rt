@@ -1,4 +1,4 @@
-//! Hands out passes, shares of the ledger and lists to any number of workers, at most 64, and takes them back.
+//! Hands out passes, shares of the ledger and lists to at most 64 workers, and takes them back.
 
 ghost use Rattle.std.specs.Prelude.{◌≡◌, ◌≤◌, ◌^◌, vec_len};
 ghost use Rattle.llb_ready.specs.Passes.{hand_of, IsReadyPassOf};
@@ -66,7 +66,7 @@ impl<'x, S: Gated + Send + Sync, G: Gate + Sync, R: Threads + Wait + Sync> Crew<
         self.gathered(workers, all, rest, threads)
     }
 
-    // Starts a thread for a worker. If that fails, notes it and does the worker's part on this thread.
+    // Starts a thread for a worker. If that fails, notes it and does the worker's work on this thread.
     fn start<E>(self, scope: &Scope<'x, E>, w: u32, kit: WorkerKit<S>) -> WorkerThread<S>
         requires stop { AllowsStops G.may_stop S.may_stop }
         requires pass { IsPassFor self.queue.now w kit.pass }

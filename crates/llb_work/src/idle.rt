@@ -1,21 +1,21 @@
-//! Where workers that find no number in the queue wait, and how they are woken. Nothing here knows about the board or its lock.
+//! Workers that find no number in the queue wait here and are woken here. Nothing here knows about the board or its lock.
 //!
 //! Before a worker waits it does three things, in this order: it reads `wakes`, sees that the run is not over, and finds the queue empty.
-//! It then parks on `wakes`, which returns at once if the word has changed since it was read. So the worker sleeps only if every wake since
-//! then is still to come, and a wake that comes later finds it: the wake changes `wakes` first and then reads `sleepers`, which the worker
+//! It then parks on `wakes`, which returns at once if the word has changed since it was read. So the worker sleeps only if no wake has come since
+//! it read the word, and a later wake does not miss it: the wake changes `wakes` first and then reads `sleepers`, which the worker
 //! has raised before it parks.
 //!
 //! Whoever puts numbers wakes one sleeper for each of them, except for the one that it takes itself right after. So while a worker sleeps,
 //! as many workers are about to take a number as there are numbers in the queue, and no number stays there. Whoever sees the run end wakes
-//! all sleepers. A number whose claim was refused for a held key is not in the queue: the worker that leaves the vertex with that key puts
-//! it again, as it puts the others that have become ready. So after the vertex that is left last there is always a worker awake that goes
+//! all sleepers. A number whose claim was refused for a held key is not in the queue: the worker that settles the vertex with that key puts
+//! it again, as it puts the numbers that have become ready. So after every settled vertex there is a worker awake that goes
 //! on or ends the run.
 
 use crossbeam_utils::Backoff;
 use std::sync::Wait;
 use std::sync::atomic::{AtomicU64, Ordering};
 
-/// Where idle workers wait.
+/// The counts by which idle workers wait.
 #[derive(Drop)]
 pub(crate) struct Idle {
     // How many wakes there were; its low 32 bits are compared when a worker parks.
@@ -27,7 +27,7 @@ pub(crate) struct Idle {
 }
 
 impl Idle {
-    /// Makes a place where nobody waits yet.
+    /// Makes the counts for a run in which nobody waits yet.
     pub(crate) fn new() -> Idle {
         Idle {
             wakes: AtomicU64::new(0),
@@ -36,7 +36,7 @@ impl Idle {
         }
     }
 
-    /// Returns what `wait` is to be given: the low 32 bits of the number of wakes. It is to be read before the look into the queue that may
+    /// Returns the argument for `wait`: the low 32 bits of the number of wakes. It has to be read before the look into the queue that may
     /// find nothing.
     pub(crate) fn wakes(&self) -> u32 {
         (self.wakes.load(Ordering::SeqCst) & 0xffff_ffff) as u32

@@ -1,5 +1,5 @@
-//! The numbers of vertices whose claim was refused because another worker has a locked key, by that key. They are put into the queue again
-//! one by one: the first when the vertex with the key is left, and each next one when the vertex of the one before is left or its claim is
+//! The numbers of vertices whose claim was refused because another worker holds a locked key, by that key. They are put into the queue again
+//! one by one: the first when the vertex that holds the key ends, and each next one when the vertex of the one before ends or its claim is
 //! refused for another key. So a number is not claimed again and again. The table is made with all the room that it needs, and later calls
 //! do not allocate. Nothing here knows about the board.
 
@@ -7,7 +7,7 @@ use llb_cache::Key;
 use std::alloc::{AllocError, Global};
 
 // The numbers that wait for one key: the first and the last of them in the order in which they came, and the one that was put into the queue
-// again and has not been claimed since. What comes after a number is in the table.
+// again and has not been claimed since. The table `after` has which number follows which.
 #[derive(Drop)]
 struct Row {
     key: Key,
@@ -23,11 +23,11 @@ impl Row {
     }
 }
 
-/// The numbers that wait, by key. There are few rows, because for each row a worker has the key, or a number was put into the queue again.
+/// The numbers that wait, by key. There are few rows: for each of them a worker holds the key, or a number was put into the queue again.
 #[derive(Drop)]
 pub(crate) struct KeyWaiters {
     rows: Vec<Row>,
-    // For each number the one that waits after it for the same key.
+    // For each number the next one that waits for the same key.
     after: Vec<Option<u32>>,
 }
 
@@ -42,7 +42,7 @@ impl KeyWaiters {
         Ok(KeyWaiters { rows, after })
     }
 
-    // Returns the place of a key's row.
+    // Returns the index of a key's row.
     fn place_of(&self, key: &Key) -> Option<usize> {
         self.rows.iter().position(|row| row.key == *key)
     }
@@ -64,7 +64,7 @@ impl KeyWaiters {
         }
     }
 
-    // Adds a number to the row at a place.
+    // Adds a number to the row with an index.
     fn push_at(&mut self, at: usize, v: u32) -> bool {
         let Some(row) = self.rows.get_mut(at) else {
             return false;
@@ -94,7 +94,7 @@ impl KeyWaiters {
         true
     }
 
-    // Takes the next number of the row at a place that is to be put into the queue again; `None` if one was put again already, or none waits.
+    // Takes the next number of a row, to be put into the queue again; `None` if one was put again already, or none waits.
     fn next_at(&mut self, at: usize) -> Option<u32> {
         let KeyWaiters { rows, after } = self;
         let row = rows.get_mut(at)?;
@@ -127,7 +127,7 @@ impl KeyWaiters {
         next
     }
 
-    // Removes the row at a place if it has no number.
+    // Removes a row if it has no number.
     fn drop_empty(&mut self, at: usize) {
         if at < self.rows.len() && self.rows[at].is_empty() {
             self.rows.swap_remove(at);

@@ -2,7 +2,7 @@
 //! ready vertices. It is built on `llb_board` and `llb_ready`, and changes the board only by the board's own calls.
 //!
 //! Types: `RunEnd` (the board, the number of events that each worker made, the fault), `RunFault` (151 to 154).
-//! Promise: `run_workers` (`leads`, `complete`, `idle`, `stopped`, `own`): the board that comes back goes on from the given one by granted
+//! Promise: `run_workers` (`leads`, `complete`, `idle`, `stopped`, `own`): the board that is returned goes on from the given one by granted
 //! events, whatever the fault, and no worker runs anything on it; without a fault it is complete. `run_alone` (`goes`, `ends`, `order`, `plain`)
 //! does the chosen events. That threads make progress is tested, and not proved.
 //!

@@ -1,4 +1,4 @@
-//! What a worker notes under the lock, and what is known of a run there.
+//! The reasons that a worker notes under the lock for ending a run early, and the ledger of a run.
 
 ghost use Rattle.std.specs.Prelude.{ℕ, Bool, true};
 ghost use Rattle.llb_board.specs.Seen.{BoardValue};
@@ -18,7 +18,7 @@ pub(crate) enum Noted {
     Thread,
 }
 
-/// The ledger of a run, which knows where the run's gate may stop, and the board that was given.
+/// The ledger of a run. Its type also has the board that was given, and where the run's gate may stop.
 pub(crate) trait Gated: Ledger {
     ghost may_stop: { ℕ → ℕ → Bool };
 

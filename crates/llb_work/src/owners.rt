@@ -1,12 +1,12 @@
-//! Second owners of the trees that a worker may drop while it holds the lock. As long as it has them none of these trees is freed, so it
-//! drops them after the hold.
+//! Further owners of the trees that a worker may drop while it holds the lock. As long as these exist no such tree is freed; they
+//! are dropped after the lock is released, so that freeing takes no time under it.
 
 use crate::shared_board::Brought;
 use llb_board::{Board, Workspace};
 use llb_tree::Tree;
 use std::alloc::Global;
 
-/// Second owners of the trees of a workspace and of cache instances.
+/// Further owners of the trees of a workspace and of cache instances.
 #[derive(Drop)]
 pub(crate) struct Owners {
     workspace: Workspace,
@@ -14,7 +14,7 @@ pub(crate) struct Owners {
 }
 
 impl Owners {
-    /// Makes second owners of the trees that a worker's landing, step, settle or cancel may drop: those of the workspace that its outcome
+    /// Makes further owners of the trees that a worker's landing, step, settle or cancel may drop: those of the workspace that its outcome
     /// leaves, or that it works on, and those of its cache instances. `None` if it runs nothing or memory is refused.
     pub(crate) fn of(alloc: Global, board: &Board, w: u32, brought: &Brought) -> Option<Owners> {
         let workspace = match brought {

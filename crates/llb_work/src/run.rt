@@ -19,19 +19,19 @@ use std::sync::ledger::Blank;
 use std::thread::Threads;
 
 /// Runs a board in as many threads as it has workers, 1 to 64. The threads share one lock and one queue of vertex numbers. First the number
-/// of every ready vertex is put into the queue, the least first. Each worker ends what it runs, then takes one number after another, claims
-/// that vertex, and works on it away from the lock; if the vertex shows a shared cache, the worker first passes the gate and then works on
-/// it event by event under the lock. When a worker has left a vertex, it puts into the queue the numbers of the vertices with an edge to it
-/// that are now ready. A number whose vertex needs a locked cache that another worker has is put again when the vertex with that cache is
-/// left. A worker that finds the queue empty sleeps until more numbers are put than others are about to take, or until the run is over.
+/// of every ready vertex is put into the queue, the least first. Each worker ends the vertex that it runs, then takes one number after another, claims
+/// that vertex, and works on it away from the lock; if the vertex mounts a shared cache, the worker first passes the gate and then works on
+/// it event by event under the lock. After the end of a vertex, the worker puts into the queue the numbers of its users
+/// that are now ready. A number whose vertex needs a locked cache that another worker holds is put again when the vertex with that cache
+/// ends. A worker that finds the queue empty sleeps until more numbers are put than others are about to take, or until the run is over.
 ///
 /// The fault is the first that is met: 151 `Memory` if memory is refused, 152 `Stopped` if the gate stops a worker, 153 `Thread` if a
 /// thread can't be started. If memory is refused for the copies of the board, the queue, the workers' lists or the table of numbers that wait
 /// for a key, no thread starts, and the board is returned as it was given. The worker that meets 151 or 152 notes the fault and cancels what
-/// it runs, both in one hold of the lock; every other worker ends what it runs, and the part of a worker without a thread is done by the
+/// it runs, both in one hold of the lock; every other worker ends what it runs, and the work of a worker without a thread is done by the
 /// caller's thread. So on any other board that is returned no worker runs anything and no cache is held. It goes on from the given board by
 /// granted events, none of which is a cancel unless there is a fault, and the sum of `made` is their number. 154 `Foreign` would say that the
-/// board which was kept under the lock from the beginning is found to be another one; it never occurs.
+/// board kept under the lock from the beginning is another one; it never occurs.
 pub fn run_workers<G: Gate + Sync, R: Threads + Wait + Sync>(
     rt: &R,
     alloc: Global,
@@ -68,7 +68,7 @@ pub fn run_workers<G: Gate + Sync, R: Threads + Wait + Sync>(
         made,
         noted,
     } = left;
-    // Never taken: the type of what the lock holds keeps that this copy is the given board.
+    // Never happens: by the type of what the lock holds, this copy is the given board.
     if !start.same(&outside) {
         let fault = Some(RunFault::Foreign(start));
         return RunEnd { board, made, fault };
@@ -103,7 +103,7 @@ fn refused(board: Board) -> RunEnd
     }
 }
 
-// Returns how a run ends whose threads have left a board and what is noted.
+// Returns the end of a run whose threads have left this board and this note.
 fn ended(board: Board, made: [u64; 64], noted: Option<Noted>) -> RunEnd
     requires { sum made ≤ length board.events }
     ensures goes { GoesOn board result.board }

@@ -1,4 +1,4 @@
-//! What is under the lock: the board, the board that the run began from, the book of the events that the workers have counted, and the fault
+//! What is under the lock: the board, the board that the run began from, the ledger of the events that the workers have counted, and the fault
 //! that was noted first; which vertices have no cache mount at or before them; and the vertex numbers that wait for a key. An invariant of its
 //! type says that the record goes on from the given board by granted events, and that none of them is a cancel unless something is noted.
 
@@ -117,7 +117,7 @@ impl<S: Gated> SharedBoard<S> {
         self.board.claim(w, v)
     }
 
-    // Lands on the board what a worker has worked out. If the job is known to be what the worker runs, nothing is compared. Fails with 131,
+    // Lands the outcome of a job on the board. If the job is known to be what the worker runs, nothing is compared. Fails with 131,
     // 136, 139 or 140.
     fn land(&mut self, w: u32, outcome: Outcome) -> Result<Settled, LandFault>
         requires { IsClaimed S.start w outcome.job.vertex outcome.job }
@@ -177,8 +177,8 @@ impl<S: Gated> SharedBoard<S> {
     }
 
     /// Does what a worker has to do in one hold of the lock, by what it brings, and counts the events for the worker. Returns what it is to do
-    /// next, and second owners of the trees that the hold has dropped. Adds to `news` the numbers that the worker then has to put into the
-    /// queue: those of the vertices that became ready when it left a vertex, the greatest first, and those of the vertices that waited for its
+    /// next, and further owners of the trees that this hold has dropped. Adds to `news` the numbers that the worker then has to put into the
+    /// queue: those of the vertices that became ready when its vertex ended, the greatest first, and those of the vertices that waited for its
     /// keys.
     pub(crate) fn turn(
         &mut self,
@@ -252,7 +252,7 @@ impl<S: Gated> SharedBoard<S> {
         }
     }
 
-    // Returns what a worker is to do after it has left a vertex, or after its landing or settle was refused.
+    // Returns what a worker is to do after its vertex has ended, or after its landing or settle was refused.
     fn left(&mut self, settled: Option<Settled>, news: &mut Vec<u32>) -> Turn
         ensures { (w : ℕ) → IsHere S.start w result }
     {
@@ -268,7 +268,7 @@ impl<S: Gated> SharedBoard<S> {
         }
     }
 
-    // Adds to `news`, for each key of a worker that is about to leave what it runs, one of the numbers that wait for the key.
+    // Adds to `news`, for each key of a worker whose vertex is about to end, one of the numbers that wait for the key.
     fn release(&mut self, w: u32, news: &mut Vec<u32>) {
         let SharedBoard { board, waiters, .. } = self;
         for place in board.places(w) {
@@ -278,7 +278,7 @@ impl<S: Gated> SharedBoard<S> {
         }
     }
 
-    // Lets a number wait for a key that another worker has. If it had waited for another key, adds the next number of that key to `news`.
+    // Lets a number wait for a key that another worker holds. If it had waited for another key, adds the next number of that key to `news`.
     fn wait_for(&mut self, key: Key, v: u32, news: &mut Vec<u32>) -> Turn
         ensures { (w : ℕ) → IsHere S.start w result }
     {
@@ -297,7 +297,7 @@ impl<S: Gated> SharedBoard<S> {
         self.noted.is_some() || self.board.is_complete()
     }
 
-    // Returns how a claimed vertex is worked on: under the lock if it shows a shared cache, otherwise away from it.
+    // Returns how a claimed vertex is worked on: under the lock if it mounts a shared cache, otherwise away from it.
     fn begun(&self, w: u32, job: Job) -> Turn
         requires { IsClaimed S.start w job.vertex job }
         ensures { IsHere S.start w result }

@@ -16,7 +16,7 @@ use llb_ready::ReadyPass;
 use std::sync::Wait;
 use std::sync::ledger::Ledger;
 
-/// What a worker has of its own and gives back: what it made, its pass, and the numbers that it still has to put, of which the last one is
+/// What a worker holds in its thread and gives back: its count of events, its pass, and the numbers that it still has to put, of which the last one is
 /// put first.
 #[derive(Drop)]
 pub(crate) struct WorkerKit<S: Ledger> {
@@ -53,7 +53,7 @@ impl<'x, S: Gated, G: Gate, R: Wait> Crew<'x, S, G, R> {
         kit
     }
 
-    // Does what a worker has to do away from the lock. Returns what it brings back; `None` if it ends.
+    // Does what a worker has to do away from the lock. Returns what it brings to the lock next; `None` if it ends.
     fn away(self, w: u32, turn: Turn, kit: &mut WorkerKit<S>) -> Option<Brought>
         requires stop { AllowsStops G.may_stop S.may_stop }
         requires here { IsHere S.start w turn }
@@ -70,8 +70,8 @@ impl<'x, S: Gated, G: Gate, R: Wait> Crew<'x, S, G, R> {
         }
     }
 
-    // Takes a number as soon as there is one; returns `None` if the run is over. After each try, puts the numbers that have met a full queue
-    // again.
+    // Takes a number as soon as there is one; returns `None` if the run is over. After each try, puts again the numbers for which the queue was
+    // full.
     fn taken(self, w: u32, kit: &mut WorkerKit<S>) -> Option<u32>
         requires { IsPassFor self.queue.now w kit.old.pass }
         ensures { IsPassFor self.entry.queue.now w kit.new.pass }
@@ -92,7 +92,7 @@ impl<'x, S: Gated, G: Gate, R: Wait> Crew<'x, S, G, R> {
         unreachable!()
     }
 
-    // Puts numbers into the queue, the last one first, until one meets a full queue. Those that are not put are kept. Returns how many were
+    // Puts numbers into the queue, the last one first, until the queue is full. Those that are not put are kept. Returns how many were
     // put.
     fn put_all(self, w: u32, kit: &mut WorkerKit<S>) -> usize
         requires { IsPassFor self.queue.now w kit.old.pass }

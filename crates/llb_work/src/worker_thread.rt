@@ -1,4 +1,4 @@
-//! A worker's place: a thread of its own, or the caller's thread.
+//! A worker's thread: one of its own, or the caller's thread if none could be started.
 
 use crate::worker::WorkerKit;
 use llb_ready::ReadyQueue;
@@ -6,7 +6,7 @@ use std::snapshot::Snapshot;
 use std::sync::ledger::Ledger;
 use std::thread::{Promise, PromisedHandle, Threads};
 
-/// What a worker owes: it has to give back the part of the passes that it was given. Only clauses read it.
+/// What a worker has promised to give back: its part of the queue's pass. Only clauses read it.
 #[derive(Drop)]
 pub(crate) struct Owed {
     pub queue: Snapshot<ReadyQueue>,
@@ -30,7 +30,7 @@ impl<S: Ledger> WorkerThread<S> {
     ghost use Rattle.llb_work.specs.Passes.{IsPassFor};
     ghost use Rattle.llb_work.specs.Threads.{ThreadKeeps};
 
-    /// Waits until the worker has ended, and returns what it gives back.
+    /// Waits until the worker has ended, and returns what it held.
     pub(crate) fn join<R: Threads>(self, rt: &R, queue: &ReadyQueue, w: u32) -> WorkerKit<S>
         requires { ThreadKeeps queue.now w self }
         ensures { IsPassFor queue.now w result.pass }

@@ -1,4 +1,4 @@
-//! The program: the process's words, files, readers and writers, and its exit status. `llb_commands` has what its commands do.
+//! The program: passes the process's words, files, readers and writers to `llb_commands`, which has what the commands do, and sets its exit status.
 #![tactic(auto)]
 
 #[cfg(test)]
@@ -20,7 +20,7 @@ fn words_given(rt: &HostRuntime) -> Result<Vec<String>, WordsFault<'static>> {
     Ok(words.skip(1).collect(rt.alloc())?)
 }
 
-// The machine's own files. Nothing is known of their bytes.
+// The machine's own files. Contracts know nothing of their bytes.
 #[derive(Clone, Copy)]
 struct Files<'a> {
     rt: &'a HostRuntime,
@@ -38,7 +38,7 @@ impl Sources for Files<'_> {
     }
 }
 
-// Standard error, with a buffer in which each line is put together: it goes out in one write. Without memory for it a line goes out in its parts.
+// Returns standard error with a buffer for a whole line, so that a line is written at once. If memory for that is refused, a line is written in parts.
 fn errors(rt: &HostRuntime) -> io::Result<LineWriter<Stderr>> {
     match LineWriter::new(rt.alloc(), rt.stderr()) {
         Ok(err) => Ok(err),
@@ -49,7 +49,7 @@ fn errors(rt: &HostRuntime) -> io::Result<LineWriter<Stderr>> {
 fn main(rt: HostRuntime) -> ExitCode {
     let alloc = rt.alloc();
     let Ok(mut err) = errors(&rt) else {
-        // Unreachable: a buffer for no bytes takes no memory.
+        // Unreachable: a buffer for no bytes needs no memory.
         return ExitCode::from(3);
     };
     let words = match words_given(&rt) {

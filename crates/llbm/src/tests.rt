@@ -1,4 +1,4 @@
-//! The program over readers and writers in memory: the worked examples, refusals, and devices that fail.
+//! Tests of the program over readers and writers in memory: the worked examples, refusals, and devices that fail.
 
 mod assembler_texts;
 mod assembling;

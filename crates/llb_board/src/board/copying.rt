@@ -6,7 +6,7 @@ use crate::board::Board;
 use crate::fault::Memory;
 
 impl Board {
-    /// Returns a second board on which the same has happened. Its record has the same room, since `events` fixes the room by what contracts
+    /// Returns a second board with the same state and record. Its record has the same room, since `events` fixes the room by what contracts
     /// see of a board. It shares the graph and all trees. Fails with 141 `Memory` alone.
     pub fn copy(&self) -> Result<Board, Memory>
         ensures { IfOk result (λ b. b ≡ self.now) }

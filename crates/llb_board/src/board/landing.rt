@@ -1,4 +1,4 @@
-//! The landing of an outcome: the block of all micro-steps that a worker has left and of its settle, for work that was done away from
+//! The landing of an outcome: all remaining micro-steps of a worker and its settle at once, for work that was done away from
 //! the board. It settles and does no micro-step. `land` compares trees, by value alone; `land_known` compares nothing.
 
 ghost use Rattle.std.specs.Prelude.{◌≡◌, option_map, slice_get, IfOk, IfErr, OnOk, OnErr};
@@ -28,9 +28,9 @@ pub(crate) enum LandCause {
 }
 
 impl Board {
-    /// Lands the outcome of a worker's job: the effect is that of all micro-steps that the worker has left and of its settle, and the record
-    /// grows by exactly these. Fails with 131 `NoWorker`, 136 `NotRunning`, 140 `HasShared` where a cache of its vertex is in shared mode, or
-    /// 139 `Stranger` where the outcome's job is not what the worker runs now, with the caches as they are now. Then the fault holds the
+    /// Lands the outcome of a worker's job: the effect is that of all remaining micro-steps of the worker and of its settle, and the record
+    /// grows by exactly these events. Fails with 131 `NoWorker`, 136 `NotRunning`, 140 `HasShared` if a cache of its vertex is in shared mode, or
+    /// 139 `Stranger` if the outcome's job is not what the worker runs now, with the caches as they are now. Then the fault holds the
     /// outcome, and the board is as it was. Does not allocate.
     pub fn land(&mut self, w: u32, outcome: Outcome) -> Result<Settled, LandFault>
         ensures gives { IfOk result (λ r. Lands self.old w outcome self.new (HasSettled r)) }
@@ -55,7 +55,7 @@ impl Board {
         self.settle(w).unwrap()
     }
 
-    /// Returns whether what a worker runs has an instance of a shared cache, so that no outcome of it lands. False where the worker runs nothing
+    /// Returns whether what a worker runs has an instance of a shared cache, so that no outcome of it lands. False if the worker runs nothing
     /// or there is no such worker. Does not allocate.
     pub fn has_shared(&self, w: u32) -> bool
         ensures { result ≡ runs_shared (slice_get self.now.state.workers w) }
@@ -63,14 +63,14 @@ impl Board {
         has_shared(self.workers.places(w))
     }
 
-    /// Returns the instances of caches that a worker has; none where it runs nothing, or there is no such worker. Does not allocate.
+    /// Returns the instances of caches that a worker has; none if it runs nothing, or there is no such worker. Does not allocate.
     pub fn places(&self, w: u32) -> &[Instance]
         ensures { result.now ≡ places_at (slice_get self.now.state.workers w) }
     {
         self.workers.places(w)
     }
 
-    /// Returns the workspace of what a worker runs; `None` where it runs nothing, or there is no such worker. Does not allocate.
+    /// Returns the workspace of what a worker runs; `None` if it runs nothing, or there is no such worker. Does not allocate.
     pub fn workspace(&self, w: u32) -> Option<&Workspace>
         ensures { option_map (λ v. v.now) result ≡ option_map (λ (x : Execution). x.own) (runs (slice_get self.now.state.workers w)) }
     {

@@ -1,4 +1,4 @@
-//! Takes an event back: what it displaced is on the board again.
+//! Takes an event back: restores what the event displaced.
 
 ghost use Rattle.std.specs.Prelude.{◌≡◌};
 ghost use Rattle.llb_board.specs.Undo.{undone, CanUndo};

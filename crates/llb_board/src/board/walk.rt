@@ -1,4 +1,4 @@
-//! Does an event and keeps what undoes it, for callers that go through a run forwards and back.
+//! Does an event and keeps what takes it back, for callers that go through a run forwards and back.
 
 ghost use Rattle.std.specs.Prelude.{◌≡◌, OnErr, IfOk};
 ghost use Rattle.llb_board.specs.Undo.{GivesWalk, walk_of, undone, CanUndo};

@@ -15,7 +15,7 @@ pub struct Events {
     room: usize,
 }
 
-// It is written out so that the crates above drop one by this one function.
+// Written by hand, so that it is proved once; a derived one is proved again in every function that drops such a value.
 impl Drop for Events {
     fn drop(self) {
         let Events { items: _, room: _ } = self;
@@ -54,7 +54,7 @@ impl Events {
         self.items.push_reserved(event);
     }
 
-    /// Removes and returns the last event; `None` where there is none. The room stays.
+    /// Removes and returns the last event; `None` if there is none. The room stays.
     pub(crate) fn take_back(&mut self) -> Option<Event>
         ensures last { result ≡ last_of self.old.list }
         ensures list { self.new.list ≡ front self.old.list }

@@ -1,4 +1,4 @@
-//! What a board works on: the graph, and the trees of local sources by name.
+//! What a board is opened on: the graph, and the trees of local sources by name.
 
 ghost use Rattle.std.specs.Prelude.{◌≡◌, ◌<◌, ◌^◌, length, option_map, slice_get, IfOk};
 ghost use Rattle.llb_loader.specs.Graph.{IsGraph};
@@ -60,7 +60,7 @@ impl Build {
         self.graph.vertices()
     }
 
-    /// Returns the vertex of a number; `None` past the last vertex.
+    /// Returns the vertex with a number; `None` past the last vertex.
     pub(crate) fn vertex(&self, v: u32) -> Option<&Vertex>
         ensures there { option_map (λ x. x.now) result ≡ slice_get self.now.graph.vertices v }
         ensures few { length (program_at (slice_get self.now.graph.vertices v)).steps < 2 ^ 25 }

@@ -14,14 +14,14 @@ use crate::vertices::build::Build;
 use crate::vertices::stage::Stage;
 use llb_loader::{Edge, Vertex};
 
-/// Returns whether a vertex is marked; one past the marks is not.
+/// Returns whether a vertex is marked; false for a number past the last mark.
 pub(crate) fn is_marked(stop_marks: &[bool], v: u32) -> bool
     ensures { result ≡ unwrap_or (slice_get stop_marks.now v) false }
 {
     stop_marks.get(v as usize).copied().unwrap_or(false)
 }
 
-/// Brings the marks up to date with the states, of which only that of vertex v has changed; it was `had`.
+/// Updates the marks after a change of the state of vertex v alone; its state before was `had`.
 pub(crate) fn mark(
     stop_marks: &mut [bool],
     links: &mut Links,

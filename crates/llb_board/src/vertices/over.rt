@@ -1,4 +1,4 @@
-//! Which vertices are Ready, and which are over: done, failed, or without hope of their inputs.
+//! Which vertices are Ready, and which can't be claimed now or later: done, failed or blocked.
 
 ghost use Rattle.std.specs.Prelude.{◌≡◌, map, slice_get, false, unwrap_or, ◌||◌, ◌&&◌};
 ghost use Rattle.llb_model.specs.State.{stopped, is_waiting};
@@ -35,7 +35,7 @@ pub(crate) fn is_ended(stages: &[Stage], stop_marks: &[bool], v: u32) -> bool
     }
 }
 
-/// Returns a number at or after `from` below which every vertex is over; those below `from` are.
+/// Returns a number at or after `from` below which no vertex can be claimed now or later, given that this holds below `from`.
 pub(crate) fn first_open(
     build: &Build,
     stages: &[Stage],

@@ -11,7 +11,7 @@ use llb_tree::Tree;
 use llb_wire::{Many, Same};
 use std::alloc::Global;
 
-/// What is known of a vertex: that it waits, which worker runs it, its trees or its fault.
+/// The state of a vertex: it waits, a worker runs it, or it ended with its trees or its fault.
 #[derive(Drop)]
 pub(crate) enum Stage {
     /// No worker runs it, and it has not ended.

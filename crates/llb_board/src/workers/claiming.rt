@@ -1,4 +1,4 @@
-//! A claim: all tests that can refuse it, and what the worker will run; then the lease, which memory alone can refuse.
+//! A claim: first all tests that can refuse it, and the preparation of what the worker will run; then the lease, which can only lack memory.
 
 ghost use Rattle.std.specs.Prelude.{◌≡◌, ◌<◌, ◌^◌, length, map, true, Ok, Some, OnErr, OnOk, IfErr, IfOk};
 ghost use Rattle.std.specs.List.{All};
@@ -33,7 +33,7 @@ use llb_wire::Many;
 use std::alloc::Global;
 use std::marker::Model;
 
-/// What a claim begins with: the job, what the worker will run, what is to be leased, and in which rows its keys were found.
+/// A claim that is prepared: the job, what the worker will run, the needs to be leased, and the rows in which their keys were found.
 pub(crate) struct Begun {
     job: Job,
     execution: Execution,
@@ -41,7 +41,7 @@ pub(crate) struct Begun {
     rows: Vec<Option<usize>>,
 }
 
-// It is written out so that a board drops one by this one function.
+// Written by hand, so that it is proved once; a derived one is proved again in every function that drops such a value.
 impl Drop for Begun {
     fn drop(self) {
         let Begun {
@@ -73,7 +73,7 @@ impl Model for Begun {
 }
 
 impl Begun {
-    // Returns the parts of which a claim is started.
+    // Returns the fields, of which a claim is started.
     fn into_parts(self) -> (Job, Execution, Vec<Need>, Vec<Option<usize>>)
         ensures job { result.0 ≡ self.job }
         ensures execution { execution_of result.1 ≡ self.execution }
@@ -91,7 +91,7 @@ impl Begun {
 }
 
 impl Workers {
-    /// Makes what a worker's claim of a vertex begins with; nothing changes. Fails with the first of 131 `NoWorker`,
+    /// Prepares a worker's claim of a vertex; nothing changes. Fails with the first of 131 `NoWorker`,
     /// 132 `Busy`, 133 `NoVertex`, 134 `NotReady` and 135 `Held` that applies, or with 141 `Memory`: for the text of
     /// the key that is held, or if nothing else refuses it.
     pub(crate) fn begin(
@@ -117,7 +117,7 @@ impl Workers {
         begun_with(alloc, vertices, (w, v), vertex, &wanted)
     }
 
-    /// Makes a worker run what was begun on this state, with a lease of its instances. Fails with 141 `Memory` alone; then nothing has changed.
+    /// Makes a worker run the vertex of a claim that was prepared on this state, and leases its instances. Fails with 141 alone; then nothing has changed.
     pub(crate) fn start(&mut self, vertices: &Vertices, begun: Begun) -> Result<Job, ClaimFault>
         requires { IsBegunOn vertices.now self.old begun }
         ensures job { IfOk result (λ job. job ≡ begun.job) }

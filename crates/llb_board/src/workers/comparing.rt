@@ -15,7 +15,7 @@ use llb_execution::Job;
 use llb_tree::Tree;
 use llb_wire::Same;
 
-/// Returns whether a job has this worker and the execution's vertex, as many micro-steps are done, and none of them has faulted.
+/// Returns whether a job is of this worker and the execution's vertex, with as many micro-steps done, and no micro-step of the execution has faulted.
 pub(crate) fn is_begun(w: u32, execution: &Execution, job: &Job) -> bool
     ensures { IsTrue result ↔ IsBegun w (execution_of execution.now) job.now }
 {
@@ -25,7 +25,7 @@ pub(crate) fn is_begun(w: u32, execution: &Execution, job: &Job) -> bool
         && execution.fault.is_none()
 }
 
-/// Returns whether instances, which are there, have these trees.
+/// Returns whether these instances, which all exist, have these trees.
 pub(crate) fn has_trees(caches: &Caches, places: &[Instance], trees: &[Tree]) -> bool
     requires { (p : model.Instance) → Has places.now p → p.number < length (trees_of caches.now.rows p.key) }
     ensures { IsTrue result ↔ (trees.now ≡ trees_at (store_of caches.now.rows) places.now) }
@@ -41,7 +41,7 @@ pub(crate) fn has_trees(caches: &Caches, places: &[Instance], trees: &[Tree]) ->
     true
 }
 
-// Returns whether an instance, which is there, has this tree.
+// Returns whether an instance, which exists, has this tree.
 fn has_tree(caches: &Caches, place: &Instance, tree: &Tree) -> bool
     requires { place.now.number < length (trees_of caches.now.rows place.now.key) }
     ensures { IsTrue result ↔ (tree.now ≡ tree_of (store_of caches.now.rows) place.now) }
@@ -52,7 +52,7 @@ fn has_tree(caches: &Caches, place: &Instance, tree: &Tree) -> bool
     }
 }
 
-/// Returns whether instances have these numbers.
+/// Returns whether these instances have these numbers.
 pub(crate) fn has_numbers(places: &[Instance], numbers: &[u32]) -> bool
     ensures { IsTrue result ↔ (numbers.now ≡ map number_of places.now) }
 {

@@ -1,5 +1,5 @@
 //! The cache instances of a worker: it leases them, reads their trees for a micro-step, writes them after it, and gives the lease
-//! back. A worker whose vertex shows no cache has no lease.
+//! back. A worker whose vertex mounts no cache has no lease.
 
 ghost use Rattle.std.specs.Prelude.{◌≡◌, ◌≢◌, ◌<◌, ◌^◌, map, length, AllPairs, IfOk, IfErr, OnErr, Ok, true};
 ghost use Rattle.std.specs.Option.{ForSome};
@@ -20,7 +20,7 @@ use llb_tree::Tree;
 use llb_wire::Many;
 use std::alloc::Global;
 
-/// Returns copies of the trees of instances; an instance that is not there has the empty tree. Fails with 141 `Memory` alone.
+/// Returns copies of the trees of instances, the empty tree for one that does not exist. Fails with 141 `Memory` alone.
 pub(crate) fn contents(
     alloc: Global,
     caches: &Caches,
@@ -46,7 +46,7 @@ fn content(alloc: Global, caches: &Caches, place: &Instance) -> Result<Tree, Ste
     }
 }
 
-/// Leases instances for these needs, whose keys differ and are looked for in these rows first; `None` if there are no
+/// Leases instances for these needs, whose keys are distinct and are looked for in these rows first; `None` if there are no
 /// needs. Fails with 111 `Held` and the first locked key that is held, or with 112 `Memory`; then the caches are as
 /// they were.
 pub(crate) fn lease_for(
@@ -65,7 +65,7 @@ pub(crate) fn lease_for(
     Ok(Some(caches.lease_near(Many::new(needs), rows)?))
 }
 
-/// Gives back a lease that is out, if there is one.
+/// Gives back a lease, which is current, if there is one.
 pub(crate) fn give_back(caches: &mut Caches, lease: Option<Lease>)
     requires { IsOutIf caches.old.out lease }
     ensures { caches.new ≡ given_back caches.old lease }
@@ -75,7 +75,7 @@ pub(crate) fn give_back(caches: &mut Caches, lease: Option<Lease>)
     }
 }
 
-/// Takes a lease back, if there is one, with what it added, given for each of its instances.
+/// Takes back a lease, if there is one, and what it added for each of its instances.
 pub(crate) fn take_back(caches: &mut Caches, lease: Option<Lease>, growths: &[Growth])
     requires out { IsOutIf caches.old.out lease }
     requires there { AreThere (taken_back caches.old lease growths.now).rows (taken_back caches.old lease growths.now).out }
@@ -86,7 +86,7 @@ pub(crate) fn take_back(caches: &mut Caches, lease: Option<Lease>, growths: &[Gr
     }
 }
 
-/// Returns what a lease of these instances is made of, with room for this many leases; `None` if there are none. Fails with 141 `Memory` alone.
+/// Returns a prepared lease of these instances, with room for this many leases; `None` if there are no instances. Fails with 141 `Memory` alone.
 pub(crate) fn lent_for(
     alloc: Global,
     places: &[Instance],
@@ -100,7 +100,7 @@ pub(crate) fn lent_for(
     Ok(Some(Lent::new(alloc, places, room)?))
 }
 
-/// Grants a lease that was made ready, if there is one. Does not allocate.
+/// Makes a prepared lease, if there is one. Does not allocate.
 pub(crate) fn lend_again(caches: &mut Caches, lent: Option<Lent>) -> Option<Lease>
     requires { ForSome lent (CanLend caches.old) }
     ensures { (result, caches.new) ≡ lent_if caches.old lent }
@@ -111,7 +111,7 @@ pub(crate) fn lend_again(caches: &mut Caches, lent: Option<Lent>) -> Option<Leas
     }
 }
 
-/// Replaces the trees of a lease's instances by these. Without a lease there are no trees.
+/// Replaces the trees of a lease's instances by these trees. Without a lease there are no trees.
 pub(crate) fn write_back(caches: &mut Caches, lease: Option<Lease>, trees: Vec<Tree>)
     requires count { length trees.items ≡ length (leased_places caches.old.out lease) }
     requires few { length trees.items < 2 ^ 32 }
@@ -123,7 +123,7 @@ pub(crate) fn write_back(caches: &mut Caches, lease: Option<Lease>, trees: Vec<T
     }
 }
 
-// Replaces the trees of a lease's instances by these.
+// Replaces the trees of a lease's instances by these trees.
 fn write_all(caches: &mut Caches, lease: Lease, trees: Vec<Tree>)
     requires count { length trees.items ≡ length (places_of caches.old.out lease) }
     requires few { length trees.items < 2 ^ 32 }

@@ -1,4 +1,4 @@
-//! A worker leaves what it runs, or gives it up: its instances are free again.
+//! A worker settles or cancels what it runs: its instances are free again.
 
 ghost use Rattle.std.specs.Prelude.{◌≡◌, OnErr, OnOk, IfOk, option_map, replicate, slice_get, slice_set};
 ghost use Rattle.llb_tree.specs.Tree.{empty_tree};
@@ -20,7 +20,7 @@ use llb_loader::Vertex;
 use llb_wire::Many;
 
 impl Workers {
-    /// Makes a worker leave what it runs, which is finished; its instances are free again. Returns the vertex with its status then. Fails with
+    /// Settles what a worker runs, which is finished; its instances are free again. Returns the vertex with its status after that. Fails with
     /// 131 `NoWorker`, 136 `NotRunning` or 138 `NotFinished`; then nothing has changed. Does not allocate.
     pub(crate) fn leave(&mut self, vertices: &Vertices, w: u32) -> Result<(u32, Stage), SettleFault>
         requires { Fits vertices.now.build self.old }
@@ -48,7 +48,7 @@ impl Workers {
         Ok((v, end(execution, vertices.vertex(v))))
     }
 
-    /// Makes a worker give up what it runs, finished or not; its instances are free again. Returns the vertex with its count of micro-steps
+    /// Cancels what a worker runs, finished or not; its instances are free again. Returns the vertex with its count of micro-steps
     /// done. Fails with 131 `NoWorker` or 136 `NotRunning`; then nothing has changed. Does not allocate.
     pub(crate) fn give_up(&mut self, w: u32) -> Result<Cancelled, CancelFault>
         ensures gives { GivesCancel (λ c. (c.vertex, c.done)) result (given_up_at (slice_get self.old.workers w)) }

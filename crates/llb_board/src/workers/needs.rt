@@ -1,4 +1,4 @@
-//! The caches that a vertex shows, and what its claim takes of them: the instances, the trees that they begin with, and
+//! The caches that a vertex mounts, and what its claim takes of them: the instances, the trees that they begin with, and
 //! the needs of a lease. It is built on the mounts of a vertex and on caches, which it only reads.
 
 ghost use Rattle.std.specs.Prelude.{◌≡◌, ◌<◌, ◌^◌, Ok, IfErr, IfOk, MatchResult, Some, None, true, map, length, option_map};
@@ -21,8 +21,8 @@ use llb_ops::Mount;
 use llb_tree::Tree;
 use std::alloc::Global;
 
-/// A cache that an exec shows: at which mount, its key, the number of the input that a new instance begins with, -1 for none, and what the
-/// caches have of the key.
+/// A cache that an exec mounts: the number of the mount, the key, the number of the input that a new instance begins with, -1 for none, and what
+/// the caches have for the key.
 #[derive(Drop)]
 pub(crate) struct Wanted<'a> {
     pub mount: u32,
@@ -31,7 +31,7 @@ pub(crate) struct Wanted<'a> {
     pub found: Found<'a>,
 }
 
-/// What a claim takes, made before anything changes.
+/// What a claim takes, computed before anything changes.
 #[derive(Drop)]
 pub(crate) struct Taking {
     pub places: Vec<Instance>,
@@ -44,7 +44,7 @@ pub(crate) struct Taking {
     pub rows: Vec<Option<usize>>,
 }
 
-// Returns the caches that a vertex shows, in the order of the mounts. Fails with 135 `Held` and the first locked key
+// Returns the caches that a vertex mounts, in the order of the mounts. Fails with 135 `Held` and the first locked key
 // that a lease has, for which alone it then allocates; else with 141 `Memory`, which can also come in place of 135.
 pub(crate) fn wanted_by<'a>(
     alloc: Global,
@@ -64,7 +64,7 @@ pub(crate) fn wanted_by<'a>(
     }
 }
 
-/// Returns what a claim of a vertex would add to the caches, for each cache that it shows. Fails with 141 `Memory` alone.
+/// Returns what a claim of a vertex would add to the caches, for each cache that it mounts. Fails with 141 `Memory` alone.
 pub(crate) fn growths_of(
     alloc: Global,
     caches: &Caches,
@@ -82,7 +82,7 @@ pub(crate) fn growths_of(
     Ok(growths)
 }
 
-// Returns the row of the last locked key that a vertex shows, or fails with the first of these keys that a lease has.
+// Returns the row of the last locked key that a vertex mounts, or fails with the first of these keys that a lease has.
 // Does not allocate.
 fn last_locked<'a>(caches: &Caches, vertex: &'a Vertex) -> Result<Option<usize>, KeyRef<'a>>
     requires { HasEdges vertex.now }
@@ -103,7 +103,7 @@ fn last_locked<'a>(caches: &Caches, vertex: &'a Vertex) -> Result<Option<usize>,
     Ok(row)
 }
 
-// Looks up the caches that a vertex shows. The row of number `near` is tried first for each of the keys.
+// Looks up the caches that a vertex mounts. The row of number `near` is tried first for each of the keys.
 fn wants<'a>(
     alloc: Global,
     caches: &'a Caches,
@@ -131,7 +131,7 @@ fn wants<'a>(
     Ok(wanted)
 }
 
-// Returns the key of the cache that a mount of a vertex shows, if it shows a locked one. Does not allocate.
+// Returns the key of the cache that a mount of a vertex shows, if it is a locked one. Does not allocate.
 fn locked_key_shown<'a>(vertex: &'a Vertex, mount: &'a Mount) -> Option<KeyRef<'a>>
     requires { HasEdges vertex.now }
     ensures { result ≡ if_locked (option_map key_as (key_of vertex.now.op.inputs mount.now)) }
@@ -167,7 +167,7 @@ fn seed_shown(vertex: &Vertex, input: i64) -> Option<(&str, u32)>
     Some((shown.digest.as_str(), vertex.inputs.as_slice()[at].index))
 }
 
-// Returns how a cache is shared, by its number.
+// Returns the mode in which a cache is shared, by its number.
 fn mode_of(sharing: i32) -> Mode
     ensures { result ≡ mode_of sharing }
 {
@@ -211,7 +211,7 @@ pub(crate) fn taking_for(
     })
 }
 
-// Makes the instances that a lease of these caches would have.
+// Returns the instances that a lease of these caches would take.
 fn places_found(alloc: Global, wanted: &[Wanted<'_>]) -> Result<Vec<Instance>, ClaimFault>
     ensures { GivesClaim (λ ps. ps.items) result (Ok (map place_found wanted.now)) }
 {
@@ -250,7 +250,7 @@ fn first_trees(
     Ok(trees)
 }
 
-// Copies the tree of an instance, or that of its seed if the instance is not there.
+// Copies the tree of an instance, or that of its seed if the instance does not exist.
 fn first_tree(alloc: Global, inputs: &[Tree], want: &Wanted<'_>) -> Result<Tree, ClaimFault>
     ensures { GivesClaim (λ t. t) result (Ok (first_tree inputs.now want.now)) }
 {

@@ -1,5 +1,5 @@
-//! What an event displaces of the workers and of the caches, taken before the event and put back after it. It has a part for each cache that
-//! the vertex of the event shows, and none for other caches.
+//! What an event displaces of the workers and of the caches: kept before the event, and put back to take the event back. It has an item for each cache
+//! that the vertex of the event mounts, and none for other caches.
 
 ghost use Rattle.std.specs.Prelude.{◌≡◌, ◌<◌, false, length, map, option_map, slice_get, IfOk, IfErr, Err};
 ghost use Rattle.llb_events.specs.declared.event.Event.TheVariants.{Step};
@@ -25,12 +25,12 @@ use llb_tree::Tree;
 use std::alloc::Global;
 use std::marker::Model;
 
-/// What is needed to put an event back: what the event displaced. Contracts see it as `Displaced`.
+/// What is needed to take an event back: what the event displaced. Contracts see it as `Displaced`.
 pub struct Undo {
     back: Back,
 }
 
-// It is written out so that a board drops one by this one function.
+// Written by hand, so that it is proved once; a derived one is proved again in every function that drops such a value.
 impl Drop for Undo {
     fn drop(self) {
         let Undo { back: _ } = self;
@@ -40,7 +40,7 @@ impl Drop for Undo {
 /// What an event displaced, by the kind of the event.
 #[derive(Drop)]
 pub(crate) enum Back {
-    /// For a claim: the worker, the vertex that waited, and what its lease added to the caches.
+    /// For a claim: the worker, the vertex, and what its lease added to the caches.
     Unclaim(u32, u32, Vec<Growth>),
     /// For a step: the worker, what the micro-step could change of its view, and the trees of its cache instances.
     Unstep(u32, Mark, Vec<Tree>),
@@ -48,16 +48,16 @@ pub(crate) enum Back {
     Resume(End, u32, Execution, Option<Lent>),
 }
 
-/// The event by which a worker leaves what it runs.
+/// The event by which a worker gives up what it runs.
 #[derive(Clone, Copy)]
 pub(crate) enum End {
     /// The execution was finished.
     Settle,
-    /// The execution was given up.
+    /// The execution was cancelled.
     Cancel,
 }
 
-/// The status that a vertex goes back to.
+/// A vertex, and the status that it has again after an event is taken back.
 #[derive(Drop)]
 pub(crate) struct Change {
     pub vertex: u32,
@@ -87,7 +87,7 @@ impl Undo {
 }
 
 impl Workers {
-    /// Returns what puts an event back, before it is done. Fails with 131 `NoWorker` or 136 `NotRunning` if the event
+    /// Returns what takes an event back; called before the event is done. Fails with 131 `NoWorker` or 136 `NotRunning` if the event
     /// would, and with 141 `Memory`.
     pub(crate) fn before(
         &self,
@@ -165,7 +165,7 @@ impl Workers {
         }
     }
 
-    /// Puts back what an event displaced of the workers and the caches. Returns the vertex that goes back to another status with that status;
+    /// Puts back what an event displaced of the workers and the caches. Returns the vertex that gets another status, with that status;
     /// `None` for a step. Does not allocate.
     pub(crate) fn put_back(&mut self, undo: Undo) -> Option<Change>
         requires { CanPutBack undo self.old }
@@ -211,7 +211,7 @@ fn displace(seats: &mut Vec<Seat>, caches: &mut Caches, back: Back) -> Option<Ch
     }
 }
 
-// Returns the fault of a settle or a cancel by a worker that is not there, 131 `NoWorker`.
+// Returns the fault of a settle or a cancel by a worker that does not exist, 131 `NoWorker`.
 fn no_worker(end: End) -> WalkFault
     ensures { result ≡ no_worker end }
 {
@@ -231,7 +231,7 @@ fn not_running(end: End) -> WalkFault
     }
 }
 
-// Returns what a claim of the vertex of a number would add to the caches; nothing past the last vertex.
+// Returns what a claim of the vertex with a number would add to the caches; nothing past the last vertex.
 fn growths_at(
     alloc: Global,
     vertices: &Vertices,

@@ -1,14 +1,14 @@
--- What follows for rules that go on with one another.
+-- What follows for rules that are applied one after another.
 use Rattle.std.specs.Prelude.{◌≡◌, Bool, true, false, cond, Result, Ok, Err}
 use Rattle.std.proofs.Common.{refl}
 use Rattle.llb_wire.specs.Answer.{◌>>=◌}
 
--- what goes on to a value had a value to go on with
+-- if two rules in a row return a value, the first one has returned a value too
 pub bind_ok : {A B F : Type 0} (r : Result A F) (f : A → Result B F) (y : B) → (r >>= f) ≡ Ok y → (x : A) × (r ≡ Ok x) × (f x ≡ Ok y)
 bind_ok (Ok x) f y e = (x, refl, e)
 bind_ok (Err d) f y e = absurd cc
 
--- if a test refuses and there is a value, the test is false, and the value is the one
+-- if a rule that refuses on a test returns a value, the test is false, and the value is the given one
 pub guard_ok : {A F : Type 0} (b : Bool) (d : F) (x y : A) → cond b (Err d) (Ok x) ≡ Ok y → (b ≡ false) × (x ≡ y)
 guard_ok true d x y e = absurd cc
 guard_ok false d x y e = (refl, cc)

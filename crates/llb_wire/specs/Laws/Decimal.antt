@@ -1,4 +1,4 @@
--- A number of 64 bits is held as it is, and the greatest of them for all above.
+-- A number below 2^64 is kept as it is, and any other as 2^64 - 1.
 use Rattle.std.proofs.Common.{◌≡◌, ℕ, ◌-◌, ◌^◌, ◌<◌, ◌≤◌, cond, ap}
 use Rattle.std.proofs.lemmas.Bool.{lt-ltb, le-ltb}
 use Rattle.llb_wire.specs.Decimal.{capped}

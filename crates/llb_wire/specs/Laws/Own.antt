@@ -14,7 +14,7 @@ use Rattle.llb_wire.specs.Laws.Answers.{bind_ok, guard_ok}
 use Rattle.llb_wire.specs.Reading.{varint_from, varint_at, number_of, wire_of, fixed_at, as_field, payload_at, field_at}
 use Rattle.llb_wire.specs.Laws.Varints.{short_or, varint_len}
 
--- any value as a result without a fault
+-- a value as a result without a fault
 abbrev is_ok_of : {A : Type 0} → A → Result A WireFault
 is_ok_of x = Ok x
 
@@ -23,7 +23,7 @@ ok_is e = cc
 
 -- ---- varints
 
--- a pair, as one name
+-- the pair of two numbers, under a name that proofs can use
 abbrev pair : ℕ → ℕ → ℕ × ℕ
 pair a b = (a, b)
 
@@ -40,7 +40,7 @@ varint_prefix (suc more) (b ∷ bytes) v n (suc k) rest e le =
       | inr l ↦ rw (l.0, varint_prefix more bytes l.1.0.0 l.1.0.1 k rest l.1.1 (omega (arith, le, l.1.3)), l.1.2, l.1.3) refl
     ]
 
--- ---- positions
+-- ---- positions in bytes
 
 dropped : (bytes rest : List ℕ) (at k : ℕ) → at ≤ k → k ≤ length bytes → drop at (take k bytes ++ rest) ≡ take (k - at) (drop at bytes) ++ rest
 dropped bytes rest at k le inside =
@@ -48,7 +48,7 @@ dropped bytes rest at k le inside =
     drop-append-le at (take k bytes) rest (omega (arith, length-take k bytes, le, inside))
     ∙ ap (λ xs. xs ++ rest) (subst (λ (j : ℕ). drop at (take j bytes) ≡ take (k - at) (drop at bytes)) sum (drop-take at (k - at) bytes))
 
--- a number and its end, read at a position, with no need of the bytes from k on
+-- a number with its end, read at a position; the bytes from k on do not matter
 pub record Local (read : List ℕ → ℕ → Result (ℕ × ℕ) WireFault) (bytes : List ℕ) (at : ℕ) (x : ℕ × ℕ) : Type 0 where
   pub begins : at ≤ x.1
   pub inside : x.1 ≤ length bytes
@@ -97,7 +97,7 @@ fixed_local w bytes at x le e =
 
 -- ---- records
 
--- a field that is read, its payload not before a position, with no need of the bytes from its end on
+-- a field that is read at or after a position; the bytes after its end do not matter
 pub record LocalField (read : List ℕ → Result Field WireFault) (bytes : List ℕ) (at : ℕ) (f : Field) : Type 0 where
   pub begins : at ≤ f.start
   pub ordered : f.start ≤ f.«end»

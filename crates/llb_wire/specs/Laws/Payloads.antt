@@ -1,4 +1,4 @@
--- The payload of a record as it is written: bytes, and no more of them than any that spell it.
+-- The payload of a record as it is written: it consists of bytes, and no spelling of it has fewer.
 use Rattle.std.proofs.Common.{◌≡◌, ℕ, ◌+◌, ◌^◌, ◌<◌, ◌≤◌, List}
 use Rattle.std.proofs.Common.{length, ap, subst, ◌∙◌, arith}
 use Rattle.std.proofs.lemmas.List.{length-append}
@@ -8,7 +8,7 @@ use Rattle.llb_wire.specs.Spelling.{AreBytes, varint_text, payload_text, value_t
 use Rattle.llb_wire.specs.Records.{IsPayload}
 use Rattle.llb_wire.specs.Laws.Varints.{is_shortest, least_spelling, are_bytes-append, are_bytes-front}
 
--- what is written of a payload is bytes
+-- what is written for a payload consists of bytes
 pub written_bytes : (w : Wire) (value : ℕ) (payload : List ℕ) → value < 2 ^ 64 → length payload < 2 ^ 64 → AreBytes payload
     → AreBytes (payload_text w value payload)
 written_bytes wire.Varint value payload small len are = (is_shortest value small).bytes
@@ -17,7 +17,7 @@ written_bytes wire.I64 value payload small len are =
 written_bytes wire.Len value payload small len are = are_bytes-append (varint_text (length payload)) payload (is_shortest (length payload) len).bytes are
 written_bytes wire.I32 value payload small len are = (omega arith, (omega arith, (omega arith, (omega arith, tt))))
 
--- no bytes that spell a payload are fewer than what is written of it
+-- no bytes that spell a payload are fewer than those that are written for it
 pub least_payload : (w : Wire) (value : ℕ) (payload behind own : List ℕ) → AreBytes behind
     → IsPayload w behind (value_text w value payload) own → length (payload_text w value payload) ≤ length behind
 least_payload wire.Varint value payload behind own are h = least_spelling 9 value behind are h.1.spells

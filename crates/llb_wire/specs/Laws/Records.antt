@@ -1,5 +1,5 @@
--- The grammar of records and their reading are one: a record is read exactly if one is spelled, from its own bytes; bytes
--- spell one list of records at most, the one that a walk over them meets; and no record is written in fewer bytes.
+-- The grammar of records and the reading of records agree: a record is read exactly if one is spelled, from its own bytes; bytes
+-- spell at most one list of records, the one that reading from record to record finds; and no record is written in fewer bytes.
 use Rattle.std.proofs.Common.{◌≡◌, ℕ, ◌+◌, ◌-◌, ◌*◌, ◌/◌, ◌%◌, ◌^◌, ◌<◌, ◌≤◌, Bool, true, false, cond, ltb, eqb, List, [], ◌∷◌, ◌++◌}
 use Rattle.std.proofs.Common.{length, take, drop, Option, Some, None, Result, Ok, Err, refl, sym, ap, subst, ◌∙◌, append_assoc, arith}
 use Rattle.std.specs.List.{AllByRecursion, flat_map}
@@ -23,7 +23,7 @@ use Rattle.llb_wire.specs.Records.{written_record, IsShortestRecord}
 use Rattle.llb_wire.specs.Laws.Payloads.{written_bytes, least_payload}
 use Rattle.llb_wire.specs.Laws.Varints.{varint_found, varint_read, is_shortest, least_spelling, are_bytes-append, are_bytes-front, are_bytes-back}
 
--- ---- what is spelled is read, whatever follows
+-- ---- a spelled record is read, whatever follows it
 
 pub number_is : (n : ℕ) (w : Wire) → IsFieldNumber n → number_of ((8 * n + code_of w) / 8) ≡ Ok n
 number_is n w h =
@@ -45,7 +45,7 @@ wire_is n wire.I64 = let e : (8 * n + 1) % 8 ≡ 1 = omega arith in rw e refl
 wire_is n wire.Len = let e : (8 * n + 2) % 8 ≡ 2 = omega arith in rw e refl
 wire_is n wire.I32 = let e : (8 * n + 5) % 8 ≡ 5 = omega arith in rw e refl
 
--- a payload's own bytes end it
+-- the payload's own bytes are the last of these bytes
 pub record IsTail (behind own : List ℕ) : Type 0 where
   pub front : List ℕ
   pub split : behind ≡ front ++ own
@@ -64,7 +64,7 @@ fixed_read w before spelling rest n at e h =
     let front : take (byte_len w) (spelling ++ rest) ≡ spelling = take_at spelling rest (byte_len w) h.size in
     rw (there, enough, front, sym h.value, sym h.size) refl
 
--- what is read after the tag
+-- the field that is read after the tag
 abbrev payload_field : ℕ → Wire → ℕ → ℕ → List ℕ → List ℕ → Field
 payload_field number w value at behind own = record {
   number = number;
@@ -99,7 +99,7 @@ payload_read number wire.Len value before behind own rest at e h =
     let stop : at + length behind ≡ at + length count + value = omega (arith, size, h.3) in
     rw (group, varint_read before count (own ++ rest) value at e h.2, enough, begin, stop) refl
 
--- a record is read of its own bytes, wherever they are
+-- a record is read from its own bytes, wherever they are
 pub record_read_at : (before : List ℕ) (r : Record) (rest : List ℕ) (at : ℕ) → at ≡ length before → IsRecord r
     → field_at (before ++ (r.text ++ rest)) at ≡ Ok (placed at r)
 unfolding field_at
@@ -126,11 +126,11 @@ record_read_at before r rest at e h =
       wire_is r.number r.wire,
     ) payload
 
--- a record is read of its own bytes, whatever follows them
+-- a record is read from its own bytes, whatever follows them
 pub record_read : (r : Record) (rest : List ℕ) → IsRecord r → field_at (r.text ++ rest) 0 ≡ Ok (placed 0 r)
 record_read r rest h = record_read_at [] r rest 0 refl h
 
--- and it is seen there as itself
+-- the record that is read from its own bytes, wherever they are, is the same record
 pub record_kept_at : (before : List ℕ) (r : Record) (rest : List ℕ) (at : ℕ) → at ≡ length before → IsRecord r
     → record_at (before ++ (r.text ++ rest)) at (placed at r) ≡ r
 record_kept_at before r rest at e h =
@@ -154,7 +154,7 @@ record_kept_at before r rest at e h =
 pub record_kept : (r : Record) (rest : List ℕ) → IsRecord r → record_of (r.text ++ rest) (placed 0 r) ≡ r
 record_kept r rest h = record_kept_at [] r rest 0 refl h
 
--- ---- what is read is spelled
+-- ---- the bytes that are read for a record spell it
 
 number_ok : (tag n : ℕ) → number_of (tag / 8) ≡ Ok n → (n ≡ tag / 8) × IsFieldNumber n
 number_ok tag n e = go (tag / 8) n (eqb (tag / 8) 0) (ltb 536_870_911 (tag / 8)) refl refl e where
@@ -185,13 +185,13 @@ wire_ok code w e = go code w (eqb code 0) (eqb code 1) (eqb code 2) (eqb code 5)
   go code w false false false true p q r s e = eqb-true code 5 s ∙ ap code_of (ok_wire wire.I32 w e)
   go code w false false false false p q r s e = absurd cc
 
--- the bytes from a position up to another, in two orders
+-- the bytes between two positions, computed in two ways
 between_is : (bytes : List ℕ) (at last : ℕ) → at ≤ last → drop at (take last bytes) ≡ between at last bytes
 between_is bytes at last le =
     let sum : at + (last - at) ≡ last = omega (arith, le) in
     ap (λ (k : ℕ). drop at (take k bytes)) (sym sum) ∙ drop-take at (last - at) bytes
 
--- they split at a position between
+-- the bytes between two positions, split at a position between these
 between_split : (bytes : List ℕ) (at mid last : ℕ) → at ≤ mid → mid ≤ last → drop at (take last bytes) ≡ drop at (take mid bytes) ++ drop mid (take last bytes)
 between_split bytes at mid last low high =
     let width : at + (mid - at) ≡ mid = omega (arith, low) in
@@ -210,7 +210,7 @@ ok_field f = Ok f
 field_is : (f g : Field) → ok_field f ≡ ok_field g → f ≡ g
 field_is f g e = cc
 
--- a payload that was read, in the bytes from its position on
+-- what is known of a payload that was read from these bytes
 pub record FoundPayload (n : ℕ) (w : Wire) (bytes : List ℕ) (at : ℕ) (f : Field) : Type 0 where
   pub number : f.number ≡ n
   pub wire : f.wire ≡ w
@@ -279,7 +279,7 @@ payload_found n wire.Len bytes at f are le e =
       payload = (drop at (take v.0.1 bytes), between_split bytes at v.0.1 (v.0.1 + v.0.0) (omega (arith, h.0)) (omega arith), h.2, size);
     })
 
--- a record that was read at a position
+-- what is known of a record that was read at a position
 pub record FoundRecord (bytes : List ℕ) (at : ℕ) (f : Field) : Type 0 where
   pub begins : at < f.start
   pub ordered : f.start ≤ f.«end»
@@ -309,7 +309,7 @@ found_by_parts bytes at f tag n w are le tag_read number_read wire_read payload_
       };
     }
 
--- what is read at a position of bytes is a record by the grammar
+-- a record that is read at a position is spelled there
 pub record_found_at : (bytes : List ℕ) (at : ℕ) (f : Field) → AreBytes bytes → at ≤ length bytes → field_at bytes at ≡ Ok f → FoundRecord bytes at f
 unfolding field_at
 record_found_at bytes at f are le e =
@@ -319,7 +319,7 @@ record_found_at bytes at f are le e =
     let w = bind_ok (wire_of (t.0.0 % 8)) (λ wire. payload_at n.0 wire bytes t.0.1) f n.2 in
     found_by_parts bytes at f t.0 n.0 w.0 are le t.1 n.1 w.1 w.2
 
--- what is read at the start is a record by the grammar
+-- a record that is read at the start is spelled there
 pub record_found : (bytes : List ℕ) (f : Field) → AreBytes bytes → field_at bytes 0 ≡ Ok f → FoundRecord bytes 0 f
 record_found bytes f are e = record_found_at bytes 0 f are (omega arith) e
 
@@ -348,15 +348,15 @@ same_lists (r ∷ rs) (o ∷ os) e a b =
     let rest : texts rs ≡ texts os = append_cancel_left r.text (texts rs) (texts os) (e ∙ ap (λ (x : Record). x.text ++ texts os) (sym same)) in
     ap (λ x. x ∷ rs) same ∙ ap (λ xs. o ∷ xs) (same_lists rs os rest a.1 b.1)
 
--- bytes spell one list of records at most
+-- bytes spell at most one list of records
 pub one_list : (bytes : List ℕ) (rs others : List Record) → SpellRecords bytes rs → SpellRecords bytes others → rs ≡ others
 one_list bytes rs others a b = same_lists rs others (sym a.whole ∙ b.whole) a.each b.each
 
--- no bytes spell no records
+-- the empty list of bytes spells no records
 pub spelled_none : SpellRecords [] []
 spelled_none = record { whole = refl; each = tt }
 
--- the record at the start, and then those of the bytes after it
+-- the record at the start, followed by those of the bytes after it, is the list of records of all bytes
 pub spelled_next : (bytes : List ℕ) (f : Field) (rs : List Record) → AreBytes bytes → field_at bytes 0 ≡ Ok f
     → SpellRecords (drop f.«end» bytes) rs → SpellRecords bytes (record_of bytes f ∷ rs)
 spelled_next bytes f rs are e h =
@@ -365,7 +365,7 @@ spelled_next bytes f rs are e h =
       each = ((record_found bytes f are e).spelled, h.each);
     }
 
--- ---- the walk
+-- ---- reading from record to record
 
 ended : (bytes : List ℕ) (at : ℕ) → next_field bytes at ≡ Ok None → at ≡ length bytes
 unfolding next_field
@@ -394,7 +394,7 @@ drop_whole xs k e = go (drop k xs) (omega (arith, length-drop k xs, e)) where
   go [] e = refl
   go (y ∷ ys) e = absurd (omega (arith, e))
 
--- if a walk ends well, the bytes from there on spell what it met
+-- if reading from record to record reaches the end, the bytes spell the records that it found
 walk_spelled : (bytes : List ℕ) (rs : List Record) (at : ℕ) → AreBytes bytes → at ≤ length bytes → Walks bytes at rs → SpellRecords (drop at bytes) rs
 walk_spelled bytes [] at are le w = record { whole = drop_whole bytes at (ended bytes at w); each = tt }
 walk_spelled bytes (r ∷ rs) at are le w =
@@ -409,7 +409,7 @@ walk_spelled bytes (r ∷ rs) at are le w =
     ∙ ap (λ xs. drop at (take f.«end» bytes) ++ xs) back in
     subst (λ (x : Record). SpellRecords (drop at bytes) (x ∷ rs)) (sym w.2) (record { whole = whole; each = (found.spelled, rest.each) })
 
--- a walk meets what is spelled
+-- reading from record to record finds the records that the bytes spell
 spelled_walk : (before : List ℕ) (rs : List Record) → AllByRecursion IsRecord rs → Walks (before ++ texts rs) (length before) rs
 unfolding next_field
 spelled_walk before [] each =
@@ -430,14 +430,14 @@ spelled_walk before (r ∷ rs) each =
       subst (λ (k : ℕ). Walks bytes k rs) (length-append before r.text) there,
     )
 
--- a walk over bytes ends well exactly if they spell the records that it meets
+-- reading from record to record reaches the end exactly if the bytes spell the records that it finds
 pub walk_is : (bytes : List ℕ) (rs : List Record) → AreBytes bytes → Walks bytes 0 rs ↔ SpellRecords bytes rs
 walk_is bytes rs are = (
   λ w. walk_spelled bytes rs 0 are (omega arith) w,
   λ h. subst (λ (xs : List ℕ). Walks xs 0 rs) (sym h.whole) (spelled_walk [] rs h.each),
 )
 
--- ---- what is written
+-- ---- the bytes that are written for records
 
 written_payload : (w : Wire) (value : ℕ) (payload : List ℕ) → value < 2 ^ 64 → length payload < 2 ^ 64 → (w ≡ wire.I32 → value < 2 ^ 32)
     → IsPayload w (payload_text w value payload) (value_text w value payload) (own_text w value payload)
@@ -452,7 +452,7 @@ tag_small number wire.I64 high = omega arith
 tag_small number wire.Len high = omega arith
 tag_small number wire.I32 high = omega arith
 
--- what is written is a record by the grammar
+-- the bytes that are written for a record spell it
 pub written_is_record : (number : ℕ) (w : Wire) (value : ℕ) (payload : List ℕ) → IsFieldNumber number → value < 2 ^ 64 → length payload < 2 ^ 64
     → (w ≡ wire.I32 → value < 2 ^ 32) → IsRecord (written_record number w value payload)
 written_is_record number w value payload named small len narrow =
@@ -465,7 +465,7 @@ written_is_record number w value payload named small len narrow =
       payload = written_payload w value payload small len narrow;
     }
 
--- and no bytes that spell it are fewer
+-- no bytes that spell a record are fewer than those that are written for it
 pub written_is_shortest : (number : ℕ) (w : Wire) (value : ℕ) (payload : List ℕ) → IsFieldNumber number → value < 2 ^ 64 → length payload < 2 ^ 64
     → (w ≡ wire.I32 → value < 2 ^ 32) → AreBytes payload → IsShortestRecord (written_record number w value payload)
 written_is_shortest number w value payload named small len narrow are =

@@ -1,4 +1,4 @@
--- A number is read exactly if one is spelled; its shortest spelling is read again, whatever follows it, and no spelling
+-- A number is read exactly if one is spelled; the shortest spelling of a number is read as it, whatever follows, and no spelling
 -- is shorter.
 use Rattle.std.proofs.Common.{zero-add, ◌≡◌, ℕ, zero, suc, ◌+◌, ◌-◌, ◌*◌, ◌/◌, ◌%◌, ◌^◌, ◌<◌, ◌≤◌, Bool, true, false, cond, ltb, List, []}
 use Rattle.std.proofs.Common.{◌∷◌, ◌++◌, length, get_or, take, drop, Result, Ok, Err, ◌⊎◌, inl, inr, refl, sym, ap, subst, ◌∙◌, arith}
@@ -11,7 +11,7 @@ use Rattle.llb_wire.specs.Laws.Answers.{bind_ok}
 use Rattle.llb_wire.specs.Reading.{varint_from, varint_at, varint_limit}
 use Rattle.llb_wire.specs.Spelling.{shortest, varint_text, Spells, IsVarint, VarintAt, AreBytes, IsShortest}
 
--- a pair, as one name
+-- the pair of two numbers, under a name that proofs can use
 abbrev pair : ℕ → ℕ → ℕ × ℕ
 pair a b = (a, b)
 
@@ -22,9 +22,9 @@ ok_of x = Ok x
 ok_pair : {x y : ℕ × ℕ} → ok_of x ≡ ok_of y → x ≡ y
 ok_pair e = cc
 
--- ---- what is read is spelled there
+-- ---- the bytes that are read for a number spell it
 
--- a byte is the last one, or it comes before a number that is read
+-- a byte is the last one of a number, or the rest of the number follows it
 pub short_or : (b v n : ℕ) (more : Result (ℕ × ℕ) WireFault) (test : Bool)
     → cond {A = Result (ℕ × ℕ) WireFault} test (Ok (b, 1)) (more >>= λ m. Ok (b - 128 + 128 * m.0, suc m.1)) ≡ Ok (v, n)
     → ((test ≡ true) × (n ≡ 1)) ⊎ ((test ≡ false) × ((m : ℕ × ℕ) × (more ≡ Ok m) × (b - 128 + 128 * m.0 ≡ v) × (suc m.1 ≡ n)))
@@ -37,7 +37,7 @@ long_is : (b v n : ℕ) (test : Bool) → cond {A = Result (ℕ × ℕ) WireFaul
 long_is b v n true e = absurd cc
 long_is b v n false e = let h : pair b 1 ≡ pair v n = cc in sym (ap (λ (x : ℕ × ℕ). x.1) h)
 
--- what is read has a byte at least, and is inside
+-- the spelling of a number that is read has at least one byte, and is within the bytes
 pub varint_len : (more : ℕ) (bytes : List ℕ) (v n : ℕ) → varint_from more bytes ≡ Ok (v, n) → (0 < n) × (n ≤ length bytes)
 unfolding varint_from
 varint_len more [] v n e = absurd cc
@@ -60,7 +60,7 @@ last_is b v n bytes false t e =
     let small = ltb-false 1 b t in
     subst (λ (x : ℕ × ℕ). Spells (take x.1 (b ∷ bytes)) x.0 × (x.1 ≤ 1)) h ((omega (arith, small), refl), omega arith)
 
--- what is read is spelled by as many bytes
+-- the bytes that are read for a number spell it
 pub spells_found : (more : ℕ) (bytes : List ℕ) (v n : ℕ) → varint_from more bytes ≡ Ok (v, n) → Spells (take n bytes) v × (n ≤ suc more)
 unfolding varint_from
 spells_found more [] v n e = absurd cc
@@ -77,12 +77,12 @@ spells_found (suc more) (b ∷ bytes) v n e =
           (spells_more b v l.1.0.0 (take l.1.0.1 bytes) high (omega (arith, l.1.2, high)) deep.0, omega (arith, deep.1))
     ]
 
--- a number of one bit fits under each limit
+-- each limit is at least 2
 pub limit_least : (more : ℕ) → 2 ≤ varint_limit more
 limit_least zero = omega arith
 limit_least (suc more) = omega (arith, limit_least more)
 
--- a number that is read of bytes stays below its limit
+-- a number that is read from bytes is below its limit
 small_found : (more : ℕ) (bytes : List ℕ) (v n : ℕ) → AreBytes bytes → varint_from more bytes ≡ Ok (v, n) → v < varint_limit more
 unfolding varint_from
 small_found more [] v n are e = absurd cc
@@ -102,7 +102,7 @@ small_found (suc more) (b ∷ bytes) v n are e =
       | inr l ↦ omega (arith, l.1.2, are.0, small_found more bytes l.1.0.0 l.1.0.1 are.1 l.1.1)
     ]
 
--- ---- what is spelled is read, whatever follows
+-- ---- a spelled number is read, whatever follows it
 
 pub spells_read : (more : ℕ) (xs rest : List ℕ) (v : ℕ) → Spells xs v → length xs ≤ suc more → v < varint_limit more
     → varint_from more (xs ++ rest) ≡ Ok (v, length xs)
@@ -119,13 +119,13 @@ spells_read (suc more) (b ∷ c ∷ xs) rest v h short small =
     let value : b - 128 + 128 * h.1 ≡ v = omega (arith, h.2, h.0) in
     rw (no, deep, value) refl
 
--- a spelling is read after other bytes
+-- a spelled number is read wherever its bytes are
 pub varint_read : (before spelling rest : List ℕ) (n at : ℕ) → at ≡ length before → IsVarint spelling n
     → varint_at (before ++ (spelling ++ rest)) at ≡ Ok (n, at + length spelling)
 varint_read before spelling rest n at e h =
     rw (drop_at before (spelling ++ rest) at (sym e), spells_read 9 spelling rest n h.spells (omega (arith, h.short)) h.small) refl
 
--- ---- bytes
+-- ---- spellings are bytes
 
 -- elements that are all below 256 are bytes
 pub are_bytes : (xs : List ℕ) → ((k : ℕ) → get_or xs k 0 < 256) → AreBytes xs
@@ -149,7 +149,7 @@ pub are_bytes-back : (xs ys : List ℕ) → AreBytes (xs ++ ys) → AreBytes ys
 are_bytes-back [] ys h = h
 are_bytes-back (x ∷ xs) ys h = are_bytes-back xs ys h.1
 
--- ---- at a position
+-- ---- reading and spelling at a position in longer bytes
 
 -- the number that is read at a position of bytes is spelled there
 pub varint_found : (bytes : List ℕ) (at : ℕ) (x : ℕ × ℕ) → AreBytes bytes → at ≤ length bytes → varint_at bytes at ≡ Ok x → VarintAt bytes at x.0 x.1
@@ -192,7 +192,7 @@ shortest_step (suc more) n few large =
     let e : suc more - 1 ≡ more = omega arith in
     rw (no, e) refl
 
--- the shortest spelling is read again, whatever follows
+-- the shortest spelling is read as its number, whatever follows
 again_short : (more n : ℕ) (rest : List ℕ) → n < 128 → varint_from (suc more) (shortest (suc more) n ++ rest) ≡ Ok (n, length (shortest (suc more) n))
 unfolding shortest varint_from
 again_short more n rest lt = let yes : ltb n 128 ≡ true = lt-ltb _ _ lt in rw (yes, yes) refl
@@ -214,7 +214,7 @@ varint_again zero n rest small =
 varint_again (suc more) n rest small =
     elim (cases_lt n 128) [ inl lt ↦ again_short more n rest lt | inr le ↦ again_long more n rest le (varint_again more (n / 128) rest (omega arith)) ]
 
--- a spelling has a byte at least
+-- a spelling has at least one byte
 pub shortest_some : (more n : ℕ) → 0 < length (shortest more n)
 unfolding shortest
 shortest_some zero n = omega arith
@@ -223,7 +223,7 @@ shortest_some (suc more) n = go (ltb n 128) refl where
   go true e = rw e (omega arith)
   go false e = rw e (omega arith)
 
--- what is smaller than the limit is spelled in bytes
+-- the shortest spelling of a number below the limit consists of bytes
 pub shortest_bytes : (more n : ℕ) → n < varint_limit more → AreBytes (shortest more n)
 unfolding shortest
 shortest_bytes zero n small = (omega arith, tt)
@@ -232,7 +232,7 @@ shortest_bytes (suc more) n small = go (ltb n 128) refl (shortest_bytes more (n 
   go true e rest = rw e ((omega (arith, ltb-true n 128 e), tt))
   go false e rest = rw e ((omega arith, rest))
 
--- a spelling in bytes is no shorter
+-- no other spelling of the number in bytes is shorter
 pub least_spelling : (more n : ℕ) (other : List ℕ) → AreBytes other → Spells other n → length (shortest more n) ≤ length other
 unfolding shortest
 least_spelling zero n [] are h = absurd h

@@ -1,4 +1,4 @@
-//! `asm` and `dis` on texts of one call: `$` and the text, in which `|` ends a line.
+//! `asm` and `dis` on texts that are written in the call itself: `$` and the text, in which `|` ends a line.
 
 use super::told::is_told;
 

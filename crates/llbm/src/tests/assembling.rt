@@ -2,7 +2,7 @@
 
 use super::told::is_told;
 
-/// Texts by their names.
+/// Texts, each with its name.
 pub(crate) const TEXTS: &str = "
 == MERGE: A merge of nothing.
 op {

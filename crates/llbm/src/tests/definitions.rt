@@ -1,5 +1,5 @@
-//! Entries of definitions by their names, each in the assembler's text: `%0` is the first entry of the definition that it is in. After
-//! `==` come an entry's name and what it is.
+//! Entries of definitions with their names, each in the assembler's text: `%0` is the first entry of the definition that it is in. After
+//! `==` come the name of an entry and a description.
 
 pub(crate) const ENTRIES: &str = r#"
 == MAKES_A: A file `/a` with the content `hi` on nothing.

@@ -1,4 +1,4 @@
-//! Readers and writers in memory, and such that fail.
+//! Readers and writers in memory, some of which fail after a number of calls.
 
 use std::alloc::Global;
 use std::io;
@@ -13,19 +13,19 @@ pub(crate) struct Ran {
 }
 
 impl Ran {
-    /// Returns whether that is the result.
+    /// Returns whether this is the result.
     pub(crate) fn is(&self, status: u8, out: &str, err: &str) -> bool {
         let texts = self.out.as_slice() == out.as_bytes() && self.err.as_slice() == err.as_bytes();
         self.status == status && texts
     }
 
-    /// Returns whether it ended with status 3 and that line, after `length` bytes of the text.
+    /// Returns whether the run ended with status 3 and this line on standard error, after the first `length` bytes of the text.
     pub(crate) fn is_cut(&self, text: &str, length: usize, line: &str) -> bool {
         let told = self.out.len() == length && self.err.as_slice() == line.as_bytes();
         self.status == 3 && told && text.as_bytes().starts_with(self.out.as_slice())
     }
 
-    /// Returns whether it ended with status 3 and nothing but `length` bytes of the line.
+    /// Returns whether the run ended with status 3 and wrote only the first `length` bytes of the line, to standard error.
     pub(crate) fn is_cut_line(&self, line: &str, length: usize) -> bool {
         let told = self.out.is_empty() && self.err.len() == length;
         self.status == 3 && told && line.as_bytes().starts_with(self.err.as_slice())
@@ -35,11 +35,11 @@ impl Ran {
 /// How many reads, writes and flushes the devices of a call do before they fail.
 #[derive(Clone, Copy)]
 pub(crate) struct Rooms {
-    /// The room of standard input.
+    /// How many bytes standard input returns before it fails.
     pub input: usize,
-    /// The room of the file of a definition.
+    /// How many bytes the file of a definition returns before it fails.
     pub file: usize,
-    /// The room of each file of a local source.
+    /// How many bytes each file of a local source returns before it fails.
     pub local: usize,
     pub out: usize,
     pub flushes: usize,
@@ -58,7 +58,7 @@ pub(crate) const AMPLE: Rooms = Rooms {
     err: MANY,
 };
 
-/// A reader that returns one byte a read, and fails after a number of bytes.
+/// A reader that returns one byte in each read, and fails after a number of bytes.
 #[derive(Drop)]
 pub(crate) struct Slow<'a> {
     pub bytes: &'a [u8],
@@ -82,7 +82,7 @@ impl<'a> Read for Slow<'a> {
     }
 }
 
-/// A writer that takes one byte a write, and fails after a number of bytes, or after a number of flushes.
+/// A writer that takes one byte in each write, and fails after a number of bytes, or after a number of flushes.
 #[derive(Drop)]
 pub(crate) struct Narrow {
     pub room: usize,

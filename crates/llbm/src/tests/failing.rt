@@ -1,4 +1,4 @@
-//! Devices that fail: each read, write and flush of a call in its turn, up to the call whose devices do all that it needs.
+//! Devices that fail: for each call the first read, write or flush fails, then the second, and so on, up to the last one that the call needs.
 
 use super::devices::{AMPLE, Ran, Rooms};
 use super::told::tried;
@@ -7,8 +7,8 @@ use std::process::Abort;
 use std::sync::Wait;
 use std::thread::Threads;
 
-// The device of a call that fails: a reader, with the number of reads of one byte that the call needs, the one that meets the end among
-// them; or a writer, with the line of the fault that the call ends with.
+// The device that fails: a reader, with the number of reads of one byte that the call needs, including the read at the end of the
+// input; or a writer, with the line of the fault with which the call ends.
 #[derive(Clone, Copy)]
 pub(crate) enum Device {
     Input(usize),
@@ -19,10 +19,10 @@ pub(crate) enum Device {
     Err,
 }
 
-// A call; and, with devices that do all that it needs, its status and what it writes to its output and to standard error.
+// A call; and its status, its output and what it writes to standard error if no device fails.
 type Case = (Device, &'static str, u8, &'static str, &'static str);
 
-// How many reads, writes or flushes the device has to do.
+// Returns how many reads, writes or flushes of the device the call needs.
 fn needed(case: &Case) -> usize {
     let (device, _, _, out, err) = case;
     match device {
@@ -33,7 +33,7 @@ fn needed(case: &Case) -> usize {
     }
 }
 
-// Devices of which this one does no more than that.
+// Returns devices of which only this one fails, after so many reads, writes or flushes.
 pub(crate) fn rooms_of(device: Device, room: usize) -> Rooms {
     let mut rooms = AMPLE;
     match device {
@@ -47,7 +47,7 @@ pub(crate) fn rooms_of(device: Device, room: usize) -> Rooms {
     rooms
 }
 
-// Whether a call ended as it should where its device does no more than that, which is too little.
+// Returns whether a call ended as it should if its device failed after so many reads, writes or flushes, which were too few.
 fn is_failure(ran: &Ran, case: &Case, room: usize) -> bool {
     let (device, _, _, out, err) = case;
     match device {
@@ -66,7 +66,7 @@ fn is_right(ran: &Ran, case: &Case, room: usize) -> bool {
     ran.is(*status, out, err)
 }
 
-// Each of its devices in turn.
+// Fails the device at each read, write or flush in turn.
 fn is_tried<R: Abort + Threads + Wait + Sync>(rt: &R, alloc: Global, case: &Case) {
     let (device, call, ..) = case;
     for room in 0..=needed(case) {
@@ -135,7 +135,7 @@ fn a_writer_that_fails_at_any_write_has_a_prefix_of_the_text(rt: HostRuntime) {
     }
 }
 
-// Refusals of each command, and a vertex that fails.
+// Commands that are refused, and a vertex that fails.
 const REFUSED: &[(&str, u8, &str)] = &[
     ("run < FIELD_ZERO; RESULT_A", 2, "fault 82 0 3\n"),
     (
@@ -170,7 +170,7 @@ fn a_line_that_standard_error_does_not_take_is_a_failed_write(rt: HostRuntime) {
 const SESSION: &str =
     "step FILE < MAKES_A; RESULT_0 | break settle 0; go; back; status; next; tree 0 0; quit";
 
-// The lines of that session, and the replies to them.
+// The lines of the session above, and the replies to them.
 const LINES: &[(&str, &str)] = &[
     ("break settle 0\n", ""),
     (
@@ -184,7 +184,7 @@ const LINES: &[(&str, &str)] = &[
     ("quit\n", ""),
 ];
 
-// How many of the lines end within this number of bytes.
+// Returns how many of the lines end within this number of bytes.
 fn lines_within(bytes: usize) -> usize {
     let mut left = bytes;
     for (at, (line, _)) in LINES.iter().enumerate() {
@@ -196,7 +196,7 @@ fn lines_within(bytes: usize) -> usize {
     LINES.len()
 }
 
-// The replies to the first of them.
+// Returns the replies to the first `lines` lines.
 fn answers(rt: &impl Abort, alloc: Global, lines: usize) -> String {
     let mut text = String::new(alloc);
     for (_, answer) in LINES.iter().take(lines) {
@@ -205,7 +205,7 @@ fn answers(rt: &impl Abort, alloc: Global, lines: usize) -> String {
     text
 }
 
-// Whether the session ends with that status and that line, once the first of its lines have their replies.
+// Returns whether the session ends with this status and this line on standard error, after the replies to the first `lines` lines.
 fn ends_after<R: Abort + Threads + Wait + Sync>(
     rt: &R,
     alloc: Global,

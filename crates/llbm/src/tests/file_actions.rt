@@ -1,4 +1,4 @@
-//! File actions: what they leave of a local tree, or the fault by which they fail. A copy takes from the tree `p`.
+//! File actions: the tree after each, or the fault with which it fails. A copy takes its sources from the local tree `p`.
 
 use super::told::is_told;
 

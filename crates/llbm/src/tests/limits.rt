@@ -1,4 +1,4 @@
-//! Definitions that are cut, and those at a limit and past it.
+//! Definitions that are cut off, and definitions at a limit and past it.
 
 use super::devices::Ran;
 use super::told::definition_of;
@@ -35,7 +35,7 @@ fn assembled(alloc: Global, text: &str) -> Ran {
     Ran { status, out, err }
 }
 
-// The definition of a file and the terminal on it has 129 bytes, of which the first 52 are its first entry.
+// The definition of a file and of the terminal that names it has 129 bytes; its first entry is the first 52.
 #[test]
 fn a_definition_that_is_cut_is_refused(rt: HostRuntime) {
     let definition = definition_of(&rt, rt.alloc(), "MAKES_A; RESULT_0");
@@ -52,7 +52,7 @@ fn a_definition_that_is_cut_is_refused(rt: HostRuntime) {
     }
 }
 
-// A text, then a part a number of times, then another text.
+// Returns a text, followed by a part that is repeated, and another text.
 fn repeated(
     rt: &impl Abort,
     alloc: Global,
@@ -70,7 +70,7 @@ fn repeated(
     text
 }
 
-// An empty entry is a record of the two bytes `0a 00`, and of equal entries one remains, which is too few.
+// An empty entry is a record of the two bytes `0a 00`. Equal entries count once, and a single one is too few.
 #[test]
 fn a_definition_has_65536_entries_at_most(rt: HostRuntime) {
     let alloc = rt.alloc();
@@ -94,7 +94,7 @@ fn a_text_of_entries_has_65536_at_most(rt: HostRuntime) {
     assert!(rt; disassembled(alloc, definition.as_str().as_bytes()).is(2, "", "fault 13\n"));
 }
 
-// A definition of three: an empty entry, the one of those bytes, and the terminal on that one.
+// Returns a definition of three entries: an empty one, the one with these bytes, and the terminal, which names that one.
 fn with_entry(rt: &impl Abort, alloc: Global, entry: &str) -> Bytes {
     let text = repeated(
         rt,
@@ -108,13 +108,13 @@ fn with_entry(rt: &impl Abort, alloc: Global, entry: &str) -> Bytes {
     write_definition(alloc, &entries).expect(rt, "memory")
 }
 
-// A merge of empty trees: a head, and 13 bytes for each input, which is -1.
+// Returns a definition with a merge of empty trees: the head of its entry, and 13 bytes for each input, which is -1.
 fn merge_of(rt: &impl Abort, alloc: Global, head: &str, count: usize) -> Bytes {
     let entry = repeated(rt, alloc, head, "0a0b08ffffffffffffffffff01", count, "");
     with_entry(rt, alloc, entry.as_str())
 }
 
-// The head is field 6 of an op, a message: of 13,312 bytes for 1,024 inputs, and of 13,325 for 1,025.
+// The head is the tag of field 6 of an op and the length of the message: 13,312 bytes for 1,024 inputs, and 13,325 for 1,025.
 #[test]
 fn a_merge_has_1024_inputs_at_most(rt: HostRuntime) {
     let alloc = rt.alloc();
@@ -124,7 +124,7 @@ fn a_merge_has_1024_inputs_at_most(rt: HostRuntime) {
     assert!(rt; run(alloc, definition.as_slice()).is(2, "", "fault 82 1 13\n"));
 }
 
-// The line of the 1,025th input is the 2,051st, after those of `op {`, `merge {` and two for each input before it.
+// The 1,025th input is on line 2,051, after `op {`, `merge {` and two lines for each input before it.
 #[test]
 fn a_text_of_a_merge_has_1024_inputs_at_most(rt: HostRuntime) {
     let text = repeated(

@@ -1,4 +1,4 @@
-//! The files of local sources by their names: texts of trees, and texts that are none.
+//! The files of local sources with their names: texts of trees, and texts that are not.
 
 pub(crate) const FILES: &str = "
 == P

@@ -1,4 +1,4 @@
-//! Messages field by field: the text of entries that are given by their bytes.
+//! Messages field by field: the text that is written for entries given as bytes.
 
 use super::told::is_told;
 

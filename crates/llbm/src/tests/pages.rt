@@ -1,4 +1,4 @@
-//! The pages of help and of the version, each held against the text that `clap` renders for the same words.
+//! The pages of help and of the version, compared with the text that `clap` renders for the same words.
 
 use super::failing::{Device, rooms_of};
 use super::told::{ran_words, tried};
@@ -6,7 +6,7 @@ use llb_commands::llbm_command;
 use std::alloc::Global;
 use std::process::Abort;
 
-// What is printed for words that `clap` refuses: the fault, and the text that `clap` renders of its refusal.
+// Returns what is to be printed for words that `clap` refuses: the fault, and the text that `clap` renders for its refusal.
 fn told_by_clap(rt: &impl Abort, alloc: Global, words: &str) -> String {
     let mut told = String::new(alloc);
     let given: Vec<&str> = words.split(' ').collect(alloc).expect(rt, "memory");
@@ -85,7 +85,7 @@ fn nothing_follows_another_refusal(rt: HostRuntime) {
     }
 }
 
-// Words, and the part of the message that standard error takes.
+// Words, and the part of the message that a standard error with little room takes.
 const NARROW: &[(&str, &str)] = &[
     ("--help", "fau"),
     ("run -h", "fault 183\nRu"),

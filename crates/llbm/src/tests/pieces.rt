@@ -1,5 +1,5 @@
-//! Pieces of an op by their names, each in lines of the assembler's text. After `==` come a piece's name and what it is. The pieces of a mount
-//! are what comes after the dest.
+//! Pieces of an op with their names, each in lines of the assembler's text. After `==` come the name of a piece and a description. The pieces of a mount
+//! come after its dest.
 
 pub(crate) const PIECES: &str = r#"
 == TRUE: an exec of `true`, left open for its mounts

@@ -7,7 +7,7 @@ use std::io;
 use std::io::{ErrorKind, Read};
 use std::test::Fail;
 
-// What comes of reading `hello`.
+// Returns the result of reading `hello` within these bounds, in words.
 fn hello(alloc: Global, limit: usize, reads: u64, room: usize) -> &'static str {
     let mut input = Slow {
         bytes: b"hello",
@@ -42,7 +42,7 @@ fn an_input_past_a_bound_is_not_read(rt: HostRuntime) {
     }
 }
 
-// A reader that is interrupted a number of times first.
+// A reader that is interrupted a number of times before it returns anything.
 #[derive(Drop)]
 struct Startled<'a> {
     bytes: &'a [u8],

@@ -1,4 +1,4 @@
-//! Scripts that are read: how many commands one has, or its first fault.
+//! Scripts: how many commands a script has, or its first fault.
 
 use super::told::is_told;
 

@@ -1,20 +1,20 @@
-//! Entries by their bytes: some that are no ops, and some that are spelled otherwise than the assembler spells them. Beside each record of
-//! these, or the prefix of one that holds the next ones, is written what it is.
+//! Entries given as bytes: some that are no ops, and some that are spelled otherwise than the assembler spells them. Beside each record of
+//! these, or the first bytes of one that contains the next ones, is a note of what it is.
 
 pub(crate) const SPELLED: &str = concat!(
-    // Bytes whose first field has the number 0.
+    // The first field has the number 0.
     "== FIELD_ZERO\nraw 00\n",
-    // Bytes that end in a record.
+    // The bytes end inside a record.
     "== CUT\nraw 0a\n",
-    // A number that is past 64 bits.
+    // A number has more than 64 bits.
     "== LONG_NUMBER\nraw ffffffffffffffffff02\n",
-    // A wire type that there is not.
+    // The wire type does not exist.
     "== NO_WIRE_TYPE\nraw 0b\n",
-    // Inputs in a number.
+    // The inputs have the wire type of a number.
     "== WRONG_WIRE_TYPE\nraw 0800\n",
-    // A digest that is no text.
+    // A digest is not UTF-8.
     "== NOT_UTF8\nraw 0a030a01ff\n",
-    // `true` at the root, with an empty cwd that is written.
+    // `true` in a mount at the root; the cwd is written although it is empty.
     "== EMPTY_CWD\nraw ",
     "121a",                   // exec, of 26 bytes
     "0a08",                   // meta, of 8
@@ -24,7 +24,7 @@ pub(crate) const SPELLED: &str = concat!(
     "08ffffffffffffffffff01", // input -1
     "1a012f",                 // dest "/"
     "\n",
-    // The shared cache `a` at `/c`, and at `/d` with its number written.
+    // The shared cache `a` at `/c` and at `/d`; at `/d` the number 0 of the mode is written.
     "== SHARED_WRITTEN\nraw ",
     "1262",                   // exec, of 98 bytes
     "0a06",                   // meta, of 6
@@ -48,7 +48,7 @@ pub(crate) const SPELLED: &str = concat!(
     "0a0161",                 // ID "a"
     "1000",                   // sharing 0
     "\n",
-    // A copy with a pattern after a field that has no name.
+    // A copy with a pattern after a field that has no name here.
     "== PATTERN_LAST\nraw ",
     "221f",                   // file, of 31 bytes
     "121d",                   // actions, of 29
@@ -58,7 +58,7 @@ pub(crate) const SPELLED: &str = concat!(
     "7001",                   // field 14, which has no name
     "620161",                 // include_patterns "a"
     "\n",
-    // A copy with an unpacking after a pattern.
+    // A copy that unpacks, with this field after a pattern.
     "== UNPACKING_LAST\nraw ",
     "221f",                   // file, of 31 bytes
     "121d",                   // actions, of 29

@@ -1,4 +1,4 @@
-//! Cache mounts: which the loader takes, and by which rule it refuses others.
+//! Cache mounts: which ones the loader accepts, and the rule by which it refuses any other.
 
 use super::told::is_told;
 
@@ -107,7 +107,7 @@ fn caches_are_taken_one_key_once_and_judged_in_order(rt: HostRuntime) {
     is_told(&rt, rt.alloc(), MOUNTS);
 }
 
-// The inputs that the locked cache `a` begins with at `/c` and `/d`.
+// The inputs with which the locked cache `a` begins at `/c` and at `/d`.
 const SEEDS: &str = r#"
     # Two outputs, or one and none, are two caches.
     > show < TRUE | -1 / | -1 /a OUTPUT_1 | }; merge { | }; FOUR_INPUTS | TRUE | -1 / | -1 /c LOCKED | 0 /d LOCKED | }; RESULT

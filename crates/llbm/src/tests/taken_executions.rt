@@ -1,4 +1,4 @@
-//! Executions: which the loader takes, and by which feature or rule it refuses others.
+//! Executions: which ones the loader accepts, and the feature or rule by which it refuses any other.
 
 use super::told::is_told;
 
@@ -54,7 +54,7 @@ fn an_exec_is_taken_or_refused_by_its_feature_or_its_rule(rt: HostRuntime) {
     is_told(&rt, rt.alloc(), CASES);
 }
 
-// The mounts of `true`.
+// The mounts of an exec that runs `true`.
 const MOUNTS: &str = r#"
     # One is at the root.
     > show < TRUE | -1 / | }; RESULT
@@ -135,7 +135,7 @@ fn the_mounts_of_an_exec_are_judged_in_order(rt: HostRuntime) {
     is_told(&rt, rt.alloc(), MOUNTS);
 }
 
-// A script on a made tree that shows an input at the root, and an empty tree whose output is the result.
+// A script on two mounts: one shows an input at the root; the output of the other, an empty tree, is the result.
 const OUTPUTS: &str = r#"
     > show < MAKES_A; INPUT_0 | MAKES_OUT_A | 0 / | -1 /out OUTPUT_1 | -1 /tmp NO_OUTPUT TMPFS | }; RESULT_1_1
     0 file steps 1 outputs 1 inputs -

@@ -1,4 +1,4 @@
-//! Ops by themselves: which the loader takes, and by which feature or rule it refuses others.
+//! Ops by themselves: which ones the loader accepts, and the feature or rule by which it refuses any other.
 
 use super::told::is_told;
 
@@ -146,7 +146,7 @@ fn a_copy_is_taken_without_what_is_refused_of_it(rt: HostRuntime) {
     is_told(&rt, rt.alloc(), COPIES);
 }
 
-// The loader looks at what a message says and not at how.
+// The loader looks at what a message means and not at how it is spelled.
 const SPELLINGS: &str = r#"
     > show < EMPTY_CWD; RESULT
     0 exec steps 1 outputs 1 inputs -

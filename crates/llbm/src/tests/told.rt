@@ -1,8 +1,8 @@
-//! The program as transcripts. A line with `> ` first is a call, and the lines after it are what the call writes, its error lines (`! ` first),
-//! and its status where that is not 0. One with `# ` first says what the next calls show. A call is the program's words; after ` < ` the
+//! The program as transcripts. A line that begins with `> ` is a call, and the lines after it are what the call writes, its error lines with `! ` before them,
+//! and its status if that is not 0. A line that begins with `# ` describes the next calls. A call is the program's words; after ` < ` come the
 //! entries that it reads as a definition (`written`), or `=` and the bytes in hexadecimal, or `@` and the name of a text, or `$` and a
-//! text in which `|` ends a line; for a session then, after the last ` | `, its commands, each ended by `;`. The file `FILE` is the definition, too,
-//! and the other files are those of `local_trees`. What `asm` writes is shown in hexadecimal. All devices do a byte at a time.
+//! text in which `|` ends a line; for a session then, after the last ` | `, its commands, each ended by `;`. The file `FILE` has the definition too,
+//! and the other files are those of `local_trees`. What `asm` writes is shown in hexadecimal. All devices read and write one byte at a time.
 
 use super::assembling::TEXTS;
 use super::devices::{AMPLE, Narrow, Ran, Rooms, Slow};
@@ -48,7 +48,7 @@ impl<'a> Sources for Shelf<'a> {
     }
 }
 
-// A call as its line has it.
+// A call, as its line gives it.
 #[derive(Clone, Copy)]
 struct Call<'a> {
     words: &'a str,
@@ -70,7 +70,7 @@ fn call_in(line: &str) -> Call<'_> {
     }
 }
 
-// A text in which each of these marks ends a line.
+// Returns a text in which each of these marks is replaced by a line end.
 fn lines_ended(rt: &impl Abort, alloc: Global, text: &str) -> Bytes {
     let mut lines = Vec::new(alloc);
     for byte in text.as_bytes() {
@@ -80,7 +80,7 @@ fn lines_ended(rt: &impl Abort, alloc: Global, text: &str) -> Bytes {
     Bytes::new(lines)
 }
 
-/// Returns the definition of the entries that are written, or the bytes that are spelled.
+/// Returns the definition of the entries that are written in a call, or its bytes.
 pub(crate) fn definition_of(rt: &impl Abort, alloc: Global, entries: &str) -> Bytes {
     if let Some(digits) = entries.strip_prefix("=") {
         return read_hex(alloc, digits)
@@ -109,7 +109,7 @@ fn lines_of(rt: &impl Abort, alloc: Global, commands: &str) -> String {
     text
 }
 
-// Devices with these rooms, which begin with these bytes to be read.
+// Returns devices that do so many reads, writes and flushes; standard input has these bytes.
 fn streams_of(alloc: Global, bytes: &[u8], rooms: Rooms) -> Streams<Slow<'_>, Narrow, Narrow> {
     let room = rooms.input;
     let mut out = Narrow::new(alloc, rooms.out);
@@ -168,7 +168,7 @@ pub(crate) fn tried<R: Abort + Threads + Wait + Sync>(
     ran(rt, alloc, &call_in(call), rooms)
 }
 
-// What was written, and a line that says so where it has no end.
+// Appends what was written, and a line that says so if it has no line end.
 fn say_bytes(rt: &impl Abort, text: &mut String, bytes: &[u8]) {
     let written = str::from_utf8(bytes).unwrap_or("no text\n");
     text.push_str(written).expect(rt, "memory");
@@ -212,7 +212,7 @@ fn say_call<R: Abort + Threads + Wait + Sync>(
     say_status(rt, text, ran.status);
 }
 
-// A line of a transcript, and of a call what it leaves.
+// Appends a line of a transcript, and after a call its result.
 fn say_line<R: Abort + Threads + Wait + Sync>(
     rt: &R,
     alloc: Global,
@@ -234,7 +234,7 @@ fn transcript<R: Abort + Threads + Wait + Sync>(rt: &R, alloc: Global, told: &st
     text
 }
 
-/// Ends the test at the first line of a transcript that differs. A transcript is moved in by four spaces.
+/// Ends the test at the first line of a transcript that differs. The lines of a transcript are indented by four spaces.
 pub(crate) fn is_told<R: Abort + Threads + Wait + Sync>(rt: &R, alloc: Global, told: &str) {
     let text = transcript(rt, alloc, told);
     let mut lines = text.lines();

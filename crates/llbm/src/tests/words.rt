@@ -1,5 +1,5 @@
-//! The words of the command line, as transcripts: after `> ` come the words, of which `''` is an empty one, and in the next line what they
-//! say: the command, the workers, the file if there is one, and for each local source the name and the file.
+//! The words of the command line, as transcripts: after `> ` come the words (`''` is an empty one), and in the next line what they
+//! ask for: the command, the workers, the file if there is one, and for each local source the name and the file.
 
 use super::devices::{Narrow, Ran};
 use llb_commands::{Command, Line, Local, WordsFault, command_of, words_refusal};
@@ -256,7 +256,7 @@ const REFUSALS: &[(WordsFault<'static>, u8, &str)] = &[
     (WordsFault::Memory, 3, "fault 184\n"),
 ];
 
-// What is printed on a writer that takes `room` bytes.
+// Returns what is printed to a writer that takes `room` bytes.
 fn told(alloc: Global, fault: &WordsFault<'_>, room: usize) -> Ran {
     let mut err = Narrow::new(alloc, room);
     let status = words_refusal(fault, &mut err);

@@ -1,10 +1,10 @@
-//! Definitions as calls have them: entries with `; ` between them.
+//! Definitions as calls write them: entries with `; ` between them.
 //!
-//! An entry is a name of `definitions`, `execution_definitions` or `spelled`, or what comes between the braces of an op, in pieces with
+//! An entry is a name of `definitions`, `execution_definitions` or `spelled`, or else the content of an op, in pieces with
 //! ` | ` between them. A piece is a name of `pieces`, or a line of the assembler's text, or a mount: its input, its dest, and the names of
-//! pieces that come after these. `RESULT` is the terminal on the entry before it. `act KIND | FIELD | ..` is an op with that one action on
-//! the output of the entry before it, whose second tree is the output of the first entry; and `sh TEXT` an execution of that text at the root on
-//! the output of the entry before it, or on nothing.
+//! pieces that come after these. `RESULT` is the terminal that names the entry before it. `act KIND | FIELD | ..` is an op with that one action on
+//! the output of the entry before it, whose second tree is the output of the first entry; and `sh TEXT` is an execution of that text, with the output
+//! of the entry before it at the root, or the empty tree if there is none.
 
 use super::definitions::ENTRIES;
 use super::execution_definitions::EXECUTIONS;
@@ -12,7 +12,7 @@ use super::pieces::PIECES;
 use super::spelled::SPELLED;
 use std::process::Abort;
 
-/// Returns the lines after the one with `== ` and the name; what comes there after `:` is for the reader.
+/// Returns the lines after the one with `== ` and this name; a description may follow the name after `:`.
 pub(crate) fn block<'a>(text: &'a str, wanted: &str) -> Option<&'a str> {
     for block in text.split("== ") {
         if let Some((head, lines)) = block.split_once('\n') {
@@ -75,7 +75,7 @@ fn push_act(rt: &impl Abort, text: &mut String, before: usize, action: &str) {
     push(rt, text, "}\n}\n}\n}\n");
 }
 
-// On nothing where no entry is before it.
+// Appends an execution of a script on the output of an entry, or on the empty tree if there is none.
 fn push_script(rt: &impl Abort, text: &mut String, before: Option<usize>, script: &str) {
     push(rt, text, "op {\n");
     if let Some(before) = before {
@@ -98,7 +98,7 @@ fn entry_named(name: &str) -> Option<&'static str> {
         .or(block(SPELLED, name))
 }
 
-// The text of an entry that has no name, at its place.
+// Appends the text of the entry with number `at`, which has no name.
 fn push_made(rt: &impl Abort, text: &mut String, at: usize, entry: &str) {
     let before = at.saturating_sub(1);
     let (word, rest) = entry.split_once(' ').unwrap_or((entry, ""));
@@ -110,7 +110,7 @@ fn push_made(rt: &impl Abort, text: &mut String, at: usize, entry: &str) {
     }
 }
 
-/// Puts the text of the entries at the end; none where nothing is written.
+/// Appends the text of the entries; nothing if none is written.
 pub(crate) fn push_entries(rt: &impl Abort, text: &mut String, entries: &str) {
     if entries.is_empty() {
         return;
