@@ -11,7 +11,7 @@ use Rattle.std.specs.contracts.vec.Vec as vec
 use Rattle.llb_tree.proofs.node.Node.TheLaws.TheKnot as knot
 use Rattle.llb_tree.specs.contracts.tree.Tree as tree
 use Rattle.llb_mount.specs.contracts.view.View as mounts
-use Rattle.llb_execution.specs.contracts.workspace.Own as own
+use Rattle.llb_execution.specs.contracts.workspace.WorkState as own
 use Rattle.llb_execution.specs.contracts.workspace.Workspace as workspace
 use Rattle.llb_execution.specs.contracts.workspace.Workspace.TheInside as inside
 

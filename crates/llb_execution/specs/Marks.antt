@@ -4,8 +4,8 @@ use Rattle.llb_mount.specs.declared.shown.Shown.{Shown}
 use Rattle.llb_tree.specs.Tree.{TreeMap}
 use Rattle.llb_model.specs.Program.{MicroStep, Workspace, LocalTree, Files, Layers, Mounted, step_on}
 use Rattle.llb_execution.specs.Parts.{work_with}
-use Rattle.llb_execution.specs.declared.mark.Was.{Was}
-use Rattle.llb_execution.specs.declared.mark.Was.TheVariants as was
+use Rattle.llb_execution.specs.declared.mark.StateBefore.{StateBefore}
+use Rattle.llb_execution.specs.declared.mark.StateBefore.TheVariants as was
 
 -- what can change: for a source nothing, for a file op how many results there are, for a merge what is laid, for an exec its mounts and the last status
 pub data Mark : Type 0 where
@@ -15,7 +15,7 @@ pub data Mark : Type 0 where
   Mounts : List Shown → ℕ → Mark
 
 -- what a mark of the code represents
-abbrev pub mark_in : Was → Mark
+abbrev pub mark_in : StateBefore → Mark
 mark_in was.Nothing = Nothing
 mark_in (was.Results count) = Results count
 mark_in (was.Laid t) = Laid t

@@ -7,8 +7,8 @@ use Rattle.llb_execution.specs.declared.micro_step.MicroStep.{MicroStep}
 use Rattle.llb_execution.specs.declared.micro_step.MicroStep.TheVariants as step
 use Rattle.llb_execution.specs.declared.steps.ByKind.{ByKind}
 use Rattle.llb_execution.specs.declared.steps.ByKind.TheVariants as steps
-use Rattle.llb_execution.specs.declared.workspace.Own.{Own}
-use Rattle.llb_execution.specs.declared.workspace.Own.TheVariants as own
+use Rattle.llb_execution.specs.declared.workspace.WorkState.{WorkState}
+use Rattle.llb_execution.specs.declared.workspace.WorkState.TheVariants as own
 
 -- ---- programs
 
@@ -30,7 +30,7 @@ steps_in (steps.Commands setting script) = model.runs_of setting script
 -- ---- workspaces
 
 -- the workspace that the data of the code represents
-abbrev pub own_of : Own → model.Workspace
+abbrev pub own_of : WorkState → model.Workspace
 own_of (own.Local t) = model.LocalTree t
 own_of (own.Files inputs results) = model.Files inputs.items results.items
 own_of (own.Layers inputs t) = model.Layers inputs.items t

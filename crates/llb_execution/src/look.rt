@@ -7,7 +7,7 @@ ghost use Rattle.llb_model.specs.Program.{filled};
 ghost use Rattle.llb_execution.specs.Looks.{trees_with, looked, tree_or, last_tree, next_place, shown_tree, role_in, roles_of};
 ghost use Rattle.llb_execution.specs.Looks.{Local, Laid, input_role, mount_role, results_from};
 
-use crate::workspace::{Own, Workspace};
+use crate::workspace::{WorkState, Workspace};
 use llb_mount::View as Mounts;
 use llb_tree::{Path, Tree};
 
@@ -42,10 +42,10 @@ impl Workspace {
         ensures { (trees : List TreeMap) → length trees ≡ held → looked trees result ≡ slice_get (trees_with self.now trees) i }
     {
         match &self.own {
-            Own::Local(tree) => here(before_last(&[], tree, i)),
-            Own::Files(inputs, results) => here(among(inputs, results, i)),
-            Own::Layers(inputs, laid) => here(before_last(inputs, laid, i)),
-            Own::Mounted(mounts, numbers, _) => look_in(mounts, numbers, i, held),
+            WorkState::Local(tree) => here(before_last(&[], tree, i)),
+            WorkState::Files(inputs, results) => here(among(inputs, results, i)),
+            WorkState::Layers(inputs, laid) => here(before_last(inputs, laid, i)),
+            WorkState::Mounted(mounts, numbers, _) => look_in(mounts, numbers, i, held),
         }
     }
 
@@ -54,10 +54,10 @@ impl Workspace {
         ensures { result ≡ length (roles_of self.now) }
     {
         match &self.own {
-            Own::Local(_) => 1,
-            Own::Files(inputs, results) => inputs.len() + results.len(),
-            Own::Layers(inputs, _) => inputs.len() + 1,
-            Own::Mounted(mounts, _, _) => mounts.mounts().len(),
+            WorkState::Local(_) => 1,
+            WorkState::Files(inputs, results) => inputs.len() + results.len(),
+            WorkState::Layers(inputs, _) => inputs.len() + 1,
+            WorkState::Mounted(mounts, _, _) => mounts.mounts().len(),
         }
     }
 
@@ -66,10 +66,10 @@ impl Workspace {
         ensures { option_map role_in result ≡ slice_get (roles_of self.now) i }
     {
         match &self.own {
-            Own::Local(_) => local_part(i),
-            Own::Files(inputs, results) => file_part(inputs, results, i),
-            Own::Layers(inputs, _) => merge_part(inputs, i),
-            Own::Mounted(mounts, _, _) => mount_part(mounts, i),
+            WorkState::Local(_) => local_part(i),
+            WorkState::Files(inputs, results) => file_part(inputs, results, i),
+            WorkState::Layers(inputs, _) => merge_part(inputs, i),
+            WorkState::Mounted(mounts, _, _) => mount_part(mounts, i),
         }
     }
 }

@@ -5,7 +5,7 @@ ghost use Rattle.llb_execution.specs.Marks.{mark_in, mark_of, put_back, PutsBack
 ghost use Rattle.llb_execution.specs.Parts.{own_of};
 
 use crate::refusal::NoMemory;
-use crate::workspace::{Own, Workspace};
+use crate::workspace::{WorkState, Workspace};
 use llb_mount::View as Mounts;
 use llb_tree::Tree;
 use llb_wire::Memory;
@@ -15,12 +15,12 @@ use std::marker::Model;
 /// far, for an exec its mounts and its last status.
 #[derive(Drop)]
 pub struct Mark {
-    was: Was,
+    was: StateBefore,
 }
 
 // What a workspace had before a micro-step, by the kind of workspace.
 #[derive(Drop)]
-pub(crate) enum Was {
+pub(crate) enum StateBefore {
     Nothing,
     Results(usize),
     Laid(Tree),
@@ -55,22 +55,22 @@ impl Workspace {
         ensures { self.new ≡ put_back mark self.old }
     {
         match mark.was {
-            Was::Nothing => {}
-            Was::Results(count) => self.keep_results(count),
-            Was::Laid(tree) => self.put_laid(tree),
-            Was::Mounts(mounts, last) => self.put_mounts(mounts, last),
+            StateBefore::Nothing => {}
+            StateBefore::Results(count) => self.keep_results(count),
+            StateBefore::Laid(tree) => self.put_laid(tree),
+            StateBefore::Mounts(mounts, last) => self.put_mounts(mounts, last),
         }
     }
 }
 
 // Returns what a micro-step can change of a workspace's data.
-fn was_in(own: &Own) -> Result<Was, NoMemory>
+fn was_in(own: &WorkState) -> Result<StateBefore, NoMemory>
     ensures { IfOk result (λ w. mark_in w ≡ mark_of (own_of own.now)) }
 {
     match own {
-        Own::Local(_) => Ok(Was::Nothing),
-        Own::Files(_, results) => Ok(Was::Results(results.len())),
-        Own::Layers(_, laid) => Ok(Was::Laid(laid.copy()?)),
-        Own::Mounted(mounts, _, last) => Ok(Was::Mounts(mounts.copy()?, *last)),
+        WorkState::Local(_) => Ok(StateBefore::Nothing),
+        WorkState::Files(_, results) => Ok(StateBefore::Results(results.len())),
+        WorkState::Layers(_, laid) => Ok(StateBefore::Laid(laid.copy()?)),
+        WorkState::Mounted(mounts, _, last) => Ok(StateBefore::Mounts(mounts.copy()?, *last)),
     }
 }

@@ -9,22 +9,22 @@ ghost use Rattle.llb_model.specs.Program.{program_of, tree_for, outputs_of};
 ghost use Rattle.llb_execution.specs.Parts.{own_of};
 ghost use Rattle.llb_execution.specs.Outputs.{actions_in, numbers_of, tree_by, first_placed, placed, placed_by};
 
-use crate::workspace::Own;
+use crate::workspace::WorkState;
 use llb_loader::{Vertex, mounts_of};
 use llb_mount::Shown;
 use llb_ops::{Action, Kind, Mount};
 use llb_tree::Tree;
 
 /// Returns the outputs of a vertex, from its workspace after all its micro-steps.
-pub(crate) fn outputs_of(own: Own, outputs: Vec<Tree>, vertex: &Vertex) -> Vec<Tree>
+pub(crate) fn outputs_of(own: WorkState, outputs: Vec<Tree>, vertex: &Vertex) -> Vec<Tree>
     requires { outputs.items ≡ replicate (length outputs.items) empty_tree }
     ensures { result.items ≡ outputs_of (record (program_of vertex.now) { outputs = length outputs.items }) (own_of own) }
 {
     match own {
-        Own::Local(tree) => place_first(outputs, tree),
-        Own::Layers(_, tree) => place_first(outputs, tree),
-        Own::Files(_, results) => place_all(outputs, results, actions_of(&vertex.op.kind)),
-        Own::Mounted(view, _, _) => {
+        WorkState::Local(tree) => place_first(outputs, tree),
+        WorkState::Layers(_, tree) => place_first(outputs, tree),
+        WorkState::Files(_, results) => place_all(outputs, results, actions_of(&vertex.op.kind)),
+        WorkState::Mounted(view, _, _) => {
             let mounts = view.into_mounts().into_vec();
             place_shown(outputs, mounts, mounts_of(&vertex.op.kind))
         }

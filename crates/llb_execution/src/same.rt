@@ -8,7 +8,7 @@ ghost use Rattle.llb_execution.specs.Parts.{steps_in, own_of};
 
 use crate::program::Program;
 use crate::steps::{ByKind, Steps};
-use crate::workspace::{Own, Workspace};
+use crate::workspace::{WorkState, Workspace};
 use llb_applet::{Joined, Setting};
 use llb_loader::{Vertex, mounts_of};
 use llb_ops::{Action, Mount};
@@ -21,19 +21,19 @@ impl Same for Workspace {
 }
 
 // Returns whether two workspaces own the same data.
-fn same_own(own: &Own, other: &Own) -> bool
+fn same_own(own: &WorkState, other: &WorkState) -> bool
     ensures { IsTrue result ↔ (own_of own.now ≡ own_of other.now) }
 {
     match (own, other) {
-        (Own::Local(tree), Own::Local(other)) => tree.same(other),
-        (Own::Files(inputs, results), Own::Files(others, also)) => {
+        (WorkState::Local(tree), WorkState::Local(other)) => tree.same(other),
+        (WorkState::Files(inputs, results), WorkState::Files(others, also)) => {
             all_same(inputs.as_slice(), others.as_slice())
                 && all_same(results.as_slice(), also.as_slice())
         }
-        (Own::Layers(inputs, laid), Own::Layers(others, also)) => {
+        (WorkState::Layers(inputs, laid), WorkState::Layers(others, also)) => {
             all_same(inputs.as_slice(), others.as_slice()) && laid.same(also)
         }
-        (Own::Mounted(mounts, numbers, last), Own::Mounted(others, also, other)) => {
+        (WorkState::Mounted(mounts, numbers, last), WorkState::Mounted(others, also, other)) => {
             mounts.same(others) && all_same(numbers.as_slice(), also.as_slice()) && last == other
         }
         _ => false,

@@ -36,7 +36,7 @@ use std::marker::Model;
 /// merge the trees of its inputs and what is laid so far, for an exec its mounts, of which those that show caches are empty, and
 /// the status of the last command that ran.
 pub struct Workspace {
-    pub(crate) own: Own,
+    pub(crate) own: WorkState,
 }
 
 // Written by hand, so that it is proved once; a derived one is proved again in every function that drops such a value.
@@ -49,7 +49,7 @@ impl Drop for Workspace {
 // What a workspace owns: a local tree; the trees of inputs and the results so far; the trees of inputs and what is laid; or mounts, the numbers of
 // those that show caches, and the last status.
 #[derive(Drop)]
-pub(crate) enum Own {
+pub(crate) enum WorkState {
     Local(Tree),
     Files(Vec<Tree>, Vec<Tree>),
     Layers(Vec<Tree>, Tree),
@@ -100,7 +100,7 @@ impl Workspace {
         ensures { result ≡ last_of self.now }
     {
         match &self.own {
-            Own::Mounted(_, _, last) => *last,
+            WorkState::Mounted(_, _, last) => *last,
             _ => 0,
         }
     }
@@ -195,10 +195,10 @@ impl Workspace {
         }
         let at = number as usize;
         match &self.own {
-            Own::Local(_) => None,
-            Own::Mounted(_, _, _) => None,
-            Own::Layers(inputs, _) => inputs.get(at),
-            Own::Files(inputs, results) => {
+            WorkState::Local(_) => None,
+            WorkState::Mounted(_, _, _) => None,
+            WorkState::Layers(inputs, _) => inputs.get(at),
+            WorkState::Files(inputs, results) => {
                 if at < inputs.len() {
                     return inputs.get(at);
                 }
@@ -213,7 +213,7 @@ impl Workspace {
         ensures err { OnErr result (self.new ≡ self.old) }
     {
         match &mut self.own {
-            Own::Files(_, results) => {
+            WorkState::Files(_, results) => {
                 results.push(tree)?;
                 Ok(())
             }
@@ -228,7 +228,7 @@ impl Workspace {
         ensures err { OnErr result (self.new ≡ self.old) }
     {
         match &mut self.own {
-            Own::Layers(inputs, laid) => lay_input(alloc, laid, inputs, input),
+            WorkState::Layers(inputs, laid) => lay_input(alloc, laid, inputs, input),
             // No vertex's program gets here: only a merge has layings.
             _ => Ok(()),
         }
@@ -239,7 +239,7 @@ impl Workspace {
         ensures { self.new ≡ put_back (Results count) self.old }
     {
         match &mut self.own {
-            Own::Files(_, results) => results.truncate(count),
+            WorkState::Files(_, results) => results.truncate(count),
             _ => {}
         }
     }
@@ -249,7 +249,7 @@ impl Workspace {
         ensures { self.new ≡ put_back (Laid tree) self.old }
     {
         match &mut self.own {
-            Own::Layers(_, laid) => *laid = tree,
+            WorkState::Layers(_, laid) => *laid = tree,
             _ => {}
         }
     }
@@ -259,7 +259,7 @@ impl Workspace {
         ensures { self.new ≡ put_back (marks.Mounts mounts last) self.old }
     {
         match &mut self.own {
-            Own::Mounted(shown, _, status) => {
+            WorkState::Mounted(shown, _, status) => {
                 *shown = mounts;
                 *status = last;
             }
@@ -285,7 +285,7 @@ impl Workspace {
         ensures err { OnErr result ((self.new ≡ self.old) × (trees.new.items ≡ trees.old.items)) }
     {
         match &mut self.own {
-            Own::Mounted(mounts, caches, last) => {
+            WorkState::Mounted(mounts, caches, last) => {
                 if !runs_after(command.join, *last) {
                     return Ok(None);
                 }
@@ -301,21 +301,21 @@ impl Workspace {
 }
 
 // Copies all that a workspace has; the trees are shared.
-fn copy_of(own: &Own) -> Result<Own, NoMemory>
+fn copy_of(own: &WorkState) -> Result<WorkState, NoMemory>
     ensures { IfOk result (λ o. own_of o ≡ own_of own.now) }
 {
     match own {
-        Own::Local(tree) => Ok(Own::Local(tree.copy()?)),
-        Own::Files(inputs, results) => {
+        WorkState::Local(tree) => Ok(WorkState::Local(tree.copy()?)),
+        WorkState::Files(inputs, results) => {
             let alloc = *inputs.allocator();
-            Ok(Own::Files(tree_copies(alloc, inputs)?, tree_copies(alloc, results)?))
+            Ok(WorkState::Files(tree_copies(alloc, inputs)?, tree_copies(alloc, results)?))
         }
-        Own::Layers(inputs, laid) => {
+        WorkState::Layers(inputs, laid) => {
             let alloc = *inputs.allocator();
-            Ok(Own::Layers(tree_copies(alloc, inputs)?, laid.copy()?))
+            Ok(WorkState::Layers(tree_copies(alloc, inputs)?, laid.copy()?))
         }
-        Own::Mounted(mounts, numbers, last) => {
-            Ok(Own::Mounted(mounts.copy()?, numbers.clone()?, *last))
+        WorkState::Mounted(mounts, numbers, last) => {
+            Ok(WorkState::Mounted(mounts.copy()?, numbers.clone()?, *last))
         }
     }
 }
@@ -338,19 +338,19 @@ fn own_on(
     vertex: &Vertex,
     inputs: Vec<Tree>,
     caches: Vec<u32>,
-) -> Result<Own, NoMemory>
+) -> Result<WorkState, NoMemory>
     requires kind { IsVertexOf vertex.now vertex.now.op.kind }
     requires caches { caches.items ≡ map mount_of (needs_of vertex.now) }
     ensures { IfOk result (λ own. own_of own ≡ workspace_on locals.now vertex.now vertex.now.op.kind inputs.items) }
 {
     match &vertex.op.kind {
-        Some(Kind::Source(_)) => Ok(Own::Local(local_tree(alloc, locals, vertex)?)),
-        Some(Kind::Merge(_)) => Ok(Own::Layers(inputs, Tree::empty(alloc)?)),
+        Some(Kind::Source(_)) => Ok(WorkState::Local(local_tree(alloc, locals, vertex)?)),
+        Some(Kind::Merge(_)) => Ok(WorkState::Layers(inputs, Tree::empty(alloc)?)),
         Some(Kind::Exec(exec)) => {
             let mounts = view_of(alloc, inputs.as_slice(), exec.get().mounts.as_slice())?;
-            Ok(Own::Mounted(mounts, caches, 0))
+            Ok(WorkState::Mounted(mounts, caches, 0))
         }
-        _ => Ok(Own::Files(inputs, Vec::new(alloc))),
+        _ => Ok(WorkState::Files(inputs, Vec::new(alloc))),
     }
 }
 

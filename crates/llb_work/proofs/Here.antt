@@ -14,7 +14,7 @@ use Rattle.llb_board.specs.Seen.{BoardValue}
 use Rattle.llb_events.specs.declared.refusal.ClaimFault.{ClaimFault}
 use Rattle.llb_board.specs.Begun.{plain_job}
 use Rattle.llb_work.specs.Crew.{IsAfter}
-use Rattle.llb_work.specs.Turns.{IsClaimed}
+use Rattle.llb_work.specs.Tasks.{IsClaimed}
 use Rattle.llb_work.specs.RunEnds.{is_of, may_be, StopsSomewhere}
 use Rattle.llb_work.specs.declared.noted.Noted.TheVariants.{Stopped}
 use Rattle.llb_work.proofs.Afters.{goes_from}

@@ -15,7 +15,7 @@ use Rattle.llb_board.specs.declared.status.WorkerStatus.TheVariants.{Idle, Runs}
 use Rattle.llb_board.specs.Seen.{BoardValue}
 use Rattle.llb_board.specs.Statuses.{look_of, worker_look}
 use Rattle.llb_board.specs.Begun.{plain_job, IsKnown}
-use Rattle.llb_work.specs.Turns.{IsClaimed}
+use Rattle.llb_work.specs.Tasks.{IsClaimed}
 
 -- ---- the marks
 

@@ -26,7 +26,7 @@ use Rattle.llb_board.specs.Rules.{claim_of, step_of, settle_of, cancel_of}
 use Rattle.llb_board.specs.declared.fault.LandFault.{LandFault}
 use Rattle.llb_work.specs.Crew.{GoesOn, CancelsNothing, is_cancel}
 use Rattle.llb_work.specs.Alone.{Takes}
-use Rattle.llb_work.specs.Turns.{IsClaimed}
+use Rattle.llb_work.specs.Tasks.{IsClaimed}
 use Rattle.llb_work.proofs.Afters.{stays, takes_one}
 use Rattle.llb_work.proofs.Cancels.{as_before, block, takes_no_cancel, leaves_cancels}
 use Rattle.llb_work.proofs.Driving.{claim_takes, step_takes, settle_takes, cancel_takes}

@@ -1,7 +1,7 @@
 //! Further owners of the trees that a worker may drop while it holds the lock. As long as these exist no such tree is freed; they
 //! are dropped after the lock is released, so that freeing takes no time under it.
 
-use crate::shared_board::Brought;
+use crate::shared_board::Report;
 use llb_board::{Board, Workspace};
 use llb_tree::Tree;
 use std::alloc::Global;
@@ -16,9 +16,9 @@ pub(crate) struct Owners {
 impl Owners {
     /// Makes further owners of the trees that a worker's landing, step, settle or cancel may drop: those of the workspace that its outcome
     /// leaves, or that it works on, and those of its cache instances. `None` if it runs nothing or memory is refused.
-    pub(crate) fn of(alloc: Global, board: &Board, w: u32, brought: &Brought) -> Option<Owners> {
-        let workspace = match brought {
-            Brought::Outcome(outcome) => outcome.workspace().copy(),
+    pub(crate) fn of(alloc: Global, board: &Board, w: u32, report: &Report) -> Option<Owners> {
+        let workspace = match report {
+            Report::Outcome(outcome) => outcome.workspace().copy(),
             _ => board.workspace(w)?.copy(),
         };
         let workspace = workspace.ok()?;

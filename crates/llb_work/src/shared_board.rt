@@ -11,7 +11,7 @@ ghost use Rattle.llb_model.specs.Coded.{coded_store};
 ghost use Rattle.llb_work.specs.Crew.{CancelsNothing, IsAfter};
 ghost use Rattle.llb_work.specs.RunEnds.{may_be};
 ghost use Rattle.llb_work.specs.Supplies.{ArePlain};
-ghost use Rattle.llb_work.specs.Turns.{IsBrought, IsClaimed, IsHere};
+ghost use Rattle.llb_work.specs.Tasks.{IsReport, IsClaimed, IsHere};
 
 use crate::key_waiters::KeyWaiters;
 use crate::noted::{Gated, Noted};
@@ -46,9 +46,9 @@ pub(crate) struct SharedBoard<S: Gated> {
     pub ghost uncancelled: { noted ≡ None → CancelsNothing S.start board },
 }
 
-/// What a worker brings to the lock.
+/// What a worker reports when it takes the lock.
 #[derive(Drop)]
-pub(crate) enum Brought {
+pub(crate) enum Report {
     Nothing,
     /// The number of a vertex, from the queue.
     Number(u32),
@@ -60,7 +60,7 @@ pub(crate) enum Brought {
 
 /// What a worker is to do next.
 #[derive(Drop)]
-pub(crate) enum Turn {
+pub(crate) enum Task {
     /// Work on this job away from the board.
     Work(Job),
     /// Pass the gate for this vertex, which is then worked on under the lock.
@@ -160,13 +160,13 @@ impl<S: Gated> SharedBoard<S> {
 
     // Notes why the run ends and cancels what a worker runs, if it runs anything, both in one hold of the lock: another worker never sees a
     // ready vertex that is in no queue while nothing is noted. Ends the worker.
-    fn give_up(&mut self, w: u32, noted: Noted) -> Turn
+    fn give_up(&mut self, w: u32, noted: Noted) -> Task
         requires { may_be S.may_stop S.start (Some noted) ≡ true }
         ensures { IsHere S.start w result }
     {
         self.note(noted);
         self.cancel(w);
-        Turn::End
+        Task::End
     }
 
     // Counts for a worker the events that were added to the record since the last count.
@@ -180,45 +180,45 @@ impl<S: Gated> SharedBoard<S> {
     /// next, and further owners of the trees that this hold has dropped. Adds to `news` the numbers that the worker then has to put into the
     /// queue: those of the vertices that became ready when its vertex ended, the greatest first, and those of the vertices that waited for its
     /// keys.
-    pub(crate) fn turn(
+    pub(crate) fn next_task(
         &mut self,
         w: u32,
-        brought: Brought,
+        report: Report,
         mine: &mut Tally<S>,
         news: &mut Vec<u32>,
-    ) -> (Turn, Option<Owners>)
-        requires { IsBrought S.may_stop S.start w brought }
+    ) -> (Task, Option<Owners>)
+        requires { IsReport S.may_stop S.start w report }
         ensures { IsHere S.start w result.0 }
     {
-        let owners = Owners::of(*news.allocator(), &self.board, w, &brought);
-        let turn = self.act(w, brought, news);
+        let owners = Owners::of(*news.allocator(), &self.board, w, &report);
+        let task = self.act(w, report, news);
         self.count(mine);
-        (turn, owners)
+        (task, owners)
     }
 
     // Does what a worker has to do, by what it brings.
-    fn act(&mut self, w: u32, brought: Brought, news: &mut Vec<u32>) -> Turn
-        requires { IsBrought S.may_stop S.start w brought }
+    fn act(&mut self, w: u32, report: Report, news: &mut Vec<u32>) -> Task
+        requires { IsReport S.may_stop S.start w report }
         ensures { IsHere S.start w result }
     {
-        match brought {
-            Brought::Nothing => self.go_on(w, news),
-            Brought::Number(v) => self.take(w, v, news),
-            Brought::Outcome(outcome) => {
+        match report {
+            Report::Nothing => self.go_on(w, news),
+            Report::Number(v) => self.take(w, v, news),
+            Report::Outcome(outcome) => {
                 self.release(w, news);
                 let landed = self.land(w, outcome);
                 self.left(landed.ok(), news)
             }
-            Brought::Fault(noted) => self.give_up(w, noted),
+            Report::Fault(noted) => self.give_up(w, noted),
         }
     }
 
     // Does one event of what a worker runs. A worker that runs nothing ends if the run is over.
-    fn go_on(&mut self, w: u32, news: &mut Vec<u32>) -> Turn
+    fn go_on(&mut self, w: u32, news: &mut Vec<u32>) -> Task
         ensures { IsHere S.start w result }
     {
         match self.board.worker(w) {
-            None => Turn::End,
+            None => Task::End,
             Some(WorkerStatus::Runs(_, _, true)) => {
                 self.release(w, news);
                 let settled = self.settle(w);
@@ -226,19 +226,19 @@ impl<S: Gated> SharedBoard<S> {
             }
             Some(WorkerStatus::Runs(_, _, false)) => match self.step(w) {
                 Err(StepFault::Memory) => self.give_up(w, Noted::Memory),
-                _ => Turn::Again,
+                _ => Task::Again,
             },
-            Some(WorkerStatus::Idle) if self.is_over() => Turn::End,
-            Some(WorkerStatus::Idle) => Turn::Next,
+            Some(WorkerStatus::Idle) if self.is_over() => Task::End,
+            Some(WorkerStatus::Idle) => Task::Next,
         }
     }
 
     // Claims a vertex, unless the run is over. If the vertex is not ready, its number is dropped: another worker has it.
-    fn take(&mut self, w: u32, v: u32, news: &mut Vec<u32>) -> Turn
+    fn take(&mut self, w: u32, v: u32, news: &mut Vec<u32>) -> Task
         ensures { IsHere S.start w result }
     {
         if self.is_over() {
-            return Turn::End;
+            return Task::End;
         }
         match self.claim(w, v) {
             Ok(job) => {
@@ -246,24 +246,24 @@ impl<S: Gated> SharedBoard<S> {
                 self.begun(w, job)
             }
             Err(ClaimFault::Held(key)) => self.wait_for(key, v, news),
-            Err(ClaimFault::NotReady | ClaimFault::NoVertex) => Turn::Next,
+            Err(ClaimFault::NotReady | ClaimFault::NoVertex) => Task::Next,
             Err(ClaimFault::Memory) => self.give_up(w, Noted::Memory),
-            Err(_) => Turn::Again,
+            Err(_) => Task::Again,
         }
     }
 
     // Returns what a worker is to do after its vertex has ended, or after its landing or settle was refused.
-    fn left(&mut self, settled: Option<Settled>, news: &mut Vec<u32>) -> Turn
+    fn left(&mut self, settled: Option<Settled>, news: &mut Vec<u32>) -> Task
         ensures { (w : ℕ) → IsHere S.start w result }
     {
         match settled {
-            None => Turn::Again,
+            None => Task::Again,
             Some(Settled::Done(v) | Settled::Failed(v)) => {
                 note_ready(&self.board, v, news);
                 if self.is_over() {
-                    return Turn::End;
+                    return Task::End;
                 }
-                Turn::Next
+                Task::Next
             }
         }
     }
@@ -279,7 +279,7 @@ impl<S: Gated> SharedBoard<S> {
     }
 
     // Lets a number wait for a key that another worker holds. If it had waited for another key, adds the next number of that key to `news`.
-    fn wait_for(&mut self, key: Key, v: u32, news: &mut Vec<u32>) -> Turn
+    fn wait_for(&mut self, key: Key, v: u32, news: &mut Vec<u32>) -> Task
         ensures { (w : ℕ) → IsHere S.start w result }
     {
         let next = self.waiters.answered(v, Some(&key));
@@ -289,7 +289,7 @@ impl<S: Gated> SharedBoard<S> {
         if let Some(u) = next {
             add(news, u);
         }
-        Turn::Next
+        Task::Next
     }
 
     // Returns whether no vertex is claimed any more.
@@ -298,14 +298,14 @@ impl<S: Gated> SharedBoard<S> {
     }
 
     // Returns how a claimed vertex is worked on: under the lock if it mounts a shared cache, otherwise away from it.
-    fn begun(&self, w: u32, job: Job) -> Turn
+    fn begun(&self, w: u32, job: Job) -> Task
         requires { IsClaimed S.start w job.vertex job }
         ensures { IsHere S.start w result }
     {
         if self.board.has_shared(w) {
-            return Turn::Pass(job.vertex());
+            return Task::Pass(job.vertex());
         }
-        Turn::Work(job)
+        Task::Work(job)
     }
 }
 

@@ -4,11 +4,11 @@
 ghost use Rattle.std.specs.Prelude.{◌≡◌, true, IfSome};
 ghost use Rattle.llb_work.specs.Passes.{IsPassFor};
 ghost use Rattle.llb_work.specs.RunEnds.{is_of, AllowsStops};
-ghost use Rattle.llb_work.specs.Turns.{IsBrought, IsClaimed, IsHere};
+ghost use Rattle.llb_work.specs.Tasks.{IsReport, IsClaimed, IsHere};
 
 use crate::crew::Crew;
 use crate::noted::{Gated, Noted};
-use crate::shared_board::{Brought, Turn};
+use crate::shared_board::{Report, Task};
 use crate::tally::Tally;
 use crossbeam_utils::Backoff;
 use llb_board::{Gate, Job, WorkFault, work};
@@ -34,18 +34,18 @@ impl<'x, S: Gated, G: Gate, R: Wait> Crew<'x, S, G, R> {
         ensures { IsPassFor self.entry.queue.now w result.pass }
     {
         let mut kit = kit;
-        let mut brought = Brought::Nothing;
+        let mut report = Report::Nothing;
         for _i in self.rt.forever() {
-            let (turn, owners) = self
+            let (task, owners) = self
                 .board
                 .lock(self.rt)
-                .turn(w, brought, &mut kit.tally, &mut kit.news);
+                .next_task(w, report, &mut kit.tally, &mut kit.news);
             let put = self.put_all(w, &mut kit);
-            let own = usize::from(matches!(turn, Turn::Next));
+            let own = usize::from(matches!(task, Task::Next));
             self.idle.wake(put.saturating_sub(own));
             drop(owners);
-            match self.away(w, turn, &mut kit) {
-                Some(more) => brought = more,
+            match self.away(w, task, &mut kit) {
+                Some(more) => report = more,
                 None => break,
             }
         }
@@ -54,19 +54,19 @@ impl<'x, S: Gated, G: Gate, R: Wait> Crew<'x, S, G, R> {
     }
 
     // Does what a worker has to do away from the lock. Returns what it brings to the lock next; `None` if it ends.
-    fn away(self, w: u32, turn: Turn, kit: &mut WorkerKit<S>) -> Option<Brought>
+    fn away(self, w: u32, task: Task, kit: &mut WorkerKit<S>) -> Option<Report>
         requires stop { AllowsStops G.may_stop S.may_stop }
-        requires here { IsHere S.start w turn }
+        requires here { IsHere S.start w task }
         requires pass { IsPassFor self.queue.now w kit.old.pass }
         ensures pass { IsPassFor self.entry.queue.now w kit.new.pass }
-        ensures brought { IfSome result (IsBrought S.may_stop S.start w) }
+        ensures report { IfSome result (IsReport S.may_stop S.start w) }
     {
-        match turn {
-            Turn::End => None,
-            Turn::Again => Some(Brought::Nothing),
-            Turn::Next => Some(Brought::Number(self.taken(w, kit)?)),
-            Turn::Pass(v) => Some(self.passed(w, v)),
-            Turn::Work(job) => Some(self.worked(w, job)),
+        match task {
+            Task::End => None,
+            Task::Again => Some(Report::Nothing),
+            Task::Next => Some(Report::Number(self.taken(w, kit)?)),
+            Task::Pass(v) => Some(self.passed(w, v)),
+            Task::Work(job) => Some(self.worked(w, job)),
         }
     }
 
@@ -112,28 +112,28 @@ impl<'x, S: Gated, G: Gate, R: Wait> Crew<'x, S, G, R> {
     }
 
     // Passes the gate. Brings the stop to the lock if the gate stops the worker there, and nothing otherwise.
-    fn passed(self, w: u32, v: u32) -> Brought
+    fn passed(self, w: u32, v: u32) -> Report
         requires stop { AllowsStops G.may_stop S.may_stop }
         requires here { is_of S.start w v ≡ true }
-        ensures { IsBrought S.may_stop S.start w result }
+        ensures { IsReport S.may_stop S.start w result }
     {
         match self.gate.pass(w, v) {
-            Ok(()) => Brought::Nothing,
-            Err(_) => Brought::Fault(Noted::Stopped(w, v)),
+            Ok(()) => Report::Nothing,
+            Err(_) => Report::Fault(Noted::Stopped(w, v)),
         }
     }
 
     // Works on a job. Brings its outcome to the lock, or why there is none.
-    fn worked(self, w: u32, job: Job) -> Brought
+    fn worked(self, w: u32, job: Job) -> Report
         requires stop { AllowsStops G.may_stop S.may_stop }
         requires here { IsClaimed S.start w job.vertex job }
-        ensures { IsBrought S.may_stop S.start w result }
+        ensures { IsReport S.may_stop S.start w result }
     {
         let (worker, vertex) = (job.worker(), job.vertex());
         match work(self.alloc, job, self.gate) {
-            Ok(outcome) => Brought::Outcome(outcome),
-            Err(WorkFault::Stopped) => Brought::Fault(Noted::Stopped(worker, vertex)),
-            Err(WorkFault::Memory) => Brought::Fault(Noted::Memory),
+            Ok(outcome) => Report::Outcome(outcome),
+            Err(WorkFault::Stopped) => Report::Fault(Noted::Stopped(worker, vertex)),
+            Err(WorkFault::Memory) => Report::Fault(Noted::Memory),
         }
     }
 }

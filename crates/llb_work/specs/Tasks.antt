@@ -1,14 +1,14 @@
--- What a worker is to do next, and what it brings to the lock.
+-- What a worker is to do next, and what it reports when it takes the lock.
 use Rattle.std.specs.Prelude.{◌≡◌, ℕ, Bool, true, Some}
 use Rattle.llb_model.specs.Table.{Job}
 use Rattle.llb_model.specs.Outcome.{is_plain}
 use Rattle.llb_board.specs.Seen.{BoardValue}
 use Rattle.llb_board.specs.Begun.{plain_job}
 use Rattle.llb_work.specs.RunEnds.{is_of, may_be}
-use Rattle.llb_work.specs.declared.shared_board.Turn.{Turn}
-use Rattle.llb_work.specs.declared.shared_board.Turn.TheVariants.{Work, Pass, Again, Next, End}
-use Rattle.llb_work.specs.declared.shared_board.Brought.{Brought}
-use Rattle.llb_work.specs.declared.shared_board.Brought.TheVariants.{Nothing, Number, Outcome, Fault}
+use Rattle.llb_work.specs.declared.shared_board.Task.{Task}
+use Rattle.llb_work.specs.declared.shared_board.Task.TheVariants.{Work, Pass, Again, Next, End}
+use Rattle.llb_work.specs.declared.shared_board.Report.{Report}
+use Rattle.llb_work.specs.declared.shared_board.Report.TheVariants.{Nothing, Number, Outcome, Fault}
 
 -- the job is of worker w and vertex v, both on the board; it is the plain job if no cache mount is at or before the vertex
 pub record IsClaimed (b : BoardValue) (w v : ℕ) (job : Job) : Type 0 where
@@ -18,7 +18,7 @@ pub record IsClaimed (b : BoardValue) (w v : ℕ) (job : Job) : Type 0 where
   pub plain : is_plain b.build v ≡ true → plain_job b.build w v ≡ Some job
 
 -- what a worker is to work on, or to pass the gate for, exists on the board, and so does the worker
-abbrev pub IsHere : BoardValue → ℕ → Turn → Type 0
+abbrev pub IsHere : BoardValue → ℕ → Task → Type 0
 IsHere b w (Work job) = IsClaimed b w job.vertex job
 IsHere b w (Pass v) = is_of b w v ≡ true
 IsHere b w Again = Unit {0}
@@ -26,8 +26,8 @@ IsHere b w Next = Unit {0}
 IsHere b w End = Unit {0}
 
 -- an outcome that a worker brings is of a job that it has claimed, and a stop that it brings is one that the gate may cause
-abbrev pub IsBrought : (ℕ → ℕ → Bool) → BoardValue → ℕ → Brought → Type 0
-IsBrought may_stop b w Nothing = Unit {0}
-IsBrought may_stop b w (Number v) = Unit {0}
-IsBrought may_stop b w (Outcome o) = IsClaimed b w o.job.vertex o.job
-IsBrought may_stop b w (Fault noted) = may_be may_stop b (Some noted) ≡ true
+abbrev pub IsReport : (ℕ → ℕ → Bool) → BoardValue → ℕ → Report → Type 0
+IsReport may_stop b w Nothing = Unit {0}
+IsReport may_stop b w (Number v) = Unit {0}
+IsReport may_stop b w (Outcome o) = IsClaimed b w o.job.vertex o.job
+IsReport may_stop b w (Fault noted) = may_be may_stop b (Some noted) ≡ true
