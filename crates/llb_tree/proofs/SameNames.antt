@@ -25,8 +25,7 @@ pub covers_same : (us ks : List Child) → map name_of us ≡ map name_of ks →
 covers_same us ks same n is = some_named us ks n same ∙ is
 
 module _ {X A : Type 0} (f : X → A) where
-
-  -- and whole where none is left
+  -- lists that are alike up to where both end are alike
   pub alike_all : (xs ys : List X) (i : ℕ) → length xs ≤ i → length ys ≤ i → map f (take i xs) ≡ map f (take i ys) → map f xs ≡ map f ys
   alike_all xs ys i lx ly so_far =
       ap (map f) (sym (take_all i xs lx)) ∙ so_far ∙ ap (map f) (take_all i ys ly)
