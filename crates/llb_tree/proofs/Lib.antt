@@ -28,7 +28,6 @@ pub mod LaidPieces
 pub mod Compared
 pub mod Fitting
 pub mod Walked
-pub mod Sharing
 pub mod Thinning
 pub mod Thinned
 pub mod Found

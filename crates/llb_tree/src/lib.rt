@@ -33,7 +33,6 @@ mod passing;
 mod path;
 mod pieces;
 mod putting;
-mod reads;
 mod tested;
 mod tree;
 mod walk;
