@@ -24,7 +24,7 @@ reads_told (Some xs) bytes (Err e) same few answers last =
 -- memory may be refused for a tree that was read
 pub reads_adding : (known : Option (List ℕ)) (t : TreeMap) → Reads known (Ok t) → Reads known (Err Adding)
 reads_adding None t reads = tt
-reads_adding (Some xs) t (few, answers) = (few, t, answers)
+reads_adding (Some xs) t (few, answers) = (few, (t, answers))
 
 -- the next source's file is read, and the other files are read over the trees with its own
 pub gathers_more : (files : List ℕ → Option (List ℕ)) (ls : List Local) (i : ℕ) (d : Local) (trees : List given.Local) (t : TreeMap)
