@@ -26,6 +26,7 @@ from llbm_tools.streams import exit_status
 
 PAGE = ROOT / "docs" / "CLAIMS.md"
 COLUMNS = 160
+TRIED_BY = ("the gate", "`tools/more-edits`")
 FILE = re.compile(r"`(?:(\w+)/specs/)?(\w+)\.antt`")
 QUESTION = re.compile(r"- `(\w+)`: (.*)")
 FUNCTION = re.compile(r"\s*(?:pub(?:\(\w+\))? )?(?:const |unsafe )?fn (\w+)")
@@ -98,7 +99,7 @@ def reading(library: Library) -> list[str]:
         ["lines", *(str(sum(counted(them).values())) for them, _ in cones.values())],
         ["types of `src/`", *(str(len(types)) for _, types in cones.values())],
     ]
-    whole = sum(len(it.read_text("utf-8").splitlines()) for it in library.root.glob("crates/*/specs/*.antt"))
+    whole = sum(len(it.read_text("utf-8").splitlines()) for it in library.root.glob("crates/*/specs/**/*.antt"))
     table = table_of(["Lines in", *STATEMENTS], [*sums, *rows])
     return [*table, "", f"All files of `specs/` have {whole} lines."]
 
@@ -126,18 +127,21 @@ def crates_with_edits(library: Library) -> list[tuple[pathlib.Path, list[pathlib
     return [(crate, found) for crate in crates if (found := edits_of(crate))]
 
 
-def tried_by(found: list[pathlib.Path]) -> str:
-    """Returns what tries the edits of a crate."""
-    return "the gate" if found[0].parent.name == "must-fail" else "`tools/more-edits`"
+def tried_by(edit: pathlib.Path) -> str:
+    """Returns what tries an edit."""
+    return TRIED_BY[edit.parent.name != "must-fail"]
 
 
 def bodies(library: Library) -> list[str]:
     """Returns the list of wrong bodies, crate by crate."""
     items = []
     for crate, found in crates_with_edits(library):
-        each = "; ".join(f"{edit.stem.replace('_', ' ')} ({edited(crate, edit)})" for edit in found)
-        text = f"- `{crate.name}`, tried by {tried_by(found)}: {each}."
-        items += textwrap.wrap(text, COLUMNS, subsequent_indent="  ", break_long_words=False, break_on_hyphens=False)
+        for by in TRIED_BY:
+            tried = [edit for edit in found if tried_by(edit) == by]
+            each = "; ".join(f"{edit.stem.replace('_', ' ')} ({edited(crate, edit)})" for edit in tried)
+            text = f"- `{crate.name}`, tried by {by}: {each}."
+            lines = textwrap.wrap(text, COLUMNS, subsequent_indent="  ", break_long_words=False, break_on_hyphens=False)
+            items += lines if tried else []
     return items
 
 
@@ -145,9 +149,10 @@ def edits(library: Library) -> list[str]:
     """Returns how many wrong bodies there are, and how many of each crate."""
     crates = crates_with_edits(library)
     parts = []
-    for by in ("the gate", "`tools/more-edits`"):
-        counts = [f"`{crate.name}` {len(found)}" for crate, found in crates if tried_by(found) == by]
-        parts.append(f"tried by {by}: {', '.join(counts)}")
+    for by in TRIED_BY:
+        counts = [(crate.name, sum(tried_by(edit) == by for edit in found)) for crate, found in crates]
+        each = ", ".join(f"`{name}` {count}" for name, count in counts if count)
+        parts.append(f"{sum(count for _, count in counts)} tried by {by}: {each}")
     text = f"{sum(len(found) for _, found in crates)} wrong bodies; {'; '.join(parts)}."
     return textwrap.wrap(text, COLUMNS, break_long_words=False, break_on_hyphens=False)
 

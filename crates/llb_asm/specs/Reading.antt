@@ -43,7 +43,7 @@ is_within earlier size = nat_le size entry_limit && nat_le (length (definition_b
 -- ---- the current message
 
 -- the current message: the context of its next line, its bytes so far, and `room`, which says whether the entry is within the limits if this message has
--- that many bytes and all messages are then closed
+-- this number of bytes and all messages are then closed
 pub record Hand : Type 0 where
   pub here : Here
   pub bytes : List ℕ

@@ -3,7 +3,7 @@ use Rattle.std.specs.Prelude.{ℕ, zero, suc, ◌+◌, ◌-◌, List, length, ta
 use Rattle.llb_events.specs.declared.event.Event.{Event}
 use Rattle.llb_events.specs.declared.event.Event.TheVariants.{Claim, Step, Settle, Cancel}
 
--- the events so far, and the room reserved for more
+-- the events so far, and for how many events in all memory is reserved
 pub record Recorded : Type 0 where
   pub list : List Event
   pub room : ℕ

@@ -35,7 +35,7 @@ waits_for done x u = leads x.inputs u && not (done u)
 abbrev pub open_inputs : List Vertex → (ℕ → Bool) → Vertex → ℕ
 open_inputs vs done x = count_below (waits_for done x) (length vs)
 
--- every edge leads to a vertex with a lower number than its own
+-- every edge of a vertex leads to a vertex with a lower number than that vertex
 abbrev pub AreBelow : List Vertex → Type 0
 AreBelow vs = (v : ℕ) (x : Vertex) → slice_get vs v ≡ Some x → All (λ (e : Edge). e.vertex < v) x.inputs
 

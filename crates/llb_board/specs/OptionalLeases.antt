@@ -27,7 +27,7 @@ out_without out None = out
 abbrev pub given_back : cache.CachesValue → Option ℕ → cache.CachesValue
 given_back c l = record c { out = out_without c.out l }
 
--- the caches after a lease is taken back, with the instances that it added
+-- the caches after a lease, if there is one, is given back and the instances that it added are removed
 abbrev pub taken_back : cache.CachesValue → Option ℕ → List Growth → cache.CachesValue
 taken_back c l gs = record (given_back c l) { rows = unmade c.rows (leased_places c.out l) gs }
 

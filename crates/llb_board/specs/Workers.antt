@@ -56,7 +56,7 @@ pub record RunsJob (vs : VerticesValue) (ws : WorkersValue) (w : ℕ) (job : Job
   pub runs : slice_get ws.workers w ≡ Some (Runs x)
   pub own : IsRunOf vs.build (store_of ws.rows) w x job
 
--- what the worker does after the micro-steps of an outcome
+-- the worker's status after the micro-steps of an outcome: its execution with their count, their fault and the workspace that they left; idle if it ran nothing
 abbrev pub steps_left : OutcomeValue → Option WorkerStatus → WorkerStatus
 steps_left o (Some (Runs x)) = Runs (record x { done = x.done + o.count; fault = o.left.fault; own = o.left.work.own })
 steps_left o (Some Idle) = Idle

@@ -14,8 +14,9 @@ use std::alloc::{AllocError, Global};
 use std::marker::Model;
 use std::sync::Arc;
 
-/// For each vertex of a graph: its users, the vertices that have an edge to it, ascending, each once, which copies share; and how many
-/// vertices that are not done it has edges to. There is room for a list of all vertices. Contracts see both as lists.
+/// For each vertex of a graph: its users, the vertices that have an edge to it, ascending, each once, which copies share; and the number of
+/// vertices to which it has edges and that are not done. `reached` is an empty list with room for all vertices. Contracts see the users and
+/// the counts, as lists.
 pub(crate) struct Links {
     users: Arc<Vec<Vec<u32>>>,
     counts: Vec<u32>,

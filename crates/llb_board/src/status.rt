@@ -24,6 +24,6 @@ pub enum Status {
 pub enum WorkerStatus {
     /// It runs no vertex.
     Idle,
-    /// It runs this vertex; so many micro-steps are done; and whether it is finished.
+    /// It runs this vertex; this number of micro-steps is done; and whether it is finished.
     Runs(u32, u32, bool),
 }

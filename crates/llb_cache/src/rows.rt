@@ -88,7 +88,7 @@ pub(crate) fn row_of(rows: &Rows, key: &KeyRef<'_>) -> Option<usize>
     }
 }
 
-// Returns whether a row exists and has a key.
+// Returns whether there is a row of this number, and its key is this one.
 fn has_key(rows: &Rows, row: usize, key: &KeyRef<'_>) -> bool
     ensures { result ≡ has_key rows.now.entries.items row key.now }
 {

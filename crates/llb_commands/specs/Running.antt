@@ -84,7 +84,7 @@ Shows board output tree (Err e) = (¬ IsRefusal e) × ((t : TreeMap) × (tree �
 abbrev pub YieldsNoneOn : ℕ → List Local → BoardValue → List ℕ → Type 0
 YieldsNoneOn workers locals b bytes = (y : YieldsNone workers locals bytes) × (y.state ≡ b.state) × (build_of locals y.graph ≡ b.build)
 
--- the text is written; or the result is no tree, or there is a fault, and at most a prefix of the text is written
+-- the text is written; or the result is no tree, and nothing is written; or there is a fault, and nothing or a prefix of the text is written
 abbrev pub Answers : ℕ → List Local → Option (List ℕ) → Stream → Result Ended ProgramFault → Type 0
 Answers workers locals input output (Ok Printed) = IfSome input (YieldsAll workers locals output)
 Answers workers locals input output (Ok (Failed b)) = IsKept output × IfSome input (YieldsNoneOn workers locals b)

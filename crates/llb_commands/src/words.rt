@@ -18,7 +18,7 @@ pub enum Command {
     Show,
     /// Steps through the run of a definition.
     Step,
-    /// Writes the definition of the entries that a text is read as.
+    /// Writes the definition of the entries in a text.
     Assemble,
     /// Writes the entries of a definition as text.
     Disassemble,

@@ -42,7 +42,8 @@ RunsAlike s v c = (test : List ℕ → List ℕ → Bool) (w : List Shown) → I
 
 -- ---- a law for each relation between contents
 
--- every content that a micro-step of a vertex at or before vertex v writes by itself is related to itself
+-- each content that a micro-step of a vertex at or before vertex v writes, and does not take from a file, is related to itself; and digests of related contents
+-- are related
 abbrev pub RelatesWritten : (List ℕ → List ℕ → Type 0) → Numbered → ℕ → Type 0
 RelatesWritten R g v = (k : ℕ) (x : Vertex) → Reached (links g.vertices) v k → slice_get g.vertices k ≡ Some x → All (RelatesStep R) (program_of x).steps
 
@@ -189,11 +190,11 @@ MakesNoDigest g v = (k : ℕ) (x : Vertex) → Reached (links g.vertices) v k �
 abbrev pub HandsOnUndigested : (List ℕ → List ℕ → Type 0) → Numbered → Type 0
 HandsOnUndigested R g = (ls ms : List Local) (v : ℕ) → MakesNoDigest g v → HaveAlikeSources R g v ls ms → HasAlikeOutcomes R g ls ms v
 
--- `HandsOnUndigested` holds for every relation that appending keeps and that relates each content to itself, if no digest is made
+-- `HandsOnUndigested` holds for every relation that a test decides, that is kept when contents are appended, and that relates each content to itself
 abbrev pub HandsUndigestedOn : Numbered → Type 0
 HandsUndigestedOn g = (test : List ℕ → List ℕ → Bool) → IsKept (By test) → ((a : List ℕ) → By test a a) → HandsOnUndigested (By test) g
 
--- b is a with some pieces replaced, each by its partner in a list of pairs
+-- `b` is `a` with some pieces replaced, each by its partner in a list of pairs
 pub record AreExchanged (pairs : List (List ℕ × List ℕ)) (a b : List ℕ) : Type 0 where
   pub pieces : List (List ℕ × List ℕ)
   pub each : All (λ p. (p.0 ≡ p.1) ⊎ Contains pairs p) pieces

@@ -45,7 +45,7 @@ EndsBy Ends bytes old new status = KeepsRest old new × ((rest : Option (List �
 abbrev pub Ran : List ℕ → Held → Held → ℕ → Type 0
 Ran definition old new status = EndsBy (Runs 1 old.locals) definition old new status
 
--- the graph of a definition is drawn
+-- the text of a definition's graph is written, as `llbm show` does
 abbrev pub Shown : List ℕ → Held → Held → ℕ → Type 0
 Shown = EndsBy Draws
 

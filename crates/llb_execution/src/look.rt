@@ -35,9 +35,9 @@ pub enum Part<'a> {
 
 impl Workspace {
     /// Returns tree i of those that the workspace works on: the local tree of a source; the inputs of a file op, then
-    /// its results so far; the inputs of a merge, then what is laid so far; the tree of each mount of an exec, for one
-    /// that shows a cache the number of the need whose instance has it. `held` is how many instances are held. `None`
-    /// past the last tree. Does not allocate.
+    /// its results so far; the inputs of a merge, then what is laid so far; for each mount of an exec its tree or, if it
+    /// shows a cache, the number of the need whose instance has that tree. `held` is how many instances are held. Returns
+    /// `None` past the last tree. Does not allocate.
     pub fn look(&self, i: u32, held: usize) -> Option<Look<'_>>
         ensures { (trees : List TreeMap) → length trees ≡ held → looked trees result ≡ slice_get (trees_with self.now trees) i }
     {

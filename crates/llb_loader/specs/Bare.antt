@@ -20,7 +20,7 @@ with_bytes (r ∷ rows) (b ∷ entries) = record { digest = r.digest; bytes = b 
 abbrev pub AreBare : List Row → Type 0
 AreBare rows = (k : ℕ) → (row_at rows k).bytes ≡ []
 
--- the bare rows of rows
+-- the rows with their digest texts alone, without bytes
 abbrev pub bared : List Row → List Row
 bared rows = map (λ r. record { digest = r.digest; bytes = [] }) rows
 

@@ -89,7 +89,7 @@ is_waiting (Some (Running w)) = false
 is_waiting (Some (Settled e)) = false
 is_waiting None = false
 
--- whether a vertex ended done, with trees
+-- whether an ending is done, with trees
 abbrev pub is_done : Option Ending → Bool
 is_done (Some (Done trees)) = true
 is_done (Some (Failed f)) = false

@@ -1,4 +1,4 @@
-//! Records that are written.
+//! Refused memory while records are written.
 
 use super::growths::{Row, Trial, are_refused};
 use super::told::{bytes_told, fault_told, text_told};

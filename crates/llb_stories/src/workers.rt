@@ -110,7 +110,8 @@ fn ends(rt: &impl Abort, alloc: Global, stepper: &mut Stepper, most: u32) -> [u3
     [1, u32::from(is_told(rt, alloc, stepper, END))]
 }
 
-// Two vertices by one worker: 2 workers and 2 orders; by two workers: 2 ways to share them and 20 interleavings; then either worker merges.
+// One worker does both vertices (2 workers, 2 orders), or each does one (2 ways, 20 interleavings of their events); then either of them does the merge:
+// (2 * 2 + 2 * 20) * 2 = 88.
 #[test]
 fn all_88_interleavings_of_two_workers_end_in_the_same_trees(rt: HostRuntime) {
     let board = board_of(&rt, rt.alloc(), TWO_FILES, "", 2);

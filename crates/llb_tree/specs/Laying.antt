@@ -10,7 +10,7 @@ use Rattle.llb_tree.specs.Overlay.{WayValue, is_mode, laid_meta, over, over_at}
 use Rattle.llb_tree.specs.declared.node.Child.{Child}
 use Rattle.llb_tree.specs.declared.node.Piece.{Piece}
 
--- a tree whose entries have the given mode and owner
+-- the tree after each entry gets the mode, the user and the group that the way gives; what the way does not give stays
 abbrev pub dress : WayValue → TreeMap → TreeMap
 dress w t = finite.from_entries (map (λ (e : List (List ℕ) × Entry). (e.0, over w None e.1)) (finite.entries t))
 
@@ -39,7 +39,7 @@ AreLaid w old [] (k ∷ made) = ⊥
 AreLaid w old (u ∷ upper) [] = ⊥
 AreLaid w old (u ∷ upper) (k ∷ made) = IsLaid w old u k × AreLaid w old upper made
 
--- the children of each upper piece are laid as `AreLaid` says, and make a piece of their own
+-- for each upper piece there is one new piece, with the children of the upper one laid as `AreLaid` says
 abbrev pub PiecesLaid : WayValue → List Child → List Piece → List Piece → Type 0
 PiecesLaid w old [] [] = Unit {0}
 PiecesLaid w old [] (p ∷ made) = ⊥

@@ -82,7 +82,7 @@ fn lay_node(lower: &mut Node, alloc: Global, way: &Way, upper: &Node) -> Result<
 }
 
 // Lays children over others. If the upper ones have every name of the lower ones, none of the lower ones is copied.
-// Returns whether the result is the upper ones, unchanged.
+// If it returns true, the result is the upper ones, unchanged.
 #[cycle(lay)]
 fn lay_children(
     kids: &mut Arc<Vec<Piece>>,

@@ -13,7 +13,7 @@ use std::{error, fmt};
 pub enum TextFault {
     /// 31 N: line N is no line of an entry, or it has no end.
     BadLine(u64),
-    /// 32 N: the path of line N is not above that of the line before, or line 1 is not that of the root.
+    /// 32 N: the path of line N is not after that of the line before, or line 1 is not that of the root.
     Order(u64),
     /// 33 N: the directory that the path of line N is in has no line before it.
     NoParent(u64),

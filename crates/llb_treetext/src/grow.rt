@@ -53,7 +53,7 @@ pub(crate) fn started<'a>(alloc: Global, meta: Meta) -> Option<Growing<'a>>
     Some(Growing { tree, open: None })
 }
 
-// Puts the directory that is kept apart back, and returns the whole tree; `None` if memory is refused.
+// Puts back the directory that is kept apart, and returns the whole tree; `None` if memory is refused.
 fn whole(growing: Growing<'_>) -> Option<Tree>
     ensures { (t : TreeMap) → IsGrown growing.entry t → IsIfAny result t }
 {

@@ -135,7 +135,7 @@ fn the_mounts_of_an_exec_are_judged_in_order(rt: HostRuntime) {
     is_told(&rt, rt.alloc(), MOUNTS);
 }
 
-// A script on two mounts: one shows an input at the root; the output of the other, an empty tree, is the result.
+// A script on three mounts: an input at the root; `/out`, an empty tree, whose output is the result; and a tmpfs.
 const OUTPUTS: &str = r#"
     > show < MAKES_A; INPUT_0 | MAKES_OUT_A | 0 / | -1 /out OUTPUT_1 | -1 /tmp NO_OUTPUT TMPFS | }; RESULT_1_1
     0 file steps 1 outputs 1 inputs -
