@@ -28,6 +28,6 @@ name_of Sha256 = codes "sha256"
 abbrev pub applets : List Applet
 applets = True ∷ False ∷ Mkdir ∷ Rm ∷ Write ∷ Append ∷ Cp ∷ Concat ∷ Chmod ∷ Test ∷ Listing ∷ Envfile ∷ Sha256 ∷ []
 
--- the applet of this name
+-- the applet of this name, if there is one
 abbrev pub applet_of : List ℕ → Option Applet
 applet_of word = find (λ a. spells (name_of a) word) applets

@@ -17,13 +17,13 @@ use Rattle.llb_tree.specs.Modes.{mode_of}
 abbrev Word : Type 0
 Word = List ℕ
 
--- the word of a list that has exactly one
+-- the word of a list that has exactly one; nothing for any other list
 abbrev pub alone : List Word → Option Word
 alone [] = None
 alone (a ∷ []) = Some a
 alone (a ∷ b ∷ ws) = None
 
--- the words of a list that has exactly two
+-- the words of a list that has exactly two; nothing for any other list
 abbrev pub pair : List Word → Option (Word × Word)
 pair [] = None
 pair (a ∷ []) = None
@@ -43,7 +43,7 @@ one_word ws f = option_map f (alone ws)
 abbrev pub two_words : List Word → (Word → Word → Option Command) → Option Command
 two_words ws f = option_and_then (λ p. f p.0 p.1) (pair ws)
 
--- what an option of `test` asks for
+-- the kind of entry for which an option of `test` asks, if the word is such an option
 abbrev pub kind_of : Word → Option Kind
 kind_of word =
     if spells (codes "-e") word then Some Something
@@ -78,11 +78,11 @@ pub record IsFront (words : List Word) (count : ℕ) (word : Word) : Type 0 wher
   pub counted : count ≡ length words
   pub first : word ≡ slice_index_or words 0 []
 
--- the command of a call, given the applet that its first word names; the fault if it names none, or if the other words are no form of it
+-- the command of a call, given the applet that its first word names; a fault if it names none, or if the other words are none of the applet's forms
 abbrev pub command_by : ℕ → List Word → Option Applet → Result Command ScriptFault
 command_by number call None = Err (NoApplet (slice_index_or call 0 []))
 command_by number call (Some applet) = ok_or (form applet (drop 1 call)) (Usage number)
 
--- the command of the call with this number: its first word is an applet's name, and the others are one of its forms
+-- the command of the call with this number: its first word is an applet's name, and its other words are one of this applet's forms; else a fault
 abbrev pub command_of : ℕ → List Word → Result Command ScriptFault
 command_of number call = command_by number call (applet_of (slice_index_or call 0 []))

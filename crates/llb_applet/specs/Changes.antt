@@ -7,7 +7,7 @@ use Rattle.llb_mount.specs.View.{mount_at, with_tree_of}
 use Rattle.llb_applet.specs.declared.fault.Memory.{Memory}
 use Rattle.llb_applet.specs.Spots.{Mounts}
 
--- a mount's tree is taken out and replaced by an empty one; or the mount is read-only, and nothing changes
+-- a mount's tree is taken out and replaced by an empty one; or the mount is read-only or memory is refused, and nothing changes
 abbrev pub PutsAside : Result (Option TreeMap) Memory → Mounts → ℕ → Mounts → Type 0
 PutsAside (Ok (Some t)) old mount new = ((mount_at old mount).readonly ≡ false) × (t ≡ (mount_at old mount).tree) × (new ≡ with_tree_of old mount empty_tree)
 PutsAside (Ok None) old mount new = ((mount_at old mount).readonly ≡ true) × (new ≡ old)
@@ -24,7 +24,7 @@ settled (Err tree.Conflict) = Ok false
 settled (Err tree.Root) = Ok false
 settled (Err tree.BadName) = Ok false
 
--- the change is done, and the view is the outcome's; or it is refused, as there is no outcome, or it fails for want of memory, and the view is unchanged
+-- the change is done, and `outcome` is the view after it; or it is refused (`outcome` is nothing) or fails for want of memory, and the view is unchanged
 abbrev pub Does : Result Bool Memory → Option Mounts → Mounts → Mounts → Type 0
 Does (Ok true) outcome old new = outcome ≡ Some new
 Does (Ok false) outcome old new = (outcome ≡ None) × (new ≡ old)

@@ -18,7 +18,7 @@ use Rattle.llb_applet.specs.declared.command.Command.TheVariants as command
 use Rattle.llb_applet.specs.Spots.{Mounts, spot_of, tree_at, entry_at, file_in, with_file, with_dir, without_spot, with_new_dir, with_dirs}
 
 infixl 10 ◌>>=◌
--- f applied to a value, if there is one
+-- f applied to a value, if there is one; else nothing
 abbrev pub ◌>>=◌ : {A B : Type 0} → Option A → (A → Option B) → Option B
 o >>= f = option_and_then f o
 
@@ -39,7 +39,7 @@ abbrev pub meta_there : Option Entry → MetaValue
 meta_there (Some e) = tree.meta_in e
 meta_there None = new_meta
 
--- the file that a word names
+-- the mode, the owner and the content of the file that a word names; nothing if it names no file
 abbrev pub file_by : Setting → Mounts → List ℕ → Option (MetaValue × List ℕ)
 file_by setting view word = spot_by setting view word >>= λ spot. file_in (entry_at view spot)
 

@@ -13,11 +13,11 @@ is_memory (NoApplet word) = false
 is_memory (Usage number) = false
 is_memory (ShellSyntax place) = false
 
--- the result of a call is that of its rule, or the call fails for want of memory
+-- a call returns what its rule returns, or it fails for want of memory
 abbrev pub Gives : {X Y : Type 0} → (X → Y) → Result X ScriptFault → Result Y ScriptFault → Type 0
 Gives = answer.Gives is_memory
 
--- whether a result is a refusal that has a text in it
+-- whether a result is a fault that has a text in it
 abbrev pub names_word : {Y : Type 0} → Result Y ScriptFault → Bool
 names_word (Ok y) = false
 names_word (Err (NoApplet word)) = true
@@ -25,12 +25,12 @@ names_word (Err (Usage number)) = false
 names_word (Err (ShellSyntax place)) = false
 names_word (Err Memory) = false
 
--- `Memory` is reported last: a call fails with it only if the rule has no refusal, or one that has a text in it
+-- `Memory` is reported last: a call fails with it only if the rule has no fault, or one that has a text in it
 abbrev pub MemoryLast : {X Y : Type 0} → Result X ScriptFault → Result Y ScriptFault → Type 0
 MemoryLast (Ok x) rule = Unit {0}
 MemoryLast (Err e) rule = is_memory e ≡ true → (is_ok rule || names_word rule) ≡ true
 
--- what a fault prints: its number, and its argument
+-- the text of a fault: its number, and its argument if it has one
 abbrev pub script_text : ScriptFault → List ℕ
 script_text (NoApplet word) = codes "71 " ++ word
 script_text (Usage number) = codes "72 " ++ decimal number

@@ -1,4 +1,4 @@
--- What holds for a text without a bad position: what its calls are, and that the text that they are written as has the same calls; and what the
+-- What holds for a text without a bad position: its calls are valid, and written as a text they are read as the same commands; and what the
 -- calls are if every separator is `&&`.
 use Rattle.std.specs.Prelude.{◌≡◌, ℕ, ◌==◌, Bool, true, false, ◌&&◌, ◌||◌, not, IsTrue, List, [], ◌∷◌, ◌++◌, length, map, codes}
 use Rattle.std.specs.List.{list_all, join_with_byte, slice_split}
@@ -8,11 +8,11 @@ use Rattle.llb_applet.specs.Applets.{spells}
 use Rattle.llb_applet.specs.Words.{words_of, is_separator, Call, is_word_byte, calls_of}
 use Rattle.llb_applet.specs.Scripts.{commands_in}
 
--- a word has at least one byte, and only bytes that words may have
+-- whether a word has at least one byte, and only bytes that words may have
 abbrev pub is_plain_word : List ℕ → Bool
 is_plain_word word = not (length word == 0) && list_all is_word_byte word
 
--- a call has at least one word, and only plain ones
+-- whether a call has at least one word, and only words that pass `is_plain_word`
 abbrev pub is_call : Call → Bool
 is_call call = not (length call.words == 0) && list_all is_plain_word call.words
 
@@ -36,12 +36,12 @@ with_separators (call ∷ calls) = call.words ++ after_separators calls
 abbrev pub text_of : List Call → List ℕ
 text_of calls = join_with_byte 32 (with_separators calls)
 
--- the text is a list of calls with a separator between each two, and the text that its calls are written as reads the same
+-- each call of the text is valid by `is_call`, and the text as which these calls are written is read as the same commands
 pub record IsShellText (text : List ℕ) : Type 0 where
   pub calls : IsTrue (list_all is_call (calls_of text))
   pub again : commands_in (text_of (calls_of text)) ≡ commands_in text
 
--- the word `&&`
+-- whether a word is `&&`
 abbrev pub is_and : List ℕ → Bool
 is_and word = spells (codes "&&") word
 
@@ -49,7 +49,7 @@ is_and word = spells (codes "&&") word
 abbrev pub texts_of : List ℕ → List (List ℕ)
 texts_of text = map (λ w. w.bytes) (words_of text)
 
--- none of these words is a separator other than `&&`
+-- whether none of these words is a separator other than `&&`
 abbrev pub only_ands : List (List ℕ) → Bool
 only_ands words = list_all (λ w. not (is_separator w) || is_and w) words
 
@@ -65,12 +65,12 @@ follows_success And = true
 follows_success Then = false
 follows_success Or = false
 
--- the first call always runs, and each other one is joined by And
+-- whether the first call, if there is one, runs whatever the last status is, and each other call is joined by `And`
 abbrev pub joined_by_ands : List Call → Bool
 joined_by_ands [] = true
 joined_by_ands (call ∷ calls) = follows_all call.join && list_all (λ (c : Call). follows_success c.join) calls
 
--- the calls of the text are what is between its words `&&`
+-- the calls of the text are the lists of words between its words `&&`, and are joined as `joined_by_ands` says
 pub record IsSplitAtAnds (text : List ℕ) : Type 0 where
   pub calls : map (λ (c : Call). c.words) (calls_of text) ≡ slice_split is_and (texts_of text)
   pub joins : joined_by_ands (calls_of text) ≡ true

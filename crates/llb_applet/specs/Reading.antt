@@ -1,4 +1,4 @@
--- The state while calls are read from a text: what is known of the current call, and the result that the remaining words give.
+-- The state while calls are read from a text: what is known of the current call, and the result by this state and the remaining words.
 use Rattle.std.specs.Prelude.{◌≡◌, ℕ, ◌==◌, true, false, if◌then◌else◌, List, [], ◌∷◌, ◌++◌, length, Result, Ok, Err, slice_index_or}
 use Rattle.llb_wire.specs.Answer.{◌>>=◌}
 use Rattle.llb_applet.specs.declared.fault.ScriptFault.{ScriptFault}
@@ -15,7 +15,7 @@ use Rattle.llb_applet.specs.Scripts.{joined, commands_of}
 abbrev pub some_word : List ℕ → List (List ℕ)
 some_word part = if length part == 0 then [] else part ∷ []
 
--- these commands, followed by those of a result
+-- these commands, followed by the commands of a result; or the fault of that result
 abbrev pub behind : List Joined → Result (List Joined) ScriptFault → Result (List Joined) ScriptFault
 behind commands rest = rest >>= λ more. Ok (commands ++ more)
 
@@ -23,21 +23,21 @@ behind commands rest = rest >>= λ more. Ok (commands ++ more)
 abbrev pub ahead : Reading → List (List ℕ) → Result (List Joined) ScriptFault
 ahead reading words = behind reading.commands.items (commands_of (length reading.commands.items) (calls_from words reading.join reading.words.items))
 
--- the commands so far, followed by that of the current call
+-- the commands so far, followed by the command of the current call; or the fault of this call
 abbrev pub with_call : Reading → Result (List Joined) ScriptFault
 with_call reading = command_of (length reading.commands.items) reading.words.items >>= λ c. Ok (reading.commands.items ++ joined reading.join c ∷ [])
 
--- after one more step, the final result is the same, whatever follows; or the step fails with the fault of that result, or with `Memory`
+-- a step that succeeds leaves the final result as it was; a step that fails has the fault of the final result, or `Memory`
 abbrev pub Reads : Result (Unit {0}) ScriptFault → Result (List Joined) ScriptFault → Result (List Joined) ScriptFault → Type 0
 Reads (Ok _) before after = before ≡ after
 Reads (Err e) before after = is_memory e ≡ false → before ≡ Err e
 
--- the fault of a result, without its value
+-- a result without its value: success, or the fault
 abbrev pub verdict : {A : Type 0} → Result A ScriptFault → Result (Unit {0}) ScriptFault
 verdict (Ok x) = Ok tt
 verdict (Err e) = Err e
 
--- what is kept of a call: how many words it has, and the first two
+-- what is kept of a call: how many words it has, and its first two words
 pub record IsBegun (call : List (List ℕ)) (begun : Begun) : Type 0 where
   pub counted : begun.count ≡ length call
   pub named : begun.name.now ≡ slice_index_or call 0 []
@@ -47,18 +47,18 @@ pub record IsBegun (call : List (List ℕ)) (begun : Begun) : Type 0 where
 abbrev pub judged : ℕ → List (List ℕ) → List (List ℕ) → Result (Unit {0}) ScriptFault
 judged number call words = verdict (commands_of number (calls_from words Then call))
 
--- the refusal is that of the rule, or it is `Memory` and the rule's fault has a text in it
+-- the fault `e` is the fault of the rule; or `e` is `Memory`, and the fault of the rule has a text in it
 pub record Refuses (e : ScriptFault) (rule : Result (Unit {0}) ScriptFault) : Type 0 where
   pub known : is_memory e ≡ false → rule ≡ Err e
   pub last : is_memory e ≡ true → names_word rule ≡ true
 
--- after one more part is checked, the first fault of the text is the same, whatever follows; or the check fails with that fault, or with `Memory`
+-- the check of one more part succeeds, and leaves the first fault of the text as it was; or it fails with this first fault, or with `Memory`
 abbrev pub Judges : Result (Unit {0}) ScriptFault → List ℕ → List (List ℕ) → Begun → Begun → Type 0
 Judges (Ok _) part call old new = (next : List (List ℕ)) × IsBegun next new
     × ((rest : List (List ℕ)) → judged old.number call (some_word part ++ rest) ≡ judged new.number next rest)
 Judges (Err e) part call old new = (rest : List (List ℕ)) → Refuses e (judged old.number call (some_word part ++ rest))
 
--- the check of a whole call: it makes a command, or the refusal is its fault or `Memory`
+-- the check of a whole call: the call makes a command, or the check fails with the fault of the call, or with `Memory`
 abbrev pub JudgesCall : Result (Unit {0}) ScriptFault → ℕ → List (List ℕ) → Type 0
 JudgesCall (Ok _) number call = verdict (command_of number call) ≡ Ok tt
 JudgesCall (Err e) number call = Refuses e (verdict (command_of number call))

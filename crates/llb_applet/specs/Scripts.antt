@@ -1,4 +1,4 @@
--- The script that arguments are read as: that of the text after `/bin/sh -c`, or else one call.
+-- The script that arguments are read as: the commands of the text after `/bin/sh -c`, or else one call.
 use Rattle.std.specs.Prelude.{◌≡◌, ℕ, ◌+◌, ◌==◌, Bool, ◌&&◌, if◌then◌else◌, List, [], ◌∷◌, length, slice_index_or, Option, Some, None, Result, Ok, Err, codes}
 use Rattle.llb_wire.specs.Answer.{◌>>=◌}
 use Rattle.llb_applet.specs.declared.fault.ScriptFault.{ScriptFault}
@@ -34,7 +34,7 @@ commands_in text = commands_unless (bad_place_of text) text
 abbrev pub is_shell : List (List ℕ) → Bool
 is_shell args = (length args == 3) && spells (codes "/bin/sh") (slice_index_or args 0 []) && spells (codes "-c") (slice_index_or args 1 [])
 
--- the commands that arguments are read as: those of the text after `/bin/sh -c`, or else that of the one call that the arguments are
+-- the commands that arguments are read as: the commands of the text after `/bin/sh -c`; other arguments are the words of one call, which is the command
 abbrev pub script_of : List (List ℕ) → Result (List Joined) ScriptFault
 script_of args = if is_shell args then commands_in (slice_index_or args 2 []) else commands_of 0 (first_call args ∷ [])
 

@@ -16,7 +16,7 @@ abbrev pub Mounts : Type 0
 Mounts = List Shown
 
 -- the spot that a path names: the mount that the path leads to, and in its tree the mount's selector followed by the rest of the path; nothing
--- if that has more names than a path can have
+-- if this path in the tree has more names than a path can have
 abbrev pub spot_of : Mounts → List (List ℕ) → Option Spot
 spot_of view path =
     let to = route view path in
@@ -38,7 +38,7 @@ tree_at view spot = (mount_at view spot.mount).tree
 abbrev pub entry_at : Mounts → Spot → Option Entry
 entry_at view spot = finite.get (tree_at view spot) spot.place
 
--- whether the spot is that of a mount's dest
+-- whether the spot is the one that a mount's dest names
 abbrev pub is_dest : Spot → Bool
 is_dest spot = length spot.place == spot.base
 
@@ -63,29 +63,29 @@ with_file view spot meta content =
 abbrev pub with_dir : Mounts → Spot → MetaValue → Option Mounts
 with_dir view spot meta = with_change view spot.mount (put_dir (tree_at view spot) spot.place meta)
 
--- the view after what is at and below a spot is removed; nothing at a dest
+-- the view after what is at and below a spot is removed; a removal at a dest is refused
 abbrev pub without_spot : Mounts → Spot → Option Mounts
 without_spot view spot = if is_dest spot then None else with_change view spot.mount (remove (tree_at view spot) spot.place)
 
--- the view after a new directory is made at a spot below the dest; nothing if there is an entry
+-- the view after a new directory is made at a spot that is below the dest and has no entry; nothing for any other spot
 abbrev pub with_new_dir : Mounts → Spot → Option Mounts
 with_new_dir view spot = if is_dest spot || is_some (entry_at view spot) then
     None else with_change view spot.mount (put_dir (tree_at view spot) spot.place new_dir_meta)
 
--- the tree after a directory is made at a path, if none is there
+-- the tree after a directory is made at a path, unless there is one already; or the fault
 abbrev pub dir_at : TreeMap → List (List ℕ) → Result TreeMap TreeFault
 dir_at t p = if is_dir (finite.get t p) then Ok t else put_dir t p new_dir_meta
 
--- the tree after a directory is made for each of these names below a path, each in the one before, if it is not there
+-- the tree after a directory is made for each of these names, unless there is one: for the first name in path p, for each other name in the one before
 abbrev pub dirs_below : TreeMap → List (List ℕ) → List (List ℕ) → Result TreeMap TreeFault
 dirs_below t p [] = Ok t
 dirs_below t p (n ∷ ns) = answer.◌>>=◌ (dir_at t (p ++ n ∷ [])) (λ next. dirs_below next (p ++ n ∷ []) ns)
 
--- the tree after a new directory is made at a path, and below it one for each of these names
+-- the tree after a new directory is put at a path p, and below it the directories that `dirs_below` makes for these names
 abbrev pub put_then_below : TreeMap → List (List ℕ) → List (List ℕ) → Result TreeMap TreeFault
 put_then_below t p ns = answer.◌>>=◌ (put_dir t p new_dir_meta) (λ next. dirs_below next p ns)
 
--- the view after a directory is made at a spot, with its missing parents below the dest, if it is not there
+-- the view after a directory is made at a spot, unless there is one already; each of its parents below the dest that is missing is made too
 abbrev pub with_dirs : Mounts → Spot → Option Mounts
 with_dirs view spot =
     if is_dir (entry_at view spot) then Some view

@@ -1,4 +1,4 @@
--- What a fault of a text of entries prints: its number, and its line and rule if it has them.
+-- The text of a fault of a text of entries: its number, and its line and rule if it has them.
 use Rattle.std.specs.Prelude.{ℕ, List, ◌++◌, codes}
 use Rattle.std.specs.Fmt.{decimal}
 use Rattle.llb_asm.specs.declared.fault.Rule.{Rule}
@@ -15,7 +15,7 @@ rule_text rule.BadValue = codes "BadValue"
 rule_text rule.OverLimit = codes "OverLimit"
 rule_text rule.Unclosed = codes "Unclosed"
 
--- what a fault prints (docs/FAULTS.md): 161 with the line and the rule that it breaks, 162 with the line whose label names no earlier entry,
+-- the text of a fault (docs/FAULTS.md): 161 with a line and the rule that this line breaks, 162 with the line whose label names no earlier entry,
 -- 163 for refused memory, and 164 for a writer that failed
 abbrev pub asm_text : AsmFault → List ℕ
 asm_text (fault.Line line r) = codes "161 " ++ (decimal line ++ (codes " " ++ rule_text r))

@@ -26,7 +26,7 @@ abbrev pub or_else : {A : Type 0} → Refusal → Option A → Result A Refusal
 or_else e None = Err e
 or_else e (Some x) = Ok x
 
--- nothing if the test passes, else this refusal
+-- success if the test passes, else this refusal
 abbrev pub guard : Refusal → Bool → Result (Unit {0}) Refusal
 guard e true = Ok tt
 guard e false = Err e
@@ -44,11 +44,11 @@ parted line = if is_utf8 line then parted_at line (position (λ b. nat_eq b 32) 
 
 -- ---- values
 
--- the record that a field with this number adds; no bytes if the number is 0 and the field is then left out
+-- the record that field f with the number v adds; no bytes if v is 0 and the field is left out for 0
 abbrev pub number_record : NamedField → ℕ → Held
 number_record f v = Record (if (v == 0) && not (may_be_empty f) then [] else set_number f.number v)
 
--- the record that a field with these bytes adds; no bytes if there are none and the field is then left out
+-- the record that field f with these bytes adds; no bytes if there are none and the field is left out for none
 abbrev pub bytes_record : NamedField → List ℕ → Held
 bytes_record f held = Record (if (length held == 0) && not (may_be_empty f) then [] else set_bytes f.number held)
 
@@ -81,7 +81,7 @@ spelled_record f text = or_else (Breaks BadValue) (option_map (bytes_record f) (
 abbrev pub opening_in : NamedField → MessageName → List ℕ → Result Held Refusal
 opening_in f m text = if is_text text (codes "{") then Ok (Opens f.number m) else Err (Breaks BadValue)
 
--- what a field of this kind adds, if the text spells its value
+-- what a field of this kind adds, if the text spells its value; else a refusal
 abbrev pub held_by : List (List ℕ) → Row → FieldKind → List ℕ → Result Held Refusal
 held_by labels row (kind.Message m) text = opening_in row.1 m text
 held_by labels row kind.String text = string_record labels row text
@@ -92,7 +92,7 @@ held_by labels row kind.Uint32 text = or_else (Breaks BadValue) (option_map (num
 held_by labels row kind.Enum text = or_else (Breaks BadValue) (option_map (number_record row.1) (number_in kind.Enum text))
 held_by labels row kind.Bool text = or_else (Breaks BadValue) (option_map (number_record row.1) (number_in kind.Bool text))
 
--- what the field of a row of the table adds, if the text spells its value
+-- what the field of a row of the table adds, if the text spells its value; else a refusal
 unfoldable pub held_in : List (List ℕ) → Row → List ℕ → Result Held Refusal
 held_in labels row text = held_by labels row row.1.kind text
 
@@ -102,7 +102,7 @@ held_in labels row text = held_by labels row row.1.kind text
 abbrev pub inside : MessageName → Here
 inside m = record { message = m; last = 0; set = false; count = 0; ended = false }
 
--- the context of the line after one of field f
+-- the context of the line after a line of field f
 abbrev pub behind : Here → NamedField → Here
 behind here f = record {
   message = here.message;
@@ -112,7 +112,7 @@ behind here f = record {
   ended = false;
 }
 
--- the context of the line after one of extra bytes; no more lines of the message may follow it
+-- the context of the line after a line of extra bytes; no more lines of the message may follow this one
 abbrev pub at_end : Here → Here
 at_end here = record { message = here.message; last = here.last; set = here.set; count = here.count; ended = true }
 

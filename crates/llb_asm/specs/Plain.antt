@@ -1,4 +1,4 @@
--- The one text that is written for some entries.
+-- The one text that is written for a list of entries.
 use Rattle.std.specs.Prelude.{◌≡◌, ℕ, ◌+◌, ◌*◌, if◌then◌else◌, List, [], ◌∷◌, ◌++◌, map, codes, position, replicate, Option, Some, None, Ok}
 use Rattle.std.specs.List.{flat_map}
 use Rattle.llb_wire.specs.Digest.{digest_text}
@@ -17,7 +17,7 @@ use Rattle.llb_wire.specs.Texts.{is_text}
 
 -- ---- values
 
--- the least entry whose digest text is this one
+-- the number of the first entry whose digest text is this one
 abbrev pub label_for : List (List ℕ) → List ℕ → Option ℕ
 label_for labels digest = position (is_text digest) labels
 

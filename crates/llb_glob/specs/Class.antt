@@ -45,7 +45,7 @@ none_yet = record { excludes = false; spans = [] }
 abbrev pub one_alone : ℕ → Span
 one_alone c = record { low = c; high = c }
 
--- the items after the last one gets another high end
+-- the items, with this high end for the last one
 abbrev pub extended : List Span → ℕ → List Span
 extended [] high = []
 extended (span ∷ []) high = record span { high = high } ∷ []

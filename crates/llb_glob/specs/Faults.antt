@@ -11,7 +11,7 @@ abbrev pub is_memory : PatternFault → Bool
 is_memory Memory = true
 is_memory BadPattern = false
 
--- the result of a call is that of its rule, or the call fails for want of memory
+-- a call returns what its rule returns, or it fails for want of memory
 abbrev pub Gives : {X Y : Type 0} → (X → Y) → Result X PatternFault → Result Y PatternFault → Type 0
 Gives = answer.Gives is_memory
 
@@ -19,7 +19,7 @@ Gives = answer.Gives is_memory
 abbrev pub MemoryLast : {X Y : Type 0} → Result X PatternFault → Result Y PatternFault → Type 0
 MemoryLast = answer.MemoryLast is_memory
 
--- a fault of a path as a pattern's fault
+-- the fault of a pattern whose text has this fault when it is read as a path
 abbrev pub renamed : TreeFault → PatternFault
 renamed tree.Memory = Memory
 renamed tree.NotFound = BadPattern

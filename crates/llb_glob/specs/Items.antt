@@ -34,7 +34,7 @@ literal Single c = (at Single, Add c)
 literal Dash c = (at Range, Extend c)
 literal Range c = (at Single, Add c)
 
--- the effect of a character outside a class: `[` opens one, `*` is any run of characters, `?` any one character, and any other stands for itself
+-- the effect of a character outside a class: `[` opens a class, `*` is any run of characters, `?` any one character, and any other stands for itself
 abbrev pub outside : ℕ → Cursor × Effect
 outside c =
     if c == 91 then (at Opened, Nothing)
@@ -59,11 +59,11 @@ dashed Single = Ok (at Dash, Nothing)
 dashed Dash = Err BadPattern
 dashed Range = Err BadPattern
 
--- the effect of a character in a class: a `]`, a `-`, or one that stands for itself
+-- the effect of a character in a class: a `]`, a `-`, or any other, which stands for itself
 abbrev pub inside : Stage → ℕ → Result (Cursor × Effect) PatternFault
 inside stage c = if c == 93 then closed stage else (if c == 45 then dashed stage else Ok (literal stage c))
 
--- the effect of a character that is no `\` and not after one; a `^` right after the `[` makes the class exclude
+-- the effect of a character that is not a `\` and not right after one; a `^` right after the `[` makes the class exclude
 abbrev pub plain : Stage → ℕ → Result (Cursor × Effect) PatternFault
 plain Outside c = Ok (outside c)
 plain Opened c = if c == 94 then Ok (at Caret, Exclude) else inside Opened c
@@ -101,7 +101,7 @@ class_by (Add c) class = record class { spans = class.spans ++ one_alone c ∷ [
 class_by (Extend c) class = record class { spans = extended class.spans c }
 class_by Close class = none_yet
 
--- these items, followed by those of a result
+-- these items, followed by the items of a result; or the fault of that result
 abbrev pub behind : {A : Type 0} → List A → Result (List A) PatternFault → Result (List A) PatternFault
 behind before rest = rest >>= λ more. Ok (before ++ more)
 
@@ -118,7 +118,7 @@ is_outside Range = false
 abbrev pub is_whole : Cursor → Bool
 is_whole cursor = is_outside cursor.stage && not cursor.quotes
 
--- no items at the end of a part, if the part may end there; else the refusal
+-- the items at the end of a part: none if the part may end there; else the fault
 abbrev pub ended : Bool → Result (List Item) PatternFault
 ended true = Ok []
 ended false = Err BadPattern

@@ -13,7 +13,7 @@ Takes Any c = Unit {0}
 Takes (Only only) c = c ≡ only
 Takes (In class) c = ClassTakes class c
 
--- the items of a part match a name; a `*` and the rest match it if the rest matches one of the name's suffixes
+-- the items of a part match a name; a `*` with items after it matches a name if those items match one of the name's suffixes
 abbrev pub MatchesName : List Item → List ℕ → Type 0
 MatchesName [] [] = Unit {0}
 MatchesName [] (c ∷ name) = ⊥

@@ -1,4 +1,4 @@
--- The pattern that a text reads as: the text is split like that of a path, and each part is then read as items. A part
+-- The pattern that a text reads as: the text is split as the text of a path is, and each part is then read as items. A part
 -- that a later `..` removes has to be a name, but is not a part of the pattern.
 use Rattle.std.specs.Prelude.{ℕ, List, [], ◌∷◌, Result, Ok, Err}
 use Rattle.std.specs.Str.{chars}

@@ -7,7 +7,7 @@ use Rattle.llb_glob.specs.Matching.{MatchesName}
 abbrev pub IsIn : List Bool → ℕ → Type 0
 IsIn places i = slice_index_or places i false ≡ true
 
--- a position from i to `last` is in the set
+-- at least one position from i to `last` is in the set
 abbrev pub Reaches : List Bool → ℕ → ℕ → Type 0
 Reaches places last i = (j : ℕ) × (i ≤ j) × (j ≤ last) × IsIn places j
 

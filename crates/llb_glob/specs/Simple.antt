@@ -1,5 +1,5 @@
 -- How patterns without classes are read: a `\` quotes each `[`, and an item is one character, or a `\` and the character after it.
--- A law of the crate says that with classes such a pattern is read the same.
+-- A law of the crate says that `pattern_of`, which also reads classes, reads such a pattern as the same items.
 use Rattle.std.specs.Prelude.{ℕ, ◌==◌, if◌then◌else◌, List, [], ◌∷◌, Result, Ok, Err}
 use Rattle.std.specs.Str.{chars}
 use Rattle.llb_wire.specs.Answer.{◌>>=◌}
@@ -11,7 +11,7 @@ use Rattle.llb_glob.specs.declared.item.Item.{Item}
 use Rattle.llb_glob.specs.declared.item.Item.TheVariants.{Run, One}
 use Rattle.llb_glob.specs.declared.item.Letter.TheVariants.{Any, Only}
 
--- the item of a character that is no `\` and has none before it
+-- the item of a character that is not a `\` and not right after one
 abbrev pub simple_item : ℕ → Result Item PatternFault
 simple_item c =
     if c == 91 then Err BadPattern
@@ -26,7 +26,7 @@ simple_items (c ∷ d ∷ cs) =
     if c == 92 then (simple_items cs >>= λ items. Ok (One (Only d) ∷ items))
     else (simple_item c >>= λ item. simple_items (d ∷ cs) >>= λ items. Ok (item ∷ items))
 
--- the parts of a pattern, each read as items without classes; the first refused one is the fault
+-- the parts of a pattern, each read as items without classes; or the fault of the first part that is refused
 abbrev pub each_simple : List (List ℕ) → Result (List (List Item)) PatternFault
 each_simple [] = Ok []
 each_simple (name ∷ names) = simple_items (chars name) >>= λ part. each_simple names >>= λ parts. Ok (part ∷ parts)

@@ -9,7 +9,7 @@ use Rattle.llb_glob.specs.declared.item.Item.TheVariants.{Run, One}
 use Rattle.llb_glob.specs.declared.item.Letter.TheVariants.{Any, Only, In}
 use Rattle.llb_glob.specs.ClassValue.{ClassValue}
 
--- a text that is a first text with one property, followed by a second one with another
+-- a text that consists of a text with the property `First`, followed by a text with the property `Rest`
 abbrev pub Then : (List ℕ → Type 0) → (List ℕ → Type 0) → List ℕ → Type 0
 Then First Rest text = (front : List ℕ) × (rest : List ℕ) × (text ≡ front ++ rest) × First front × Rest rest
 
@@ -24,7 +24,7 @@ BeginsWith c (d ∷ ds) = d ≡ c
 abbrev pub SpellsLetter : ℕ → List ℕ → Type 0
 SpellsLetter c text = ((text ≡ c ∷ []) × (c ≢ 92) × (c ≢ 45) × (c ≢ 93)) ⊎ (text ≡ 92 ∷ c ∷ [])
 
--- an item of a class: a character, or two with a `-` between them
+-- an item of a class: one character, or two characters with a `-` between them
 abbrev pub SpellsSpan : Span → List ℕ → Type 0
 SpellsSpan span text = (SpellsLetter span.low text × (span.high ≡ span.low))
     ⊎ ((low : List ℕ) × (high : List ℕ) × (text ≡ low ++ 45 ∷ high) × SpellsLetter span.low low × SpellsLetter span.high high)

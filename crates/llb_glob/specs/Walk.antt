@@ -10,7 +10,7 @@ use Rattle.llb_glob.specs.declared.pattern.Walk.{Walk}
 abbrev pub is_part : List ℕ → Bool
 is_part name = is_ok (items_of (chars name))
 
--- the counts are right: how many names the path has, and how many of the first names are all parts of a pattern
+-- the counts are right: how many names the path has, and how many names are before its first name that spells no part of a pattern
 pub record Stands (path : List (List ℕ)) (walk : Walk) : Type 0 where
   pub depth : walk.depth ≡ length path
   pub sound : walk.sound ≡ prefix_len is_part path

@@ -15,7 +15,7 @@ or_else None other = other
 abbrev pub lay_at : Look → Look → Look
 lay_at lower upper p = or_else (upper p) (if below_file upper p then None else lower p)
 
--- the upper tree laid over the lower one: all entries of the upper tree, and those of the lower one whose path the upper tree does not have and that are below
--- none of its files
+-- the upper tree laid over the lower one: all entries of the upper tree, and each entry of the lower tree at whose path the upper tree has none, and that is
+-- below no file of the upper tree
 unfoldable pub lay : TreeMap → TreeMap → TreeMap
 lay lower upper = finite.from_entries (finite.entries upper ++ where_key path_cmp (λ p. not (below_file (finite.get upper) p)) (finite.entries lower))

@@ -1,10 +1,10 @@
--- The order of dests, by which a view with many mounts finds the mount of a path. Each dest there has the index of the longest other dest that is its prefix.
+-- The order of dests, by which a view with many mounts finds a path's mount. Each dest has the position of the longest other dest that is a prefix of it.
 use Rattle.std.specs.Prelude.{◌≡◌, ℕ, ◌<◌, ◌≤◌, Bool, true, false, List, [], length, slice_index_or}
 use Rattle.std.specs.Ordering.{is_lt}
 use Rattle.llb_tree.specs.Path.{path_cmp, is_within}
 use Rattle.llb_mount.specs.declared.order.Row.{Row}
 
--- the row that stands for a missing one
+-- the row that is taken where there is none
 abbrev pub no_row : Row
 no_row = record { mount = 0; above = 0 }
 
@@ -12,7 +12,7 @@ no_row = record { mount = 0; above = 0 }
 abbrev pub mount_of : List Row → ℕ → ℕ
 mount_of rows j = (slice_index_or rows j no_row).mount
 
--- for a position, that of the longest other dest that is a prefix of its dest
+-- the position of the longest other dest that is a prefix of the dest at position j
 abbrev pub above_of : List Row → ℕ → ℕ
 above_of rows j = (slice_index_or rows j no_row).above
 
@@ -24,7 +24,7 @@ dest_of ds rows j = slice_index_or ds (mount_of rows j) []
 abbrev pub is_before : List (List ℕ) → List (List ℕ) → Bool
 is_before p q = is_lt (path_cmp p q)
 
--- each position is of a mount, and the dests ascend
+-- each position has the number of a mount, and the dests ascend from position to position
 pub record Rises (ds : List (List (List ℕ))) (rows : List Row) : Type 0 where
   pub within : (j : ℕ) → j < length rows → mount_of rows j < length ds
   pub rising : (j k : ℕ) → j < k → k < length rows → is_before (dest_of ds rows j) (dest_of ds rows k) ≡ true
@@ -34,7 +34,7 @@ pub record HasFirst (count : ℕ) (rows : List Row) : Type 0 where
   pub within : (j : ℕ) → j < length rows → mount_of rows j < count
   pub each : (i : ℕ) → i < count → (j : ℕ) × (j < length rows) × (mount_of rows j ≡ i)
 
--- exactly the dests before this position do not come after the path
+-- each dest before the position `place` does not come after the path, and each dest from `place` on comes after it
 pub record IsPlace (ds : List (List (List ℕ))) (rows : List Row) (path : List (List ℕ)) (place : ℕ) : Type 0 where
   pub within : place ≤ length rows
   pub before : (j : ℕ) → j < place → is_before path (dest_of ds rows j) ≡ false
@@ -45,13 +45,13 @@ pub record AtRoot (ds : List (List (List ℕ))) (rows : List Row) : Type 0 where
   pub there : 0 < length rows
   pub root : dest_of ds rows 0 ≡ []
 
--- a dest at position k that is a prefix of the dest at position j is not passed over on the way from j up to the position above it
+-- the position above j is before j, but not before k, and the dest at k is a prefix of the dest at the position above j
 pub record IsAbove (ds : List (List (List ℕ))) (rows : List Row) (j k : ℕ) : Type 0 where
   pub up : above_of rows j < j
   pub kept : k ≤ above_of rows j
   pub within : is_within (dest_of ds rows k) (dest_of ds rows (above_of rows j)) ≡ true
 
--- going up from each of the first positions, every dest that is a prefix is met
+-- for each j below `count`, and each k before j whose dest is a prefix of the dest at j: going up from j does not pass over k
 abbrev pub Climbs : List (List (List ℕ)) → List Row → ℕ → Type 0
 Climbs ds rows count = (j k : ℕ) → k < j → j < count → is_within (dest_of ds rows k) (dest_of ds rows j) ≡ true → IsAbove ds rows j k
 
@@ -61,7 +61,7 @@ pub record IsNear (ds : List (List (List ℕ))) (rows : List Row) (count : ℕ) 
   pub kept : (k : ℕ) → k < count → is_within (dest_of ds rows k) path ≡ true → k ≤ at
   pub within : (k : ℕ) → k < count → is_within (dest_of ds rows k) path ≡ true → is_within (dest_of ds rows k) (dest_of ds rows at) ≡ true
 
--- all mounts are in the order of their dests, each with the position above it
+-- the rows have all mounts in the order of their dests, the root first, and for each dest the position of the longest other dest that is its prefix
 pub record IsOrder (ds : List (List (List ℕ))) (rows : List Row) : Type 0 where
   pub rises : Rises ds rows
   pub all : HasFirst (length ds) rows

@@ -7,12 +7,12 @@ use Rattle.llb_tree.specs.Path.{is_within}
 use Rattle.llb_mount.specs.declared.shown.Shown.{Shown}
 use Rattle.llb_mount.specs.View.{dests, mount_at}
 
--- how many names the longest dest has that is a prefix of a path; 0 if none is one
+-- how many names the longest of those dests has that are prefixes of a path; 0 if no dest is a prefix
 abbrev pub greatest_length : List (List (List ℕ)) → List (List ℕ) → ℕ
 greatest_length [] path = 0
 greatest_length (d ∷ ds) path = if is_within d path then max (length d) (greatest_length ds path) else greatest_length ds path
 
--- the position of the first dest that equals this path
+-- the position of the first dest that equals this path; the number of dests if none does
 abbrev pub number_of : List (List (List ℕ)) → List (List ℕ) → ℕ
 number_of ds path = position_or_len (λ d. pointwise (pointwise nat_eq) d path) ds
 
@@ -20,7 +20,7 @@ number_of ds path = position_or_len (λ d. pointwise (pointwise nat_eq) d path) 
 abbrev pub route : List Shown → List (List ℕ) → ℕ × ℕ
 route mounts path = let n = greatest_length (dests mounts) path in (number_of (dests mounts) (take n path), n)
 
--- `to` is the number of a mount and a count of names: the mount's dest is a prefix of the path and has that many names, and no longer dest is a prefix
+-- `to` is a mount's number and a count of names: this mount's dest is a prefix of the path, and has so many names; no longer dest is a prefix of the path
 pub record IsRoute (mounts : List Shown) (path : List (List ℕ)) (to : ℕ × ℕ) : Type 0 where
   pub there : to.0 < length mounts
   pub prefix : is_within (mount_at mounts to.0).dest path ≡ true

@@ -14,7 +14,7 @@ pub record IsView (mounts : List Shown) : Type 0 where
   pub differ : AllPairs (λ d e. d ≢ e) (dests mounts)
   pub few : length mounts < 2 ^ 32
 
--- the mount that stands for a missing one
+-- the mount that is taken where there is none
 abbrev pub no_mount : Shown
 no_mount = record { dest = []; selector = []; readonly = false; tree = empty_tree }
 

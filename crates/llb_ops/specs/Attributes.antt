@@ -13,10 +13,10 @@ Held = List ℕ × Attribute
 abbrev pub entry_of : Held → AttributeEntry
 entry_of p = record { key = p.0; value = p.1.value; extra = p.1.extra }
 
--- the attributes after one more entry: it replaces an earlier one with its key, or else comes last
+-- the attributes after one more entry: it replaces the attribute that has the same key, or, if there is none, is appended
 abbrev pub put : List Held → AttributeEntry → List Held
 put held e = insert_entry (pointwise nat_eq) held e.key (record { value = e.value; extra = e.extra })
 
--- the attributes of entries: the last entry for each key, at the position of the first
+-- the attributes of entries: the last entry for each key, at the position of the first entry for this key
 unfoldable pub settled : List AttributeEntry → List Held
 settled entries = fold put [] entries

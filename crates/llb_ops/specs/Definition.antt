@@ -19,7 +19,7 @@ definition_shape = shape_of message.Definition
 abbrev pub are_short : List (List ℕ) → Bool
 are_short entries = list_all (λ e. nat_le (length e) entry_limit) entries
 
--- these entries, if they are not too many and none is too long
+-- these entries, if they are not too many and none is too long; else the fault `OverLimit`
 abbrev pub entries_fit : List (List ℕ) → Result (List (List ℕ)) OpFault
 entries_fit entries =
     if nat_lt entries_limit (length entries) then Err OverLimit
@@ -32,7 +32,7 @@ definition_of bytes =
     if nat_lt definition_limit (length bytes) then Err OverLimit
     else (records_from definition_shape 0 bytes >>= λ rs. entries_fit (payloads (all 1 rs)))
 
--- whether a definition has a fault, without its entries
+-- the result of reading a definition, without its entries: success, or the fault
 abbrev pub admission : Result (List (List ℕ)) OpFault → Result (Unit {0}) OpFault
 admission (Ok entries) = Ok tt
 admission (Err f) = Err f

@@ -1,4 +1,4 @@
--- The results of the calls on messages, and what a fault prints.
+-- The results of the calls on messages, and the text of a fault.
 use Rattle.std.specs.Prelude.{ℕ, Bool, true, false, List, Result, codes}
 use Rattle.llb_wire.specs.Answer as answer
 use Rattle.llb_wire.specs.Faults.{wire_text}
@@ -13,11 +13,11 @@ is_memory WrongWireType = false
 is_memory NotUtf8 = false
 is_memory OverLimit = false
 
--- the result of a call is that of its rule, or the call fails for want of memory
+-- a call returns what its rule returns, or it fails for want of memory
 abbrev pub Gives : {X Y : Type 0} → (X → Y) → Result X OpFault → Result Y OpFault → Type 0
 Gives = answer.Gives is_memory
 
--- what a fault prints: its number; for a fault of the wire, that fault's number
+-- the text of a fault: its number; for a fault of the wire, the number of that fault
 abbrev pub op_text : OpFault → List ℕ
 op_text (Wire fault) = wire_text fault
 op_text WrongWireType = codes "11"

@@ -19,7 +19,7 @@ use Rattle.llb_ops.specs.Records.{form_of, parts, int32, int64, uint32, flag}
 use Rattle.llb_ops.specs.Messages.{op_of}
 use Rattle.llb_ops.specs.Writing.{bit, set_number, set_bytes, op_bytes}
 
--- fields with their rows of the table, one after another; a number is as its varint spells it; the extra bytes are last
+-- fields with their rows of the table, one after another; a number is the one that its varint spells; the extra bytes are last
 pub data Fields : Type 0 where
   extra : List ℕ → Fields
   number : Row → ℕ → Fields → Fields
@@ -40,7 +40,7 @@ bytes_of (message row inner rest) = set_bytes row.1.number (bytes_of inner) ++ b
 abbrev pub may_follow : ℕ → Bool → NamedField → Bool
 may_follow last set f = (nat_lt last f.number || (f.repeated && (last == f.number))) && not (f.member && set)
 
--- the row is the table's for its number in message m, and its field may follow the field `last`, with or without a member of the oneof before
+-- the table has this row for the row's number in message m, and the row's field may follow the field `last`; for `set` see `may_follow`
 pub record IsNext (m : MessageName) (last : ℕ) (set : Bool) (row : Row) : Type 0 where
   pub known : by_number row.1.number (rows_of m) ≡ Some row
   pub follows : may_follow last set row.1 ≡ true
@@ -49,7 +49,7 @@ pub record IsNext (m : MessageName) (last : ℕ) (set : Bool) (row : Row) : Type
 abbrev pub may_be_empty : NamedField → Bool
 may_be_empty f = f.member || f.repeated || f.of_entry
 
--- v is how canonical bytes spell some number of a field of this kind: signed ones are in two's complement of 64 bits
+-- v is the number that canonical bytes spell for some value of a field of this kind; signed values are in two's complement of 64 bits
 abbrev pub IsNumberOf : FieldKind → ℕ → Type 0
 IsNumberOf Int64 v = cast_unsigned w64 (int64 v) ≡ v
 IsNumberOf Int32 v = cast_unsigned w64 (int32 v) ≡ v
@@ -86,7 +86,7 @@ only_unnamed m (Err f) = false
 unfoldable pub are_unnamed : MessageName → List ℕ → Bool
 are_unnamed m more = only_unnamed m (parts (shape_of m) more)
 
--- the fields are those of canonical bytes of message m, after the field `last`; `set` says whether a member of the oneof came before
+-- these are fields as canonical bytes of message m have them after the field `last`; `set` says whether a member of the oneof came before
 abbrev pub AreFields : MessageName → ℕ → Bool → Fields → Type 0
 AreFields m last set (extra more) = AreUnnamed m more
 AreFields m last set (number row v rest) =
@@ -109,7 +109,7 @@ without_empty (message row inner rest) = message row (without_empty inner) (with
 
 -- ---- no field occurs too often
 
--- how often the field n has occurred in a row if it follows the field `last`, which has occurred `count` times
+-- how often the field n has occurred in succession if it follows the field `last`, which has occurred `count` times
 abbrev pub one_more_of : ℕ → ℕ → ℕ → ℕ
 one_more_of last count n = if last == n then count + 1 else 1
 
@@ -134,6 +134,6 @@ pub record HasFields (op : Op) : Type 0 where
   pub shorter : length (bytes_of (without_empty fields)) ≤ length (op_bytes op)
   pub read : length (bytes_of (without_empty fields)) ≤ entry_limit → op_of (bytes_of (without_empty fields)) ≡ Ok op
 
--- the law, for each op that these bytes are read as
+-- `HasFields` holds of each op that these bytes are read as
 abbrev pub EntryHasFields : List ℕ → Type 0
 EntryHasFields entry = (op : Op) → op_of entry ≡ Ok op → HasFields op

@@ -14,7 +14,7 @@ use Rattle.llb_ops.specs.Definition.{definition_of, definition_bytes}
 abbrev pub IsReadAgain : Op → Type 0
 IsReadAgain op = (entry : List ℕ) → op_of entry ≡ Ok op → length (op_bytes op) ≤ entry_limit → op_of (op_bytes op) ≡ Ok op
 
--- The records of any message are those that its bytes spell by the grammar, with their wire types and texts in UTF-8; and
+-- The records that are read for any message are those that its bytes spell by the grammar, if wire types fit and texts are in UTF-8; and
 -- an op is read from the records that its entry spells, and from nothing else.
 pub record IsReadOfRecords (bytes : List ℕ) : Type 0 where
   pub found : (shape : Shape) (rs : List Record) → parts shape bytes ≡ Ok rs → SpellRecords bytes rs

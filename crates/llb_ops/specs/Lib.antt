@@ -1,6 +1,6 @@
--- Read first Table (the fields of every message), Records (what each kind of field is, by its records) and Messages (what each message is), then
+-- Read first Table (the fields of every message), Records (how fields are made from their records) and Messages (how messages are made from theirs), then
 -- Definition and Limits (a whole definition, and its limits), Writing (canonical bytes), Within, Laws and Fields (what holds of reading and
--- writing together). Attributes is the one map; Kinds is the names of kinds; Faults is the results of calls.
+-- writing together). Attributes has the one map, Kinds the names of kinds, and Faults the results of calls.
 pub mod Faults
 pub mod Limits
 pub mod Table

@@ -1,4 +1,4 @@
--- What each message is, by its records and its fields in the table (`ops.proto` of BuildKit). The order of the steps is the
+-- How each message is made from its records, by its fields in the table (`ops.proto` of BuildKit). The order of the steps is the
 -- order of the faults: the records, the message fields by their numbers, the limits.
 use Rattle.std.specs.Prelude.{ℕ, List, [], ◌∷◌, length, Option, Result, Ok, Err, nat_lt, ◌==◌, if◌then◌else◌}
 use Rattle.llb_wire.specs.Answer.{◌>>=◌}
@@ -57,7 +57,7 @@ user_opt_shape = shape_of message.UserOpt
 abbrev pub users : List ℕ
 users = members_of message.UserOpt
 
--- a user whose field n is set, from the records of that field
+-- a user, if field n is the one that is set, from the records of that field
 abbrev pub user_of : ℕ → List Record → Result User OpFault
 user_of n rs = if n == 1 then Ok (ByName (joined rs)) else Ok (ById (uint32 (number rs)))
 
@@ -186,7 +186,7 @@ action_shape = shape_of message.FileAction
 abbrev pub action_kinds : List ℕ
 action_kinds = members_of message.FileAction
 
--- what an action does whose field n is set, from the records of that field
+-- what an action does, if field n is the one that is set, from the records of that field
 abbrev pub action_kind_of : ℕ → List Record → Result ActionKind OpFault
 action_kind_of n rs =
     if n == 4 then (copy_file_of (joined rs) >>= λ m. Ok (action.Copy m))
@@ -368,7 +368,7 @@ attribute_entry_of = message_of attribute_entry_shape attribute_entry_in
 abbrev pub source_op_shape : Shape
 source_op_shape = shape_of message.SourceOp
 
--- a `SourceOp` from its records, if the entries of its map are not too many, those that a later one replaces included
+-- a `SourceOp` from its records, if the entries of its map are not too many; entries that a later one replaces count too
 unfoldable pub source_op_in : List Record → Result SourceOp OpFault
 source_op_in rs = do
   entries ← each attribute_entry_of (all 2 rs)
@@ -386,11 +386,11 @@ source_op_of = message_of source_op_shape source_op_in
 abbrev pub op_shape : Shape
 op_shape = shape_of message.Op
 
--- the numbers of the fields that say what kind an op is of
+-- the numbers of the fields of which one is set to give an op its kind
 abbrev pub kinds : List ℕ
 kinds = members_of message.Op
 
--- the kind of an op whose field n is set, from the records of that field
+-- the kind of an op, if field n is the one that is set, from the records of that field
 unfoldable pub kind_of : ℕ → List Record → Result Kind OpFault
 kind_of n rs =
     if n == 2 then (exec_op_of (joined rs) >>= λ m. Ok (Exec m))
@@ -407,7 +407,7 @@ op_in rs = do
   kind ← one_of kinds kind_of rs
   if within_limits (repeated_of message.Op) rs then Ok (record { inputs = inputs; kind = kind; extra = unnamed op_shape rs }) else Err OverLimit
 
--- the op that bytes are read as, without the limit on their number
+-- the op that bytes are read as, or the first fault, without the limit on the number of bytes
 abbrev pub op_message_of : List ℕ → Result Op OpFault
 op_message_of = message_of op_shape op_in
 

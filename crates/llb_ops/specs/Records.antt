@@ -1,4 +1,4 @@
--- The records of a message, and what each kind of field is, by its records (the encoding guide of Protocol Buffers: "Message
+-- The records of a message, and how the value of each kind of field is made from them (the encoding guide of Protocol Buffers: "Message
 -- Structure", "Last One Wins", "Optional and Repeated Elements", "Oneofs"). A record has no position in the bytes here.
 use Rattle.std.specs.Prelude.{◌≡◌, ◌<◌, ℕ, zero, suc, ◌-◌, List, [], ◌∷◌, ◌++◌, length, map, Option, Some, None, Result, Ok, Err, Bool}
 use Rattle.std.specs.Prelude.{true, false, nat_le, ◌==◌, not, if◌then◌else◌, find, option_map, fold, ◌&&◌, filter, slice_get, is_none, ℤ}
@@ -34,13 +34,13 @@ view r = record { number = r.number; wire = r.wire; value = r.value; payload = r
 abbrev pub views : List Held → List Record
 views rs = map view rs
 
--- ---- the records from left to right: a fault of the wire, then a named field with another wire type
+-- ---- the records from left to right: each may have a fault of the wire, or be of a named field and have another wire type than this
 
 -- the form of the field with this number, if the message names it
 abbrev pub form_of : Shape → ℕ → Option Form
 form_of shape number = option_map (λ n. n.1) (find (λ n. n.0 == number) shape)
 
--- whether a field may have this wire type: any for a field that the message does not name, else the one of its form
+-- whether a field may have this wire type: any for a field that the message does not name, else the wire type of its form
 abbrev pub wire_fits : Option Form → WireType → Bool
 wire_fits None w = true
 wire_fits (Some Number) wire.Varint = true
@@ -52,12 +52,12 @@ wire_fits (Some Bytes) w = false
 wire_fits (Some Text) wire.Len = true
 wire_fits (Some Text) w = false
 
--- the result of the wire reader, whose fault becomes an op's
+-- the result of the wire reader, with its fault as an op's fault
 abbrev pub from_wire : {A : Type 0} → Result A WireFault → Result A OpFault
 from_wire (Ok x) = Ok x
 from_wire (Err f) = Err (Wire f)
 
--- the record at the start of the bytes, if its wire type fits the form of its field
+-- the record at the start of the bytes, if its wire type fits the form of its field; else the fault
 abbrev pub first_record : Shape → List ℕ → Result Field OpFault
 first_record shape bytes = from_wire (field_at bytes 0) >>= λ f. if wire_fits (form_of shape f.number) f.wire then Ok f else Err WrongWireType
 
@@ -102,11 +102,11 @@ parts shape bytes = records_from shape 0 bytes >>= λ rs. if texts_fit shape rs 
 
 -- ---- the records that bytes spell
 
--- each field that the message names has its wire type
+-- whether each record of a field that the message names has the wire type of this field
 abbrev pub wires_fit : Shape → List Record → Bool
 wires_fit shape rs = list_all (λ r. wire_fits (form_of shape r.number) r.wire) rs
 
--- these records if each named field has its wire type and texts are UTF-8; else the fault
+-- these records, if each record of a named field has the field's wire type and texts are in UTF-8; else the fault
 abbrev pub fitting : Shape → List Record → Result (List Record) OpFault
 fitting shape rs = if wires_fit shape rs then (if texts_fit shape rs then Ok rs else Err NotUtf8) else Err WrongWireType
 
@@ -114,7 +114,7 @@ fitting shape rs = if wires_fit shape rs then (if texts_fit shape rs then Ok rs 
 unfoldable pub message_of : {A : Type 0} → Shape → (List Record → Result A OpFault) → List ℕ → Result A OpFault
 message_of shape read bytes = parts shape bytes >>= read
 
--- ---- what a field is, by its records
+-- ---- the value of a field, from its records
 
 -- the records of field n, in order
 abbrev pub all : ℕ → List Record → List Record
@@ -156,7 +156,7 @@ payloads rs = map (λ r. r.payload) rs
 abbrev pub joined : List Record → List ℕ
 joined rs = flat_map (λ r. r.payload) rs
 
--- a singular message, if it has a record
+-- a singular message, if it has a record; or the fault of reading it
 unfoldable pub one : {A : Type 0} → (List ℕ → Result A OpFault) → List Record → Result (Option A) OpFault
 one read rs = if length rs == 0 then Ok None else (read (joined rs) >>= λ m. Ok (Some m))
 
@@ -175,7 +175,7 @@ unnamed shape rs = flat_map (λ r. r.text) (filter (λ r. is_none (form_of shape
 abbrev pub is_member : List ℕ → Record → Bool
 is_member members r = list_any (λ m. m == r.number) members
 
--- the member of a oneof that is set: that of the last record of any member
+-- the member of a oneof that is set: the last record that is of any member is of this one
 abbrev pub chosen : List ℕ → List Record → Option ℕ
 chosen members rs = option_map (λ r. r.number) (last_of (filter (is_member members) rs))
 

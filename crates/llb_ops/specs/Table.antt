@@ -1,5 +1,5 @@
 -- The table of messages: the fields that each message names (`ops.proto` of BuildKit), by name, number and kind, in ascending order of
--- their numbers. A field of the kind `Bytes` is bytes, or a message that is not looked into; an entry of the map `attrs` is a message of its own.
+-- their numbers. A field of the kind `Bytes` is bytes, or a message that is not looked into; an entry of the map `attrs` is a message too.
 use Rattle.std.specs.Prelude.{◌≡◌, ℕ, List, [], ◌∷◌, map, find, filter, codes, Option, Some, true, false, nat_eq, ◌==◌}
 use Rattle.std.specs.List.{AllByRecursion}
 use Rattle.std.specs.Cmp.Lexicographic.{pointwise}

@@ -12,7 +12,7 @@ use Rattle.llb_ops.specs.declared.exec.ExecOp.{ExecOp}
 use Rattle.llb_ops.specs.declared.exec.Meta.{Meta}
 use Rattle.llb_ops.specs.Limits.{field_limit, entries_limit, entry_limit}
 
--- a list has few items: no more than a repeated field may have records
+-- a list has few items: at most as many as a repeated field may have records
 abbrev pub IsFew : {A : Type 0} → List A → Type 0
 IsFew xs = length xs ≤ field_limit
 
@@ -22,7 +22,7 @@ pub record IsMetaWithin (m : Meta) : Type 0 where
   pub env : IsFew m.env
   pub short : All (λ a. length a ≤ entry_limit) m.args
 
--- a `Meta`, if there is one
+-- a `Meta` is within the limits, if there is one
 abbrev pub IsMetaOptWithin : Option Meta → Type 0
 IsMetaOptWithin None = Unit {0}
 IsMetaOptWithin (Some m) = IsMetaWithin m
@@ -38,7 +38,7 @@ pub record IsCopyWithin (m : CopyFile) : Type 0 where
   pub include_patterns : IsFew m.include_patterns
   pub exclude_patterns : IsFew m.exclude_patterns
 
--- what a file action does, if anything: only a copy has repeated fields
+-- what a file action does, if anything, is within the limits: only a copy has repeated fields, so no other action has limits
 abbrev pub IsActionWithin : Option ActionKind → Type 0
 IsActionWithin None = Unit {0}
 IsActionWithin (Some (action.Copy m)) = IsCopyWithin m
@@ -51,7 +51,7 @@ pub record IsFileWithin (m : FileOp) : Type 0 where
   pub actions : IsFew m.actions
   pub each : All (λ a. IsActionWithin a.kind) m.actions
 
--- the kind of an op, if it has one; `build` and `diff` are bytes that are not read, so they have no limits
+-- the kind of an op, if it has one, is within the limits; `build` and `diff` are bytes that are not read, so they have no limits
 abbrev pub IsKindWithin : Option Kind → Type 0
 IsKindWithin None = Unit {0}
 IsKindWithin (Some (Exec m)) = IsExecWithin m

@@ -33,19 +33,19 @@ use Rattle.llb_ops.specs.declared.source.SourceOp.{SourceOp}
 use Rattle.llb_ops.specs.declared.source.AttributeEntry.{AttributeEntry}
 use Rattle.llb_ops.specs.Attributes.{entry_of}
 
--- the record of a field with this number, also if it is 0
+-- the record of field n with the number v, also if v is 0
 unfoldable pub set_number : ℕ → ℕ → List ℕ
 set_number n v = record_text n wire.Varint v []
 
--- the record of a field with these bytes, also if there are none
+-- the record of field n with these bytes, also if there are none
 unfoldable pub set_bytes : ℕ → List ℕ → List ℕ
 set_bytes n bytes = record_text n wire.Len 0 bytes
 
--- the record of a field with this number, left out if it is 0
+-- the record of field n with the number v, left out if v is 0
 unfoldable pub number_field : ℕ → ℕ → List ℕ
 number_field n v = if v == 0 then [] else set_number n v
 
--- the record of a field with these bytes, left out if there are none
+-- the record of field n with these bytes, left out if there are none
 unfoldable pub bytes_field : ℕ → List ℕ → List ℕ
 bytes_field n bytes = if length bytes == 0 then [] else set_bytes n bytes
 
@@ -80,7 +80,7 @@ abbrev pub one_of_field : {A : Type 0} → (A → List ℕ) → Option A → Lis
 one_of_field write None = []
 one_of_field write (Some m) = write m
 
--- the canonical bytes of an `Input`: the digest unless it is empty, the index unless it is 0
+-- the canonical bytes of an `Input`: the digest is written unless it is empty, the index unless it is 0
 unfoldable pub input_bytes : Input → List ℕ
 input_bytes m = bytes_field 1 m.digest ++ signed_field 2 m.index ++ m.extra
 
@@ -93,21 +93,21 @@ user_bytes (ById id) = set_number 2 id
 unfoldable pub user_opt_bytes : UserOpt → List ℕ
 user_opt_bytes m = one_of_field user_bytes m.user ++ m.extra
 
--- the canonical bytes of a `ChownOpt`: the user and the group, each if it is set
+-- the canonical bytes of a `ChownOpt`: the user and the group are written, each if there is one
 unfoldable pub chown_opt_bytes : ChownOpt → List ℕ
 chown_opt_bytes m = message_field user_opt_bytes 1 m.user ++ message_field user_opt_bytes 2 m.group ++ m.extra
 
--- the canonical bytes of a `FileActionMkFile`: `body` is field 3, `data`; the owner whenever it is there
+-- the canonical bytes of a `FileActionMkFile`: `body` is written as field 3, `data`; the owner is written if there is one
 unfoldable pub mk_file_bytes : MkFile → List ℕ
 mk_file_bytes m = bytes_field 1 m.path ++ signed_field 2 m.mode ++ bytes_field 3 m.body
     ++ message_field chown_opt_bytes 4 m.owner ++ signed_field 5 m.timestamp ++ m.extra
 
--- the canonical bytes of a `FileActionMkDir`: `make_parents` only if it is true; the owner whenever it is there
+-- the canonical bytes of a `FileActionMkDir`: `make_parents` is written only if it is true, the owner if there is one
 unfoldable pub mk_dir_bytes : MkDir → List ℕ
 mk_dir_bytes m = bytes_field 1 m.path ++ signed_field 2 m.mode ++ flag_field 3 m.make_parents
     ++ message_field chown_opt_bytes 4 m.owner ++ signed_field 5 m.timestamp ++ m.extra
 
--- the canonical bytes of a `FileActionCopy`: flags only if they are true, the owner whenever it is there, and every pattern, also an empty one
+-- the canonical bytes of a `FileActionCopy`: flags are written only if they are true, the owner if there is one, and every pattern, also an empty one
 unfoldable pub copy_file_bytes : CopyFile → List ℕ
 copy_file_bytes m = bytes_field 1 m.src ++ bytes_field 2 m.dest ++ message_field chown_opt_bytes 3 m.owner ++ signed_field 4 m.mode
     ++ flag_field 5 m.follow_symlink ++ flag_field 6 m.dir_copy_contents ++ flag_field 7 m.attempt_unpack_docker_compatibility
@@ -115,7 +115,7 @@ copy_file_bytes m = bytes_field 1 m.src ++ bytes_field 2 m.dest ++ message_field
     ++ flag_field 9 m.allow_wildcard ++ flag_field 10 m.allow_empty_wildcard ++ signed_field 11 m.timestamp ++ each_field 12 m.include_patterns
     ++ each_field 13 m.exclude_patterns ++ m.extra
 
--- the canonical bytes of a `FileActionRm`: the path unless it is empty, flags only if they are true
+-- the canonical bytes of a `FileActionRm`: the path is written unless it is empty, flags only if they are true
 unfoldable pub rm_bytes : Rm → List ℕ
 rm_bytes m = bytes_field 1 m.path ++ flag_field 2 m.allow_not_found ++ flag_field 3 m.allow_wildcard ++ m.extra
 
@@ -126,7 +126,7 @@ action_kind_bytes (action.MkFile m) = set_bytes 5 (mk_file_bytes m)
 action_kind_bytes (action.MkDir m) = set_bytes 6 (mk_dir_bytes m)
 action_kind_bytes (action.Rm m) = set_bytes 7 (rm_bytes m)
 
--- the canonical bytes of a `FileAction`: inputs and output unless they are 0, and what it does, if anything
+-- the canonical bytes of a `FileAction`: inputs and output are written unless they are 0, and what the action does, if anything
 unfoldable pub action_bytes : Action → List ℕ
 action_bytes m = signed_field 1 m.input ++ signed_field 2 m.secondary_input ++ signed_field 3 m.output
     ++ one_of_field action_kind_bytes m.kind ++ m.extra
@@ -135,35 +135,35 @@ action_bytes m = signed_field 1 m.input ++ signed_field 2 m.secondary_input ++ s
 unfoldable pub file_op_bytes : FileOp → List ℕ
 file_op_bytes m = messages_field action_bytes 2 m.actions ++ m.extra
 
--- the canonical bytes of a `Meta`: every argument and variable, also an empty one; directory and user unless they are empty
+-- the canonical bytes of a `Meta`: every argument and variable is written, also an empty one, and the directory and the user unless they are empty
 unfoldable pub meta_bytes : Meta → List ℕ
 meta_bytes m = each_field 1 m.args ++ each_field 2 m.env ++ bytes_field 3 m.cwd ++ bytes_field 4 m.user
     ++ m.extra
 
--- the canonical bytes of a `TmpfsOpt`: the size unless it is 0
+-- the canonical bytes of a `TmpfsOpt`: the size is written unless it is 0
 unfoldable pub tmpfs_opt_bytes : TmpfsOpt → List ℕ
 tmpfs_opt_bytes m = signed_field 1 m.size ++ m.extra
 
--- the canonical bytes of a `CacheOpt`: the ID unless it is empty, the sharing unless it is 0
+-- the canonical bytes of a `CacheOpt`: the ID is written unless it is empty, the sharing unless it is 0
 unfoldable pub cache_opt_bytes : CacheOpt → List ℕ
 cache_opt_bytes m = bytes_field 1 m.id ++ signed_field 2 m.sharing ++ m.extra
 
--- the canonical bytes of a `Mount`: fields 1 to 6 unless they are 0, empty or false; the `TmpfsOpt` and the `CacheOpt` whenever they are there
+-- the canonical bytes of a `Mount`: fields 1 to 6 are written unless they are 0, empty or false; the `TmpfsOpt` and the `CacheOpt` if there is one
 unfoldable pub mount_bytes : Mount → List ℕ
 mount_bytes m = signed_field 1 m.input ++ bytes_field 2 m.selector ++ bytes_field 3 m.dest ++ signed_field 4 m.output
     ++ flag_field 5 m.readonly ++ signed_field 6 m.mount_type ++ message_field tmpfs_opt_bytes 19 m.tmpfs_opt ++ message_field cache_opt_bytes 20 m.cache_opt
     ++ m.extra
 
--- the canonical bytes of an `ExecOp`: its `Meta` whenever it is there, every mount, network and security unless they are 0, every secret
+-- the canonical bytes of an `ExecOp`: its `Meta` is written if there is one, network and security unless they are 0, and every mount and secret
 unfoldable pub exec_op_bytes : ExecOp → List ℕ
 exec_op_bytes m = message_field meta_bytes 1 m.meta ++ messages_field mount_bytes 2 m.mounts ++ signed_field 3 m.network ++ signed_field 4 m.security
     ++ each_field 5 m.secretenv ++ m.extra
 
--- the canonical bytes of a `MergeInput`: the number of the input unless it is 0
+-- the canonical bytes of a `MergeInput`: the number of the input is written unless it is 0
 unfoldable pub merge_input_bytes : MergeInput → List ℕ
 merge_input_bytes m = signed_field 1 m.input ++ m.extra
 
--- the canonical bytes of a `MergeOp`: its inputs in order, also one that is 0
+-- the canonical bytes of a `MergeOp`: its inputs are written in order, also an input that is 0
 unfoldable pub merge_op_bytes : MergeOp → List ℕ
 merge_op_bytes m = messages_field merge_input_bytes 1 m.inputs ++ m.extra
 
@@ -171,7 +171,7 @@ merge_op_bytes m = messages_field merge_input_bytes 1 m.inputs ++ m.extra
 unfoldable pub attribute_entry_bytes : AttributeEntry → List ℕ
 attribute_entry_bytes m = set_bytes 1 m.key ++ set_bytes 2 m.value ++ m.extra
 
--- the canonical bytes of a `SourceOp`: the identifier unless it is empty, and an entry of the map for each attribute in order
+-- the canonical bytes of a `SourceOp`: the identifier is written unless it is empty, and an entry of the map for each attribute in order
 unfoldable pub source_op_bytes : SourceOp → List ℕ
 source_op_bytes m = bytes_field 1 m.identifier ++ messages_field attribute_entry_bytes 2 (map entry_of m.attrs) ++ m.extra
 

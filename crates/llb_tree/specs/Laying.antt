@@ -1,4 +1,4 @@
--- What the steps of laying one tree over another make of nodes and of their children.
+-- What each step of laying one tree over another makes of nodes and of their children.
 use Rattle.std.specs.Prelude.{◌≡◌, ◌<◌, ◌^◌, ℕ, zero, suc, true, false, List, [], ◌∷◌, map, Option, Some, None, is_some, Vec}
 use Rattle.std.specs.declared.alloc.Global.{Global}
 use Rattle.std.specs.FinMap as finite
@@ -10,7 +10,7 @@ use Rattle.llb_tree.specs.Overlay.{WayValue, is_mode, laid_meta, over, over_at}
 use Rattle.llb_tree.specs.declared.node.Child.{Child}
 use Rattle.llb_tree.specs.declared.node.Piece.{Piece}
 
--- the tree after each entry gets the mode, the user and the group that the way gives; what the way does not give stays
+-- the tree with the mode, the user and the group of `w` at each entry; what `w` does not give stays as it is
 abbrev pub dress : WayValue → TreeMap → TreeMap
 dress w t = finite.from_entries (map (λ (e : List (List ℕ) × Entry). (e.0, over w None e.1)) (finite.entries t))
 
@@ -27,12 +27,12 @@ pub record Lays (w : WayValue) (upper old new : List Child) : Type 0 where
 abbrev pub IsOver : WayValue → List Child → Child → TreeMap → Type 0
 IsOver w old upper t = (q : List (List ℕ)) → finite.get t q ≡ over_at w (look_in (child (name_of upper) old)) (finite.get upper.node) q
 
--- a child made of an upper one and of the lower one of the same name, if there is one
+-- `made` is the upper child laid over the lower child of the same name, if there is one
 pub record IsLaid (w : WayValue) (old : List Child) (upper made : Child) : Type 0 where
   pub named : name_of made ≡ name_of upper
   pub laid : (q : List (List ℕ)) → finite.get made.node q ≡ over_at w (look_in (child (name_of upper) old)) (finite.get upper.node) q
 
--- each upper child is laid over the lower one of its name, in the same order, and there are no other children
+-- for each upper child there is one made child, in the same order: the upper child laid over the lower one of its name
 abbrev pub AreLaid : WayValue → List Child → List Child → List Child → Type 0
 AreLaid w old [] [] = Unit {0}
 AreLaid w old [] (k ∷ made) = ⊥
@@ -46,12 +46,12 @@ PiecesLaid w old [] (p ∷ made) = ⊥
 PiecesLaid w old (u ∷ upper) [] = ⊥
 PiecesLaid w old (u ∷ upper) (p ∷ made) = AreLaid w old (rows_in u) (rows_in p) × PiecesLaid w old upper made
 
--- every entry that is laid stays as it is, whatever was there before
+-- each upper entry is laid with its own mode and owner, whatever was at its path before
 pub record TakesWhole (w : WayValue) : Type 0 where
   pub own : (m : MetaValue) → laid_meta w m ≡ m
   pub upper : w.keeps ≡ false
 
--- upper children are laid without change
+-- the upper children are laid without change: they are the new children
 pub record StandWhole (w : WayValue) (upper new : List Child) : Type 0 where
   pub way : TakesWhole w
   pub same : map pair_of new ≡ map pair_of upper
@@ -60,7 +60,7 @@ pub record StandWhole (w : WayValue) (upper new : List Child) : Type 0 where
 abbrev pub Covers : List Child → List Child → Type 0
 Covers upper lower = (n : List ℕ) → is_some (child n lower) ≡ true → is_some (child n upper) ≡ true
 
--- one of the children `kids` has the name n, and they have all names of the children `more`
+-- one of the children `kids` has the name n, and each name of the children `more` is the name of one of `kids`
 pub record HasLater (n : List ℕ) (kids more : List Child) : Type 0 where
   pub here : is_some (child n kids) ≡ true
   pub later : Covers kids more
@@ -81,17 +81,17 @@ written i t [] = []
 written zero t (k ∷ ks) = (k.0, t) ∷ ks
 written (suc i) t (k ∷ ks) = k ∷ written i t ks
 
--- the children after others are put in one by one, each in place of the one of the same name
+-- the children after others are put in one by one, each in place of the one of the same name, if there is one
 abbrev pub puts : Pairs → Pairs → Pairs
 puts [] old = old
 puts (k ∷ ks) old = puts ks (finite.put name_cmp k.0 k.1 old)
 
--- a number of 32 bits as owner, if one is given
+-- the owner, if one is given, has at most 32 bits
 abbrev pub owner_fits : Option ℕ → Type 0
 owner_fits None = Unit {0}
 owner_fits (Some owner) = owner < 2 ^ 32
 
--- the mode, if given, is at most 4095, and the owners, if given, have 32 bits
+-- the mode, if given, is at most 4095, and each owner, if given, has at most 32 bits
 pub record IsWay (w : WayValue) : Type 0 where
   pub mode : is_mode w.mode ≡ true
   pub uid : owner_fits w.uid

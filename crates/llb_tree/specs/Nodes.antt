@@ -82,7 +82,7 @@ pair_of k = (name_of k, k.node)
 abbrev pub AreSorted : List Child → Type 0
 AreSorted ks = T (finite.is_sorted name_cmp (map pair_of ks))
 
--- the tree of the child with this name
+-- the tree of the child with this name, if there is one
 abbrev pub child : List ℕ → List Child → Option TreeMap
 child n ks = finite.find name_cmp n (map pair_of ks)
 
@@ -101,7 +101,7 @@ abbrev pub place : List ℕ → List Child → Result ℕ ℕ
 place p [] = Err 0
 place p (r ∷ rows) = by_order (name_cmp p (name_of r)) (Err 0) (Ok 0) (later (place p rows))
 
--- what there is at each path after a tree, or nothing, is set at one path
+-- what there is at each path after everything at or below path `p` is removed, and tree `t`, if there is one, is put there
 abbrev pub set_look : List (List ℕ) → Option TreeMap → Look → Look
 set_look [] t old q = look_in t q
 set_look (n ∷ p) t old [] = old []
@@ -121,13 +121,13 @@ file_look m b (n ∷ q) = None
 abbrev pub Pairs : Type 0
 Pairs = List (List ℕ × TreeMap)
 
--- the children after a tree, or nothing, is set at a path below one of them
+-- the children `new` are `old` after tree `t` replaces everything at or below path `p` in child `n`; without a `t` that is only removed
 pub record Sets (n : List ℕ) (p : List (List ℕ)) (t : Option TreeMap) (old new : Pairs) : Type 0 where
   pub sorted : T (finite.is_sorted name_cmp new)
   pub children : (m : List ℕ) (q : List (List ℕ)) → look_in (finite.find name_cmp m new) q
       ≡ cond (is_eq (name_cmp m n)) (set_look p t (look_in (finite.find name_cmp n old)) q) (look_in (finite.find name_cmp m old) q)
 
--- the node is a tree, whose paths have at most `depth` names
+-- `root` is a tree whose paths have at most `depth` names, and `depth` is at most 128
 pub record IsWhole (root : TreeMap) (depth : ℕ) : Type 0 where
   pub tree : base.IsTree root
   pub deep : base.height root ≤ depth + 1

@@ -1,5 +1,5 @@
--- One tree laid over another, path by path. The upper tree's entries are kept, with the mode and the owner that are given for them; a directory
--- that both have may instead stay as in the lower tree. Of the lower tree's entries those are kept that are below no file of the upper one.
+-- One tree laid over another, path by path. The upper tree's entries are kept, with the mode and the owner that are given for them; a directory that
+-- is in both trees may instead stay as in the lower one. An entry of the lower tree is kept if the upper tree has none at its path and no file above it.
 use Rattle.std.specs.Prelude.{ℕ, Bool, true, false, List, map, Option, Some, None, unwrap_or, nat_lt, if◌then◌else◌}
 use Rattle.std.specs.List.{list_any}
 use Rattle.llb_tree.specs.Meta.{MetaValue}
@@ -15,7 +15,7 @@ is_file (Some (File m b)) = true
 abbrev pub below_file : Look → List (List ℕ) → Bool
 below_file look p = list_any is_file (map look (parents p))
 
--- how one tree is laid over another: the mode and owners to be set, if any, and whether a directory that both have stays as the lower tree has it
+-- how one tree is laid over another: the mode and owners to be set, if any, and whether a directory that both trees have stays as in the lower tree
 pub record WayValue : Type 0 where
   pub mode : Option ℕ
   pub uid : Option ℕ
@@ -27,7 +27,7 @@ abbrev pub is_mode : Option ℕ → Bool
 is_mode None = true
 is_mode (Some mode) = if nat_lt 4095 mode then false else true
 
--- the way with this mode, user and group, each optional; nothing if the mode is above 4095
+-- a `WayValue` with this mode, user and group, each of them optional, and this `keeps`; nothing if the mode is above 4095
 abbrev pub way_of : Option ℕ → Option ℕ → Option ℕ → Bool → Option WayValue
 way_of mode uid gid keeps = if is_mode mode then Some (record { mode = mode; uid = uid; gid = gid; keeps = keeps }) else None
 

@@ -19,28 +19,28 @@ name_cmp = slice_cmp nat_cmp
 abbrev pub path_cmp : List (List ℕ) → List (List ℕ) → Ordering
 path_cmp = slice_cmp name_cmp
 
--- the part `.`
+-- whether a part is `.`
 abbrev pub is_dot : List ℕ → Bool
 is_dot part = pointwise nat_eq part (46 ∷ [])
 
--- the part `..`
+-- whether a part is `..`
 abbrev pub is_dots : List ℕ → Bool
 is_dots part = pointwise nat_eq part (46 ∷ 46 ∷ [])
 
--- a byte of a name is no control byte, not 0x7F and not `/`
+-- whether a byte can be in a name: it is no control byte, not 0x7F and not `/`
 abbrev pub is_name_byte : ℕ → Bool
 is_name_byte b = nat_le 32 b && not (b == 127) && not (b == 47)
 
--- a name is 1 to 255 such bytes of UTF-8, and neither `.` nor `..`
+-- whether a part is a name: 1 to 255 such bytes, in UTF-8, and neither `.` nor `..`
 abbrev pub is_name : List ℕ → Bool
 is_name part = not (length part == 0) && nat_le (length part) 255 && not (is_dot part) && not (is_dots part) && list_all is_name_byte part && is_utf8 part
 
--- a path has at most 128 names
+-- a path has at most 128 names, and each of them is a name by `is_name`
 pub record IsPath (path : List (List ℕ)) : Type 0 where
   pub short : length path ≤ 128
   pub named : All (λ name. IsTrue (is_name name)) path
 
--- the part as a name, or the refusal that it is none
+-- the part, if it is a name; else the fault `BadName`
 abbrev pub name_of : List ℕ → Result (List ℕ) TreeFault
 name_of part = if is_name part then Ok part else Err BadName
 
@@ -54,7 +54,7 @@ enter path part =
     if length part == 0 || is_dot part then Ok path
     else (if is_dots part then Ok (take (length path - 1) path) else (name_of part >>= below path))
 
--- the path after these parts of a text
+-- the path after these parts of a text, entered one after another
 abbrev pub follow : List (List ℕ) → List (List ℕ) → Result (List (List ℕ)) TreeFault
 follow path [] = Ok path
 follow path (part ∷ parts) = enter path part >>= λ next. follow next parts
@@ -63,7 +63,7 @@ follow path (part ∷ parts) = enter path part >>= λ next. follow next parts
 abbrev pub parts_of : List ℕ → List (List ℕ)
 parts_of = slice_split (λ b. b == 47)
 
--- the path from the root that a text reads as
+-- the path from the root that a text reads as, or the fault of its first wrong part
 abbrev pub path_of : List ℕ → Result (List (List ℕ)) TreeFault
 path_of text = follow [] (parts_of text)
 
@@ -71,7 +71,7 @@ path_of text = follow [] (parts_of text)
 abbrev pub path_from : List (List ℕ) → List ℕ → Result (List (List ℕ)) TreeFault
 path_from start text = if starts_with nat_eq text (47 ∷ []) then path_of text else follow start (parts_of text)
 
--- how many names the path has; or the refusal
+-- how many names the path has; or the fault
 abbrev pub depth : Result (List (List ℕ)) TreeFault → Result ℕ TreeFault
 depth (Ok path) = Ok (length path)
 depth (Err e) = Err e

@@ -1,5 +1,5 @@
--- The children of a directory are kept in pieces, which one after another have the children in the order of their names; no piece
--- but the first is empty. A child is seen here as a pair: its name, and the tree that its node represents.
+-- The children of a directory are kept in pieces: one after another these have the children in the order of their names; only the first piece
+-- may be empty. A child is seen here as a pair: its name, and the tree that its node represents.
 use Rattle.std.specs.Prelude.{◌≡◌, ℕ, suc, ◌<◌, Bool, true, false, not, List, [], ◌∷◌, ◌++◌, length, map, drop, get_or, T, Option, Some, None}
 use Rattle.std.specs.List.{remove}
 use Rattle.std.specs.Ordering.{is_gt, eq_by_cmp}
@@ -28,7 +28,7 @@ abbrev pub AllFull : List Pairs → Type 0
 AllFull [] = Unit {0}
 AllFull (p ∷ ps) = (0 < length p) × AllFull ps
 
--- the pairs of the pieces one after another are sorted by name, each name once, and no piece but the first is empty
+-- the pairs of the pieces one after another are sorted by name, each name once, and only the first piece may be empty
 pub record IsPieced (ps : List Pairs) : Type 0 where
   pub sorted : T (finite.is_sorted name_cmp (joined ps))
   pub full : AllFull (drop 1 ps)
@@ -37,23 +37,23 @@ pub record IsPieced (ps : List Pairs) : Type 0 where
 abbrev pub ArePieced : List Piece → Type 0
 ArePieced ps = IsPieced (map row_pairs ps)
 
--- whether the first name of a piece comes after this name
+-- whether a piece has a first name, and this comes after the given name
 abbrev pub begins_after : List ℕ → Pairs → Bool
 begins_after n [] = false
 begins_after n (e ∷ es) = is_gt (name_cmp e.0 n)
 
--- the piece that a name belongs to: the last one that does not begin after it, or the first one
+-- `j` is the position of the piece that name `n` belongs to: the last piece that does not begin after `n`, or the first piece
 pub record IsPieceOf (n : List ℕ) (ps : List Pairs) (j : ℕ) : Type 0 where
   pub in_range : j < length ps
   pub before : 0 < j → begins_after n (get_or ps j []) ≡ false
   pub after : suc j < length ps → begins_after n (get_or ps (suc j) []) ≡ true
 
--- the pieces without the one at position j, if that piece is empty
+-- the pieces without the one at position j, if the piece that is given before j is empty; else all pieces
 abbrev pub tidied_by : Pairs → ℕ → List Pairs → List Pairs
 tidied_by [] j ps = remove ps j
 tidied_by (e ∷ es) j ps = ps
 
--- the pieces without the one at position j, if there is one and it is empty
+-- the pieces without the one at position j if it is empty; else all pieces
 abbrev pub tidied : ℕ → List Pairs → List Pairs
 tidied j ps = tidied_by (get_or ps j []) j ps
 
@@ -61,12 +61,12 @@ tidied j ps = tidied_by (get_or ps j []) j ps
 abbrev pub without : List ℕ → Pairs → Pairs
 without n = where_key name_cmp (λ m. not (eq_by_cmp name_cmp n m))
 
--- the children after the one of this name is replaced by a tree, or removed
+-- the children after a tree is put in under this name, or, if no tree is given, after the child of this name is removed
 abbrev pub change : List ℕ → Option TreeMap → Pairs → Pairs
 change n (Some t) es = finite.put name_cmp n t es
 change n None es = without n es
 
--- the children after a tree, or nothing, is set at a path below the child of a name
+-- the children `new` are `old` after tree `t` replaces everything at or below path `p` in child `n`; without a `t` that is only removed
 abbrev pub Changes : List ℕ → List (List ℕ) → Option TreeMap → Pairs → Pairs → Type 0
 Changes n p t old new = (made : Option TreeMap) × (new ≡ change n made old)
     × ((q : List (List ℕ)) → look_in made q ≡ set_look p t (look_in (finite.find name_cmp n old)) q)

@@ -20,43 +20,43 @@ module _ {X : Type 0} (passes : X → List ℕ → Bool) where
   passes_all (t ∷ ts) [] = false
   passes_all (t ∷ ts) (n ∷ q) = passes t n && passes_all ts q
 
-  -- whether a path is at or below a selected one
+  -- whether a path is at or below a selected path
   abbrev pub goes : List X → List (List ℕ) → Bool
   goes [] q = true
   goes (t ∷ ts) [] = false
   goes (t ∷ ts) (n ∷ q) = passes t n && goes ts q
 
-  -- whether some path of a tree is at or below a selected one
+  -- whether some path of a tree is at or below a selected path
   abbrev pub any_goes : List X → TreeMap → Bool
   any_goes ts t = list_any (goes ts) (finite.keys t)
 
-  -- the tree without the paths at or below a selected one
+  -- the tree without each path that is at or below a selected path
   abbrev pub thin : List X → TreeMap → TreeMap
   thin ts t = finite.retain_keys t (λ q. not (goes ts q))
 
-  -- the tree without the paths at or below a selected one; nothing if it has no such path; without tests the root is selected, which is refused
+  -- the tree without the paths at or below a selected path; nothing if it has no such path; without tests the root is selected, which is refused
   abbrev pub rid_of : List X → TreeMap → Result (Option TreeMap) TreeFault
   rid_of [] t = Err Root
   rid_of (x ∷ ts) t = Ok (if any_goes (x ∷ ts) t then Some (thin (x ∷ ts) t) else None)
 
   -- ---- nodes
 
-  -- the entry at a path, unless the path is at or below a selected one
+  -- the entry at a path, unless the path is at or below a selected path
   abbrev pub unless_goes : List X → List (List ℕ) → Option Entry → Option Entry
   unless_goes ts q o = cond (not (goes ts q)) o None
 
-  -- what remains of a node; `new` is nothing if no path below it is selected
+  -- what remains of a node; `new` is nothing if the node has no path at or below a selected path
   pub record Thins (ts : List X) (old : TreeMap) (new : Option TreeMap) : Type 0 where
     pub any : is_some new ≡ any_goes ts old
     pub looks : (q : List (List ℕ)) → finite.get (unwrap_or new old) q ≡ unless_goes ts q (finite.get old q)
 
-  -- what remains of children; `new` is nothing if no path below them is selected
+  -- what remains of children; `new` is nothing if the children have no path at or below a selected path
   pub record KeepsAll (ts : List X) (old : List Child) (new : Option (List Child)) : Type 0 where
     pub any : is_some new ≡ list_any (goes ts) (map (λ e. e.0) (flat old))
     pub order : AreSorted old → AreSorted (unwrap_or new old)
     pub looks : (n : List ℕ) (q : List (List ℕ)) → look_kids (unwrap_or new old) n q ≡ unless_goes ts (n ∷ q) (look_kids old n q)
 
-  -- what remains of a child is appended to the others, and later children may follow
+  -- `new` is `old` with what remains of child `kid` appended; `gone` says whether some of the child is removed; later children may follow
   pub record Keeps (ts : List X) (kid : Child) (gone : Bool) (old new : List Child) : Type 0 where
     pub any : gone ≡ list_any (goes ts) (map (λ e. e.0) (below kid))
     pub order : (later : Pairs) → T (finite.is_sorted name_cmp (map pair_of old ++ pair_of kid ∷ later))

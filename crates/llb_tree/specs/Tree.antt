@@ -1,5 +1,5 @@
--- A tree as a map from paths to entries: what makes it a tree, the walk along the parents of a path, and the edits: each returns
--- the map after it or the first fault. Nothing here depends on how a tree is kept.
+-- A tree as a map from paths to entries: what makes it a tree, the walk along the parents of a path, and the edits, each of which returns
+-- the changed map or the first fault. Nothing here depends on how a tree is kept.
 use denote.Param.Weighed.{most}
 use Rattle.std.specs.Prelude.{◌≡◌, ℕ, Bool, true, false, List, [], ◌∷◌, ◌++◌, ◌==◌, ◌+◌, ◌&&◌, nat_lt, if◌then◌else◌, length, drop, map}
 use Rattle.std.specs.Prelude.{Option, Some, None, IsSome, not, Result, Ok, Err}
@@ -29,7 +29,7 @@ meta_in (File m bytes) = m
 abbrev pub TreeMap : Type 0
 TreeMap = FinMap path_cmp Entry
 
--- the height of a tree: one more than the names of its longest path
+-- the height of a tree: one more than the number of names in its longest path
 abbrev pub height : TreeMap → ℕ
 height t = most (λ (e : List (List ℕ) × Entry). length e.0 + 1) (finite.entries t)
 
@@ -42,43 +42,43 @@ abbrev pub parents : List (List ℕ) → List (List (List ℕ))
 parents [] = []
 parents (n ∷ p) = [] ∷ map (λ q. n ∷ q) (parents p)
 
--- all are directories; else the refusal for the first that is missing or is a file
+-- succeeds if all entries are directories; else fails with the fault for the first that is missing or is a file
 abbrev pub all_dirs : List (Option Entry) → Result (Unit {0}) TreeFault
 all_dirs [] = Ok tt
 all_dirs (None ∷ es) = Err NotFound
 all_dirs (Some (File m b) ∷ es) = Err NotDir
 all_dirs (Some (Dir m) ∷ es) = all_dirs es
 
--- the parents of a path are directories; else the refusal for the first one, from the root down, that is missing or is a file
+-- succeeds if the parents of a path are directories; else fails with the fault for the first one, from the root down, that is missing or is a file
 abbrev pub walk : Look → List (List ℕ) → Result (Unit {0}) TreeFault
 walk look p = all_dirs (map look (parents p))
 
--- a file may be put here: there is nothing, or a file
+-- succeeds if a file may be put in place of this entry: there is none, or it is a file
 abbrev pub file_fits : Option Entry → Result (Unit {0}) TreeFault
 file_fits (Some (Dir m)) = Err IsDir
 file_fits (Some (File m b)) = Ok tt
 file_fits None = Ok tt
 
--- a directory may be put here: there is nothing, or a directory
+-- succeeds if a directory may be put in place of this entry: there is none, or it is a directory
 abbrev pub dir_fits : Option Entry → Result (Unit {0}) TreeFault
 dir_fits (Some (File m b)) = Err Conflict
 dir_fits (Some (Dir m)) = Ok tt
 dir_fits None = Ok tt
 
--- the path is not the root; else the refusal
+-- succeeds if the path is not the root; else fails with `Root`
 abbrev pub not_root : List (List ℕ) → Result (Unit {0}) TreeFault
 not_root [] = Err Root
 not_root (n ∷ p) = Ok tt
 
--- the tree after a file is put at a path, or why it can't be
+-- the tree after a file is put at a path, or the fault
 abbrev pub put_file : TreeMap → List (List ℕ) → MetaValue → List ℕ → Result TreeMap TreeFault
 put_file t p m bytes = not_root p >>= λ _. walk (finite.get t) p >>= λ _. file_fits (finite.get t p) >>= λ _. Ok (finite.insert t p (File m bytes))
 
--- the tree after a directory is put at a path, also at the root, or why it can't be; a directory that is there takes the new mode and owner
+-- the tree after a directory is put at a path, also at the root, or the fault; a directory that is there already takes the new mode and owner
 abbrev pub put_dir : TreeMap → List (List ℕ) → MetaValue → Result TreeMap TreeFault
 put_dir t p m = walk (finite.get t) p >>= λ _. dir_fits (finite.get t p) >>= λ _. Ok (finite.insert t p (Dir m))
 
--- something is at the path; else the refusal
+-- succeeds if there is an entry; else fails with `NotFound`
 abbrev pub found : Option Entry → Result (Unit {0}) TreeFault
 found (Some e) = Ok tt
 found None = Err NotFound
@@ -87,15 +87,15 @@ found None = Err NotFound
 abbrev pub without : TreeMap → List (List ℕ) → TreeMap
 without t p = finite.retain_keys t (λ q. not (is_within p q))
 
--- the tree after what is at or below a path is removed, or why it can't be
+-- the tree after what is at or below a path is removed, or the fault
 abbrev pub remove : TreeMap → List (List ℕ) → Result TreeMap TreeFault
 remove t p = not_root p >>= λ _. found (finite.get t p) >>= λ _. Ok (without t p)
 
--- a directory is at the path; else the refusal
+-- succeeds if a directory is at the path; else fails with a fault
 abbrev pub dir_there : TreeMap → List (List ℕ) → Result (Unit {0}) TreeFault
 dir_there t p = all_dirs (finite.get t p ∷ [])
 
--- an entry whose path has these names in place of its first n
+-- the entry `e`, at its path with the names `front` in place of the first n names
 abbrev pub moved : ℕ → List (List ℕ) → List (List ℕ) × Entry → List (List ℕ) × Entry
 moved n front e = (front ++ drop n e.0, e.1)
 
@@ -103,28 +103,28 @@ moved n front e = (front ++ drop n e.0, e.1)
 abbrev pub tree_at : TreeMap → List (List ℕ) → TreeMap
 tree_at t p = finite.from_entries (map (moved (length p) []) (where_key path_cmp (is_within p) (finite.entries t)))
 
--- the tree of what is at or below a directory, or the refusal if there is nothing or a file
+-- the tree of what is at or below a directory, or the fault if there is nothing or a file at the path
 abbrev pub subtree : TreeMap → List (List ℕ) → Result TreeMap TreeFault
 subtree t p = dir_there t p >>= λ _. Ok (tree_at t p)
 
--- the last name of path q if it is exactly one name below path p; else no names
+-- the last name of path q, as a list of one name, if q is directly below path p; else no names
 abbrev pub name_below : List (List ℕ) → List (List ℕ) → List (List ℕ)
 name_below p q = if is_within p q && (length (drop (length p) q) == 1) then drop (length p) q else []
 
--- the names that are directly in a directory, in order
+-- the names of the entries that are directly in a directory, in order
 abbrev pub list : TreeMap → List (List ℕ) → Result (List (List ℕ)) TreeFault
 list t p = dir_there t p >>= λ _. Ok (flat_map (name_below p) (finite.keys t))
 
--- none of these paths, put below path p, has more than 128 names
+-- succeeds if none of these paths, put below path p, has more than 128 names; else fails with `BadName`
 abbrev pub places_fit : List (List ℕ) → List (List (List ℕ)) → Result (Unit {0}) TreeFault
 places_fit p [] = Ok tt
 places_fit p (q ∷ qs) = if nat_lt 128 (length p + length q) then Err BadName else places_fit p qs
 
--- the tree after another one replaces what is at or below a path: what is at q in the other is then at p ++ q
+-- the tree after the tree `other` replaces what is at or below a path p: what `other` has at q is then at p ++ q
 abbrev pub with_tree : TreeMap → List (List ℕ) → TreeMap → TreeMap
 with_tree t p other = finite.from_entries (map (moved 0 p) (finite.entries other) ++ finite.entries (without t p))
 
--- the tree after another one is put at a path as `with_tree` says, or why it can't be; at the root the tree becomes the other
+-- the tree after the tree `other` is put at a path as `with_tree` says, or the fault; at the root `other` replaces everything
 abbrev pub graft : TreeMap → List (List ℕ) → TreeMap → Result TreeMap TreeFault
 graft t p other = walk (finite.get t) p >>= λ _. places_fit p (finite.keys other) >>= λ _. Ok (with_tree t p other)
 

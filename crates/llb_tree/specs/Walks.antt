@@ -11,7 +11,7 @@ use Rattle.llb_tree.specs.declared.node.Child.{Child}
 use Rattle.llb_tree.specs.declared.node.Node.{Node}
 use Rattle.llb_tree.specs.declared.children.Children.{Children}
 
--- the entries without the first one and all that is below it
+-- the entries after the first one, without those below the path of the first one
 abbrev pub past : List (List (List ℕ) × Entry) → List (List (List ℕ) × Entry)
 past [] = []
 past (e ∷ es) = where_key path_cmp (λ q. not (is_within e.0 q)) es
@@ -20,13 +20,13 @@ past (e ∷ es) = where_key path_cmp (λ q. not (is_within e.0 q)) es
 abbrev pub levels_of : List Children → List (List Child)
 levels_of = map left_in
 
--- the entries of these children, those of the deepest directory first
+-- the entries of these children, by their paths from the root; those of the deepest directory come first
 abbrev pub behind : List (List ℕ) → List (List Child) → List (List (List ℕ) × Entry)
 behind [] ls = []
 behind (n ∷ p) [] = []
 behind (n ∷ p) (l ∷ ls) = map (λ e. (n ∷ e.0, e.1)) (behind p ls) ++ flat l
 
--- for each name of the path there are the children that come after that name, in order
+-- for each name of the path there is a sorted list of children, whose names all come after that name
 abbrev pub AreBehind : List (List ℕ) → List (List Child) → Type 0
 AreBehind [] [] = Unit {0}
 AreBehind [] (l ∷ ls) = ⊥
@@ -42,7 +42,7 @@ left (Some node) p ls = map (moved 0 p) (finite.entries node.now) ++ behind p (l
 abbrev pub AreShort : List (List (List ℕ) × Entry) → Type 0
 AreShort = All (λ e. length e.0 ≤ 128)
 
--- a walk that has not ended can go on
+-- for a walk that has not ended: `AreBehind` holds of the children that it has left, and each path that remains has at most 128 names
 abbrev pub GoesOn : Option (Bor Node) → List (List ℕ) → List Children → Type 0
 GoesOn None p ls = Unit {0}
 GoesOn (Some node) p ls = AreBehind p (levels_of ls) × AreShort (left (Some node) p ls)

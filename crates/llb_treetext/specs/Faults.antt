@@ -16,7 +16,7 @@ is_memory (text.BadLine n) = false
 is_memory (text.Order n) = false
 is_memory (text.NoParent n) = false
 
--- the result of a call is that of its rule, or the call fails for want of memory
+-- a call returns what its rule returns, or it fails for want of memory
 abbrev pub Gives : {X Y : Type 0} → (X → Y) → Result X TextFault → Result Y TextFault → Type 0
 Gives = answer.Gives is_memory
 
@@ -24,7 +24,7 @@ Gives = answer.Gives is_memory
 abbrev pub MemoryLast : {X Y : Type 0} → Result X TextFault → Result Y TextFault → Type 0
 MemoryLast = answer.MemoryLast is_memory
 
--- whether a fault of writing a text is that of refused memory
+-- whether a fault of writing a text is the one for refused memory
 abbrev pub is_refused_memory : PrintFault → Bool
 is_refused_memory print.Memory = true
 is_refused_memory print.Write = false
@@ -33,14 +33,14 @@ is_refused_memory print.Write = false
 abbrev pub Prints : Option (List ℕ) → Option (List ℕ) → Bool → List ℕ → Result (Unit {0}) PrintFault → Type 0
 Prints = output.Writes is_refused_memory
 
--- what a fault prints: its number, and the number of its line if it has one
+-- the text of a fault: its number, and the number of its line if it has one
 abbrev pub reading_text : TextFault → List ℕ
 reading_text (text.BadLine line) = codes "31 " ++ decimal line
 reading_text (text.Order line) = codes "32 " ++ decimal line
 reading_text (text.NoParent line) = codes "33 " ++ decimal line
 reading_text text.Memory = codes "34"
 
--- what a fault of writing a text prints: its number alone, for refused memory the same as in reading (docs/FAULTS.md)
+-- the text of a fault of writing a text: its number alone, for refused memory the same number as in reading (docs/FAULTS.md)
 abbrev pub printing_text : PrintFault → List ℕ
 printing_text print.Memory = codes "34"
 printing_text print.Write = codes "35"

@@ -15,17 +15,17 @@ use Rattle.llb_treetext.specs.TreeText.{path_text}
 use Rattle.llb_treetext.specs.declared.parts.Parts.{Parts}
 use Rattle.llb_treetext.specs.declared.row.Row.{Row}
 
--- f applied to a value, if there is one
+-- f applied to a value, if there is one; else nothing
 abbrev pub on : {A B : Type 0} → Option A → (A → Option B) → Option B
 on None f = None
 on (Some x) f = f x
 
--- the bytes before the first c of a text, and those after it; nothing if it has no c
+-- the bytes of a text before its first byte c, and the bytes after this one; nothing if the text has no c
 abbrev pub cut_at : ℕ → List ℕ → Option (List ℕ × List ℕ)
 cut_at c text = if nat_lt (position_or_len (λ b. nat_eq b c) text) (length text) then
     Some (before_first (λ b. nat_eq b c) text, after_first (λ b. nat_eq b c) text) else None
 
--- the mode that four octal digits spell
+-- the mode that four octal digits spell; nothing for any other text
 abbrev pub mode_in : List ℕ → Option ℕ
 mode_in text = if length text == 4 then mode_of text else None
 
@@ -34,7 +34,7 @@ unfoldable pub number_from : ℕ → List ℕ → Option ℕ
 number_from n [] = Some n
 number_from n (b ∷ text) = if nat_lt (n * 10 + (b - 48)) (2 ^ 32) then number_from (n * 10 + (b - 48)) text else None
 
--- the number of a text that is exactly its decimal spelling
+-- the number whose decimal spelling is exactly this text; nothing if no number of at most 32 bits has it
 abbrev pub decimal_in : List ℕ → Option ℕ
 decimal_in text = on (number_from 0 text) (λ n. if pointwise nat_eq text (decimal n) then Some n else None)
 
@@ -43,32 +43,32 @@ abbrev pub meta_in : List ℕ → Option (MetaValue × List ℕ)
 meta_in text = on (cut_at 32 text) (λ m. on (cut_at 32 m.1) (λ u. on (cut_at 32 u.1) (λ g.
     on (mode_in m.0) (λ mode. on (decimal_in u.0) (λ uid. on (decimal_in g.0) (λ gid. on (meta_of mode uid gid) (λ meta. Some (meta, g.1))))))))
 
--- a text is at most 128 names with slashes between them
+-- whether a text is at most 128 names with slashes between them
 abbrev pub are_names : List ℕ → Bool
 are_names text = list_all is_name (parts_of text) && nat_le (length (parts_of text)) 128
 
--- a text is a slash, and after it names or nothing
+-- whether a text is a slash, and after it names or nothing
 abbrev pub is_path : List ℕ → Bool
 is_path [] = false
 is_path (b ∷ names) = (b == 47) && ((length names == 0) || are_names names)
 
--- the mode and the owners, the digits of a file's content, and the text of the path
+-- the fields of a line: the mode and the owners, the digits of a file's content (none for a directory), and the text of the path
 abbrev pub Fields : Type 0
 Fields = MetaValue × Option (List ℕ) × List ℕ
 
--- the fields of a line, given the code's type for them
+-- the fields of a line, made from the code's type for them
 abbrev pub parts_seen : Parts → Fields
 parts_seen x = (x.meta, option_map (λ digits. digits.now) x.digits, x.path.now)
 
--- the fields of a directory's line; nothing if its path is spelled in another way than it is written
+-- the fields of a directory's line; nothing if its path is not spelled as paths are written
 abbrev pub dir_parts : MetaValue → List ℕ → Option Fields
 dir_parts m path = if is_path path then Some (m, None, path) else None
 
--- the fields of a file's line; nothing if its content or its path is spelled in another way than it is written, or its path is the root
+-- the fields of a file's line; nothing if its content or its path is not spelled as these are written, or its path is the root
 abbrev pub file_parts : MetaValue → List ℕ → List ℕ → Option Fields
 file_parts m digits path = if is_hex digits && is_path path && not (nat_lt (length path) 2) then Some (m, Some digits, path) else None
 
--- the fields of a line
+-- the fields of a line; nothing if it is not spelled as lines are written
 abbrev pub parts_in : List ℕ → Option Fields
 parts_in line = on (cut_at 32 line) (λ k. on (meta_in k.1) (λ m.
     if pointwise nat_eq k.0 (codes "d") then dir_parts m.0 m.1
@@ -89,7 +89,7 @@ abbrev pub entry_of : MetaValue → Option (List ℕ) → Entry
 entry_of m None = Dir m
 entry_of m (Some content) = File m content
 
--- the path and the entry of a line, given the code's type for them
+-- the path and the entry of a line, made from the code's type for them
 abbrev pub pair_of : Row → List (List ℕ) × Entry
 pair_of r = (r.path, entry_of r.meta r.content)
 
@@ -101,11 +101,11 @@ dir_in m path = on (result_ok (path_of path)) (λ p. Some (p, Dir m))
 abbrev pub file_in : MetaValue → List ℕ → List ℕ → Option (List (List ℕ) × Entry)
 file_in m digits path = on (bytes_in digits) (λ content. on (result_ok (path_of path)) (λ p. Some (p, File m content)))
 
--- the path and the entry of these fields
+-- the path and the entry that these fields spell, if they do
 abbrev pub row_from : Fields → Option (List (List ℕ) × Entry)
 row_from (m, None, path) = dir_in m path
 row_from (m, Some digits, path) = file_in m digits path
 
--- the path and the entry of a line
+-- the path and the entry that a line spells, if it does
 abbrev pub row_in : List ℕ → Option (List (List ℕ) × Entry)
 row_in line = on (parts_in line) row_from

@@ -19,21 +19,21 @@ abbrev pub IsKept : TreeMap → Option Open → TreeMap → Type 0
 IsKept kept None t = kept ≡ t
 IsKept kept (Some o) t = HasBelow t o.above o.at kept × (o.text.now ≡ names_text o.at)
 
--- the tree of the lines so far is this one
+-- t is the tree of the lines so far
 abbrev pub IsGrown : Growing → TreeMap → Type 0
 IsGrown g t = IsKept g.tree g.open t
 
--- the tree of the lines so far, if there is one, is this one
+-- t is the tree of the lines so far, if there is such a tree
 abbrev pub IsGrownIfAny : Option Growing → TreeMap → Type 0
 IsGrownIfAny None t = Unit {0}
 IsGrownIfAny (Some g) t = IsGrown g t
 
--- if there is a tree, it is this one
+-- if a tree is given first, it is t
 abbrev pub IsIfAny : Option TreeMap → TreeMap → Type 0
 IsIfAny None t = Unit {0}
 IsIfAny (Some u) t = u ≡ t
 
--- the next line's entry can be put into the tree: nothing is at its path yet, and it is put there
+-- the next line is that of the entry `row` and has the fields x; nothing is at the entry's path in the tree t yet, and the entry can be put there
 pub record Follows (t : TreeMap) (row : List (List ℕ) × Entry) (x : Parts) : Type 0 where
   pub tree : IsTree t
   pub of : IsOf row x

@@ -7,12 +7,12 @@ use Rattle.llb_treetext.specs.Reading.{IsRow, Begins}
 use Rattle.llb_treetext.specs.Fields.{parts_seen, parts_from}
 use Rattle.llb_treetext.specs.declared.parts.Parts.{Parts}
 
--- the line is that of an entry, and has these fields; or it is that of none
+-- the line is the line of an entry, and has these fields; or no fields are given, and it is not the line of any entry
 abbrev pub Spells : List ℕ → Option Parts → Type 0
 Spells line None = (row : List (List ℕ) × Entry) → IsRow row → line ≢ row_text row
 Spells line (Some x) = (row : List (List ℕ) × Entry) × IsRow row × (line ≡ row_text row) × (parts_seen x ≡ parts_from row)
 
--- the bytes begin with the line of an entry, which has these fields, and are followed by these bytes; or they begin with no such line
+-- the bytes are the line of an entry, which has these fields, followed by the given bytes; or nothing is given, and the bytes begin with no entry's line
 abbrev pub BeginsWith : List ℕ → Option (Parts × Bor (List ℕ)) → Type 0
 BeginsWith bytes None = (row : List (List ℕ) × Entry) → ¬ Begins bytes row
 BeginsWith bytes (Some x) = (row : List (List ℕ) × Entry) × IsRow row × (bytes ≡ line_of row ++ x.1.now) × (parts_seen x.0 ≡ parts_from row)

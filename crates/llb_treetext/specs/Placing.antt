@@ -15,7 +15,7 @@ use Rattle.llb_treetext.specs.declared.parts.Parts.{Parts}
 use Rattle.llb_treetext.specs.declared.judge.Place.{Place}
 use Rattle.llb_treetext.specs.declared.judge.Line.{Line}
 
--- the tree after an entry is put, or why it can't be
+-- the tree after an entry is put at its path, or the fault
 abbrev pub put_row : TreeMap → List (List ℕ) × Entry → Result TreeMap TreeFault
 put_row t (p, Dir m) = put_dir t p m
 put_row t (p, File m content) = put_file t p m content
@@ -42,7 +42,7 @@ abbrev pub is_dir : Entry → Bool
 is_dir (Dir m) = true
 is_dir (File m content) = false
 
--- a slash comes before all bytes of names
+-- the place of a byte in the order of paths: a slash is before all bytes of names
 abbrev pub rank : ℕ → ℕ
 rank b = if b == 47 then 0 else b
 
@@ -50,13 +50,13 @@ rank b = if b == 47 then 0 else b
 abbrev pub trail_cmp : List ℕ → List ℕ → Ordering
 trail_cmp p q = slice_cmp nat_cmp (map rank p) (map rank q)
 
--- whether the last path shows that a directory is at an earlier path, given what follows that path in it: nothing, and the last entry is a directory,
--- or another name
+-- whether there is a directory at a path with which the last path begins, given what follows it in the last path: nothing, if the last entry is a
+-- directory, or a slash, before another name
 abbrev pub opens : List ℕ → Bool → Bool
 opens [] dir = dir
 opens (b ∷ later) dir = b == 47
 
--- the last path of a tree, and whether its entry is a directory
+-- `place` has the last path of a tree, and whether the entry at this path is a directory
 pub record IsLast (t : TreeMap) (place : Place) : Type 0 where
   pub front : List (List (List ℕ) × Entry)
   pub row : List (List ℕ) × Entry
@@ -64,12 +64,12 @@ pub record IsLast (t : TreeMap) (place : Place) : Type 0 where
   pub names : place.names.now ≡ names_text row.0
   pub kind : place.is_dir ≡ is_dir row.1
 
--- the tree of the first line, or what is wrong with the line
+-- the first line is read: its tree, or what is wrong with the line
 abbrev pub Starts : List ℕ → Result Line TextFault → Type 0
 Starts bytes (Ok x) = let t = finite.insert empty_tree [] (Dir x.parts.meta) in IsFront bytes t x.later.now × IsLast t x.place × (finite.len t ≡ 1)
 Starts bytes (Err e) = (is_memory e ≡ false) × IsFault [] bytes e
 
--- the tree after one more line, whose path was free, or what is wrong with the line
+-- one more line is read: the tree with its entry, at whose path nothing was, or what is wrong with the line
 abbrev pub GoesTo : TreeMap → List ℕ → Result Line TextFault → Type 0
 GoesTo t rest (Ok x) = (row : List (List ℕ) × Entry) × IsOf row x.parts × (finite.get t row.0 ≡ None) × (put_row t row ≡ Ok (finite.insert t row.0 row.1))
     × GoesOn t (finite.insert t row.0 row.1) rest x.later.now × IsLast (finite.insert t row.0 row.1) x.place

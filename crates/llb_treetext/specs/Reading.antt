@@ -10,7 +10,7 @@ use Rattle.llb_treetext.specs.Faults.{is_memory}
 use Rattle.llb_treetext.specs.declared.fault.TextFault.{TextFault}
 use Rattle.llb_treetext.specs.declared.fault.TextFault.TheVariants.{BadLine, Order, NoParent, Memory}
 
--- an entry that can be on a line: it is valid at its path, and if that is the root it is a directory
+-- an entry that can be on a line: it is valid at its path, and at the root it is a directory
 pub record IsRow (row : List (List ℕ) × Entry) : Type 0 where
   pub allowed : IsAllowedAt row.0 row.1
   pub root : row.0 ≡ [] → (m : MetaValue) × (row.1 ≡ Dir m)
@@ -20,7 +20,7 @@ pub record IsText (bytes : List ℕ) (t : TreeMap) : Type 0 where
   pub tree : IsTree t
   pub text : bytes ≡ tree_text t
 
--- no entries yet, or those of a tree
+-- these are no entries, or all entries of a tree, in path order
 abbrev pub AreBefore : List (List (List ℕ) × Entry) → Type 0
 AreBefore rows = (rows ≡ []) ⊎ ((t : TreeMap) × IsTree t × (rows ≡ finite.entries t))
 
@@ -58,12 +58,12 @@ abbrev pub Answers : List ℕ → Result TreeMap TextFault → Type 0
 Answers bytes (Ok t) = IsText bytes t
 Answers bytes (Err e) = is_memory e ≡ false → Stops bytes e
 
--- `Memory` is reported last: a reading fails with it only if the text is that of a tree
+-- `Memory` is reported last: a reading fails with it only if the text is the text of a tree
 abbrev pub MemoryIsLast : List ℕ → Result TreeMap TextFault → Type 0
 MemoryIsLast bytes (Ok t) = Unit {0}
 MemoryIsLast bytes (Err e) = is_memory e ≡ true → (t : TreeMap) × IsText bytes t
 
--- a text is that of at most one tree, or has one first fault, and never both
+-- a text is the text of at most one tree, and has at most one first fault; the text of a tree has no first fault
 pub record HasOneAnswer (bytes : List ℕ) : Type 0 where
   pub trees : (t u : TreeMap) → IsText bytes t → IsText bytes u → t ≡ u
   pub apart : (t : TreeMap) (e : TextFault) → IsText bytes t → ¬ Stops bytes e

@@ -10,7 +10,7 @@ use Rattle.llb_tree.specs.Tree.{Entry, Dir, File, MetaValue, TreeMap}
 abbrev pub mode_text : ℕ → List ℕ
 mode_text mode = decimal (mode / 512) ++ (decimal (mode / 64 % 8) ++ (decimal (mode / 8 % 8) ++ decimal (mode % 8)))
 
--- the text of the mode, the user and the group of an entry, in four octal digits and twice in decimal, each with a space after it
+-- the mode of an entry in four octal digits, and its user and its group in decimal, each of the three with a space after it
 abbrev pub meta_text : MetaValue → List ℕ
 meta_text m = mode_text m.mode ++ (codes " " ++ (decimal m.uid ++ (codes " " ++ (decimal m.gid ++ codes " "))))
 
@@ -23,7 +23,7 @@ abbrev pub path_text : List (List ℕ) → List ℕ
 path_text [] = codes "/"
 path_text (n ∷ p) = names_text (n ∷ p)
 
--- the line of an entry, without its end
+-- the line of an entry, without the line feed at its end
 abbrev pub row_text : List (List ℕ) × Entry → List ℕ
 row_text (p, Dir m) = codes "d " ++ (meta_text m ++ path_text p)
 row_text (p, File m content) = codes "f " ++ (meta_text m ++ (hex_text content ++ (codes " " ++ path_text p)))

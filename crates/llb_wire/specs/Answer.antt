@@ -2,23 +2,23 @@
 -- memory; a call returns what its rule returns, or it fails for want of memory.
 use Rattle.std.specs.Prelude.{◌≡◌, Bool, true, false, Result, Ok, Err, is_ok}
 
--- if a fault is not the one for refused memory, it is the rule's
+-- a call fails with `e`: that is the fault for refused memory, or the rule fails with `e` too
 abbrev pub Fails : {Y F : Type 0} → (F → Bool) → F → Result Y F → Type 0
 Fails is_memory e rule = is_memory e ≡ false → rule ≡ Err e
 
--- the result of a call, as contracts see it, is that of its rule, or the call fails for want of memory
+-- a call returns the value of its rule (`view` shows it as contracts see it), or fails with the rule's fault or the fault for refused memory
 abbrev pub Gives : {X Y F : Type 0} → (F → Bool) → (X → Y) → Result X F → Result Y F → Type 0
 Gives is_memory view (Ok x) rule = rule ≡ Ok (view x)
 Gives is_memory view (Err e) rule = Fails is_memory e rule
 
--- the fault for refused memory is reported last: only if the rule has no refusal
+-- a call fails with the fault for refused memory only if its rule returns a value, so this fault is reported last
 abbrev pub MemoryLast : {X Y F : Type 0} → (F → Bool) → Result X F → Result Y F → Type 0
 MemoryLast is_memory (Ok x) rule = Unit {0}
 MemoryLast is_memory (Err e) rule = is_memory e ≡ true → is_ok rule ≡ true
 
 -- two rules, one after the other: the second is applied to the value of the first
 infixl 10 ◌>>=◌
--- f applied to the value of the first result; or its fault
+-- `f` applied to the value of a result; or the fault of that result
 abbrev pub ◌>>=◌ : {A B F : Type 0} → Result A F → (A → Result B F) → Result B F
 (Ok x) >>= f = f x
 (Err e) >>= f = Err e

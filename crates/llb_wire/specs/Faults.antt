@@ -1,4 +1,4 @@
--- What a fault of reading a record prints: its number.
+-- The text that is printed for a fault of reading a record: the fault's number.
 use Rattle.std.specs.Prelude.{ℕ, List, codes}
 use Rattle.llb_wire.specs.declared.fault.WireFault.{WireFault}
 use Rattle.llb_wire.specs.declared.fault.WireFault.TheVariants.{Truncated, LongVarint, BadField, BadWireType}

@@ -10,13 +10,13 @@ use Rattle.llb_wire.specs.declared.field.Field.{Field}
 use Rattle.llb_wire.specs.declared.fault.WireFault.{WireFault}
 use Rattle.llb_wire.specs.declared.fault.WireFault.TheVariants.{Truncated, LongVarint, BadField, BadWireType}
 
--- The number that the varint at the start spells, and how many bytes it has: at most `more` + 1. The byte at this limit may only be 0 or 1.
+-- The number that the varint at the start spells, and how many bytes the varint has: at most `more` + 1. If it has so many, the last one is 0 or 1.
 unfoldable pub varint_from : ℕ → List ℕ → Result (ℕ × ℕ) WireFault
 varint_from more [] = Err Truncated
 varint_from zero (b ∷ bs) = if nat_lt 1 b then Err LongVarint else Ok (b, 1)
 varint_from (suc more) (b ∷ bs) = if nat_lt b 128 then Ok (b, 1) else (varint_from more bs >>= λ m. Ok (b - 128 + 128 * m.0, suc m.1))
 
--- an upper bound of the number that the last n + 1 of a varint's ten bytes spell
+-- the number that the last n + 1 of a varint's ten bytes spell is below this
 abbrev pub varint_limit : ℕ → ℕ
 varint_limit zero = 2
 varint_limit (suc more) = 128 * varint_limit more
@@ -27,11 +27,11 @@ varint_at bytes at = varint_from 9 (drop at bytes) >>= λ m. Ok (m.0, at + m.1)
 
 -- ---- records
 
--- the number of a field, from 1 to 536870911
+-- the number, if a field can have it (1 to 536870911); else a fault
 abbrev pub number_of : ℕ → Result ℕ WireFault
 number_of n = if n == 0 then Err BadField else if nat_lt 536_870_911 n then Err BadField else Ok n
 
--- the wire type with this code
+-- the wire type with this code; a fault if no wire type has it
 abbrev pub wire_of : ℕ → Result Wire WireFault
 wire_of code = if code == 0 then Ok Varint else if code == 1 then Ok I64 else if code == 2 then Ok Len else if code == 5 then Ok I32 else Err BadWireType
 
@@ -40,11 +40,11 @@ abbrev pub fixed_at : Width → List ℕ → ℕ → Result (ℕ × ℕ) WireFau
 fixed_at w bytes at = if nat_lt (length (drop at bytes)) (byte_len w) then
     Err Truncated else Ok (from_le_bytes w (take (byte_len w) (drop at bytes)), at + byte_len w)
 
--- a field with this number and wire type, whose payload begins at `start`; v has its value and its end
+-- a field with this number and wire type, whose payload begins at `start`; `v` is the pair of the field's value and its end
 abbrev pub as_field : ℕ → Wire → ℕ → ℕ × ℕ → Field
 as_field number wire start v = record { number = number; wire = wire; value = v.0; start = start; «end» = v.1 }
 
--- the field whose payload begins at a position
+-- the field whose tag ends at a position, or its first fault
 unfoldable pub payload_at : ℕ → Wire → List ℕ → ℕ → Result Field WireFault
 payload_at number Varint bytes at = varint_at bytes at >>= λ v. Ok (as_field number Varint at v)
 payload_at number I64 bytes at = fixed_at w64 bytes at >>= λ v. Ok (as_field number I64 at v)
@@ -60,11 +60,11 @@ field_at bytes at = do
   wire ← wire_of (tag.0 % 8)
   payload_at number wire bytes tag.1
 
--- the record that begins at a position; nothing exactly at the end of the bytes
+-- the field whose tag begins at a position, or its first fault; nothing if the position is the end of the bytes
 unfoldable pub next_field : List ℕ → ℕ → Result (Option Field) WireFault
 next_field bytes at = if at == length bytes then Ok None else (field_at bytes at >>= λ f. Ok (Some f))
 
--- what holds of a record that was read at a position: it lies between there and the end of the bytes
+-- what holds of a field whose tag was read at a position: the field lies between that position and the end of the bytes
 pub record IsWithin (bytes : List ℕ) (at : ℕ) (f : Field) : Type 0 where
   pub begins : at < f.start
   pub ordered : f.start ≤ f.«end»

@@ -20,7 +20,7 @@ pub record Record : Type 0 where
 abbrev pub record_of : List ℕ → Field → Record
 record_of bytes f = record { number = f.number; wire = f.wire; value = f.value; payload = drop f.start (take f.«end» bytes); text = take f.«end» bytes }
 
--- the record at a position of the bytes
+-- the record of field f, which was read at position `at` of the bytes
 abbrev pub record_at : List ℕ → ℕ → Field → Record
 record_at bytes at f = record {
   number = f.number;
@@ -41,7 +41,7 @@ pub record IsFixed (w : Width) (bytes : List ℕ) (n : ℕ) : Type 0 where
   pub size : length bytes ≡ byte_len w
   pub value : n ≡ from_le_bytes w bytes
 
--- The bytes after the tag. For a LEN: its value as a varint, and then that many bytes, the payload. For any other type all of them are the payload, which is
+-- The bytes after the tag. For a LEN: its value as a varint, and then as many bytes, the payload. For any other type all of them are the payload, which is
 -- the value's spelling.
 abbrev pub IsPayload : Wire → List ℕ → ℕ → List ℕ → Type 0
 IsPayload Varint bytes value payload = (payload ≡ bytes) × IsVarint bytes value
@@ -71,14 +71,14 @@ Walks bytes at (r ∷ rs) = (f : Field) × (next_field bytes at ≡ Ok (Some f))
 
 -- ---- the bytes that are written for records
 
--- the payload as it is kept in a record
+-- the payload of a record that is written: for a LEN the given payload, for any other wire type the bytes of the value
 abbrev pub own_text : Wire → ℕ → List ℕ → List ℕ
 own_text Varint value payload = varint_text value
 own_text I64 value payload = to_le_bytes w64 value
 own_text Len value payload = payload
 own_text I32 value payload = to_le_bytes w32 value
 
--- the record that is written, with the shortest varints: for a LEN of the payload, for any other wire type of the value, which has to fit it
+-- the record that is written, with the shortest varints: a LEN has the given payload, any other wire type the given value, which has to fit it
 abbrev pub written_record : ℕ → Wire → ℕ → List ℕ → Record
 written_record number wire value payload = record {
   number = number;

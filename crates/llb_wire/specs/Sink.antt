@@ -3,7 +3,7 @@ use Rattle.std.specs.Prelude.{◌≡◌, ◌≤◌, ◌<◌, ℕ, Bool, true, fa
 use Rattle.std.specs.Io.KnownBytes.{Appends, Keeps}
 use Rattle.llb_wire.specs.declared.sink.Failed.{Failed}
 
--- one write: the sink takes some bytes from the start, at least one if there are any; or it has failed, as it does in every later write
+-- one write: a sink that has not failed takes the first bytes, at least one if there are any; or the write fails, and so does every later one
 abbrev pub Takes : Option (List ℕ) → Bool → Option (List ℕ) → Bool → List ℕ → Result ℕ Failed → Type 0
 Takes taken failed taken' failed' bytes (Ok n) = (failed ≡ false) × (failed' ≡ false)
     × (n ≤ length bytes) × (0 < length bytes → 0 < n) × Appends taken taken' (take n bytes)
@@ -13,7 +13,7 @@ Takes taken failed taken' failed' bytes (Err e) = (failed' ≡ true) × Keeps ta
 abbrev pub PartOut : Option (List ℕ) → Option (List ℕ) → List ℕ → Type 0
 PartOut taken taken' text = (front : List ℕ) × (rest : List ℕ) × (text ≡ front ++ rest) × Appends taken taken' front
 
--- a whole text was written, or the sink failed on the way
+-- the whole text was written; or the sink failed, and a prefix of the text was written
 abbrev pub TakesAll : Option (List ℕ) → Option (List ℕ) → Bool → List ℕ → Result (Unit {0}) Failed → Type 0
 TakesAll taken taken' failed' text (Ok u) = Appends taken taken' text
 TakesAll taken taken' failed' text (Err e) = (failed' ≡ true) × PartOut taken taken' text

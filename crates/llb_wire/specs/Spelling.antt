@@ -12,7 +12,7 @@ use Rattle.llb_wire.specs.declared.field.Field.{Field}
 
 -- ---- numbers
 
--- A byte below 128 spells itself. A byte 128 + g before a spelling of m spells g + 128 m.
+-- A byte below 128 spells itself. A byte 128 + g that is followed by a spelling of m spells g + 128 m.
 abbrev pub Spells : List ℕ → ℕ → Type 0
 Spells [] n = ⊥
 Spells (b ∷ []) n = (b < 128) × (n ≡ b)
@@ -24,7 +24,7 @@ pub record IsVarint (bytes : List ℕ) (n : ℕ) : Type 0 where
   pub short : length bytes ≤ 10
   pub small : n < 2 ^ 64
 
--- the bytes from one position up to another, without the byte at the second
+-- the bytes from position `from` up to position `to`, without the byte at `to`
 abbrev pub between : ℕ → ℕ → List ℕ → List ℕ
 between from to bytes = take (to - from) (drop from bytes)
 
@@ -34,7 +34,7 @@ pub record VarintAt (bytes : List ℕ) (at n last : ℕ) : Type 0 where
   pub inside : last ≤ length bytes
   pub spelled : IsVarint (between at last bytes) n
 
--- each byte is at least 128, which says that more follow
+-- each byte is at least 128, so the varint goes on after each of them
 abbrev pub IsOpen : List ℕ → Type 0
 IsOpen [] = Unit {0}
 IsOpen (b ∷ bs) = (128 ≤ b) × IsOpen bs
@@ -44,13 +44,13 @@ pub record CutVarint (bytes : List ℕ) (at : ℕ) : Type 0 where
   pub more : IsOpen (drop at bytes)
   pub few : length (drop at bytes) ≤ 9
 
--- n bytes are at least 128, which says that more follow, and the byte after them is above 1
+-- the first n bytes are at least 128, so the varint goes on after each of them, and the byte after them is above 1
 abbrev pub IsLong : ℕ → List ℕ → Type 0
 IsLong more [] = ⊥
 IsLong zero (b ∷ bs) = 1 < b
 IsLong (suc more) (b ∷ bs) = (128 ≤ b) × IsLong more bs
 
--- the tenth byte of the number is above 1
+-- the number at this position has a tenth byte, which is above 1
 abbrev pub TenthAboveOne : List ℕ → ℕ → Type 0
 TenthAboveOne bytes at = IsLong 9 (drop at bytes)
 
@@ -85,7 +85,7 @@ pub record FixedAt (w : Width) (bytes : List ℕ) (at n last : ℕ) : Type 0 whe
   pub inside : last ≤ length bytes
   pub value : n ≡ from_le_bytes w (between at last bytes)
 
--- the payload of field f begins at a position, which is the end of its tag
+-- the bytes from the end of the tag of field f, which is position `at`, spell its payload; for a LEN the payload's length is before it
 abbrev pub PayloadAt : Wire → List ℕ → ℕ → Field → Type 0
 PayloadAt Varint bytes at f = (f.start ≡ at) × VarintAt bytes at f.value f.«end»
 PayloadAt I64 bytes at f = (f.start ≡ at) × FixedAt w64 bytes at f.value f.«end»
@@ -105,7 +105,7 @@ CutPayload I64 bytes at = length bytes < at + 8
 CutPayload Len bytes at = CutVarint bytes at ⊎ ((n : ℕ) × (last : ℕ) × VarintAt bytes at n last × (length bytes < last + n))
 CutPayload I32 bytes at = length bytes < at + 4
 
--- the payload's number is too long
+-- the varint after the tag is too long: it is the value, or the length of a LEN
 abbrev pub LongPayload : Wire → List ℕ → ℕ → Type 0
 LongPayload Varint bytes at = TenthAboveOne bytes at
 LongPayload I64 bytes at = ⊥
@@ -134,7 +134,7 @@ pub record NamesNoField (bytes : List ℕ) (at : ℕ) : Type 0 where
   pub spelled : VarintAt bytes at tag tag_end
   pub number : ¬ IsFieldNumber (tag / 8)
 
--- the tag's field number is allowed, but its code is that of none of the four wire types
+-- the tag's field number is allowed, but its code is not the code of one of the four wire types
 pub record HasNoWire (bytes : List ℕ) (at : ℕ) : Type 0 where
   pub tag : ℕ
   pub tag_end : ℕ
@@ -151,7 +151,7 @@ RecordCause bytes at BadWireType = HasNoWire bytes at
 
 -- ---- the shortest spellings
 
--- the shortest spelling of a number, of which no spelling needs more than `more` + 1 bytes
+-- the shortest spelling of a number that can be spelled in `more` + 1 bytes
 unfoldable pub shortest : ℕ → ℕ → List ℕ
 shortest zero n = n ∷ []
 shortest (suc more) n = if nat_lt n 128 then n ∷ [] else (128 + n % 128) ∷ shortest more (n / 128)
@@ -170,7 +170,7 @@ pub record IsShortest (spelling : List ℕ) (n : ℕ) : Type 0 where
   pub bytes : AreBytes spelling
   pub least : (other : List ℕ) → AreBytes other → IsVarint other n → length spelling ≤ length other
 
--- the bytes after the tag of a record: its payload, after its length for a LEN
+-- the bytes after the tag of a record: its payload, which for a LEN has its length before it
 abbrev pub payload_text : Wire → ℕ → List ℕ → List ℕ
 payload_text Varint value payload = varint_text value
 payload_text I64 value payload = to_le_bytes w64 value
@@ -185,21 +185,21 @@ tag_text number wire = varint_text (8 * number + code_of wire)
 abbrev pub record_text : ℕ → Wire → ℕ → List ℕ → List ℕ
 record_text number wire value payload = tag_text number wire ++ payload_text wire value payload
 
--- the value that is read for what was written: for a LEN its length
+-- the value of the record that is read from what was written: for a LEN the length of the payload
 abbrev pub value_text : Wire → ℕ → List ℕ → ℕ
 value_text Varint value payload = value
 value_text I64 value payload = value
 value_text Len value payload = length payload
 value_text I32 value payload = value
 
--- the position of the payload after the tag in what was written
+-- how many bytes are between the tag and the payload in what was written
 abbrev pub payload_start : Wire → List ℕ → ℕ
 payload_start Varint payload = 0
 payload_start I64 payload = 0
 payload_start Len payload = length (varint_text (length payload))
 payload_start I32 payload = 0
 
--- some bytes are appended to the old ones
+-- `new` is `old` with zero or more bytes appended
 pub record Extends (old new : List ℕ) : Type 0 where
   pub more : List ℕ
   pub bytes : new ≡ old ++ more

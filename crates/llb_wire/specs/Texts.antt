@@ -11,7 +11,7 @@ abbrev pub where_so : {A : Type 0} → Bool → A → Option A
 where_so true x = Some x
 where_so false x = None
 
--- f applied to a value, if there is one
+-- f applied to a value, if there is one; else nothing
 abbrev pub then_in : {A B : Type 0} → Option A → (A → Option B) → Option B
 then_in None f = None
 then_in (Some x) f = f x

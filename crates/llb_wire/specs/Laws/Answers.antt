@@ -3,12 +3,12 @@ use Rattle.std.specs.Prelude.{◌≡◌, Bool, true, false, cond, Result, Ok, Er
 use Rattle.std.proofs.Common.{refl}
 use Rattle.llb_wire.specs.Answer.{◌>>=◌}
 
--- if two rules in a row return a value, the first one has returned a value too
+-- if one rule after another returns `y`, the first one has returned some `x`, and the second one returns `y` for this `x`
 pub bind_ok : {A B F : Type 0} (r : Result A F) (f : A → Result B F) (y : B) → (r >>= f) ≡ Ok y → (x : A) × (r ≡ Ok x) × (f x ≡ Ok y)
 bind_ok (Ok x) f y e = (x, refl, e)
 bind_ok (Err d) f y e = absurd cc
 
--- if a rule that refuses on a test returns a value, the test is false, and the value is the given one
+-- if a rule that fails where a test is true, and else returns `x`, has returned `y`, then the test is false, and `x` is `y`
 pub guard_ok : {A F : Type 0} (b : Bool) (d : F) (x y : A) → cond b (Err d) (Ok x) ≡ Ok y → (b ≡ false) × (x ≡ y)
 guard_ok true d x y e = absurd cc
 guard_ok false d x y e = (refl, cc)

@@ -48,7 +48,7 @@ dropped bytes rest at k le inside =
     drop-append-le at (take k bytes) rest (omega (arith, length-take k bytes, le, inside))
     ∙ ap (λ xs. xs ++ rest) (subst (λ (j : ℕ). drop at (take j bytes) ≡ take (k - at) (drop at bytes)) sum (drop-take at (k - at) bytes))
 
--- a number with its end, read at a position; the bytes from k on do not matter
+-- `x` is the number that is read at `at`, and its end; if the bytes after any position `k` at or after this end are replaced, the same is read
 pub record Local (read : List ℕ → ℕ → Result (ℕ × ℕ) WireFault) (bytes : List ℕ) (at : ℕ) (x : ℕ × ℕ) : Type 0 where
   pub begins : at ≤ x.1
   pub inside : x.1 ≤ length bytes
@@ -97,7 +97,7 @@ fixed_local w bytes at x le e =
 
 -- ---- records
 
--- a field that is read at or after a position; the bytes after its end do not matter
+-- the payload of field `f` is at or after `at`, and within the bytes; if the bytes after the end of `f` are replaced, the same field is read
 pub record LocalField (read : List ℕ → Result Field WireFault) (bytes : List ℕ) (at : ℕ) (f : Field) : Type 0 where
   pub begins : at ≤ f.start
   pub ordered : f.start ≤ f.«end»

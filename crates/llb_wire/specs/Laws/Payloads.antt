@@ -1,4 +1,4 @@
--- The payload of a record as it is written: it consists of bytes, and no spelling of it has fewer.
+-- The payload of a record as it is written: it consists of bytes, and no spelling of the same payload has fewer bytes.
 use Rattle.std.proofs.Common.{◌≡◌, ℕ, ◌+◌, ◌^◌, ◌<◌, ◌≤◌, List}
 use Rattle.std.proofs.Common.{length, ap, subst, ◌∙◌, arith}
 use Rattle.std.proofs.lemmas.List.{length-append}
@@ -17,7 +17,7 @@ written_bytes wire.I64 value payload small len are =
 written_bytes wire.Len value payload small len are = are_bytes-append (varint_text (length payload)) payload (is_shortest (length payload) len).bytes are
 written_bytes wire.I32 value payload small len are = (omega arith, (omega arith, (omega arith, (omega arith, tt))))
 
--- no bytes that spell a payload are fewer than those that are written for it
+-- what is written for a payload has at most as many bytes as any spelling of this payload
 pub least_payload : (w : Wire) (value : ℕ) (payload behind own : List ℕ) → AreBytes behind
     → IsPayload w behind (value_text w value payload) own → length (payload_text w value payload) ≤ length behind
 least_payload wire.Varint value payload behind own are h = least_spelling 9 value behind are h.1.spells

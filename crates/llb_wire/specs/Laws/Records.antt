@@ -1,5 +1,5 @@
--- The grammar of records and the reading of records agree: a record is read exactly if one is spelled, from its own bytes; bytes
--- spell at most one list of records, the one that reading from record to record finds; and no record is written in fewer bytes.
+-- The grammar of records and the reading of records agree: a record is read exactly if the bytes at the position spell one; bytes
+-- spell at most one list of records, and reading from record to record finds this list; a record is written in as few bytes as can spell it.
 use Rattle.std.proofs.Common.{◌≡◌, ℕ, ◌+◌, ◌-◌, ◌*◌, ◌/◌, ◌%◌, ◌^◌, ◌<◌, ◌≤◌, Bool, true, false, cond, ltb, eqb, List, [], ◌∷◌, ◌++◌}
 use Rattle.std.proofs.Common.{length, take, drop, Option, Some, None, Result, Ok, Err, refl, sym, ap, subst, ◌∙◌, append_assoc, arith}
 use Rattle.std.specs.List.{AllByRecursion, flat_map}
@@ -45,7 +45,7 @@ wire_is n wire.I64 = let e : (8 * n + 1) % 8 ≡ 1 = omega arith in rw e refl
 wire_is n wire.Len = let e : (8 * n + 2) % 8 ≡ 2 = omega arith in rw e refl
 wire_is n wire.I32 = let e : (8 * n + 5) % 8 ≡ 5 = omega arith in rw e refl
 
--- the payload's own bytes are the last of these bytes
+-- `behind`, the bytes after a tag, ends with `own`, the bytes of the payload
 pub record IsTail (behind own : List ℕ) : Type 0 where
   pub front : List ℕ
   pub split : behind ≡ front ++ own
@@ -64,7 +64,7 @@ fixed_read w before spelling rest n at e h =
     let front : take (byte_len w) (spelling ++ rest) ≡ spelling = take_at spelling rest (byte_len w) h.size in
     rw (there, enough, front, sym h.value, sym h.size) refl
 
--- the field that is read after the tag
+-- the field whose tag ends at `at`: `behind` is the bytes after the tag, and `own` is the bytes of the payload, with which `behind` ends
 abbrev payload_field : ℕ → Wire → ℕ → ℕ → List ℕ → List ℕ → Field
 payload_field number w value at behind own = record {
   number = number;
@@ -191,7 +191,7 @@ between_is bytes at last le =
     let sum : at + (last - at) ≡ last = omega (arith, le) in
     ap (λ (k : ℕ). drop at (take k bytes)) (sym sum) ∙ drop-take at (last - at) bytes
 
--- the bytes between two positions, split at a position between these
+-- the bytes between two positions, split at a third position that is between the two
 between_split : (bytes : List ℕ) (at mid last : ℕ) → at ≤ mid → mid ≤ last → drop at (take last bytes) ≡ drop at (take mid bytes) ++ drop mid (take last bytes)
 between_split bytes at mid last low high =
     let width : at + (mid - at) ≡ mid = omega (arith, low) in
@@ -210,7 +210,7 @@ ok_field f = Ok f
 field_is : (f g : Field) → ok_field f ≡ ok_field g → f ≡ g
 field_is f g e = cc
 
--- what is known of a payload that was read from these bytes
+-- what is known of a field `f` that was read from the end of its tag, which is at position `at`
 pub record FoundPayload (n : ℕ) (w : Wire) (bytes : List ℕ) (at : ℕ) (f : Field) : Type 0 where
   pub number : f.number ≡ n
   pub wire : f.wire ≡ w
@@ -356,7 +356,7 @@ one_list bytes rs others a b = same_lists rs others (sym a.whole ∙ b.whole) a.
 pub spelled_none : SpellRecords [] []
 spelled_none = record { whole = refl; each = tt }
 
--- the record at the start, followed by those of the bytes after it, is the list of records of all bytes
+-- if a record is read at the start, and the bytes after it spell the records `rs`, then all the bytes spell this record followed by `rs`
 pub spelled_next : (bytes : List ℕ) (f : Field) (rs : List Record) → AreBytes bytes → field_at bytes 0 ≡ Ok f
     → SpellRecords (drop f.«end» bytes) rs → SpellRecords bytes (record_of bytes f ∷ rs)
 spelled_next bytes f rs are e h =
@@ -465,7 +465,7 @@ written_is_record number w value payload named small len narrow =
       payload = written_payload w value payload small len narrow;
     }
 
--- no bytes that spell a record are fewer than those that are written for it
+-- a record is written in as few bytes as can spell it
 pub written_is_shortest : (number : ℕ) (w : Wire) (value : ℕ) (payload : List ℕ) → IsFieldNumber number → value < 2 ^ 64 → length payload < 2 ^ 64
     → (w ≡ wire.I32 → value < 2 ^ 32) → AreBytes payload → IsShortestRecord (written_record number w value payload)
 written_is_shortest number w value payload named small len narrow are =

@@ -1,5 +1,5 @@
--- A number is read exactly if one is spelled; the shortest spelling of a number is read as it, whatever follows, and no spelling
--- is shorter.
+-- A number is read exactly if the bytes spell one; the shortest spelling of a number is read as that number, whatever follows, and no
+-- spelling of the number is shorter.
 use Rattle.std.proofs.Common.{zero-add, ◌≡◌, ℕ, zero, suc, ◌+◌, ◌-◌, ◌*◌, ◌/◌, ◌%◌, ◌^◌, ◌<◌, ◌≤◌, Bool, true, false, cond, ltb, List, []}
 use Rattle.std.proofs.Common.{◌∷◌, ◌++◌, length, get_or, take, drop, Result, Ok, Err, ◌⊎◌, inl, inr, refl, sym, ap, subst, ◌∙◌, arith}
 use Rattle.std.proofs.lemmas.Bool.{ltb-false, le-ltb, ltb-true, lt-ltb, cases_lt}
@@ -77,12 +77,12 @@ spells_found (suc more) (b ∷ bytes) v n e =
           (spells_more b v l.1.0.0 (take l.1.0.1 bytes) high (omega (arith, l.1.2, high)) deep.0, omega (arith, deep.1))
     ]
 
--- each limit is at least 2
+-- each `varint_limit` is at least 2
 pub limit_least : (more : ℕ) → 2 ≤ varint_limit more
 limit_least zero = omega arith
 limit_least (suc more) = omega (arith, limit_least more)
 
--- a number that is read from bytes is below its limit
+-- a number that `varint_from more` reads from bytes is below `varint_limit more`
 small_found : (more : ℕ) (bytes : List ℕ) (v n : ℕ) → AreBytes bytes → varint_from more bytes ≡ Ok (v, n) → v < varint_limit more
 unfolding varint_from
 small_found more [] v n are e = absurd cc
@@ -192,7 +192,7 @@ shortest_step (suc more) n few large =
     let e : suc more - 1 ≡ more = omega arith in
     rw (no, e) refl
 
--- the shortest spelling is read as its number, whatever follows
+-- the shortest spelling of a number below 128 is read as that number, whatever follows
 again_short : (more n : ℕ) (rest : List ℕ) → n < 128 → varint_from (suc more) (shortest (suc more) n ++ rest) ≡ Ok (n, length (shortest (suc more) n))
 unfolding shortest varint_from
 again_short more n rest lt = let yes : ltb n 128 ≡ true = lt-ltb _ _ lt in rw (yes, yes) refl
@@ -214,7 +214,7 @@ varint_again zero n rest small =
 varint_again (suc more) n rest small =
     elim (cases_lt n 128) [ inl lt ↦ again_short more n rest lt | inr le ↦ again_long more n rest le (varint_again more (n / 128) rest (omega arith)) ]
 
--- a spelling has at least one byte
+-- the shortest spelling of a number has at least one byte
 pub shortest_some : (more n : ℕ) → 0 < length (shortest more n)
 unfolding shortest
 shortest_some zero n = omega arith
