@@ -74,7 +74,7 @@ field_lines labels depth (message row inner rest) =
 
 -- ---- entries
 
--- an entry is written as an op if it is read as one whose canonical bytes it is
+-- an entry is written as an op if it is read as an op whose canonical bytes are just the entry
 abbrev pub IsStructured : List ℕ → Type 0
 IsStructured entry = (op : Op) × (op_of entry ≡ Ok op) × (op_bytes op ≡ entry)
 
@@ -122,7 +122,7 @@ line_text l = replicate (2 * l.0) 32 ++ (l.1 ++ 10 ∷ [])
 abbrev pub text_of_lines : List PlainLine → List ℕ
 text_of_lines lines = flat_map line_text lines
 
--- the text that is written for entries in their forms, with labels counted from the first of them (docs/FORMATS.md, "The text of entries")
+-- the text that is written for entries in their forms; the label of the first entry has number 0 (docs/FORMATS.md, "The text of entries")
 abbrev pub plain_text : List Formed → List ℕ
 plain_text xs = text_of_lines (plain_lines [] xs)
 

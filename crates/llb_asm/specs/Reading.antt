@@ -1,5 +1,5 @@
--- Which lines are the items of a message and the entries of a definition, which entries they are read as, and which line is the first that is
--- refused. This file says nothing of the code that reads them.
+-- Which lines are the items of a message and the entries of a definition, as which entries lines are read, and which line is the first that is
+-- refused. This file says nothing of the code that reads the lines.
 use Rattle.std.specs.Prelude.{◌≡◌, ◌≢◌, ◌≤◌, ℕ, ◌+◌, ◌&&◌, ◌⊎◌, nat_lt, nat_le, Bool, if◌then◌else◌, List, [], ◌∷◌, ◌++◌, length, map, codes, Option}
 use Rattle.std.specs.Prelude.{Some, None, Result, Ok, Err}
 use Rattle.llb_wire.specs.Answer.{◌>>=◌}
@@ -32,7 +32,7 @@ use Rattle.llb_asm.specs.Line.{or_else, guard, parted, inside, line_in}
 
 -- ---- limits
 
--- how long the record of field `number` is with a payload of this length
+-- how many bytes the record of the LEN field `number` has if its payload has `size` bytes
 abbrev pub record_length : ℕ → ℕ → ℕ
 record_length number size = length (tag_text number wire.Len) + (length (varint_text size) + size)
 
@@ -42,8 +42,8 @@ is_within earlier size = nat_le size entry_limit && nat_le (length (definition_b
 
 -- ---- the current message
 
--- the current message: the context of its next line, its bytes so far, and `room`, which says whether the entry is within the limits if this message has
--- this number of bytes and all messages are then closed
+-- the current message: the context of its next line, its bytes so far, and `room`: `room n` says whether the entry is within the limits if this message
+-- has n bytes, and it and all messages around it are then closed
 pub record Hand : Type 0 where
   pub here : Here
   pub bytes : List ℕ
@@ -54,7 +54,7 @@ abbrev pub added : Held → ℕ
 added (Record bytes) = length bytes
 added (Opens number m) = record_length number 0
 
--- the item that a line adds to the current message, if the entry is within the limits after it
+-- the item that a line adds to the current message, if the entry is within the limits after it; else a refusal
 abbrev pub item_at : List (List ℕ) → Hand → List ℕ → Result Item Refusal
 item_at labels hand line = do
   i ← line_in labels hand.here line
@@ -90,7 +90,7 @@ lines_of (single line next bytes rest) = line ∷ lines_of rest
 lines_of (nested line next number sub inner rest) = line ∷ (lines_of inner ++ (closing ∷ lines_of rest))
 lines_of (unclosed line next number sub inner) = line ∷ lines_of inner
 
--- the records of some items; a message that is not closed counts as closed
+-- the bytes of the records of items; a message that is not closed counts as closed
 abbrev pub records_of : Items → List ℕ
 records_of done = []
 records_of (single line next bytes rest) = bytes ++ records_of rest
@@ -118,7 +118,7 @@ AreItems labels hand (nested line next number sub inner rest) =
 AreItems labels hand (unclosed line next number sub inner) = (item_at labels hand line ≡ Ok (item next (Opens number sub)))
     × AreItems labels (within hand number sub) inner
 
--- the current message after some items; the innermost one that is open, if the last item is not closed
+-- the current message after these items: if the last item is a message that is not closed, it is the innermost message that is open
 abbrev pub at_hand : Hand → Items → Hand
 at_hand hand done = hand
 at_hand hand (single line next bytes rest) = at_hand (beyond hand next bytes) rest
@@ -135,12 +135,12 @@ begun_by line (Some p) =
     else if is_text p.0 (codes "raw") then (or_else (Breaks BadValue) (bytes_spelled p.1) >>= λ bytes. Ok (Raw bytes))
     else Err (Breaks Syntax)
 
--- how many bytes an entry has at its first line
+-- how many bytes an entry has after its first line
 abbrev pub begun_size : Begun → ℕ
 begun_size (Raw bytes) = length bytes
 begun_size Structured = 0
 
--- what a line begins after the earlier entries, if the entry is within the limits then
+-- what a line begins after the earlier entries, if these with the new entry are within the limits; else a refusal
 unfoldable pub begun_in : List (List ℕ) → List ℕ → Result Begun Refusal
 begun_in earlier line = do
   b ← begun_by line (parted line)
@@ -152,16 +152,16 @@ abbrev pub canonical_of : Result Op OpFault → Option (List ℕ)
 canonical_of (Err f) = None
 canonical_of (Ok op) = Some (op_bytes op)
 
--- these canonical bytes, if there are some and the entry is within the limits
+-- these canonical bytes, if there are some and the entry is within the limits; else a refusal
 abbrev pub canonical_in : List (List ℕ) → Option (List ℕ) → Result (List ℕ) Refusal
 canonical_in earlier None = Err (Breaks OverLimit)
 canonical_in earlier (Some entry) = if is_within earlier (length entry) then Ok entry else Err (Breaks OverLimit)
 
--- the canonical bytes of the op that these records are read as, if the entry is within the limits
+-- the canonical bytes of the op that these records are read as, if the entry is within the limits; else a refusal
 unfoldable pub entry_in : List (List ℕ) → List ℕ → Result (List ℕ) Refusal
 entry_in earlier records = canonical_in earlier (canonical_of (op_of records))
 
--- the digest texts of these entries; label k is the k-th of them
+-- the digest texts of these entries; label k names the entry at position k
 abbrev pub labels_of : List (List ℕ) → List (List ℕ)
 labels_of earlier = map digest_text earlier
 
@@ -261,7 +261,7 @@ pub record EndsOpen (lines : List Line) (n : ℕ) : Type 0 where
 abbrev pub FaultAt : List Line → ℕ → Refusal → Type 0
 FaultAt lines n e = StopsAt lines n e ⊎ (EndsOpen lines n × (e ≡ Breaks Unclosed))
 
--- what assembling a text returns: its entries, or the fault of the first line that is refused
+-- what assembling a text returns: its entries, the fault of the first line that is refused, or the fault for refused memory
 abbrev pub Assembles : List ℕ → Result (List (List ℕ)) AsmFault → Type 0
 Assembles text (Ok entries) = SpellsEntries (kept text) entries
 Assembles text (Err (fault.Line n rule)) = FaultAt (kept text) n (Breaks rule)

@@ -71,7 +71,7 @@ closing_on bytes (f ∷ below) = still (record { here = f.here; bytes = f.bytes 
 abbrev pub closing_of : OpenOp → Ending
 closing_of s = closing_on s.bytes s.below
 
--- what a closing line leaves, given the value of the code's type
+-- what a closing line leaves, from the code's value for this
 abbrev pub ended : Closed → Ending
 ended (Whole bytes) = whole bytes
 ended (Still s) = still (open_op_of s)
@@ -83,24 +83,24 @@ pub record Progress : Type 0 where
   pub earlier : List (List ℕ)
   pub current : Option OpenOp
 
--- between two entries: these are whole, and no op is open
+-- the progress between two entries: the earlier entries are whole, and no op is open
 abbrev pub between : List (List ℕ) → Progress
 between earlier = record { earlier = earlier; current = None }
 
--- inside an op: the entries before it are whole
+-- the progress inside an op: the earlier entries are whole, and this op is open
 abbrev pub amid : List (List ℕ) → OpenOp → Progress
 amid earlier s = record { earlier = earlier; current = Some s }
 
--- after the line that begins an entry: a raw entry is whole, an op is open at its start
+-- the progress after the line that begins an entry: a raw entry is whole, and an op is open, at its start
 abbrev pub with_begun : List (List ℕ) → Begun → Progress
 with_begun earlier (Raw bytes) = between (earlier ++ bytes ∷ [])
 with_begun earlier Structured = amid earlier at_front
 
--- the progress, by the whole entries and the open op of the code
+-- the progress, from the whole entries and the open op that the code has
 abbrev pub progress_of : List (List ℕ) → Option Open → Progress
 progress_of earlier current = record { earlier = earlier; current = option_map open_op_of current }
 
--- the progress after a line, by the result of the code; or the refusal of the line
+-- the progress after a line, from the result of the code; or the refusal of the line
 abbrev pub progresses : List (List ℕ) → Result (Option Open) Refusal → Result Progress Refusal
 progresses earlier (Ok current) = Ok (progress_of earlier current)
 progresses earlier (Err e) = Err e
@@ -110,13 +110,13 @@ abbrev pub closed_on : List (List ℕ) → List ℕ → List Frame → Result Pr
 closed_on earlier bytes [] = entry_in earlier bytes >>= λ entry. Ok (between (earlier ++ entry ∷ []))
 closed_on earlier bytes (f ∷ below) = Ok (amid earlier (record { here = f.here; bytes = f.bytes ++ set_bytes f.number bytes; below = below }))
 
--- the progress after a line inside an op, or why it is refused: `}` ends the current message, and any other line adds its item to it
+-- the progress after a line inside an op, or why the line is refused: `}` ends the current message, and any other line adds an item to that message
 abbrev pub step_in : List (List ℕ) → OpenOp → List ℕ → Result Progress Refusal
 step_in earlier s line =
     if is_text line closing then closed_on earlier s.bytes s.below
     else (item_at (labels_of earlier) (hand_of (is_within earlier) s) line >>= λ i. Ok (amid earlier (with_item s i)))
 
--- the progress after a line, or why it is refused: it begins an entry if no op is open, else it is a line inside the op
+-- the progress after a line, or why the line is refused: it begins an entry if no op is open; else it is a line inside the op
 abbrev pub step_on : List (List ℕ) → Option OpenOp → List ℕ → Result Progress Refusal
 step_on earlier None line = begun_in earlier line >>= λ b. Ok (with_begun earlier b)
 step_on earlier (Some s) line = step_in earlier s line
@@ -130,7 +130,7 @@ abbrev pub finish : ℕ → List (List ℕ) → Option OpenOp → Result (List (
 finish n earlier None = Ok earlier
 finish n earlier (Some s) = Err (n, Breaks Unclosed)
 
--- the final result by the result of line n: what the lines after it give, or the refusal of line n
+-- the final result, from the result of line n: the result of the lines after it, or the refusal of line n
 abbrev pub next : ℕ → (Progress → Result (List (List ℕ)) (ℕ × Refusal)) → Result Progress Refusal → Result (List (List ℕ)) (ℕ × Refusal)
 next n go (Ok p) = go p
 next n go (Err e) = Err (n, e)
@@ -141,7 +141,7 @@ unfoldable pub run_from : ℕ → Progress → List Line → Result (List (List 
 run_from last p [] = finish last p.earlier p.current
 run_from last p (l ∷ lines) = next l.0 (λ q. run_from l.0 q lines) (step_of p l.1)
 
--- the result of a call is this one, or the call fails for want of memory
+-- a call returns this result, or it fails for want of memory
 abbrev pub Gives : Result (List (List ℕ)) AsmFault → Result (List (List ℕ)) (ℕ × Refusal) → Type 0
 Gives (Ok entries) r = r ≡ Ok entries
 Gives (Err (fault.Line n rule)) r = r ≡ Err (n, Breaks rule)
@@ -149,7 +149,7 @@ Gives (Err (fault.UnknownLabel n)) r = r ≡ Err (n, UnknownLabel)
 Gives (Err fault.Memory) r = Unit {0}
 Gives (Err fault.Write) r = ⊥
 
--- the result with these entries, if the call succeeded
+-- these entries if the call succeeded; else its fault
 abbrev pub reached : List (List ℕ) → Result (Unit {0}) AsmFault → Result (List (List ℕ)) AsmFault
 reached entries (Ok u) = Ok entries
 reached entries (Err f) = Err f

@@ -16,7 +16,7 @@ use Rattle.llb_ops.specs.declared.table.FieldKind.TheVariants.{Int64, Int32, Uin
 
 -- ---- numbers as they are in a varint: negative ones in two's complement of 64 bits
 
--- -n in two's complement of 64 bits, if n is from 1 to the limit
+-- -n in two's complement of 64 bits, if n is from 1 to the limit; else nothing
 abbrev pub negated : ℕ → ℕ → Option ℕ
 negated limit n = where_so (nat_lt 0 n && nat_le n limit) (2 ^ 64 - n)
 

@@ -23,7 +23,7 @@ Row = Key × List TreeMap
 abbrev pub Leases : Type 0
 Leases = List (Option (List Instance))
 
--- the keys in the order in which they were first leased, and the leases
+-- the rows, whose keys are in the order in which they were first leased, and the leases
 pub record CachesValue : Type 0 where
   pub rows : List Row
   pub out : Leases
@@ -43,7 +43,7 @@ abbrev pub with_trees : List Row → Key → List TreeMap → List Row
 with_trees [] key trees = (key, trees) ∷ []
 with_trees (r ∷ rows) key trees = if same_key key r.0 then (r.0, trees) ∷ rows else r ∷ with_trees rows key trees
 
--- the tree of an instance
+-- the tree of an instance, if the instance exists
 abbrev pub tree_at : List Row → Instance → Option TreeMap
 tree_at rows p = slice_get (trees_of rows p.key) p.number
 
@@ -51,7 +51,7 @@ tree_at rows p = slice_get (trees_of rows p.key) p.number
 abbrev pub put : List Row → Instance → TreeMap → List Row
 put rows p tree = with_trees rows p.key (slice_set (trees_of rows p.key) p.number tree)
 
--- the rows after an instance that does not exist is made with a tree, after the others of its key
+-- the rows after an instance that does not exist is made with this tree, as the last one of its key; an instance that exists is left as it is
 abbrev pub made : List Row → Instance → TreeMap → List Row
 made rows p tree = if nat_lt p.number (length (trees_of rows p.key)) then rows else with_trees rows p.key (trees_of rows p.key ++ tree ∷ [])
 
@@ -93,17 +93,17 @@ unfoldable pub first_free : Leases → Key → ℕ → ℕ → ℕ
 first_free out key n zero = n
 first_free out key n (suc more) = if is_held out (place key n) then first_free out key (n + 1) more else n
 
--- the number of the instance for a key: 0, or for a private key the least whose instance no lease has, searched among as many numbers as there are leases
+-- the number of the instance for a key: 0; for a private key the least whose instance no lease has, where as many numbers are tried as there are leases
 abbrev pub number_for : Leases → Key → Mode → ℕ
 number_for out key Shared = 0
 number_for out key Locked = 0
 number_for out key Private = first_free out key 0 (leases out)
 
--- the instance that a lease of a key has
+-- the instance that a new lease takes for a key
 abbrev pub place_for : Leases → Key → Instance
 place_for out key = place key (number_for out key key.mode)
 
--- for one need the instance, and the tree with which it is made if it does not exist
+-- what is taken for one need: an instance, and the tree with which the instance is made if it does not exist
 abbrev pub Taken : Type 0
 Taken = Instance × TreeMap
 
@@ -143,22 +143,22 @@ granted c needs = (
   },
 )
 
--- a lease of these needs; it is refused as a whole if a need is refused
+-- the result of a lease of these needs, given the first need that is refused, if one is: then the whole lease is refused
 abbrev pub lease_by : CachesValue → List Need → Option Need → Result (ℕ × CachesValue) LeaseFault
 lease_by c needs None = Ok (granted c needs)
 lease_by c needs (Some n) = Err (Held n.key)
 
--- a lease of these needs; it is refused for the first need whose locked key is held
+-- the result of a lease of these needs: it is refused for the first need with a locked key whose instance a lease has
 abbrev pub lease_of : CachesValue → List Need → Result (ℕ × CachesValue) LeaseFault
 lease_of c needs = lease_by c needs (find (is_locked_and_held c.out) needs)
 
 -- ---- the other calls
 
--- the caches with another tree in the instance of a need
+-- the caches with this tree in the instance that a lease has for its need i
 abbrev pub with_content : CachesValue → ℕ → ℕ → TreeMap → CachesValue
 with_content c lease i tree = record c { rows = put c.rows (place_at c.out lease i) tree }
 
--- one more number without a lease, put before the others; none is put before an empty list
+-- these leases with a number that has no lease put before them; an empty list stays empty
 abbrev pub before : Leases → Leases
 before [] = []
 before (o ∷ out) = None ∷ o ∷ out
@@ -175,7 +175,7 @@ given_back c lease = record c { out = trimmed (slice_set c.out lease None) }
 
 -- ---- what is true of all caches
 
--- a mode is exclusive: at most one lease at a time has an instance of such a key
+-- a mode is exclusive: an instance of a key with this mode has at most one lease at a time
 abbrev pub IsExclusive : Mode → Type 0
 IsExclusive Shared = ⊥
 IsExclusive Private = Unit {0}

@@ -9,7 +9,7 @@ abbrev pub is_memory : LeaseFault → Bool
 is_memory Memory = true
 is_memory (Held key) = false
 
--- the result of a call is that of its rule, or the call fails for want of memory
+-- a call returns what its rule returns, or it fails for want of memory
 abbrev pub Gives : {X Y : Type 0} → (X → Y) → Result X LeaseFault → Result Y LeaseFault → Type 0
 Gives = answer.Gives is_memory
 

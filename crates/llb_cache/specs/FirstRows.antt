@@ -1,4 +1,4 @@
--- The first row that has a key; and the rows after the trees in one of them are replaced.
+-- The first row that has a given key; and the rows after the trees of one row are replaced.
 use Rattle.std.specs.Prelude.{◌≡◌, ℕ, zero, suc, true, false, List, [], ◌∷◌}
 use Rattle.std.specs.List.{AllByRecursion}
 use Rattle.std.specs.Map.{keys_of}

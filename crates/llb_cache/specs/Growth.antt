@@ -1,4 +1,4 @@
--- What a lease adds to the rows, the rows after that is removed again, and a lease of instances that exist.
+-- What a lease adds to the rows, the rows after this addition is removed again, and a lease of instances that exist.
 use Rattle.std.specs.Prelude.{◌≡◌, ◌≢◌, ℕ, ◌-◌, ◌<◌, nat_lt, false, if◌then◌else◌, List, [], ◌∷◌, length, map, take, Option, Some, None}
 use Rattle.std.specs.List.{All, AllPairs}
 use Rattle.std.specs.Map.{lookup}
@@ -25,7 +25,7 @@ growth_by (Some ts) n = if nat_lt n (length ts) then Nothing else NewInstance
 abbrev pub growth_at : List Row → Instance → Growth
 growth_at rows p = growth_by (lookup (same_key p.key) rows) p.number
 
--- what a lease of these needs adds, for each of them
+-- what a lease of these needs adds, for each of the needs
 abbrev pub growths : CachesValue → List Need → List Growth
 growths c needs = map (λ (n : Need). growth_at c.rows (place_for c.out n.key)) needs
 
@@ -40,13 +40,13 @@ unmade_one rows p Nothing = rows
 unmade_one rows p NewInstance = shorter rows p.key (lookup (same_key p.key) rows)
 unmade_one rows p NewRow = front rows
 
--- the rows after what was added for these instances is removed, the last of them first
+-- the rows after what was added for these instances is removed, beginning with the last instance
 abbrev pub unmade : List Row → List Instance → List Growth → List Row
 unmade rows [] gs = rows
 unmade rows (p ∷ ps) [] = rows
 unmade rows (p ∷ ps) (g ∷ gs) = unmade_one (unmade rows ps gs) p g
 
--- the caches after a lease is given back and what it added is removed
+-- the caches after a lease is given back, and what this lease added is removed
 abbrev pub taken_back : CachesValue → ℕ → List Growth → CachesValue
 taken_back c lease gs = record (given_back c lease) { rows = unmade c.rows (places_of c.out lease) gs }
 

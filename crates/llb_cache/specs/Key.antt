@@ -33,12 +33,12 @@ same_seeds (Some s) (Some t) = same_seed s t
 abbrev pub seed_by : List ℕ → ℕ → Seed
 seed_by digest index = record { digest = digest; index = index }
 
--- whether a seed has a digest text with a byte in it
+-- whether there is a seed, and its digest text is not empty
 abbrev pub has_digest : Option Seed → Bool
 has_digest (Some s) = not (length s.digest == 0)
 has_digest None = false
 
--- whether a key has a text with a byte in it, so that a copy of the key takes memory
+-- whether a key has a text that is not empty, so that a copy of the key takes memory
 abbrev pub has_text : Key → Bool
 has_text k = not (length k.id == 0) || has_digest k.seed
 

@@ -60,7 +60,7 @@ key_itself k =
     ap (λ b. b && same_seeds k.seed k.seed && pointwise nat_eq k.id k.id) (mode_itself k.mode)
     ∙ ap (λ b. b && pointwise nat_eq k.id k.id) (seed_itself k.seed) ∙ text_itself k.id
 
--- the test of two keys holds exactly if they are equal
+-- `same_key` is true of two keys exactly if they are equal
 pub key_test : (k l : Key) → (same_key k l ≡ true) ↔ (k ≡ l)
 key_test k l = (same_keys k l, λ e. ap (same_key k) (sym e) ∙ key_itself k)
 

@@ -1,6 +1,6 @@
--- Read first Caches (keys with their instances, leases, and what each call makes of them), Key (when two keys are one) and Faults (the results of calls).
--- Growing is what a lease has ready, Growth what it adds and how that is removed, Marks which instances are marked as those of leases, KeyOrder and RowOrder
--- the order in which keys are looked up, FirstRows at which row a key is. LawsOfKeys shows that the test of two keys is an equivalence, which Key's `Eq` cites.
+-- Read first Caches (keys with their instances, leases, and what each call makes of them), Key (when keys are the same) and Faults (the results of calls).
+-- Growing has what is prepared for a lease, Growth what a lease adds and how this is removed, Marks which instances are marked as leased, KeyOrder and RowOrder
+-- the order in which keys are looked up, and FirstRows the row at which a key is. LawsOfKeys shows that `same_key` is an equivalence, which Key's `Eq` cites.
 pub mod Key
 pub mod LawsOfKeys
 pub mod KeyOrder

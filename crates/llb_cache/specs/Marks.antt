@@ -1,4 +1,4 @@
--- Marks of the instances that leases have: for each row a list of marks by number; a number past its end has no mark.
+-- Marks of the instances that leases have: for each row a list of marks, by the numbers of instances; a number past the list's end has no mark.
 use Rattle.std.specs.Prelude.{◌≡◌, ◌⊎◌, Bool, false, List, [], ◌∷◌, length, slice_index_or, if◌then◌else◌}
 use Rattle.std.specs.List.{list_any}
 use Rattle.std.specs.Map.{keys_of}
@@ -17,7 +17,7 @@ marked (k ∷ keys) (m ∷ marks) p = if same_key p.key k then slice_index_or m 
 abbrev pub is_one_of : List Instance → Instance → Bool
 is_one_of ps p = list_any (same_place p) ps
 
--- an instance has mark b if it passes the test, and otherwise the mark that it had
+-- each instance that passes the test has the mark b, and each other one has the mark that it had
 abbrev pub Remarks : List Key → List (List Bool) → List Key → List (List Bool) → (Instance → Bool) → Bool → Type 0
 Remarks keys marks keys' marks' test b = (p : Instance) → marked keys' marks' p ≡ (if test p then b else marked keys marks p)
 

@@ -10,7 +10,7 @@ use Rattle.llb_cache.specs.Caches.{Row}
 use Rattle.llb_cache.specs.Key.{same_key}
 use Rattle.llb_cache.specs.KeyOrder.{key_cmp}
 
--- the key that stands for a missing row
+-- the key that is taken where there is no row
 abbrev pub no_key : Key
 no_key = record { id = []; seed = None; mode = Shared }
 
@@ -47,6 +47,6 @@ pub record IsPlace (rows : List Row) (order : List ℕ) (key : Key) (place : ℕ
 abbrev pub AreOrdered : Rows → Type 0
 AreOrdered rows = IsOrdered rows.entries.items rows.order.items
 
--- there is room for this many more rows
+-- there is room for `more` further rows
 abbrev pub HasRoom : Rows → ℕ → Type 0
 HasRoom rows more = (vec_len rows.entries + more ≤ vec_capacity rows.entries) × (vec_len rows.order + more ≤ vec_capacity rows.order)

@@ -9,7 +9,7 @@ use Rattle.llb_fileop.specs.Making.{mkfile, mkdir}
 use Rattle.llb_fileop.specs.Removing.{rm}
 use Rattle.llb_fileop.specs.Copying.{copy}
 
--- the tree after an action on a base; a copy reads the second tree, and an action without a kind changes nothing
+-- the tree after an action on the tree t, or the fault; a copy reads the tree `second`, and an action without a kind changes nothing
 abbrev pub act : Option ActionKind → TreeMap → TreeMap → Result TreeMap ActFault
 act (Some (kind.MkFile m)) t second = on_tree (mkfile m t)
 act (Some (kind.MkDir m)) t second = on_tree (mkdir m t)

@@ -1,5 +1,5 @@
 -- The tree after sources in a second tree are copied to a destination, or the first fault. Each entry at or below a
--- source is copied to the same path at or below the source's target.
+-- source is copied to its path with the source's target in place of the source.
 use Rattle.std.specs.Prelude.{ℕ, ◌-◌, Bool, true, false, ◌||◌, ◌&&◌, nat_eq, nat_lt, List, [], ◌∷◌, ◌++◌, length, drop, map, Option, Some}
 use Rattle.std.specs.Prelude.{None, Result, Ok, Err, if◌then◌else◌}
 use Rattle.std.specs.List.{ends_with}
@@ -37,13 +37,13 @@ chosen_by c =
     if c.allow_wildcard then (on_pattern (pattern_of c.src) >>= λ pattern. Ok (EachMatch pattern))
     else (on_tree (path_of c.src) >>= λ p. Ok (OnePath p))
 
--- these paths; `NotFound` if there are none and that is not allowed
+-- these paths; `NotFound` if there are none and `true` does not allow that
 abbrev pub some_match : Bool → List (List (List ℕ)) → Result (List (List (List ℕ))) TreeFault
 some_match true ps = Ok ps
 some_match false [] = Err NotFound
 some_match false (p ∷ ps) = Ok (p ∷ ps)
 
--- the paths that are copied, in path order: one path, at which something must be, or all that match
+-- the paths that are copied, in path order: the one path, at which something must be, or all paths that match
 abbrev pub sources : Bool → TreeMap → Chosen → Result (List (List (List ℕ))) TreeFault
 sources allow_empty second (OnePath p) = found (finite.get second p) >>= λ _. Ok (p ∷ [])
 sources allow_empty second (EachMatch pattern) = some_match allow_empty (matching pattern second)
@@ -63,11 +63,11 @@ target c dest second s t =
 
 -- ---- where the entries of a source go
 
--- the refusal of a path with more than 128 names
+-- fails if a path has more than 128 names; else succeeds
 abbrev pub fits : List (List ℕ) → Result (Unit {0}) TreeFault
 fits p = if nat_lt 128 (length p) then Err BadName else Ok tt
 
--- the refusal of a file that would replace a directory, or of a directory that would replace a file
+-- fails if a file would replace a directory, or a directory would replace a file; else succeeds
 abbrev pub meets : Option Entry → Entry → Result (Unit {0}) TreeFault
 meets None e = Ok tt
 meets (Some (Dir m)) (Dir n) = Ok tt
@@ -75,12 +75,12 @@ meets (Some (Dir m)) (File n bytes) = Err Conflict
 meets (Some (File m old)) (Dir n) = Err Conflict
 meets (Some (File m old)) (File n bytes) = Ok tt
 
--- the refusal of the first of these entries that can't be put at its path
+-- fails with the fault of the first of these entries that can't be put at its path; else succeeds
 abbrev pub all_land : TreeMap → List (List (List ℕ) × Entry) → Result (Unit {0}) TreeFault
 all_land t [] = Ok tt
 all_land t (e ∷ es) = fits e.0 >>= λ _. meets (finite.get t e.0) e.1 >>= λ _. all_land t es
 
--- the entry at a path after a copied one is put there: a directory that was there stays as it is
+-- the entry at a path after a copied one is put there: a copied directory leaves a directory that was there as it is
 abbrev pub landed : (MetaValue → MetaValue) → Option Entry → Entry → Entry
 landed given (Some (Dir m)) (Dir n) = Dir m
 landed given (Some (File m old)) (Dir n) = Dir (given n)
@@ -99,16 +99,16 @@ laid_on given t es = finite.from_entries (map (landed_on given t) es ++ finite.e
 abbrev pub at_target : TreeMap → List (List ℕ) → List (List ℕ) → List (List (List ℕ) × Entry)
 at_target second s goal = map (moved (length s) goal) (where_key path_cmp (is_within s) (finite.entries second))
 
--- the tree with the parents of a target: missing ones are made if `createDestPath` is true, else all must exist
+-- the tree with the parents of a target, or the fault: missing parents are made if `createDestPath` is true; else all must exist
 abbrev pub parents_for : Bool → List (List ℕ) → TreeMap → Result TreeMap TreeFault
 parents_for true p t = make_all new_dir_meta (parents p) t
 parents_for false p t = walk (finite.get t) p >>= λ _. Ok t
 
--- the tree after these entries are put at their paths, with the mode and the owner that `given` makes of theirs
+-- the tree after these entries are put at their paths, or the fault; `given` makes the mode and the owner of each from those that it had
 abbrev pub land : (MetaValue → MetaValue) → List (List (List ℕ) × Entry) → TreeMap → Result TreeMap TreeFault
 land given es t = all_land t es >>= λ _. Ok (laid_on given t es)
 
--- the tree after a source is copied to a target
+-- the tree after a source is copied to a target, or the fault
 abbrev pub copy_to : CopyFile → TreeMap → List (List ℕ) → List (List ℕ) → TreeMap → Result TreeMap TreeFault
 copy_to c second s goal t = fits goal >>= λ _. parents_for c.create_dest_path goal t >>= land (copied c.mode c.owner) (at_target second s goal)
 
@@ -125,7 +125,7 @@ copy_each c dest second (s ∷ ss) t = copy_one c dest second s t >>= copy_each 
 abbrev pub copy_chosen : CopyFile → List (List ℕ) × Bool → TreeMap → TreeMap → Chosen → Result TreeMap TreeFault
 copy_chosen c dest t second chosen = sources c.allow_empty_wildcard second chosen >>= λ ss. copy_each c dest second ss t
 
--- the tree after a copy from a second tree; the texts are read before anything else, that of the source first
+-- the tree after a copy from a second tree, or the fault; the source's text is read first, then the destination's text, and then the trees are looked at
 abbrev pub copy : CopyFile → TreeMap → TreeMap → Result TreeMap ActFault
 copy c t second =
     chosen_by c >>= λ chosen. on_tree (resolved c.dest) >>= λ dest. on_tree (copy_chosen c dest t second chosen)

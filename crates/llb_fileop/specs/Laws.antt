@@ -8,7 +8,7 @@ use Rattle.llb_tree.specs.Tree.{TreeMap, Dir, File}
 use Rattle.llb_fileop.specs.Owners.{copied}
 use Rattle.llb_fileop.specs.Copying.{target, copy_one}
 
--- a missing parent of the target was made, 0755 0:0
+-- at q, which is at or above the target `goal`, nothing was before, and a directory 0755 0:0 is after the copy
 pub record IsMadeParent (t u : TreeMap) (goal q : List (List ℕ)) : Type 0 where
   pub above : is_within q goal ≡ true
   pub was : finite.get t q ≡ None
@@ -28,6 +28,6 @@ pub record IsCopied (c : CopyFile) (second t u : TreeMap) (s goal : List (List �
   pub beside : (q : List (List ℕ)) → finite.get second (s ++ q) ≡ None → finite.get u (goal ++ q) ≡ finite.get t (goal ++ q)
   pub outside : (q : List (List ℕ)) → is_within goal q ≡ false → (finite.get u q ≡ finite.get t q) ⊎ IsMadeParent t u goal q
 
--- a granted copy of one source copies it to its target
+-- if the copy of one source is granted, the source is copied to its target as `IsCopied` says
 abbrev pub CopiesOne : CopyFile → List (List ℕ) × Bool → TreeMap → TreeMap → List (List ℕ) → Type 0
 CopiesOne c dest t second s = (u : TreeMap) → copy_one c dest second s t ≡ Ok u → IsCopied c second t u s (target c dest second s t)

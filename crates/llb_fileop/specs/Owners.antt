@@ -36,7 +36,7 @@ group_in (Some o) = id_in o.group
 abbrev pub made : ℤ → Option ChownOpt → MetaValue
 made mode owner = record { mode = mode_of mode; uid = unwrap_or (user_in owner) 0; gid = unwrap_or (group_in owner) 0 }
 
--- the mode of what is copied; -1 keeps the entry's own
+-- the mode of what is copied; -1 keeps the mode of the entry
 abbrev pub mode_from : ℤ → ℕ → ℕ
 mode_from (negsuc zero) own = own
 mode_from (negsuc (suc n)) own = mode_of (negsuc (suc n))

@@ -17,18 +17,18 @@ put (File m bytes) t p = put_file t p m bytes
 abbrev pub AgreeOn : TreeMap → TreeMap → Type 0
 AgreeOn t source = (q : List (List ℕ)) (e : Entry) → finite.get source q ≡ Some e → meets (finite.get t q) e ≡ Ok tt
 
--- the refusal of the first entry that can't be put over what a tree has at its path
+-- fails with the fault of the first entry that can't be put over what a tree has at its path; else succeeds
 abbrev pub all_meet : TreeMap → List (List (List ℕ) × Entry) → Result (Unit {0}) TreeFault
 all_meet here [] = Ok tt
 all_meet here (e ∷ es) = meets (finite.get here e.0) e.1 >>= λ _. all_meet here es
 
--- the refusal of the first entry that can't be put below a path of `depth` names, over the tree that is there
+-- fails with the fault of the first entry that can't be put below a path of `depth` names, over the tree that is there; else succeeds
 abbrev pub all_below : TreeMap → ℕ → List (List (List ℕ) × Entry) → Result (Unit {0}) TreeFault
 all_below here depth [] = Ok tt
 all_below here depth (e ∷ es) =
     if nat_lt 128 (depth + length e.0) then Err BadName else (meets (finite.get here e.0) e.1 >>= λ _. all_below here depth es)
 
--- what is at a path after two trees are merged: a directory that both have stays as it is
+-- what is at a path after two trees are merged: a directory that both trees have stays as it is
 abbrev pub laid : (MetaValue → MetaValue) → Option Entry → Option Entry → Option Entry
 laid given there None = there
 laid given there (Some e) = Some (landed given there e)
@@ -42,6 +42,6 @@ put_some (Some e) t p = put e t p
 abbrev pub land_at : (MetaValue → MetaValue) → List (List (List ℕ) × Entry) → List (List ℕ) → TreeMap → Result TreeMap TreeFault
 land_at given es goal t = walk (finite.get t) goal >>= λ _. land given es t
 
--- a path with at most 128 names, or the refusal
+-- the path, if it has at most 128 names; else the fault
 abbrev pub placed : List (List ℕ) → Result (List (List ℕ)) TreeFault
 placed p = fits p >>= λ _. Ok p

@@ -14,12 +14,12 @@ use Rattle.llb_glob.specs.Pattern.{pattern_of}
 use Rattle.llb_fileop.specs.declared.fault.ActFault.{ActFault}
 use Rattle.llb_fileop.specs.Faults.{on_tree, on_pattern}
 
--- the tree unchanged if it is allowed that nothing is there, else the refusal
+-- the tree, unchanged, if it is allowed that nothing is there; else the fault `NotFound`
 abbrev pub absent : Bool → TreeMap → Result TreeMap TreeFault
 absent true t = Ok t
 absent false t = Err NotFound
 
--- the tree after what is at and below a path is removed; if nothing is there, the tree unchanged or the refusal, as `allowed` says
+-- the tree after what is at and below a path is removed; if nothing is there, the unchanged tree if `allowed` is true, else the fault `NotFound`
 abbrev pub removed : Bool → List (List ℕ) → Option Entry → TreeMap → Result TreeMap TreeFault
 removed allowed p (Some e) t = Ok (without t p)
 removed allowed p None t = absent allowed t
@@ -40,7 +40,7 @@ is_below_any ps q = list_any (λ p. is_within p q) ps
 abbrev pub left : List (List Item) → TreeMap → TreeMap
 left pattern t = finite.retain_keys t (λ q. not (is_below_any (matching pattern t) q))
 
--- the tree after these paths, and what is below them, are removed
+-- the tree after these paths, and what is below them, are removed; if there are no paths, the result is that of `absent`
 abbrev pub removed_all : Bool → List (List (List ℕ)) → TreeMap → Result TreeMap TreeFault
 removed_all allowed [] t = absent allowed t
 removed_all allowed (p ∷ ps) t = Ok (finite.retain_keys t (λ q. not (is_below_any (p ∷ ps) q)))

@@ -28,11 +28,11 @@ bared rows = map (λ r. record { digest = r.digest; bytes = [] }) rows
 abbrev pub bytes_of : List Row → List (List ℕ)
 bytes_of rows = map (λ r. r.bytes) rows
 
--- the bare rows of entries: the digest text of each
+-- for each entry the row with its digest text, without bytes
 abbrev pub titles_from : List (List ℕ) → List Row
 titles_from entries = map (λ bytes. record { digest = digest_text bytes; bytes = [] }) entries
 
--- each entry is read as the op with its number
+-- each entry is read as the op that has the same number
 pub record AreRead (entries : List (List ℕ)) (ops : List Op) : Type 0 where
   pub len : length ops ≡ length entries
   pub each : (k : ℕ) → k < length entries → op_of (slice_index_or entries k []) ≡ Ok (op_at ops k)
