@@ -14,8 +14,8 @@ pub record IsMadeParent (t u : TreeMap) (goal q : List (List ℕ)) : Type 0 wher
   pub was : finite.get t q ≡ None
   pub is : finite.get u q ≡ Some (Dir new_dir_meta)
 
--- each entry at or below the source is at its path in the target, a directory that was there is unchanged, and so is everything else except
--- the parents that were made
+-- each entry at or below the source is at its path in the target, but a directory that was already there stays; everything else is unchanged, except
+-- for the parents that were made
 pub record IsCopied (c : CopyFile) (second t u : TreeMap) (s goal : List (List ℕ)) : Type 0 where
   pub files : (q : List (List ℕ)) (m : MetaValue) (bytes : List ℕ)
       → finite.get second (s ++ q) ≡ Some (File m bytes) → finite.get u (goal ++ q) ≡ Some (File (copied c.mode c.owner m) bytes)

@@ -11,11 +11,11 @@ use Rattle.llb_loader.specs.Scripts.{script_in}
 use Rattle.llb_loader.specs.RowLookup.{row_at}
 use Rattle.llb_loader.specs.Linking.{op_at, input_at}
 
--- edge i of a list; the edge to vertex 0 past the end
+-- edge i of a list; past the end the edge to output 0 of vertex 0
 abbrev pub edge_at : List Edge → ℕ → Edge
 edge_at edges i = slice_index_or edges i (record { vertex = 0; index = 0 })
 
--- vertex n; past the last one an empty one
+-- vertex n; past the last vertex an empty one
 abbrev pub vertex_at : List Vertex → ℕ → Vertex
 vertex_at vertices n = slice_index_or vertices n
     (record { digest = []; op = record { inputs = []; kind = None; extra = [] }; script = None; inputs = []; steps = 0; outputs = 0 })
@@ -24,14 +24,14 @@ vertex_at vertices n = slice_index_or vertices n
 abbrev pub edge_to : ℕ → Input → Edge
 edge_to vertex input = record { vertex = vertex; index = nat_abs input.index }
 
--- an op with few steps and outputs, with an input for each of these rows, whose indexes are at most 1,024
+-- an op has fewer than 2^25 steps, at most 1,024 outputs, and as many inputs as these rows are; the index of each input is from 0 to 1,024
 pub record IsBuildable (op : Op) (named : List ℕ) : Type 0 where
   pub steps : step_count op < 2 ^ 25
   pub outputs : output_count op ≤ 1_024
   pub len : length named ≡ length op.inputs
   pub indexes : (i : ℕ) → i < length op.inputs → IsBelow 1_025 (input_at op i).index
 
--- v is the vertex of this op, and its edges lead to the numbers of the rows that its inputs name
+-- v is the vertex of this op, and its edges lead to the numbers of the rows that the op's inputs name
 pub record IsBuilt (text : List ℕ) (from : Op) (named ranks : List ℕ) (v : Vertex) : Type 0 where
   pub digest : v.digest ≡ text
   pub op : v.op ≡ from
@@ -41,7 +41,7 @@ pub record IsBuilt (text : List ℕ) (from : Op) (named ranks : List ℕ) (v : V
   pub steps : v.steps ≡ step_count from
   pub outputs : v.outputs ≡ output_count from
 
--- the first n vertices are those of the first n rows in this order
+-- the first n vertices are the vertices of the first n rows in this order
 abbrev pub AreBuilt : List Row → List Op → List (List ℕ) → List ℕ → List ℕ → List Vertex → ℕ → Type 0
 AreBuilt rows ops links ranks order vertices n = (j : ℕ) → j < n
     → IsBuilt (row_at rows (slice_index order j)).digest (op_at ops (slice_index order j)) (inputs links (slice_index order j)) ranks (vertex_at vertices j)

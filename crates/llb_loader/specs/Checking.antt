@@ -1,4 +1,4 @@
--- The rules kind by kind: those that an op of that kind can break, in groups that are checked one after another.
+-- The rules, kind by kind: for each kind the rules that an op of this kind can break, in groups that are checked one after another.
 use Rattle.std.specs.Prelude.{List, [], ◌∷◌, ◌++◌, Option, MatchOption}
 use Rattle.llb_ops.specs.declared.op.Input.{Input}
 use Rattle.llb_ops.specs.declared.op.Kind.{Kind}
@@ -8,7 +8,7 @@ use Rattle.llb_loader.specs.declared.fault.Rule.TheVariants as rule
 use Rattle.llb_loader.specs.Scripts.{script_fault}
 use Rattle.llb_loader.specs.Rules.{MeetsAll, Breaks}
 
--- the result is the first of these rules that is broken, or nothing if none is
+-- `broken` is the first of these rules that is broken, or nothing if none is
 abbrev pub IsFirstBroken : List Input → Option Kind → List Rule → Option Rule → Type 0
 IsFirstBroken inputs kind rs broken = MatchOption broken (MeetsAll inputs kind rs) (Breaks inputs kind rs)
 

@@ -1,4 +1,4 @@
--- The results of the checks over the marked rows: each check goes through the rows in their order and stops at the first that fails.
+-- The results of the checks over the marked rows: each check goes through the rows in their order and stops at the first row that fails it.
 use Rattle.std.specs.Prelude.{◌≡◌, ◌≢◌, ℕ, ◌<◌, ◌==◌, ◌⊎◌, Bool, false, cond, List, [], length, slice_index_or, Some, None}
 use Rattle.llb_ops.specs.declared.op.Op.{Op}
 use Rattle.llb_loader.specs.declared.row.Row.{Row}
@@ -27,22 +27,22 @@ pub record FirstUnknown (rows : List Row) (t : ℕ) (op : Op) (i : ℕ) : Type 0
   pub unknown : row_named rows t (input_at op i).digest ≡ None
   pub before : NamesAll rows t op i
 
--- e names the least marked row with an input that names no row, and the first such input
+-- e names the least marked row with an input that names no row, and the first such input of this row
 abbrev pub RefusesUnknown : List Row → ℕ → List Op → (ℕ → Type 0) → LoadFault → Type 0
 RefusesUnknown rows t ops Marked e = (k : ℕ) × (i : ℕ) × (e ≡ UnknownDigest k i) × Marked k × FirstUnknown rows t (op_at ops k) i
     × ((j : ℕ) → j < k → Marked j → NamesAll rows t (op_at ops j) (length (op_at ops j).inputs))
 
--- e names the least marked row whose op has an unsupported feature, and the first such feature
+-- e names the least marked row whose op has an unsupported feature, and the first such feature of this op
 abbrev pub RefusesFeature : List Op → (ℕ → Type 0) → LoadFault → Type 0
 RefusesFeature ops Marked e = (k : ℕ) × (f : Feature) × (e ≡ Unsupported k f) × Marked k × (feature_of (op_at ops k) ≡ Some f)
     × ((j : ℕ) → j < k → Marked j → feature_of (op_at ops j) ≡ None)
 
--- e names the least marked row that breaks a rule, and the first such rule
+-- e names the least marked row that breaks a rule, and the first rule that it breaks
 abbrev pub RefusesRule : List Op → (ℕ → Type 0) → LoadFault → Type 0
 RefusesRule ops Marked e = (k : ℕ) × (r : Rule) × (e ≡ Invalid k r) × Marked k × BreaksFirst (op_at ops k) r
     × ((j : ℕ) → j < k → Marked j → MeetsRules (op_at ops j))
 
--- the number of outputs that input i of an op may name, by the rows that its inputs name
+-- how many outputs the row has that input i of an op names, given the rows that the op's inputs name
 abbrev pub count_there : List ℕ → List ℕ → ℕ → ℕ
 count_there counts named i = slice_index_or counts (slice_index_or named i 0) 0
 
@@ -50,7 +50,7 @@ count_there counts named i = slice_index_or counts (slice_index_or named i 0) 0
 abbrev pub FitsAll : List ℕ → List ℕ → Op → ℕ → Type 0
 FitsAll counts named op n = (i : ℕ) → i < n → IsBelow (count_there counts named i) (input_at op i).index
 
--- input i is the first of the first n inputs of an op that names an output that does not exist
+-- of the first n inputs of an op, input i is the first that names an output that does not exist
 pub record FirstBad (counts named : List ℕ) (op : Op) (n i : ℕ) : Type 0 where
   pub here : i < n
   pub bad : ¬ IsBelow (count_there counts named i) (input_at op i).index
@@ -60,7 +60,7 @@ pub record FirstBad (counts named : List ℕ) (op : Op) (n i : ℕ) : Type 0 whe
 abbrev pub asked_of : List Op → List Bool → ℕ → ℕ → ℕ
 asked_of ops seen terminal k = cond (slice_index_or seen k false) (length (op_at ops k).inputs) (cond (k == terminal) 1 0)
 
--- e names the least row with a checked input that is no output of the row it names, and the first such input
+-- e names the least row with a checked input whose index is not one of an output of the row that it names, and the first such input
 abbrev pub RefusesIndex : List Op → List (List ℕ) → List ℕ → List Bool → ℕ → LoadFault → Type 0
 RefusesIndex ops links counts seen t e = (k : ℕ) × (i : ℕ) × (e ≡ BadIndex k i) × (k < length ops)
     × FirstBad counts (inputs links k) (op_at ops k) (asked_of ops seen t k) i

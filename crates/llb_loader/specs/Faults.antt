@@ -1,4 +1,4 @@
--- The results of the loader's calls, the loader's fault for a fault of an op, and what a fault prints.
+-- The results of the loader's calls, the loader's fault for a fault of an op, and the text of a fault.
 use Rattle.std.specs.Prelude.{ℕ, Bool, true, false, List, ◌++◌, Result, codes}
 use Rattle.std.specs.Fmt.{decimal}
 use Rattle.llb_wire.specs.Answer as answer
@@ -18,7 +18,7 @@ abbrev pub is_memory : LoadFault → Bool
 is_memory fault.Memory = true
 is_memory _ = false
 
--- the result of a call is that of its rule, or the call fails for want of memory
+-- a call returns what its rule returns, or it fails for want of memory
 abbrev pub Gives : {X Y : Type 0} → (X → Y) → Result X LoadFault → Result Y LoadFault → Type 0
 Gives = answer.Gives is_memory
 
@@ -32,7 +32,7 @@ abbrev pub row_fault : ℕ → OpFault → LoadFault
 row_fault k op.Memory = fault.Memory
 row_fault k f = fault.Entry k f
 
--- ---- what a fault prints: its number and its arguments, features and rules by their names
+-- ---- the text of a fault: its number and its arguments; a feature or a rule is written as its name
 
 -- the name of a feature
 abbrev pub feature_text : Feature → List ℕ
@@ -70,12 +70,12 @@ rule_name rule.CacheTwice = codes "CacheTwice"
 rule_name (rule.Script f) = codes "Script"
 rule_name rule.MergeInput = codes "MergeInput"
 
--- what a rule prints: its name, and for the rule on scripts the script's fault after it
+-- the text of a rule: its name, and for the rule on scripts the script's fault after it
 abbrev pub rule_text : Rule → List ℕ
 rule_text (rule.Script f) = codes "Script " ++ script_text f
 rule_text r = rule_name r
 
--- the text of a fault: its number and what it is about
+-- the text of a fault: its number and its arguments
 abbrev pub load_text : LoadFault → List ℕ
 load_text (fault.Definition f) = codes "81 " ++ op_text f
 load_text (fault.Entry row f) = codes "82 " ++ (decimal row ++ (codes " " ++ op_text f))

@@ -32,12 +32,12 @@ abbrev pub has_secret : Option Kind → Bool
 has_secret (Some (Exec x)) = not (length x.secretenv == 0)
 has_secret _ = false
 
--- whether an action has no kind that its message names
+-- whether an action has none of the kinds that its message names
 abbrev pub is_nameless : Option ActionKind → Bool
 is_nameless None = true
 is_nameless (Some k) = false
 
--- whether an action is a copy with a property
+-- whether an action is a copy with this property
 abbrev pub copies_with : (CopyFile → Bool) → Option ActionKind → Bool
 copies_with p (Some (Copy c)) = p c
 copies_with p _ = false

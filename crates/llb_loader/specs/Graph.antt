@@ -48,7 +48,7 @@ pub record HasInputs (vertices : List Vertex) (v : Vertex) : Type 0 where
   pub each : (i : ℕ) (input : Input) (e : Edge) → i < length v.inputs
       → IsEdgeOfInput vertices (slice_index_or v.op.inputs i input) (slice_index_or v.inputs i e)
 
--- a vertex by itself: its op is within the limits, has no unsupported feature and meets the rules, and its counts are those of the op and small
+-- what holds of each vertex: its op is within the limits, has no unsupported feature and meets the rules, and its counts are those of the op, and small
 pub record IsVertex (v : Vertex) : Type 0 where
   pub within : IsWithinLimits v.op
   pub featureless : feature_of v.op ≡ None
@@ -59,7 +59,7 @@ pub record IsVertex (v : Vertex) : Type 0 where
   pub few_steps : v.steps < 2 ^ 25
   pub few_outputs : v.outputs ≤ 1_024
 
--- ---- a vertex by its kind
+-- ---- what holds of a vertex of each kind
 
 -- a source is local, and a name follows `local://`
 pub record IsSourceVertex (v : Vertex) (s : SourceOp) : Type 0 where
@@ -83,7 +83,7 @@ pub record IsFileVertex (v : Vertex) (f : FileOp) : Type 0 where
   pub steps : v.steps ≡ length f.actions
   pub outputs : v.outputs ≡ count_outputs (outputs_of f.actions)
 
--- a merge takes inputs that exist, or nothing
+-- each input that a merge takes exists, or is none
 pub record IsMergeVertex (v : Vertex) (m : MergeOp) : Type 0 where
   pub few : length m.inputs ≤ 1_024
   pub merge_inputs : All (λ i. IsInput (length v.op.inputs) i.input) m.inputs
@@ -121,7 +121,7 @@ pub record IsExecVertex (v : Vertex) (x : ExecOp) : Type 0 where
   pub steps : v.steps ≡ length commands
   pub outputs : v.outputs ≡ count_outputs (mount_outputs x.mounts)
 
--- the vertex is of a supported kind
+-- the vertex is of a supported kind, and what has to hold of this kind does
 abbrev pub IsVertexOf : Vertex → Option Kind → Type 0
 IsVertexOf v (Some (Source s)) = IsSourceVertex v s
 IsVertexOf v (Some (File f)) = IsFileVertex v f
@@ -129,9 +129,9 @@ IsVertexOf v (Some (Merge m)) = IsMergeVertex v m
 IsVertexOf v (Some (Exec x)) = IsExecVertex v x
 IsVertexOf v _ = ⊥
 
--- a loaded graph: its vertices are in an order in which every edge leads to a lower number
+-- a loaded graph: its vertices are in an order in which every edge of a vertex leads to a vertex with a lower number
 pub record IsGraph (g : Numbered) : Type 0 where
-  -- every edge leads to an output of a lower vertex, and so does the result
+  -- every edge of a vertex leads to an output of a vertex with a lower number, and the result is an output of one of the vertices
   pub down : (k : ℕ) (d : Vertex) → k < length g.vertices → All (LeadsBelow g.vertices k) (slice_index_or g.vertices k d).inputs
   pub result : LeadsBelow g.vertices (length g.vertices) g.result
   -- the result depends on every vertex

@@ -1,4 +1,4 @@
--- The order of the keys of caches, and that it is total.
+-- The order of the keys of caches, and the proof that it is total.
 use Rattle.std.specs.declared.cmp.Ordering.{Ordering}
 use Rattle.std.specs.Ordering.{ordering_then, nat_cmp, int_cmp}
 use Rattle.std.specs.Option.{option_cmp}

@@ -12,6 +12,6 @@ use Rattle.std.specs.Prelude.{◌⊎◌}
 abbrev pub IsGraphOf : List Row → Numbered → Type 0
 IsGraphOf rows g = (ops : List Op) × AreOps rows ops × GraphOf rows ops g
 
--- the first refusal of the rows
+-- e is the first refusal of the rows
 abbrev pub IsRefusalOf : List Row → LoadFault → Type 0
 IsRefusalOf rows e = RefusesRow rows e ⊎ ((ops : List Op) × AreOps rows ops × Refused rows ops e)

@@ -26,7 +26,7 @@ op_at ops k = slice_index_or ops k (record { inputs = []; kind = None; extra = [
 abbrev pub input_at : Op → ℕ → Input
 input_at op i = slice_index_or op.inputs i (record { digest = []; index = pos 0; extra = [] })
 
--- k, i is the least pair with the property: with the least first number, and among those the least second
+-- k and i are the least pair with the property P: no pair has a lower first number, and none with the first number k has a lower second one
 pub record Foremost (P : ℕ → ℕ → Type 0) (k i : ℕ) : Type 0 where
   pub holds : P k i
   pub least : (j h : ℕ) → P j h → (k < j) ⊎ ((k ≡ j) × (i ≤ h))
@@ -50,7 +50,7 @@ start_in rows ops = unwrap_or (row_named rows (terminal_in rows) (input_at (op_a
 abbrev pub plan_of : List Row → List Op → Plan
 plan_of rows ops = plan rows ops (terminal_in rows) (start_in rows ops)
 
--- p is the plan of rows that are read as these ops
+-- p is the plan of these rows, which are read as these ops
 pub record IsPlanOf (rows : List Row) (ops : List Op) (p : Plan) : Type 0 where
   pub same : p ≡ plan_of rows ops
 
@@ -76,11 +76,11 @@ pub record IsUnknown (p : Plan) (k i : ℕ) : Type 0 where
   pub input : HasInput p k i
   pub unknown : input_row p k i ≡ None
 
--- how many outputs the row has that is named by input i of row k
+-- how many outputs the row has that input i of row k names; if it names none, how many row 0 has
 abbrev pub outputs_there : Plan → ℕ → ℕ → ℕ
 outputs_there p k i = output_count (op_at p.ops (unwrap_or (input_row p k i) 0))
 
--- an input of a reached row, or the terminal's first input, has an index that is no output of the row it names
+-- an input of a reached row, or the terminal's first input, has an index that is no output of the row that the input names
 pub record IsBadIndex (p : Plan) (k i : ℕ) : Type 0 where
   pub asked : HasInput p k i ⊎ ((k ≡ p.terminal) × (i ≡ 0))
   pub bad : ¬ IsBelow (outputs_there p k i) (input_at (op_at p.ops k) i).index
@@ -123,14 +123,14 @@ pub record IsValid (p : Plan) (order : List ℕ) : Type 0 where
   pub supported : IsSupported p order
   pub valid : (k : ℕ) → ReachedRow p k → MeetsRules (op_at p.ops k)
 
--- No refusal applies: the reached rows are numbered, supported and valid, and each index of an input is that of an output.
+-- No refusal applies: the reached rows are numbered, supported and valid, and each input's index is that of an output of the row that the input names.
 pub record IsWhole (p : Plan) (order : List ℕ) : Type 0 where
   pub valid : IsValid p order
   pub indexes : (k i : ℕ) → ¬ IsBadIndex p k i
 
 -- ---- the refusals
 
--- row k is the least reached row with an unsupported feature, and f is its first one
+-- row k is the least reached row with an unsupported feature, and f is the first such feature of its op
 pub record IsUnsupported (p : Plan) (k : ℕ) (f : Feature) : Type 0 where
   pub reached : ReachedRow p k
   pub feature : feature_of (op_at p.ops k) ≡ Some f
@@ -142,14 +142,14 @@ pub record IsInvalid (p : Plan) (k : ℕ) (r : Rule) : Type 0 where
   pub broken : BreaksFirst (op_at p.ops k) r
   pub least : (j : ℕ) → j < k → ReachedRow p j → MeetsRules (op_at p.ops j)
 
--- the terminal's first input names no row
+-- the terminal's first input names no row; k is the terminal's row, and i is 0
 pub record HasNoStart (p : Plan) (k i : ℕ) : Type 0 where
   pub result : HasResult p
   pub unknown : input_row p p.terminal 0 ≡ None
   pub row : k ≡ p.terminal
   pub input : i ≡ 0
 
--- e refuses the plan: each refusal applies only if none of those before it does
+-- e is the refusal of the plan: each refusal applies only if no earlier one does
 abbrev pub Refuses : Plan → LoadFault → Type 0
 Refuses p TooFew = AllSame p.rows
 Refuses p (Collision k) = (¬ AllSame p.rows) × Least (Collides p.rows) k
@@ -189,7 +189,7 @@ numbered_of p order = record {
   result = edge_of p order (input_at (op_at p.ops p.terminal) 0);
 }
 
--- The rows, which are read as these ops, make the graph: no refusal applies to their plan, and the graph is that of the plan in its order.
+-- The rows, which are read as these ops, make the graph: no refusal applies to their plan, and g is the graph of the plan with its rows in this order.
 pub record GraphOf (rows : List Row) (ops : List Op) (g : Numbered) : Type 0 where
   pub order : List ℕ
   pub whole : IsWhole (plan_of rows ops) order

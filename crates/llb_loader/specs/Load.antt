@@ -9,7 +9,7 @@ use Rattle.llb_wire.specs.Digest.{digest_text}
 use Rattle.llb_loader.specs.Graph.{Numbered}
 use Rattle.llb_loader.specs.Link.{IsGraphOf, IsRefusalOf}
 
--- the rows of entries: each entry under its digest text
+-- the rows of entries: for each entry its digest text and its bytes
 abbrev pub rows_from : List (List ℕ) → List Row
 rows_from entries = map (λ bytes. record { digest = digest_text bytes; bytes = bytes }) entries
 
@@ -17,7 +17,7 @@ rows_from entries = map (λ bytes. record { digest = digest_text bytes; bytes = 
 abbrev pub IsGraphIn : List ℕ → Numbered → Type 0
 IsGraphIn bytes g = (entries : List (List ℕ)) × (definition_of bytes ≡ Ok entries) × IsGraphOf (rows_from entries) g
 
--- the first refusal of the bytes of a definition
+-- e is the first refusal of the bytes of a definition
 abbrev pub IsRefusalIn : List ℕ → LoadFault → Type 0
 IsRefusalIn bytes e = ((f : OpFault) × (definition_of bytes ≡ Err f) × (e ≡ Definition f))
     ⊎ ((entries : List (List ℕ)) × (definition_of bytes ≡ Ok entries) × IsRefusalOf (rows_from entries) e)

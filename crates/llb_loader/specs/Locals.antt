@@ -18,12 +18,12 @@ behind prefix text = cond (starts_with nat_eq text prefix) (Some (drop (length p
 abbrev pub source_name : SourceOp → Option (List ℕ)
 source_name s = behind (codes "local://") s.identifier
 
--- the name of a local source, by the kind of the op
+-- the name of a local source, from the kind of the op; nothing for an op of another kind
 abbrev pub name_by_kind : Option Kind → Option (List ℕ)
 name_by_kind (Some (Source s)) = source_name s
 name_by_kind _ = None
 
--- the name of a local source; nothing if the op is none
+-- the name of a local source; nothing if the op is not a local source
 abbrev pub local_name : Op → Option (List ℕ)
 local_name op = name_by_kind op.kind
 
@@ -37,10 +37,10 @@ Local = List ℕ × TreeMap
 unfoldable pub locals_of : {Z : Type 0} → List (String Z × TreeMap) → List Local
 locals_of entries = map (λ e. (string_bytes e.0, e.1)) entries
 
--- the tree that is given for a name
+-- the tree that is given for a name, if there is one
 abbrev pub tree_of_local : List Local → List ℕ → Option TreeMap
 tree_of_local locals name = lookup (bytes_eq name) locals
 
--- the trees after one is given for a name: it replaces the one that the name had, or else comes last
+-- the trees after one is given for a name: it replaces the tree that the name had, or, if the name had none, comes last
 abbrev pub with_local : List Local → List ℕ → TreeMap → List Local
 with_local locals name tree = insert_entry bytes_eq locals name tree

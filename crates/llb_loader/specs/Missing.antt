@@ -3,7 +3,7 @@ use Rattle.std.specs.Prelude.{ℕ, List, [], ◌∷◌, Option, Some, None, is_s
 use Rattle.llb_loader.specs.declared.graph.Vertex.{Vertex}
 use Rattle.llb_loader.specs.Locals.{Local, local_name, tree_of_local}
 
--- the name if it has no tree
+-- the name, if there is one and no tree is given for it
 abbrev pub lacks : List Local → Option (List ℕ) → Option (List ℕ)
 lacks locals None = None
 lacks locals (Some name) = if is_some (tree_of_local locals name) then None else Some name

@@ -39,7 +39,7 @@ has_type t m = int_eq m.mount_type t
 abbrev pub value_at : {X : Type 0} → List (Option X) → ℕ → Option X
 value_at values a = slice_index_or values a None
 
--- both have a value, and it is the same
+-- the two have a value, which is the same
 abbrev pub Share : {X : Type 0} → Option X → Option X → Type 0
 Share {X} a b = (x : X) × (a ≡ Some x) × (b ≡ Some x)
 
@@ -62,7 +62,7 @@ read_as text = value_of (path_of text)
 abbrev pub dests_of : List Mount → List (Option (List (List ℕ)))
 dests_of mounts = map (λ m. read_as m.dest) mounts
 
--- the `cwd` of an exec reads as a path
+-- the `cwd` of an exec reads as a path; true if the exec has no `Meta`
 abbrev pub ReadsCwd : Option Meta → Type 0
 ReadsCwd (Some meta) = IsSome (read_as meta.cwd)
 ReadsCwd None = ⊤
@@ -85,7 +85,7 @@ abbrev pub seed_by : Option Input → Option Seed
 seed_by (Some i) = Some (record { digest = i.digest; index = i.index })
 seed_by None = None
 
--- the output that a new instance of a cache begins with: that of the input with this number; none if there is no such input, as for -1
+-- the output that a new instance of a cache begins with: the one that the input with this number names; none if there is no such input, as for -1
 abbrev pub seed_of : List Input → ℤ → Option Seed
 seed_of inputs (pos n) = seed_by (slice_get inputs n)
 seed_of inputs (negsuc n) = None
@@ -109,6 +109,6 @@ cache_in m = cond (has_type cache m) m.cache_opt None
 abbrev pub key_of : List Input → Mount → Option CacheKey
 key_of inputs m = key_by (seed_of inputs m.input) (cache_in m)
 
--- for each mount, the key of the cache that it shows
+-- for each mount, the key of the cache that it shows, if it shows one
 abbrev pub keys_of : List Input → List Mount → List (Option CacheKey)
 keys_of inputs mounts = map (key_of inputs) mounts

@@ -19,11 +19,11 @@ pub record IsNumbering (g : List (List ℕ)) (start : ℕ) (order : List ℕ) : 
   pub each : (i : ℕ) → i < length order → IsNext g start (take i order) (slice_index order i)
   pub whole : (k : ℕ) → Reached g start k → Contains order k
 
--- by these ranks every edge from a reached row leads to a lower rank
+-- every edge from a reached row leads to a row of lower rank, by these ranks
 abbrev pub GoesDown : List (List ℕ) → ℕ → (ℕ → ℕ) → Type 0
 GoesDown g start rank = (a b : ℕ) → Reached g start a → HasEdge g a b → rank b < rank a
 
--- the reached rows have a cycle: by no ranks does every edge lead to a lower one
+-- the reached rows have a cycle: there are no ranks by which every edge from a reached row leads to a row of lower rank
 abbrev pub HasCycle : List (List ℕ) → ℕ → Type 0
 HasCycle g start = (rank : ℕ → ℕ) → ¬ GoesDown g start rank
 

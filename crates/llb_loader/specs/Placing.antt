@@ -8,7 +8,7 @@ use Rattle.llb_loader.specs.Rows.{inputs, HasEdge}
 abbrev pub IsMarked : List Bool → ℕ → Type 0
 IsMarked marks k = slice_index_or marks k false ≡ true
 
--- the waiter's row has `checked` marked inputs in front
+-- the first `checked` inputs of the waiter's row are marked
 pub record IsChecked (g : List (List ℕ)) (done : List Bool) (w : Waiter) : Type 0 where
   pub within : w.checked ≤ length (inputs g w.row)
   pub passed : (i : ℕ) → i < w.checked → IsMarked done (slice_index (inputs g w.row) i)

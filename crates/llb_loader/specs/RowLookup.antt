@@ -68,6 +68,6 @@ pub record AreFirsts (rows : List Row) (firsts : List ℕ) : Type 0 where
   pub len : length firsts ≡ length rows
   pub each : (k : ℕ) → k < length rows → first_with rows (row_at rows k).digest ≡ Some (slice_index_or firsts k 0)
 
--- the least row that collides
+-- e names the least row that collides
 abbrev pub RefusesCollision : List Row → LoadFault → Type 0
 RefusesCollision rows e = (k : ℕ) × (e ≡ Collision k) × Least (Collides rows) k

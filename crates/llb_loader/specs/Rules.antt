@@ -81,7 +81,7 @@ pub record IsBelow (n : ℕ) (i : ℤ) : Type 0 where
   pub low : pos 0 ≤ℤ i
   pub high : i <ℤ pos n
 
--- The input of each action a is one of the op's n inputs, the result of an action before it, or none.
+-- The input of each action is one of the op's n inputs, the result of an earlier action, or none.
 abbrev pub ActionInputs : ℕ → List Action → Type 0
 ActionInputs n actions = (a : ℕ) (d : Action) → a < length actions → IsInput (n + a) (slice_index_or actions a d).input
 
@@ -90,7 +90,7 @@ abbrev pub TakesSecond : ℕ → Option ActionKind → ℤ → Type 0
 TakesSecond n (Some (Copy c)) second = IsInput n second
 TakesSecond n _ second = ⊤
 
--- The second input of each copy a is one of the op's n inputs, the result of an action before it, or none.
+-- The second input of each copy is one of the op's n inputs, the result of an earlier action, or none.
 abbrev pub SecondInputs : ℕ → List Action → Type 0
 SecondInputs n actions = (a : ℕ) (d : Action) → a < length actions
     → TakesSecond (n + a) (slice_index_or actions a d).kind (slice_index_or actions a d).secondary_input
@@ -147,7 +147,7 @@ pub record AreMountOutputs (mounts : List Mount) : Type 0 where
   pub caches : All (λ m. m.mount_type ≡ cache → m.output ≡ none) mounts
   pub tmpfs : All (λ m. m.mount_type ≡ tmpfs → m.output ≡ none) mounts
 
--- a meta, if there is one, has at least one word
+-- a `Meta`, if there is one, has at least one word
 abbrev pub HasWord : Option Meta → Type 0
 HasWord (Some meta) = 0 < length meta.args
 HasWord None = ⊤
@@ -180,29 +180,29 @@ output_count op = kind_outputs op.kind
 
 -- ---- properties of ops of one kind
 
--- a source op has the property; so has an op of any other kind
+-- a source op has the property; nothing is asked of an op of another kind
 abbrev pub OfSource : (SourceOp → Type 0) → Option Kind → Type 0
 OfSource P (Some (Source s)) = P s
 OfSource P _ = ⊤
 
--- a file op has the property; so has an op of any other kind
+-- a file op has the property; nothing is asked of an op of another kind
 abbrev pub OfFile : (FileOp → Type 0) → Option Kind → Type 0
 OfFile P (Some (File f)) = P f
 OfFile P _ = ⊤
 
--- an exec has the property; so has an op of any other kind
+-- an exec has the property; nothing is asked of an op of another kind
 abbrev pub OfExec : (ExecOp → Type 0) → Option Kind → Type 0
 OfExec P (Some (Exec x)) = P x
 OfExec P _ = ⊤
 
--- a merge has the property; so has an op of any other kind
+-- a merge has the property; nothing is asked of an op of another kind
 abbrev pub OfMerge : (MergeOp → Type 0) → Option Kind → Type 0
 OfMerge P (Some (Merge m)) = P m
 OfMerge P _ = ⊤
 
 -- ---- the rules
 
--- an op of this kind on these inputs meets this rule
+-- an op of this kind with these inputs meets this rule
 abbrev pub Meets : List Input → Option Kind → Rule → Type 0
 Meets inputs kind rule.NoKind = IsSome kind
 Meets inputs kind rule.LocalName = OfSource (λ s. s.identifier ≢ codes "local://") kind
@@ -224,7 +224,7 @@ Meets inputs kind rule.CacheTwice = OfExec (λ x. AreApart (keys_of inputs x.mou
 Meets inputs kind (rule.Script f) = OfExec (λ x. IsSome (commands_in x.meta)) kind
 Meets inputs kind rule.MergeInput = OfMerge (λ m. All (λ i. IsInput (length inputs) i.input) m.inputs) kind
 
--- an op of this kind on these inputs meets each of these rules
+-- an op of this kind with these inputs meets each of these rules
 abbrev pub MeetsAll : List Input → Option Kind → List Rule → Type 0
 MeetsAll inputs kind [] = ⊤
 MeetsAll inputs kind (r ∷ rs) = Meets inputs kind r × MeetsAll inputs kind rs
@@ -251,6 +251,6 @@ rules_on kind =
 abbrev pub MeetsRules : Op → Type 0
 MeetsRules op = MeetsAll op.inputs op.kind (rules_on op.kind)
 
--- the first rule that an op breaks
+-- `broken` is the first rule that an op breaks
 abbrev pub BreaksFirst : Op → Rule → Type 0
 BreaksFirst op broken = Breaks op.inputs op.kind (rules_on op.kind) broken

@@ -16,7 +16,7 @@ use Rattle.llb_loader.specs.Linking.{Plan, plan, IsPlanOf, IsApart, IsNamed, Rea
 abbrev pub plan_in : Linked → Plan
 plan_in l = plan l.rows.items l.ops.items l.terminal l.start
 
--- The terminal and the start are those of the rows, each input of a reached row names a row, and the reached rows are marked.
+-- The terminal and the row of the result are those of the rows, each input of a reached row names a row, and the reached rows are marked.
 pub record IsLinked (l : Linked) : Type 0 where
   pub few : length l.rows.items ≤ 65_536
   pub len : length l.ops.items ≡ length l.rows.items
@@ -27,7 +27,7 @@ pub record IsLinked (l : Linked) : Type 0 where
   pub seen : length l.seen.items ≡ length l.rows.items
   pub exact : (k : ℕ) → IsMarked l.seen.items k ↔ ReachedRow (plan_in l) k
 
--- The names in rows, which are read as these ops, have led to this: the plan is the one that the rows are to have, each input of a reached row names a
+-- What the names in the rows, which are read as these ops, were found to say: the plan is the plan of the rows, each input of a reached row names a
 -- row, and the reached rows are marked.
 pub record AreNames (rows : List Row) (ops : List Op) (n : Names) : Type 0 where
   pub planned : IsPlanOf rows ops (plan rows ops n.terminal n.start)
@@ -36,7 +36,7 @@ pub record AreNames (rows : List Row) (ops : List Op) (n : Names) : Type 0 where
   pub seen : length n.seen.items ≡ length rows
   pub exact : (k : ℕ) → IsMarked n.seen.items k ↔ ReachedRow (plan rows ops n.terminal n.start) k
 
--- These rows, read as the ops, are linked under their digest texts.
+-- These rows are read as the ops of l, and l is linked: for each of the rows it has one with the same digest text.
 pub record IsLinkedFrom (rows : List Row) (l : Linked) : Type 0 where
   pub ops : AreOps rows l.ops.items
   pub len : length l.rows.items ≡ length rows
