@@ -1,4 +1,4 @@
--- The state while calls are read from a text: what is known of the current call, and the result by this state and the remaining words.
+-- The state while calls are read from a text: what is known of the current call, and the result that follows from this state and the remaining words.
 use Rattle.std.specs.Prelude.{◌≡◌, ℕ, ◌==◌, true, false, if◌then◌else◌, List, [], ◌∷◌, ◌++◌, length, Result, Ok, Err, slice_index_or}
 use Rattle.llb_wire.specs.Answer.{◌>>=◌}
 use Rattle.llb_applet.specs.declared.fault.ScriptFault.{ScriptFault}
@@ -19,7 +19,7 @@ some_word part = if length part == 0 then [] else part ∷ []
 abbrev pub behind : List Joined → Result (List Joined) ScriptFault → Result (List Joined) ScriptFault
 behind commands rest = rest >>= λ more. Ok (commands ++ more)
 
--- the commands, or the fault, of a text that is being read, by what was read and the remaining words
+-- the commands, or the fault, of a text that is being read, from what was read and from the remaining words
 abbrev pub ahead : Reading → List (List ℕ) → Result (List Joined) ScriptFault
 ahead reading words = behind reading.commands.items (commands_of (length reading.commands.items) (calls_from words reading.join reading.words.items))
 

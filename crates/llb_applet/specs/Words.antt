@@ -52,12 +52,12 @@ is_word_byte b =
 abbrev pub bad_in : Bool → List ℕ → Option ℕ
 bad_in called word = if is_separator word then (if called then None else Some 0) else position (λ b. not (is_word_byte b)) word
 
--- whether the last word so far belongs to a call, after one more part: the part is a word but no separator, or it is empty and the word before it does
+-- whether the last word so far belongs to a call, after one more part: the part is a word but no separator, or it is empty and this was so before
 abbrev pub called_after : Bool → List ℕ → Bool
 called_after called part = if length part == 0 then called else not (is_separator part)
 
 -- the first bad position among words, in a text of `end` bytes; `called` says whether the word before them belongs to a call; at
--- the end of the text the last word has to
+-- the end of the text the last word has to belong to one
 abbrev pub bad_place : ℕ → Bool → List Word → Option ℕ
 bad_place end called [] = if called then None else Some end
 bad_place end called (w ∷ ws) = option_or (option_map (λ k. w.place + k) (bad_in called w.bytes)) (bad_place end (not (is_separator w.bytes)) ws)

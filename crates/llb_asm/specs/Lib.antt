@@ -1,5 +1,5 @@
 -- Read first Reading (which lines are read as which entries), with Lines, Line and Values for one line and one value, then Plain (the one text that is
--- written for entries), Printing (how much of it is written) and Faults (what a fault prints). Running and Labels say how the code goes through the lines.
+-- written for entries), Printing (how much of it is written) and Faults (the texts of faults). Running and Labels say how the code goes through the lines.
 pub mod Values
 pub mod Lines
 pub mod Line

@@ -44,11 +44,11 @@ parted line = if is_utf8 line then parted_at line (position (λ b. nat_eq b 32) 
 
 -- ---- values
 
--- the record that field f with the number v adds; no bytes if v is 0 and the field is left out for 0
+-- the record that field f with the number v adds; no bytes if v is 0 and `may_be_empty` is false of f
 abbrev pub number_record : NamedField → ℕ → Held
 number_record f v = Record (if (v == 0) && not (may_be_empty f) then [] else set_number f.number v)
 
--- the record that field f with these bytes adds; no bytes if there are none and the field is left out for none
+-- the record that field f with these bytes adds; no bytes if there are none and `may_be_empty` is false of f
 abbrev pub bytes_record : NamedField → List ℕ → Held
 bytes_record f held = Record (if (length held == 0) && not (may_be_empty f) then [] else set_bytes f.number held)
 
@@ -61,7 +61,7 @@ abbrev pub digest_or_string : List (List ℕ) → Option ℕ → List ℕ → Re
 digest_or_string labels (Some k) text = labelled labels k
 digest_or_string labels None text = or_else (Breaks BadValue) (string_in text)
 
--- the string that a text spells as the value of a field with this name; only in a field `digest` may it be a label
+-- the string that a text spells as the value of a field with this name; only in a field `digest` may the text be a label
 abbrev pub string_of : List (List ℕ) → List ℕ → List ℕ → Result (List ℕ) Refusal
 string_of labels name text = digest_or_string labels (if is_text name (codes "digest") then label_in text else None) text
 

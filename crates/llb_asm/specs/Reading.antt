@@ -273,7 +273,7 @@ Assembles text (Err fault.Write) = ⊥
 abbrev pub at_line : ℕ → Refusal → ℕ × Refusal
 at_line n e = (n, e)
 
--- A text is read as at most one list of entries, it has at most one first fault, and it never has both.
+-- A text is read as at most one list of entries, and has at most one first fault; a text that is read as a list has no fault.
 pub record HasOneAnswer (text : List ℕ) : Type 0 where
   pub entries : (a b : List (List ℕ)) → SpellsEntries (kept text) a → SpellsEntries (kept text) b → a ≡ b
   pub apart : (a : List (List ℕ)) (n : ℕ) (e : Refusal) → SpellsEntries (kept text) a → ¬ FaultAt (kept text) n e

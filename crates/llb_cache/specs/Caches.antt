@@ -88,12 +88,12 @@ place_at out lease i = slice_index_or (places_of out lease) i (place (record { i
 
 -- ---- what a lease takes
 
--- the least number at or after n whose instance no lease has, if it is one of the first `more` numbers; else n + more
+-- the least number at or after n whose instance no lease has, if it is one of the `more` numbers from n on; else n + more
 unfoldable pub first_free : Leases → Key → ℕ → ℕ → ℕ
 first_free out key n zero = n
 first_free out key n (suc more) = if is_held out (place key n) then first_free out key (n + 1) more else n
 
--- the number of the instance for a key: 0; for a private key the least whose instance no lease has, where as many numbers are tried as there are leases
+-- the number of the instance for a key: for a private key the least whose instance no lease has, which is at most the number of leases; for other keys 0
 abbrev pub number_for : Leases → Key → Mode → ℕ
 number_for out key Shared = 0
 number_for out key Locked = 0

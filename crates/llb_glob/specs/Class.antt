@@ -22,7 +22,7 @@ Excluding true P = ¬ P
 abbrev pub ClassTakes : ClassValue → ℕ → Type 0
 ClassTakes class c = Excluding class.excludes (IsInSome class.spans c)
 
--- the relation as a test: whether a character is in a span
+-- the relation as a test: whether a character is in an item
 abbrev pub is_in_span : Span → ℕ → Bool
 is_in_span span c = nat_le span.low c && nat_le c span.high
 

@@ -1,4 +1,4 @@
--- The state while a part is read, and the result of the part by this state and the remaining characters.
+-- The state while a part is read, and the result of the part that follows from this state and the remaining characters.
 use Rattle.std.specs.Prelude.{◌≡◌, ℕ, false, List, Result, Ok, Err}
 use Rattle.llb_glob.specs.declared.fault.PatternFault.{PatternFault}
 use Rattle.llb_glob.specs.declared.item.Item.{Item}

@@ -20,18 +20,18 @@ abbrev pub vertex_at : List Vertex → ℕ → Vertex
 vertex_at vertices n = slice_index_or vertices n
     (record { digest = []; op = record { inputs = []; kind = None; extra = [] }; script = None; inputs = []; steps = 0; outputs = 0 })
 
--- the edge of an input, to this vertex
+-- the edge of an input that leads to this vertex
 abbrev pub edge_to : ℕ → Input → Edge
 edge_to vertex input = record { vertex = vertex; index = nat_abs input.index }
 
--- an op has fewer than 2^25 steps, at most 1,024 outputs, and as many inputs as these rows are; the index of each input is from 0 to 1,024
+-- an op has fewer than 2^25 steps, at most 1,024 outputs, and as many inputs as there are `named` rows; the index of each input is from 0 to 1,024
 pub record IsBuildable (op : Op) (named : List ℕ) : Type 0 where
   pub steps : step_count op < 2 ^ 25
   pub outputs : output_count op ≤ 1_024
   pub len : length named ≡ length op.inputs
   pub indexes : (i : ℕ) → i < length op.inputs → IsBelow 1_025 (input_at op i).index
 
--- v is the vertex of this op, and its edges lead to the numbers of the rows that the op's inputs name
+-- v is the vertex of this op, and each of its edges leads to the number, by `ranks`, of the row that the op's input names
 pub record IsBuilt (text : List ℕ) (from : Op) (named ranks : List ℕ) (v : Vertex) : Type 0 where
   pub digest : v.digest ≡ text
   pub op : v.op ≡ from

@@ -70,7 +70,7 @@ pub record IsSourceVertex (v : Vertex) (s : SourceOp) : Type 0 where
   pub steps : v.steps ≡ 1
   pub outputs : v.outputs ≡ 1
 
--- a file op has at least one action; each action has a kind, sets no owner by name, and takes inputs that exist
+-- a file op has at least one action; each action has a kind, sets no owner by name, and takes inputs of the op, results of earlier actions, or none
 pub record IsFileVertex (v : Vertex) (f : FileOp) : Type 0 where
   pub some : 0 < length f.actions
   pub few : length f.actions ≤ 1_024
@@ -83,7 +83,7 @@ pub record IsFileVertex (v : Vertex) (f : FileOp) : Type 0 where
   pub steps : v.steps ≡ length f.actions
   pub outputs : v.outputs ≡ count_outputs (outputs_of f.actions)
 
--- each input that a merge takes exists, or is none
+-- each input number of a merge is the number of an input of the op, or -1
 pub record IsMergeVertex (v : Vertex) (m : MergeOp) : Type 0 where
   pub few : length m.inputs ≤ 1_024
   pub merge_inputs : All (λ i. IsInput (length v.op.inputs) i.input) m.inputs
@@ -121,7 +121,7 @@ pub record IsExecVertex (v : Vertex) (x : ExecOp) : Type 0 where
   pub steps : v.steps ≡ length commands
   pub outputs : v.outputs ≡ count_outputs (mount_outputs x.mounts)
 
--- the vertex is of a supported kind, and what has to hold of this kind does
+-- the vertex is of a supported kind, and the definition above for this kind holds of it
 abbrev pub IsVertexOf : Vertex → Option Kind → Type 0
 IsVertexOf v (Some (Source s)) = IsSourceVertex v s
 IsVertexOf v (Some (File f)) = IsFileVertex v f

@@ -58,7 +58,7 @@ pub record IsPlanOf (rows : List Row) (ops : List Op) (p : Plan) : Type 0 where
 abbrev pub links_in : Plan → List (List ℕ)
 links_in p = graph_of p.rows p.terminal p.ops
 
--- the row that input i of row k names
+-- the row that input i of row k names, if it names one
 abbrev pub input_row : Plan → ℕ → ℕ → Option ℕ
 input_row p k i = row_named p.rows p.terminal (input_at (op_at p.ops k) i).digest
 

@@ -1,4 +1,4 @@
--- Local sources: the name of each, and the trees that are given under names.
+-- Local sources: the name of each, and the trees that are given for names.
 use Rattle.std.specs.Prelude.{ℕ, cond, nat_eq, List, length, map, drop, Option, Some, None, String, string_bytes, codes}
 use Rattle.std.specs.List.{starts_with}
 use Rattle.std.specs.Map.{lookup}

@@ -1,4 +1,4 @@
--- The first local source of a graph that has no tree.
+-- The first of a graph's local sources for which no tree is given.
 use Rattle.std.specs.Prelude.{ℕ, List, [], ◌∷◌, Option, Some, None, is_some, if◌then◌else◌}
 use Rattle.llb_loader.specs.declared.graph.Vertex.{Vertex}
 use Rattle.llb_loader.specs.Locals.{Local, local_name, tree_of_local}
@@ -13,7 +13,7 @@ abbrev pub first_of : {A : Type 0} → Option A → Option A → Option A
 first_of (Some x) later = Some x
 first_of None later = later
 
--- the name of the first local source, by vertex, that has no tree
+-- the name of the first local source, in the order of the vertices, for which no tree is given
 abbrev pub missing_local : List Local → List Vertex → Option (List ℕ)
 missing_local locals [] = None
 missing_local locals (v ∷ vs) = first_of (lacks locals (local_name v.op)) (missing_local locals vs)

@@ -39,7 +39,7 @@ has_type t m = int_eq m.mount_type t
 abbrev pub value_at : {X : Type 0} → List (Option X) → ℕ → Option X
 value_at values a = slice_index_or values a None
 
--- the two have a value, which is the same
+-- each of the two has a value, and the values are equal
 abbrev pub Share : {X : Type 0} → Option X → Option X → Type 0
 Share {X} a b = (x : X) × (a ≡ Some x) × (b ≡ Some x)
 

@@ -25,7 +25,7 @@ pub record Collides (rows : List Row) (k : ℕ) : Type 0 where
   pub here : k < length rows
   pub earlier : (j : ℕ) × (j < k) × ((row_at rows j).digest ≡ (row_at rows k).digest) × ((row_at rows j).bytes ≢ (row_at rows k).bytes)
 
--- k is the least number with the property
+-- k is the least number with the property P
 pub record Least (P : ℕ → Type 0) (k : ℕ) : Type 0 where
   pub holds : P k
   pub least : (j : ℕ) → j < k → ¬ P j
@@ -34,7 +34,7 @@ pub record Least (P : ℕ → Type 0) (k : ℕ) : Type 0 where
 abbrev pub IsTerminal : List Row → ℕ → Type 0
 IsTerminal rows t = Least (λ k. (k < length rows) × (row_at rows k ≡ row_at rows (length rows - 1))) t
 
--- the first row with this digest text
+-- the first row with this digest text, if there is one
 abbrev pub first_with : List Row → List ℕ → Option ℕ
 first_with rows d = position (λ r. bytes_eq d r.digest) rows
 

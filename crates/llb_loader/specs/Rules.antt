@@ -128,7 +128,7 @@ mount_outputs mounts = map (λ m. m.output) mounts
 abbrev pub ShowsInput : ℕ → Mount → Type 0
 ShowsInput n m = (m.mount_type ≡ bind) ⊎ (m.mount_type ≡ cache) → IsInput n m.input
 
--- a cache mount has options
+-- if the mount is a cache mount, it has options
 abbrev pub HasOptions : Mount → Type 0
 HasOptions m = m.mount_type ≡ cache → IsSome m.cache_opt
 
@@ -137,7 +137,7 @@ abbrev pub IsKnownSharing : Option CacheOpt → Type 0
 IsKnownSharing (Some c) = IsBelow 3 c.sharing
 IsKnownSharing None = ⊤
 
--- a cache mount with options names one of the three modes
+-- if the mount is a cache mount and has options, these name one of the three modes
 abbrev pub IsShared : Mount → Type 0
 IsShared m = m.mount_type ≡ cache → IsKnownSharing m.cache_opt
 

@@ -10,7 +10,7 @@ use Rattle.llb_applet.specs.declared.fault.ScriptFault.{ScriptFault}
 use Rattle.llb_applet.specs.declared.fault.ScriptFault.TheVariants.{ShellSyntax}
 use Rattle.llb_applet.specs.Scripts.{script_of}
 
--- the commands that the words of a meta are read as, if they are a script
+-- the commands that the words of a `Meta` are read as, if they are a script
 abbrev pub commands_in : Option Meta → Option (List Joined)
 commands_in (Some m) = result_ok (script_of m.args)
 commands_in None = None
@@ -20,7 +20,7 @@ abbrev pub fault_or_none : Result (List Joined) ScriptFault → ScriptFault
 fault_or_none (Err f) = f
 fault_or_none (Ok cs) = ShellSyntax 0
 
--- the fault of reading a meta's words; if there is none, a fault that is not used
+-- the fault of reading the words of a `Meta`; if there is none, a fault that is not used
 abbrev pub script_fault : Option Meta → ScriptFault
 script_fault (Some m) = fault_or_none (script_of m.args)
 script_fault None = ShellSyntax 0

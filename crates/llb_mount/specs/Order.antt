@@ -45,13 +45,13 @@ pub record AtRoot (ds : List (List (List ℕ))) (rows : List Row) : Type 0 where
   pub there : 0 < length rows
   pub root : dest_of ds rows 0 ≡ []
 
--- the position above j is before j, but not before k, and the dest at k is a prefix of the dest at the position above j
+-- the position that `above_of` has for j is before j, but not before k, and the dest at k is a prefix of the dest at that position
 pub record IsAbove (ds : List (List (List ℕ))) (rows : List Row) (j k : ℕ) : Type 0 where
   pub up : above_of rows j < j
   pub kept : k ≤ above_of rows j
   pub within : is_within (dest_of ds rows k) (dest_of ds rows (above_of rows j)) ≡ true
 
--- for each j below `count`, and each k before j whose dest is a prefix of the dest at j: going up from j does not pass over k
+-- for each j below `count`, and each k before j whose dest is a prefix of the dest at j: `IsAbove` holds, so going up from j does not pass over k
 abbrev pub Climbs : List (List (List ℕ)) → List Row → ℕ → Type 0
 Climbs ds rows count = (j k : ℕ) → k < j → j < count → is_within (dest_of ds rows k) (dest_of ds rows j) ≡ true → IsAbove ds rows j k
 

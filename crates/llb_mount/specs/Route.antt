@@ -7,7 +7,7 @@ use Rattle.llb_tree.specs.Path.{is_within}
 use Rattle.llb_mount.specs.declared.shown.Shown.{Shown}
 use Rattle.llb_mount.specs.View.{dests, mount_at}
 
--- how many names the longest of those dests has that are prefixes of a path; 0 if no dest is a prefix
+-- how many names the longest dest that is a prefix of a path has; 0 if no dest is a prefix
 abbrev pub greatest_length : List (List (List ℕ)) → List (List ℕ) → ℕ
 greatest_length [] path = 0
 greatest_length (d ∷ ds) path = if is_within d path then max (length d) (greatest_length ds path) else greatest_length ds path

@@ -15,7 +15,7 @@ use Rattle.llb_ops.specs.Writing.{each_field}
 abbrev pub definition_shape : Shape
 definition_shape = shape_of message.Definition
 
--- whether no entry is longer than its limit
+-- whether no entry is longer than the limit of an entry
 abbrev pub are_short : List (List ℕ) → Bool
 are_short entries = list_all (λ e. nat_le (length e) entry_limit) entries
 

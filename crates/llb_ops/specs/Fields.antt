@@ -36,7 +36,7 @@ bytes_of (message row inner rest) = set_bytes row.1.number (bytes_of inner) ++ b
 -- ---- canonical fields, by the table
 
 -- Whether a field may follow the field `last`: numbers ascend, and only a repeated field occurs again. `set` says that a member of the oneof is there already,
--- and then no other may follow.
+-- and then no other member may follow.
 abbrev pub may_follow : ℕ → Bool → NamedField → Bool
 may_follow last set f = (nat_lt last f.number || (f.repeated && (last == f.number))) && not (f.member && set)
 

@@ -1,5 +1,5 @@
 -- How each message is made from its records, by its fields in the table (`ops.proto` of BuildKit). The order of the steps is the
--- order of the faults: the records, the message fields by their numbers, the limits.
+-- order of the faults: first those of the records, then those of the message fields by their numbers, then those of the limits.
 use Rattle.std.specs.Prelude.{ℕ, List, [], ◌∷◌, length, Option, Result, Ok, Err, nat_lt, ◌==◌, if◌then◌else◌}
 use Rattle.llb_wire.specs.Answer.{◌>>=◌}
 use Rattle.llb_wire.specs.Records.{Record}

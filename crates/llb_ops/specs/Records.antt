@@ -34,7 +34,7 @@ view r = record { number = r.number; wire = r.wire; value = r.value; payload = r
 abbrev pub views : List Held → List Record
 views rs = map view rs
 
--- ---- the records from left to right: each may have a fault of the wire, or be of a named field and have another wire type than this
+-- ---- the records from left to right: each may have a fault of the wire, or be a record of a named field with a wire type that does not fit
 
 -- the form of the field with this number, if the message names it
 abbrev pub form_of : Shape → ℕ → Option Form

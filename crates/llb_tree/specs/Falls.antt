@@ -20,7 +20,7 @@ use Rattle.llb_tree.specs.declared.node.Piece.{Piece}
 use Rattle.llb_tree.specs.declared.node.Node.TheDeep.{deep-Kind, deep-Child, deep-Piece}
 use denote.Param.Weighed.{most}
 
--- if each path that has an entry has fewer than n names, the height by these entries is at most n
+-- if each path that has an entry has fewer than n names, the height that these entries have is at most n
 most_le : (n : ℕ) (es : List (List (List ℕ) × Entry)) → ((q : List (List ℕ)) → is_some (find path_cmp q es) ≡ true → length q + 1 ≤ n)
     → most (λ (e : List (List ℕ) × Entry). length e.0 + 1) es ≤ n
 most_le n [] h = omega arith

@@ -48,7 +48,7 @@ name_of part = if is_name part then Ok part else Err BadName
 abbrev pub below : List (List ℕ) → List ℕ → Result (List (List ℕ)) TreeFault
 below path name = if nat_lt (length path) 128 then Ok (path ++ name ∷ []) else Err BadName
 
--- the path after one part of a text: the same for an empty part and `.`, without its last name for `..`, else with one more name
+-- the path after one part of a text: the same path for an empty part and for `.`, the path without its last name for `..`, else with one more name
 abbrev pub enter : List (List ℕ) → List ℕ → Result (List (List ℕ)) TreeFault
 enter path part =
     if length part == 0 || is_dot part then Ok path

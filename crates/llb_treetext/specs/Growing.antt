@@ -28,7 +28,7 @@ abbrev pub IsGrownIfAny : Option Growing → TreeMap → Type 0
 IsGrownIfAny None t = Unit {0}
 IsGrownIfAny (Some g) t = IsGrown g t
 
--- if a tree is given first, it is t
+-- t is the tree that is given, if one is given
 abbrev pub IsIfAny : Option TreeMap → TreeMap → Type 0
 IsIfAny None t = Unit {0}
 IsIfAny (Some u) t = u ≡ t

@@ -42,7 +42,7 @@ abbrev pub is_dir : Entry → Bool
 is_dir (Dir m) = true
 is_dir (File m content) = false
 
--- the place of a byte in the order of paths: a slash is before all bytes of names
+-- a byte's rank in the order of paths: a slash is before all bytes of names
 abbrev pub rank : ℕ → ℕ
 rank b = if b == 47 then 0 else b
 

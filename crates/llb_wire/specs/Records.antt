@@ -41,7 +41,7 @@ pub record IsFixed (w : Width) (bytes : List ℕ) (n : ℕ) : Type 0 where
   pub size : length bytes ≡ byte_len w
   pub value : n ≡ from_le_bytes w bytes
 
--- The bytes after the tag. For a LEN: its value as a varint, and then as many bytes, the payload. For any other type all of them are the payload, which is
+-- The bytes after the tag. For a LEN: its value as a varint, and then a payload of so many bytes. For any other type all the bytes are the payload, which is
 -- the value's spelling.
 abbrev pub IsPayload : Wire → List ℕ → ℕ → List ℕ → Type 0
 IsPayload Varint bytes value payload = (payload ≡ bytes) × IsVarint bytes value

@@ -1,4 +1,4 @@
--- Comparisons of texts, and helpers for reading a value from one.
+-- Comparisons of texts, and helpers for reading a value from a text.
 use Rattle.std.specs.Prelude.{ℕ, nat_eq, Bool, true, false, List, Option, Some, None}
 use Rattle.std.specs.Cmp.Lexicographic.{pointwise}
 
