@@ -28,7 +28,7 @@ all_below here depth [] = Ok tt
 all_below here depth (e ∷ es) =
     if nat_lt 128 (depth + length e.0) then Err BadName else (meets (finite.get here e.0) e.1 >>= λ _. all_below here depth es)
 
--- what is at a path after two trees are merged: a directory that both trees have stays as it is
+-- what is at a path after a copied tree is merged into another tree: a directory that both trees have stays as that other tree has it
 abbrev pub laid : (MetaValue → MetaValue) → Option Entry → Option Entry → Option Entry
 laid given there None = there
 laid given there (Some e) = Some (landed given there e)

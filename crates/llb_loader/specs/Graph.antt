@@ -48,7 +48,7 @@ pub record HasInputs (vertices : List Vertex) (v : Vertex) : Type 0 where
   pub each : (i : ℕ) (input : Input) (e : Edge) → i < length v.inputs
       → IsEdgeOfInput vertices (slice_index_or v.op.inputs i input) (slice_index_or v.inputs i e)
 
--- what holds of each vertex: its op is within the limits, has no unsupported feature and meets the rules, and its counts are those of the op, and small
+-- what holds of each vertex: its op is within the limits, has no unsupported feature and meets the rules; its script and its few steps and outputs are the op's
 pub record IsVertex (v : Vertex) : Type 0 where
   pub within : IsWithinLimits v.op
   pub featureless : feature_of v.op ≡ None

@@ -75,7 +75,7 @@ abbrev pub those_pieces : Option (Vec Piece Global) → List Piece → List Piec
 those_pieces None ps = ps
 those_pieces (Some made) ps = made.items
 
--- the children after the tree of the one at a position is replaced
+-- the children after the tree of the child at position i is replaced by t
 abbrev pub written : ℕ → TreeMap → Pairs → Pairs
 written i t [] = []
 written zero t (k ∷ ks) = (k.0, t) ∷ ks

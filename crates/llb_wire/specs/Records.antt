@@ -50,7 +50,7 @@ IsPayload Len bytes value payload = (count : List ℕ) × (bytes ≡ count ++ pa
 IsPayload I32 bytes value payload = (payload ≡ bytes) × IsFixed w32 bytes value
 
 -- The bytes of a record: its tag, which is a varint of eight times the field's number plus the code of the wire type, and then its payload,
--- with its length before it if it is a LEN.
+-- which for a LEN has its length before it.
 pub record IsRecord (r : Record) : Type 0 where
   pub tag : List ℕ
   pub behind : List ℕ

@@ -39,7 +39,7 @@ abbrev pub IsOpen : List ℕ → Type 0
 IsOpen [] = Unit {0}
 IsOpen (b ∷ bs) = (128 ≤ b) × IsOpen bs
 
--- the bytes end inside a varint
+-- the bytes end before the varint at position `at` does
 pub record CutVarint (bytes : List ℕ) (at : ℕ) : Type 0 where
   pub more : IsOpen (drop at bytes)
   pub few : length (drop at bytes) ≤ 9
@@ -98,7 +98,7 @@ pub record RecordAt (bytes : List ℕ) (at : ℕ) (f : Field) : Type 0 where
   pub tag : TagAt bytes at f.number f.wire tag_end
   pub payload : PayloadAt f.wire bytes tag_end f
 
--- the bytes end inside the payload
+-- the tag ends at position `at`, and the bytes end before the payload does
 abbrev pub CutPayload : Wire → List ℕ → ℕ → Type 0
 CutPayload Varint bytes at = CutVarint bytes at
 CutPayload I64 bytes at = length bytes < at + 8
