@@ -134,7 +134,7 @@ extra_in here text = do
   _ ← guard (Breaks BadValue) (are_unnamed here.message bytes)
   Ok (record { next = at_end here; held = Record bytes })
 
--- the item of a line whose name is that of a field of the message
+-- the item of a line whose name is the name of a field of the message
 abbrev pub field_in : List (List ℕ) → Here → List ℕ × List ℕ → Result Item Refusal
 field_in labels here p = do
   row ← or_else (Breaks UnknownField) (row_named here.message p.0)

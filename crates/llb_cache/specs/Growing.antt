@@ -17,7 +17,7 @@ pub record FitsIn (r : Ready) : Type 0 where
   pub mark : r.place.number < length r.marks
   pub clear : (k : ℕ) → slice_index_or r.marks k false ≡ false
 
--- the fault is that of the need that is refused; if no need is refused, there is no fault
+-- a need is refused, and e is the fault for this need
 abbrev pub IsRefusal : Option Need → LeaseFault → Type 0
 IsRefusal None e = ⊥
 IsRefusal (Some n) e = e ≡ Held n.key

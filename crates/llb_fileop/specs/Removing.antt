@@ -40,7 +40,7 @@ is_below_any ps q = list_any (λ p. is_within p q) ps
 abbrev pub left : List (List Item) → TreeMap → TreeMap
 left pattern t = finite.retain_keys t (λ q. not (is_below_any (matching pattern t) q))
 
--- the tree after these paths, and what is below them, are removed; if there are no paths, the result is that of `absent`
+-- the tree after these paths, and what is below them, are removed; if there are no paths, `absent` says the result
 abbrev pub removed_all : Bool → List (List (List ℕ)) → TreeMap → Result TreeMap TreeFault
 removed_all allowed [] t = absent allowed t
 removed_all allowed (p ∷ ps) t = Ok (finite.retain_keys t (λ q. not (is_below_any (p ∷ ps) q)))

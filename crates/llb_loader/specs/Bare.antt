@@ -1,4 +1,4 @@
--- Rows whose bytes are kept apart from their digest texts, as a list of entries.
+-- Rows without bytes, whose bytes are kept separately, as a list of entries.
 use Rattle.std.specs.Prelude.{◌≡◌, ℕ, ◌<◌, List, [], ◌∷◌, length, map, slice_index_or, Ok, Err, IsOk}
 use Rattle.llb_ops.specs.declared.op.Op.{Op}
 use Rattle.llb_ops.specs.declared.fault.OpFault.{OpFault}

@@ -95,7 +95,7 @@ abbrev pub SecondInputs : ℕ → List Action → Type 0
 SecondInputs n actions = (a : ℕ) (d : Action) → a < length actions
     → TakesSecond (n + a) (slice_index_or actions a d).kind (slice_index_or actions a d).secondary_input
 
--- the first and the second input of each action is an input of the op, the result of an earlier action, or none
+-- the input of each action, and the second input of each copy, is an input of the op, the result of an earlier action, or none
 pub record TakeInputs (n : ℕ) (actions : List Action) : Type 0 where
   pub first : ActionInputs n actions
   pub second : SecondInputs n actions

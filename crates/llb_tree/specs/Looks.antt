@@ -51,6 +51,6 @@ find_flat n q (k ∷ ks) =
 pub get-below : (k : Kind) (n : List ℕ) (q : List (List ℕ)) → finite.get (map_of k) (n ∷ q) ≡ look_kids (kids_of k) n q
 get-below k n q = finite.get-from_entries path_cmp-IsTotalOrder (entries_of k) (n ∷ q) ∙ find_flat n q (kids_of k)
 
--- the map of a node has at the node itself the node's own entry
+-- the map of a node has the node's entry at the empty path
 pub get-root : (k : Kind) → finite.get (map_of k) [] ≡ Some (own_entry k)
 get-root k = finite.get-from_entries path_cmp-IsTotalOrder (entries_of k) []

@@ -1,5 +1,5 @@
 -- The mode and the owner of an entry, as numbers. A mode is at most 4095 (twelve bits), and owners are below 2^32;
--- the type `Meta` of the code ensures both.
+-- the type `Meta` of the code ensures these bounds.
 use Rattle.std.specs.Prelude.{ℕ, ◌≤◌, ◌<◌, ◌^◌, Option, Some, None, nat_lt, if◌then◌else◌}
 
 -- the mode of an entry, and the user and the group that own it; the numbers are not bounded here

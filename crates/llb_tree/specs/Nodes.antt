@@ -66,7 +66,7 @@ abbrev pub own_entry : Kind → base.Entry
 own_entry (kind.File m c) = base.File m (arc_value c)
 own_entry (kind.Dir m kids) = base.Dir m
 
--- the entries of a node, by their paths from it: its own entry at the root, and then those of its children
+-- the entries of a node, by their paths from it: the node's entry at the empty path, and then the entries of its children
 abbrev pub entries_of : Kind → List Pair
 entries_of k = ([], own_entry k) ∷ flat (kids_of k)
 

@@ -31,7 +31,7 @@ is_mode (Some mode) = if nat_lt 4095 mode then false else true
 abbrev pub way_of : Option ℕ → Option ℕ → Option ℕ → Bool → Option WayValue
 way_of mode uid gid keeps = if is_mode mode then Some (record { mode = mode; uid = uid; gid = gid; keeps = keeps }) else None
 
--- the mode and the owner of an upper entry: those that are given, else its own
+-- the mode and the owner of an upper entry: those that are given, else those that the entry has
 abbrev pub laid_meta : WayValue → MetaValue → MetaValue
 laid_meta w m = record { mode = unwrap_or w.mode m.mode; uid = unwrap_or w.uid m.uid; gid = unwrap_or w.gid m.gid }
 

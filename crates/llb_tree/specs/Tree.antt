@@ -159,7 +159,7 @@ pub record IsAllowedAt (p : List (List ℕ)) (e : Entry) : Type 0 where
   pub meta : IsMeta (meta_in e)
   pub bytes : HasBytes e
 
--- the root is a directory, so is each proper prefix of a path with an entry, and each entry is valid
+-- the root is a directory, each proper prefix of a path with an entry is a directory too, and each entry is valid
 pub record IsTree (t : TreeMap) : Type 0 where
   pub root : IsDirAt (finite.get t) []
   pub closed : (p : List (List ℕ)) → IsSome (finite.get t p) → walk (finite.get t) p ≡ Ok tt

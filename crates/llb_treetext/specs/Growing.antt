@@ -1,4 +1,4 @@
--- The tree of the lines so far; one of its directories may be kept apart. Only the code and the proofs use this file.
+-- The tree of the lines so far; one of its directories may be kept in a separate tree. Only the code and the proofs use this file.
 use Rattle.std.specs.Prelude.{◌≡◌, ℕ, List, ◌++◌, Option, Some, None, Ok, false}
 use Rattle.std.specs.FinMap as finite
 use Rattle.llb_tree.specs.Path.{is_within}
@@ -14,7 +14,7 @@ pub record HasBelow (t above : TreeMap) (at : List (List ℕ)) (dir : TreeMap) :
   pub inside : (q : List (List ℕ)) → finite.get t (at ++ q) ≡ finite.get dir q
   pub outside : (q : List (List ℕ)) → is_within at q ≡ false → finite.get t q ≡ finite.get above q
 
--- t is the tree that is kept, or, if a directory is kept apart, the tree with that directory at its path
+-- t is the tree that is kept, or, if a directory is kept in a separate tree, the tree with that directory at its path
 abbrev pub IsKept : TreeMap → Option Open → TreeMap → Type 0
 IsKept kept None t = kept ≡ t
 IsKept kept (Some o) t = HasBelow t o.above o.at kept × (o.text.now ≡ names_text o.at)
@@ -33,7 +33,7 @@ abbrev pub IsIfAny : Option TreeMap → TreeMap → Type 0
 IsIfAny None t = Unit {0}
 IsIfAny (Some u) t = u ≡ t
 
--- the next line is that of the entry `row` and has the fields x; nothing is at the entry's path in the tree t yet, and the entry can be put there
+-- the next line is the line of the entry `row` and has the fields x; the tree t has nothing at the entry's path yet, and the entry can be put there
 pub record Follows (t : TreeMap) (row : List (List ℕ) × Entry) (x : Parts) : Type 0 where
   pub tree : IsTree t
   pub of : IsOf row x

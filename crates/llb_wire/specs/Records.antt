@@ -59,7 +59,7 @@ pub record IsRecord (r : Record) : Type 0 where
   pub tagged : IsVarint tag (8 * r.number + code_of r.wire)
   pub payload : IsPayload r.wire behind r.value r.payload
 
--- the bytes are those of the records, one after another, and each record's bytes spell it
+-- the bytes are the bytes of the records, one record after another, and each record's bytes spell this record
 pub record SpellRecords (bytes : List ℕ) (rs : List Record) : Type 0 where
   pub whole : bytes ≡ flat_map (λ r. r.text) rs
   pub each : AllByRecursion IsRecord rs
