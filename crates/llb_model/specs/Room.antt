@@ -69,14 +69,14 @@ still_to_come b s = all_to_come b.graph.vertices s.statuses + all_left b s.worke
 
 -- ---- room in the record
 
--- the room in the record that the next claim of a vertex reserves: only a vertex that waits after a cancel needs more
+-- the room in the record that the next claim of a vertex reserves: 0, unless the vertex waits after a cancel
 abbrev pub owed_by : Vertex → Status → ℕ → ℕ
 owed_by v Waiting zero = 0
 owed_by v Waiting (suc n) = events_of v
 owed_by v (Running w) n = 0
 owed_by v (Settled e) n = 0
 
--- that room, summed up over the vertices from number k up
+-- the sum of the room that the next claims of the vertices from number k up reserve
 abbrev pub owed_from : ℕ → List Vertex → List Status → List Reply → ℕ
 owed_from k [] statuses rs = 0
 owed_from k (v ∷ vs) [] rs = 0
