@@ -30,12 +30,14 @@ By test a b = test a b ≡ true
 abbrev pub LaysAlike : TreeMap → TreeMap → Type 0
 LaysAlike t v = (test : List ℕ → List ℕ → Bool) (u w : TreeMap) → AreAlike (By test) t u → AreAlike (By test) v w → AreAlike (By test) (lay t v) (lay u w)
 
--- an action on a base, with a second tree: on alike trees it fails with the same fault, or results in alike trees
+-- an action on two trees (its input and its secondary input): on trees that are alike to these it fails with the same fault, or results in an alike tree; if
+-- the content that it writes is related to itself
 abbrev pub ActsAlike : Option ActionKind → TreeMap → TreeMap → Type 0
 ActsAlike a t v = (test : List ℕ → List ℕ → Bool) (u w : TreeMap) → RelatesBody (By test) a → AreAlike (By test) t u → AreAlike (By test) v w
     → BothResults (AreAlike (By test)) (act a t v) (act a u w)
 
--- a command in this setting on this view: on an alike view it fails too, or both results are alike
+-- a command in this setting on this view: on an alike view it fails too, or both results are alike; if the relation is kept by appending and relates what the
+-- command writes
 abbrev pub RunsAlike : Setting → List Shown → Command → Type 0
 RunsAlike s v c = (test : List ℕ → List ℕ → Bool) (w : List Shown) → IsKept (By test) → RelatesTexts (By test) s c → AreAlikeViews (By test) v w
     → BothOptions (AreAlikeViews (By test)) (run s v c) (run s w c)
@@ -64,7 +66,7 @@ HaveAlikeSources R g v ls ms = (name : List ℕ) → IsSourceOf g v name → Bot
 abbrev pub HasAlikeOutcomes : (List ℕ → List ℕ → Type 0) → Numbered → List Local → List Local → ℕ → Type 0
 HasAlikeOutcomes R g ls ms v = BothOptions (AreAlikeOutcomes R) (outcome (record { graph = g; locals = ls }) v) (outcome (record { graph = g; locals = ms }) v)
 
--- if local trees differ only in contents, by the relation R, so do the outcomes
+-- if local trees differ only in contents, by the relation R, so do the outcomes, as long as R relates what is written (`RelatesWritten`)
 abbrev pub HandsOn : (List ℕ → List ℕ → Type 0) → Numbered → Type 0
 HandsOn R g = (ls ms : List Local) (v : ℕ) → RelatesWritten R g v → HaveAlikeSources R g v ls ms → HasAlikeOutcomes R g ls ms v
 
@@ -74,11 +76,12 @@ HandsRelationsOn g = (test : List ℕ → List ℕ → Bool) → IsKept (By test
 
 -- ---- a law for contents that expand to others
 
--- the second content is what the first one expands to
+-- the second content, `b`, is what the first, `a`, expands to
 abbrev pub ExpandsTo : (List ℕ → Option (List ℕ)) → List ℕ → List ℕ → Type 0
 ExpandsTo expand a b = expand a ≡ Some b
 
--- if contents of local trees expand to others, the contents of the outcomes expand to those of the others' outcomes, for each expansion that appending keeps
+-- for each expansion that appending keeps: if the contents of local trees expand to those of other local trees, then the contents of the outcomes expand to
+-- those of the outcomes on the others, by `HandsOn`
 abbrev pub HandsExpansionsOn : Numbered → Type 0
 HandsExpansionsOn g = (expand : List ℕ → Option (List ℕ)) → IsKept (ExpandsTo expand) → HandsOn (ExpandsTo expand) g
 
@@ -164,18 +167,19 @@ abbrev pub WritesNoMark : Numbered → ℕ → Type 0
 WritesNoMark g v = (k : ℕ) (x : Vertex) → Reached (links g.vertices) v k → slice_get g.vertices k ≡ Some x
     → list_any step_writes_mark (program_of x).steps ≡ false
 
--- a content given by value: the same in both, and without the byte that begins tokens
+-- two equal contents without the byte that begins tokens: such a content is given by value, not by a token
 pub record IsLiteral (a b : List ℕ) : Type 0 where
   pub same : a ≡ b
   pub plain : has_mark a ≡ false
 
--- each vertex at or before vertex v that makes a digest has its sources by value: those at or before it have the same contents in both, and none has the
--- byte that begins tokens
+-- for each vertex at or before vertex v that makes a digest: the local sources at or before that vertex have the same contents in both lists of local trees,
+-- and none of these contents has the byte that begins tokens
 abbrev pub DigestsLiterals : Numbered → List Local → List Local → ℕ → Type 0
 DigestsLiterals g ls ms v = (k : ℕ) (x : Vertex) → Reached (links g.vertices) v k → slice_get g.vertices k ≡ Some x
     → (list_any step_digests (program_of x).steps ≡ false) ⊎ HaveAlikeSources IsLiteral g k ls ms
 
--- with tokens in place of contents in local trees, the outcome is the one with the contents, but with tokens in their place
+-- if local trees have tokens in place of contents, the outcome on them has such tokens too, and expands to the outcome on the trees with the contents; as long
+-- as no vertex writes the byte that begins tokens, and digests are made only from sources by value
 abbrev pub HandsTokensOn : Numbered → Type 0
 HandsTokensOn g = (table : ℕ → List ℕ) (ls ms : List Local) (v : ℕ) → WritesNoMark g v → DigestsLiterals g ls ms v
     → HaveAlikeSources (ExpandsTo (spelled table)) g v ls ms → HasAlikeOutcomes (ExpandsTo (spelled table)) g ls ms v
@@ -186,7 +190,8 @@ HandsTokensOn g = (table : ℕ → List ℕ) (ls ms : List Local) (v : ℕ) → 
 abbrev pub MakesNoDigest : Numbered → ℕ → Type 0
 MakesNoDigest g v = (k : ℕ) (x : Vertex) → Reached (links g.vertices) v k → slice_get g.vertices k ≡ Some x → list_any step_digests (program_of x).steps ≡ false
 
--- the same as `HandsOn`, without a premise on what is written; for relations that relate each content to itself
+-- the same as `HandsOn`, if no vertex at or before v makes a digest, in place of the premise on what is written; for relations that relate each content to
+-- itself
 abbrev pub HandsOnUndigested : (List ℕ → List ℕ → Type 0) → Numbered → Type 0
 HandsOnUndigested R g = (ls ms : List Local) (v : ℕ) → MakesNoDigest g v → HaveAlikeSources R g v ls ms → HasAlikeOutcomes R g ls ms v
 
@@ -201,6 +206,6 @@ pub record AreExchanged (pairs : List (List ℕ × List ℕ)) (a b : List ℕ) :
   pub first : a ≡ flat_map (λ p. p.0) pieces
   pub second : b ≡ flat_map (λ p. p.1) pieces
 
--- if pieces of local trees' contents are replaced, the outcome is the same but for such replacements in its contents, if no digest is made
+-- if no digest is made, replacing pieces of the contents of local trees changes the outcome only by such replacements in its contents
 abbrev pub HandsContentsOn : Numbered → Type 0
 HandsContentsOn g = (pairs : List (List ℕ × List ℕ)) → HandsOnUndigested (AreExchanged pairs) g

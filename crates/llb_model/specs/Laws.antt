@@ -187,7 +187,8 @@ are_ands (c ∷ cs) = is_run c.join 0 && all_and cs
 abbrev pub in_turn : Setting → Joined → MicroStep
 in_turn setting c = Run setting (record { join = Then; command = c.command }) true
 
--- the first k commands of a script have the result that they have if each runs whatever the last status is; and if they have no fault, the next command runs
+-- the first k commands of a script have the result that they have if each runs whatever the last status is, and the first status other than 0 is the exec's
+-- fault; and if they have no fault, the next command runs
 pub record RunsInTurn (setting : Setting) (cs : List Joined) (work : Work) (k : ℕ) : Type 0 where
   pub leaves : part (runs_of setting cs) work k ≡ part (map (in_turn setting) cs) work k
   pub runs : (c : Joined) → (part (runs_of setting cs) work k).fault ≡ None → slice_get cs k ≡ Some c

@@ -16,7 +16,7 @@ is_foreign (Some Stopped) = false
 is_foreign (Some Thread) = false
 is_foreign (Some (Foreign b)) = true
 
--- the returned board goes on from the given one by granted events, and the workers' counts add up to the number of these
+-- the returned board goes on from the given board by granted events, and the workers' counts add up to the number of these events
 abbrev pub Leads : BoardValue → List ℕ → BoardValue → Type 0
 Leads given made found = GoesOn given found × Counts made given found
 
@@ -48,8 +48,8 @@ StopsAsNoted noted fault = (may_stop : ℕ → ℕ → Bool) (given : BoardValue
 abbrev pub AllowsStops : (ℕ → ℕ → Bool) → (ℕ → ℕ → Bool) → Type 0
 AllowsStops by_gate by_note = (w v : ℕ) → IsTrue (by_gate w v) → by_note w v ≡ true
 
--- What the threads leave: the board that the run began from, as it was kept under the lock; a board that goes on from it, with a count of the appended
--- events; and the fault that was noted first. If nothing is noted, nothing was cancelled.
+-- What the threads leave: `start`, the board that the run began from, as it was kept under the lock; a board that goes on from it, with counts of the appended
+-- events; and the fault that was noted first, if any. If nothing is noted, no cancel was appended.
 pub record AreLeft (may_stop : ℕ → ℕ → Bool) (given : BoardValue) (left : CrewEnd) : Type 0 where
   pub start : left.start ≡ given
   pub after : IsAfter given left.board

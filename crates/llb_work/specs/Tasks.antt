@@ -10,14 +10,14 @@ use Rattle.llb_work.specs.declared.shared_board.Task.TheVariants.{Work, Pass, Ag
 use Rattle.llb_work.specs.declared.shared_board.Report.{Report}
 use Rattle.llb_work.specs.declared.shared_board.Report.TheVariants.{Nothing, Number, Outcome, Fault}
 
--- the job is of worker w and vertex v, both on the board; it is the plain job if no cache mount is at or before the vertex
+-- the job is that of worker w for vertex v, which both exist on the board; if no cache mount is at or before the vertex, it is the plain job
 pub record IsClaimed (b : BoardValue) (w v : ℕ) (job : Job) : Type 0 where
   pub worker : job.worker ≡ w
   pub vertex : job.vertex ≡ v
   pub has : is_of b w v ≡ true
   pub plain : is_plain b.build v ≡ true → plain_job b.build w v ≡ Some job
 
--- what a worker is to work on, or to pass the gate for, exists on the board, and so does the worker
+-- the vertex that a worker is to work on, or to pass the gate for, exists on the board, and so does the worker; a job is as `IsClaimed` says
 abbrev pub IsHere : BoardValue → ℕ → Task → Type 0
 IsHere b w (Work job) = IsClaimed b w job.vertex job
 IsHere b w (Pass v) = is_of b w v ≡ true

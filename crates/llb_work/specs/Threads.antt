@@ -11,6 +11,6 @@ module _ {L : Type 0} where
   ThreadKeeps q w (Thread h) = (h.promise.queue.value ≡ q) × (h.promise.worker ≡ w)
   ThreadKeeps q w (Here kit) = IsPassFor q w kit.pass
 
-  -- each thread of the list returns the pass of its worker; the first one is worker `from`
+  -- each thread of the list returns the pass of its worker; the first thread is that of worker `from`
   abbrev pub AllKeep : ReadyQueue → ℕ → List (WorkerThread L) → Type 0
   AllKeep q from threads = (k : ℕ) (d : WorkerThread L) → k < length threads → ThreadKeeps q (from + k) (get_or threads k d)
