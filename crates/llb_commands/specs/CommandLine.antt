@@ -112,7 +112,7 @@ abbrev pub named_local_words : Option (Text × List Row) → List Text
 named_local_words None = []
 named_local_words (Some p) = local_words p.1
 
--- the number that a text is read as, if it has 32 bits: digits, which may follow a plus
+-- the number that a text spells, if it is below 2^32: digits, with or without a plus before them
 abbrev pub number_of : Text → Option ℕ
 number_of text = if is_unsigned_in 0 4294967295 text then Some (digits_value 10 (without_leading_plus text)) else None
 
@@ -161,7 +161,7 @@ RefusesWord words (Words None) = ⊥
 RefusesWord words (Words (Some w)) = IsUnsplit words w.now
 RefusesWord words Memory = Unit {0}
 
--- the program's fault for a refusal by `clap`
+-- the program's fault for a refusal by `clap` of this kind
 abbrev pub IsFaultOfKind : ErrorKind → WordsFault → Type 0
 IsFaultOfKind kind (Words None) = kind ≢ OutOfMemory
 IsFaultOfKind kind (Words (Some w)) = ⊥

@@ -29,7 +29,7 @@ abbrev pub named_first : List Text → Option Command
 named_first [] = None
 named_first (w ∷ ws) = command_named w
 
--- the page of a command, or of the program
+-- the help page of a command, or of the program if there is no command
 abbrev pub help_page : Option Command → Text
 help_page None = PROGRAM_PAGE.now
 help_page (Some Run) = RUN_PAGE.now

@@ -59,7 +59,7 @@ Disassembled = EndsBy Disassembles
 
 -- ---- local trees
 
--- why no tree is added, with its line and status: the name is not UTF-8, or the text is no tree's
+-- why no tree is added, with its line and status: the name is not UTF-8, or the text could not be read as a tree
 abbrev pub TellsWhyNot : List ℕ → List ℕ → Held → ℕ → Type 0
 TellsWhyNot name text new status =
     ((¬ (IsUtf8 name)) × TellsWords (Some []) (Some new.messages.items) (Words None) status)
