@@ -1,10 +1,12 @@
 -- Read Headline first (the promise of the whole machine for a board), then Seen (what contracts see of a board), Rules (what each event returns), Opening,
 -- Landing (of work done away from the board), Begun (which outcomes land without a comparison) and Undo (an event is done and taken back). Laws has what else
--- holds of every board; Kept and History say what a board keeps. The modules of a board: Links (the users of a vertex, how many of its inputs are open, and
--- where a mark spreads), Vertices (what contracts see of the vertices, and what is kept besides) and Workers (what contracts see of the workers), then
--- WorkerRules (the results of a claim, a step, a settle and a cancel), OptionalLeases and Jobs. Needs has what a claim takes of the caches, Supplies what each
--- worker has from its claim on, Displaced what is kept to take an event back, Looks the trees that a worker works on, Statuses how callers see a vertex and a
--- worker, Faults the refusals of `walk`, Views what a worker's data represents; Outfits and Undoing belong to a claim and to an event that is taken back.
+-- holds of every board; Kept and History say what a board keeps.
+-- The modules of a board: Links (the users of a vertex, how many of its inputs are open, and where a mark spreads), Vertices (what contracts see of the
+-- vertices, and what is kept besides) and Workers (what contracts see of the workers), then WorkerRules (the results of a claim, a step, a settle and a
+-- cancel), OptionalLeases and Jobs.
+-- Needs has what a claim takes of the caches, Supplies what each worker has from its claim on, Displaced what is kept to take an event back, Looks the
+-- trees that a worker works on, Statuses how callers see a vertex and a worker, Faults the refusals of `walk`, and Views what a worker's data represents.
+-- Outfits and Undoing belong to a claim and to an event that is taken back.
 pub mod Links
 pub mod Faults
 pub mod Statuses

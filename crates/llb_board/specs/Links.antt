@@ -109,8 +109,7 @@ pub record Visits (users : List ℕ) (old new : List Bool) (reached reached_new 
   pub only : (x : ℕ) → is_marked new x ≡ true → (is_marked old x ≡ true) ⊎ Contains more x
   pub count : unmarked new + length more ≡ unmarked old
 
--- if the vertices marked before contain with each vertex all its users, the vertices marked now are the least such set that contains vertex v and all that were
--- marked before
+-- if the vertices marked before are closed, those marked now are the least closed set (`IsClosed`) with vertex v and all that were marked before
 pub record Spreads (users : List (List ℕ)) (v : ℕ) (old new : List Bool) : Type 0 where
   pub same : length new ≡ length old
   pub kept : (x : ℕ) → is_marked old x ≡ true → is_marked new x ≡ true

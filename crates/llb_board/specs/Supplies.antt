@@ -1,5 +1,4 @@
--- What each worker has from its claim on, so that its settle needs no memory for the outputs, its steps are those of its vertex, and its commands see the
--- caches of its vertex.
+-- What each worker has from its claim on: empty trees for the outputs (so a settle needs no memory), and the micro-steps and caches of its vertex.
 use Rattle.std.specs.Prelude.{ℕ, List, [], map, replicate, length, Option, Some, None, slice_get}
 use Rattle.llb_tree.specs.Tree.{TreeMap, empty_tree}
 use Rattle.llb_loader.specs.declared.graph.Vertex.{Vertex}

@@ -99,8 +99,7 @@ IsUnopened locals g workers (fault.MissingLocal name) = missing_local locals g.v
 IsUnopened locals g workers fault.Workers = (missing_local locals g.vertices ≡ None) × (may_work workers ≡ false)
 IsUnopened locals g workers _ = ⊥
 
--- p is the fault with which no run begins on these bytes: they are refused as a definition, or they are the definition of a graph on which no board can be
--- opened
+-- the fault of bytes on which no run begins: they are refused as a definition, or no board can be opened on the graph whose definition they are
 abbrev pub IsNotRun : ℕ → List Local → ProgramFault → List ℕ → Type 0
 IsNotRun workers locals p bytes = IsRefused p bytes ⊎ ((g : Numbered) × IsGraphIn bytes g × IsUnopened locals g workers p)
 

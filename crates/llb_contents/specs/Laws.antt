@@ -30,14 +30,12 @@ By test a b = test a b ≡ true
 abbrev pub LaysAlike : TreeMap → TreeMap → Type 0
 LaysAlike t v = (test : List ℕ → List ℕ → Bool) (u w : TreeMap) → AreAlike (By test) t u → AreAlike (By test) v w → AreAlike (By test) (lay t v) (lay u w)
 
--- an action on two trees (its input and its secondary input): on trees that are alike to these it fails with the same fault, or results in an alike tree; if
--- the content that it writes is related to itself
+-- an action fails with the same fault on trees that are alike to `t` and `v`, or results in an alike tree; if what it writes is related to itself
 abbrev pub ActsAlike : Option ActionKind → TreeMap → TreeMap → Type 0
 ActsAlike a t v = (test : List ℕ → List ℕ → Bool) (u w : TreeMap) → RelatesBody (By test) a → AreAlike (By test) t u → AreAlike (By test) v w
     → BothResults (AreAlike (By test)) (act a t v) (act a u w)
 
--- a command in this setting on this view: on an alike view it fails too, or both results are alike; if the relation is kept by appending and relates what the
--- command writes
+-- a command fails on an alike view too, or both results are alike; if the relation is kept by appending and relates what the command writes
 abbrev pub RunsAlike : Setting → List Shown → Command → Type 0
 RunsAlike s v c = (test : List ℕ → List ℕ → Bool) (w : List Shown) → IsKept (By test) → RelatesTexts (By test) s c → AreAlikeViews (By test) v w
     → BothOptions (AreAlikeViews (By test)) (run s v c) (run s w c)
@@ -80,8 +78,7 @@ HandsRelationsOn g = (test : List ℕ → List ℕ → Bool) → IsKept (By test
 abbrev pub ExpandsTo : (List ℕ → Option (List ℕ)) → List ℕ → List ℕ → Type 0
 ExpandsTo expand a b = expand a ≡ Some b
 
--- for each expansion that appending keeps: if the contents of local trees expand to those of other local trees, then the contents of the outcomes expand to
--- those of the outcomes on the others, by `HandsOn`
+-- `HandsOn` for each expansion that appending keeps: if contents of sources expand to other contents, so do the contents of the outcomes
 abbrev pub HandsExpansionsOn : Numbered → Type 0
 HandsExpansionsOn g = (expand : List ℕ → Option (List ℕ)) → IsKept (ExpandsTo expand) → HandsOn (ExpandsTo expand) g
 
@@ -178,8 +175,7 @@ abbrev pub DigestsLiterals : Numbered → List Local → List Local → ℕ → 
 DigestsLiterals g ls ms v = (k : ℕ) (x : Vertex) → Reached (links g.vertices) v k → slice_get g.vertices k ≡ Some x
     → (list_any step_digests (program_of x).steps ≡ false) ⊎ HaveAlikeSources IsLiteral g k ls ms
 
--- if local trees have tokens in place of contents, the outcome on them has such tokens too, and expands to the outcome on the trees with the contents; as long
--- as no vertex writes the byte that begins tokens, and digests are made only from sources by value
+-- the outcome on local trees with tokens expands to the outcome on the expanded trees, if no vertex writes tokens, and digests are only of sources by value
 abbrev pub HandsTokensOn : Numbered → Type 0
 HandsTokensOn g = (table : ℕ → List ℕ) (ls ms : List Local) (v : ℕ) → WritesNoMark g v → DigestsLiterals g ls ms v
     → HaveAlikeSources (ExpandsTo (spelled table)) g v ls ms → HasAlikeOutcomes (ExpandsTo (spelled table)) g ls ms v
@@ -190,8 +186,7 @@ HandsTokensOn g = (table : ℕ → List ℕ) (ls ms : List Local) (v : ℕ) → 
 abbrev pub MakesNoDigest : Numbered → ℕ → Type 0
 MakesNoDigest g v = (k : ℕ) (x : Vertex) → Reached (links g.vertices) v k → slice_get g.vertices k ≡ Some x → list_any step_digests (program_of x).steps ≡ false
 
--- the same as `HandsOn`, if no vertex at or before v makes a digest, in place of the premise on what is written; for relations that relate each content to
--- itself
+-- `HandsOn` with the premise that no digest is made, in place of the one on what is written; for relations that relate each content to itself
 abbrev pub HandsOnUndigested : (List ℕ → List ℕ → Type 0) → Numbered → Type 0
 HandsOnUndigested R g = (ls ms : List Local) (v : ℕ) → MakesNoDigest g v → HaveAlikeSources R g v ls ms → HasAlikeOutcomes R g ls ms v
 

@@ -7,8 +7,7 @@ use Rattle.llb_execution.specs.Parts.{work_with}
 use Rattle.llb_execution.specs.declared.mark.StateBefore.{StateBefore}
 use Rattle.llb_execution.specs.declared.mark.StateBefore.TheVariants as was
 
--- what a micro-step can change: for a source nothing, for a file op how many results there are, for a merge what is laid, for an exec its mounts and the last
--- status
+-- a mark: for a source nothing, for a file op how many results there are, for a merge what is laid, for an exec its mounts and the last status
 pub data Mark : Type 0 where
   Nothing : Mark
   Results : ℕ → Mark

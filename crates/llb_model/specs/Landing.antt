@@ -71,8 +71,7 @@ StepsAsBlock b = (s : State) (w : ℕ) (x : Execution) (trees : List TreeMap) (n
     → AreThere (program_in b x).steps x.done (left_so_far x trees) n
     → (rs : List Reply) × (run b s (steps_by w n) ≡ Some (after_steps s w x n (further (program_in b x).steps x.done (left_so_far x trees) n), rs))
 
--- doing a worker's remaining micro-steps away from the board, on a copy of its workspace and trees as they are now, and settling with their result, has the
--- effect of the events of a landing
+-- the events of a landing have the same effect as doing the micro-steps on a copy of the worker's workspace and trees, and settling with their result
 abbrev pub LandsAsBlock : Build → Type 0
 LandsAsBlock b = (s : State) (w : ℕ) (x : Execution) (trees : List TreeMap) (n : ℕ) → slice_get s.workers w ≡ Some (Runs x)
     → Distinct x.places → Hold s.store x.places trees

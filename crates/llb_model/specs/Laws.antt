@@ -80,8 +80,7 @@ OthersIgnore b = (s : State) (e : Event) (t : TreeMap) → IsReached b s → (w 
 
 -- ---- the claim order
 
--- after a run, each settled vertex and each instance that nobody holds is as if the claims had been done one after another: each with the whole work of its
--- vertex, or with the micro-steps that were done before its cancel
+-- after a run, each settled vertex and each instance that nobody holds is as if the claims were done one after another, each whole or up to its cancel
 abbrev pub RunsInClaimOrder : Build → Type 0
 RunsInClaimOrder b = (o : Opening) (es : List Event) (rs : List Reply) (s : State) → run b (opening b o) es ≡ Some (s, rs)
     → StandsIn s (order b (at_first b o.store) (claims_in rs))
@@ -103,8 +102,7 @@ AreChosen b s es = EachIn (IsChosen b) b s es
 abbrev pub IsAtRest : State → Type 0
 IsAtRest s = (v w : ℕ) → slice_get s.statuses v ≡ Some (Running w) → ⊥
 
--- if all events of a run are chosen and no vertex runs at its end, the run ends in the state to which its claims lead, done whole one after another, shared
--- caches included
+-- a run of chosen events, at whose end no vertex runs, ends in the state to which its claims lead, done one after another; shared caches included
 abbrev pub AloneInClaimOrder : Build → Type 0
 AloneInClaimOrder b = (o : Opening) (es : List Event) (rs : List Reply) (s : State) → run b (opening b o) es ≡ Some (s, rs)
     → AreChosen b (opening b o) es → IsAtRest s
@@ -137,8 +135,7 @@ HeldAreThere b = (s : State) → IsReached b s → (w : ℕ) (x : Execution) →
 abbrev pub at_start : List Shown → List ℕ → List TreeMap → Work
 at_start mounts caches trees = record { own = Mounted mounts caches 0; trees = trees }
 
--- the number of the last command that ran, up to command k: k if it runs, given the status `last` before it; else `before`, the number up to the command before
--- it
+-- the number of the last command that ran, up to number k: k if command k runs, given the status `last` before it; else `before`, the last one before k
 abbrev pub later_ran : ℕ → Option Joined → ℕ → ℕ → ℕ
 later_ran k None last before = before
 later_ran k (Some c) last before = if is_run c.join last then k else before
@@ -187,8 +184,7 @@ are_ands (c ∷ cs) = is_run c.join 0 && all_and cs
 abbrev pub in_turn : Setting → Joined → MicroStep
 in_turn setting c = Run setting (record { join = Then; command = c.command }) true
 
--- the first k commands of a script have the result that they have if each runs whatever the last status is, and the first status other than 0 is the exec's
--- fault; and if they have no fault, the next command runs
+-- the first k commands run as if each ran whatever the last status is, and the first status other than 0 were a fault; without a fault the next one runs
 pub record RunsInTurn (setting : Setting) (cs : List Joined) (work : Work) (k : ℕ) : Type 0 where
   pub leaves : part (runs_of setting cs) work k ≡ part (map (in_turn setting) cs) work k
   pub runs : (c : Joined) → (part (runs_of setting cs) work k).fault ≡ None → slice_get cs k ≡ Some c

@@ -81,8 +81,7 @@ claims_in (HasStepped r ∷ rs) = claims_in rs
 claims_in (HasSettled r ∷ rs) = claims_in rs
 claims_in (HasCancelled r ∷ rs) = claims_in rs
 
--- each vertex that is settled in state s has the same status in o, the state of a claim order; and each instance that no worker holds in s has the same
--- contents in both
+-- a vertex that is settled in s has the same status in o, the state of a claim order; an instance that no worker holds in s has the same contents in o
 pub record StandsIn (s : State) (o : Order) : Type 0 where
   pub endings : (v : ℕ) (e : Ending) → slice_get s.statuses v ≡ Some (Settled e) → slice_get o.statuses v ≡ Some (Settled e)
   pub contents : (p : Instance) → IsFree s.workers p → content s.store p ≡ content o.store p

@@ -1,5 +1,4 @@
--- What a vertex does: its program, a list of micro-steps; the work that they change, and the result of the first k of them; and the caches that the vertex
--- needs.
+-- What a vertex does: its program, a list of micro-steps; the work that they change, and the result of the first k; and the caches that the vertex needs.
 use Rattle.std.specs.Prelude.{ℕ, zero, suc, ◌+◌, ◌==◌, ℤ, pos, negsuc, Bool, true, false, not, List, [], ◌∷◌, ◌++◌, length, map, Option, Some, None}
 use Rattle.std.specs.Prelude.{option_map, unwrap_or, slice_get, Result, Ok, Err, if◌then◌else◌}
 use Rattle.std.specs.List.{list_any, list_all, range_with_len}
@@ -91,8 +90,7 @@ path_in text = unwrap_or (read_as text) []
 
 -- ---- the caches that a vertex needs
 
--- a cache mount of an exec: the number of the mount, the key of the cache, and the number of the input whose tree a new instance begins with (-1: the empty
--- tree)
+-- a cache mount of an exec: the number of the mount, the key, and the number of the input whose tree a new instance begins with (-1: the empty tree)
 pub record Need : Type 0 where
   pub mount : ℕ
   pub key : Key
@@ -304,8 +302,7 @@ is_run Or last = not (last == 0)
 abbrev pub no_fault : Work → Left
 no_fault work = record { work = work; fault = None }
 
--- the work after a command ran: the view that it left, or, if it failed, the mounts and the trees of caches from before it; the last status is the status of
--- this command
+-- the work after a command ran: the view that it left, or, if it failed, the mounts and trees from before; its status is the last status now
 abbrev pub after_run : List Shown → List ℕ → List TreeMap → Option (List Shown) → Work
 after_run mounts caches trees (Some after) = parted caches trees after
 after_run mounts caches trees None = record { own = Mounted mounts caches (status_of None); trees = trees }

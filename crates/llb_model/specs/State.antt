@@ -101,8 +101,7 @@ is_failed (Some (Failed f)) = true
 is_failed (Some (Done trees)) = false
 is_failed None = false
 
--- whether v, the next vertex, is stopped: it has failed, or is downstream of a vertex that has failed; `before` says for each vertex with a lower number
--- whether that is stopped
+-- whether the next vertex, v, is stopped: it has failed, or is downstream of a failed vertex (`before` says which vertices with lower numbers are stopped)
 abbrev pub next_stopped : List Status → List Bool → Vertex → Bool
 next_stopped statuses before v =
     is_failed (ending_at statuses (length before)) || list_any (λ (e : Edge). unwrap_or (slice_get before e.vertex) false) v.inputs

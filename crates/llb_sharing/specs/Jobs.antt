@@ -19,8 +19,7 @@ given_to w v job = record job { worker = w; vertex = v }
 abbrev pub credited_to : ℕ → ℕ → OutcomeValue → OutcomeValue
 credited_to w v o = record o { job = given_to w v o.job }
 
--- the plain jobs of two vertices with the same digest are the same but for the numbers of worker and vertex, if the local sources at or before them have the
--- same trees
+-- the plain jobs of two vertices with the same digest differ only in the numbers of worker and vertex, if the sources at or before them have the same trees
 abbrev pub ShareJobs : Numbered → Numbered → Type 0
 ShareJobs g h = (ls ms : List Local) (v u a w : ℕ) → HaveOneDigest g v h u → HaveSameSources g v ls ms
     → plain_job (record { graph = h; locals = ms }) w u ≡ option_map (given_to w u) (plain_job (record { graph = g; locals = ls }) a v)

@@ -46,8 +46,8 @@ ThereAndBack s = (e : Event) (t u : Stepping) → done_of s e ≡ Ok t → GoesB
 abbrev pub MeetsOn : Stepping → Event → Stepping → Bool → Type 0
 MeetsOn s e t met = (b : BoardValue) × (r : Reply) × (answered s.board e ≡ Some (b, r)) × (t ≡ onward s b) × (met ≡ list_any (meets e r) s.breaks)
 
--- An event of a list fails with this fault on the board after the events before it, of which none meets a breakpoint. If the fault is not for want of memory,
--- it is the refusal of that event on that board.
+-- The fault of an event of a list, on the board after the events before it: none of these meets a breakpoint, and the fault is the rule's unless it is
+-- `Memory`.
 pub record IsRefusedAt (s : Stepping) (es : List Event) (e : StepperFault) : Type 0 where
   pub count : ℕ
   pub board : BoardValue

@@ -22,8 +22,7 @@ pub record GoesOn (old new : BoardValue) : Type 0 where
 abbrev pub state_in : State × List Reply → State
 state_in a = a.0
 
--- the board `found` goes on from the board `start`, stated by equations only: the older record is a prefix of the newer one, and the events after it lead to
--- the newer state
+-- the board `found` goes on from `start`, stated by equations only: the older record is a prefix of the newer one, and the events after it lead to its state
 pub record IsAfter (start found : BoardValue) : Type 0 where
   pub build : found.build ≡ start.build
   pub opening : found.opening ≡ start.opening
